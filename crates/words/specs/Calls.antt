@@ -1,0 +1,45 @@
+-- The calls of `dpbr`, as clap matches their words.
+use Rattle.std.specs.Prelude.{◌≡◌, codes, fold, List, [], ◌∷◌, Bool, Option, None, Some, true}
+use Rattle.clap.specs.Words.{App, Row, Rule, Shape, Text, first_of, new_app, new_rule, subcommand_of, takes, with_rule, with_subcommand}
+use Rattle.words.specs.declared.Call.{Call}
+use Rattle.words.specs.declared.Call.TheVariants.{Status}
+
+-- ---- what clap is told
+
+-- a word that has to stand
+abbrev pub word : Text → Rule
+word id = record (new_rule id) { required = true }
+
+-- a subcommand with these words behind it
+abbrev pub command : Text → List Rule → Shape
+command name rules = (fold with_rule (new_app name) rules).top
+
+abbrev pub status_command : Shape
+status_command = command (codes "status") (word (codes "LISTING") ∷ word (codes "HELD") ∷ [])
+
+-- the program, which has to be given one of its subcommands
+unfoldable pub dpbr_app : App
+dpbr_app =
+    let program = new_app (codes "dpbr") in
+    fold with_subcommand (record program { top = record program.top { subcommand_required = true } })
+    (status_command ∷ [])
+
+-- clap takes the words
+unfoldable pub are_taken : List Text → Bool
+are_taken words = takes dpbr_app words
+
+-- the subcommand that clap matches of the words, and what it matches under the names of that
+unfoldable pub matched : List Text → Option (Text × List Row)
+matched words = subcommand_of dpbr_app words
+
+-- ---- what a call is
+
+-- the first word that was matched under a name
+abbrev pub IsWord : List Row → Text → Text → Type 0
+IsWord rows id value = first_of id rows ≡ Some value
+
+-- clap matched the call's subcommand, and the call's values are those of its matches
+abbrev pub IsCallOf : Option (Text × List Row) → Call → Type 0
+IsCallOf None call = ⊥
+IsCallOf (Some (name, rows)) (Status listing held) =
+    (name ≡ codes "status") × IsWord rows (codes "LISTING") listing.now × IsWord rows (codes "HELD") held.now

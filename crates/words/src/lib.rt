@@ -1,0 +1,73 @@
+//! The words of `dpbr`: which call of the program they make, as clap matches them.
+#![tactic(auto)]
+
+ghost use Rattle.std.specs.Prelude.{◌≡◌, IfErr, IfNone, IfOk, IfSome, map, true};
+ghost use Rattle.clap.specs.Words.{app_of, kind_of, subcommand_rows_of};
+ghost use Rattle.clap.specs.declared.error.kind.ErrorKind.TheVariants.{OutOfMemory};
+ghost use Rattle.words.specs.Calls.{IsCallOf, are_taken, dpbr_app, matched};
+
+mod arguments;
+mod status;
+
+use clap::error::ErrorKind;
+use clap::{ArgMatches, Command, Error};
+use std::alloc::{AllocError, Global};
+use std::convert::AsStr;
+
+/// A call of the program, with the names of its files.
+#[derive(Debug, Drop)]
+pub enum Call<'a> {
+    /// The letters of a listing's packages, where those named in a text of package paths are held.
+    Status { listing: &'a str, held: &'a str },
+}
+
+/// The call that the words make, the first of which is the program's name.
+///
+/// Words that make no call, and those that ask for help, are refused with clap's text.
+pub fn dpbr_words<'a, S: AsStr>(alloc: Global, words: &'a [S]) -> Result<Call<'a>, Error>
+    ensures call { IfOk result (IsCallOf (matched (map S.text words.entry.now))) }
+    // Words that clap takes, and that name each value of a call, are refused only for want of memory.
+    ensures refused { IfErr result (λ e. are_taken (map S.text words.entry.now) ≡ true
+        → (call : Call) → IsCallOf (matched (map S.text words.entry.now)) call → kind_of e ≡ OutOfMemory) }
+{
+    let matches = matches_of(alloc, words)?;
+    match call_of(&matches) {
+        Some(call) => Ok(call),
+        None => Err(no_call(alloc)?),
+    }
+}
+
+/// What clap matches of the words.
+fn matches_of<'a, S: AsStr>(alloc: Global, words: &'a [S]) -> Result<ArgMatches<'a>, Error>
+    ensures matched { IfOk result (λ m. subcommand_rows_of m ≡ matched (map S.text words.entry.now)) }
+    ensures refused { IfErr result (λ e. are_taken (map S.text words.entry.now) ≡ true → kind_of e ≡ OutOfMemory) }
+{
+    let command = dpbr_command(alloc)?;
+    command.try_get_matches_from(words)
+}
+
+fn call_of<'a>(matches: &ArgMatches<'a>) -> Option<Call<'a>>
+    ensures some { IfSome result (IsCallOf (subcommand_rows_of matches.now)) }
+    ensures none { IfNone result ((call : Call) → ¬ IsCallOf (subcommand_rows_of matches.now) call) }
+{
+    match matches.subcommand() {
+        Some(("status", found)) => status::call_of(found),
+        _ => None,
+    }
+}
+
+/// The refusal of words that name no call.
+fn no_call(alloc: Global) -> Result<Error, AllocError> {
+    dpbr_command(alloc)?.error(ErrorKind::MissingSubcommand, "the words name no call")
+}
+
+/// What clap is told of the program.
+#[tactic(auto, unfolding(crate::specs::Calls::dpbr_app))]
+fn dpbr_command<'a>(alloc: Global) -> Result<Command<'a>, AllocError>
+    ensures { IfOk result (λ command. app_of command ≡ dpbr_app) }
+{
+    Command::new(alloc, "dpbr")
+        .about("Replays and judges bulk builds of a ports tree.")
+        .subcommand_required(true)
+        .subcommand(status::command(alloc)?)
+}
