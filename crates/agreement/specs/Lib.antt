@@ -1,0 +1,11 @@
+pub mod Claims
+pub mod Quorums
+pub mod Votes
+pub mod Messages
+pub mod Member
+pub mod Step
+pub mod World
+pub mod Agreed
+pub mod AgreedList
+pub mod Nodes
+pub mod Examples

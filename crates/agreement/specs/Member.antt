@@ -1,0 +1,84 @@
+-- A member as it is for one path: the facts that its notes keep over a stop, and its open claim, which a stop ends.
+use Rattle.agreement.specs.Claims.{Claim, is_above}
+use Rattle.agreement.specs.Quorums.{Members}
+use Rattle.agreement.specs.Votes.{Ballot}
+use Rattle.std.specs.Prelude.{ℕ, Bool, max, List, [], ◌∷◌, Option, None, Some, if◌then◌else◌}
+
+pub record Facts (V : Type 0) : Type 0 where
+  -- the greatest round that it opened, or 0
+  pub opened : ℕ
+  -- the greatest claim that it promised or voted under
+  pub promised : Option Claim
+  -- its last vote
+  pub voted : Option (Ballot V)
+  -- the agreed value, once it knows it
+  pub held : Option V
+
+-- what a member notes before it answers: a fact that it must not forget
+pub data Note (V : Type 0) : Type 0 where
+  Opened : ℕ → Note V
+  Promised : Claim → Note V
+  Voted : Ballot V → Note V
+  Held : V → Note V
+
+-- how far a member's open claim is
+pub data Stage (V : Type 0) : Type 0 where
+  Closed : Stage V
+  -- Promises come in: from whom so far, and of what they reported that under the greatest claim.
+  Gathering : Claim → Members → Option (Ballot V) → Stage V
+  -- A quorum promised and reported nothing, so that a value is to be built.
+  Building : Claim → Stage V
+  -- Votes for the proposal come in: from whom so far.
+  Voting : Ballot V → Members → Stage V
+
+-- a member, for one path
+pub record Member (V : Type 0) : Type 0 where
+  pub opened : ℕ
+  pub promised : Option Claim
+  pub voted : Option (Ballot V)
+  pub held : Option V
+  pub up : Bool
+  pub stage : Stage V
+
+-- the part of a member that outlives a stop
+abbrev pub facts_of : {V : Type 0} → Member V → Facts V
+facts_of x = record { opened = x.opened; promised = x.promised; voted = x.voted; held = x.held }
+
+-- the facts of a member that noted nothing
+abbrev pub no_facts : {V : Type 0} → Facts V
+no_facts = record { opened = 0; promised = None; voted = None; held = None }
+
+-- the greater of what is promised and the claim
+abbrev pub greater : Option Claim → Claim → Option Claim
+greater p c = if is_above c p then Some c else p
+
+-- what was there first
+abbrev pub first : {X : Type 0} → Option X → X → Option X
+first None x = Some x
+first (Some y) x = Some y
+
+-- The facts with one more note: the greatest round opened, the greatest claim promised or voted under, the last vote,
+-- the first value held.
+abbrev pub noted : {V : Type 0} → Facts V → Note V → Facts V
+noted f (Opened round) = record f { opened = max f.opened round }
+noted f (Promised c) = record f { promised = greater f.promised c }
+noted f (Voted b) = record f { promised = greater f.promised b.claim; voted = Some b }
+noted f (Held v) = record f { held = first f.held v }
+
+-- the facts with the note of a step, if it has one
+abbrev pub noted_any : {V : Type 0} → Facts V → Option (Note V) → Facts V
+noted_any f None = f
+noted_any f (Some note) = noted f note
+
+-- what a member's notes restore, where the last note stands first
+abbrev pub restored : {V : Type 0} → List (Note V) → Facts V
+restored [] = no_facts
+restored (note ∷ notes) = noted (restored notes) note
+
+-- the vote that a note is of
+abbrev pub vote_of : {V : Type 0} → Option (Note V) → Option (Ballot V)
+vote_of None = None
+vote_of (Some (Opened round)) = None
+vote_of (Some (Promised c)) = None
+vote_of (Some (Voted b)) = Some b
+vote_of (Some (Held v)) = None

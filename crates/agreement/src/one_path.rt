@@ -1,0 +1,138 @@
+//! The laws of one path's agreement.
+ghost use Rattle.std.specs.Prelude.{◌≡◌, ◌++◌, ◌∷◌, [], ℕ, Bool, true, List, Option, None, Some, take};
+ghost use Rattle.agreement.specs.Claims.{AtMost, Claim};
+ghost use Rattle.agreement.specs.Quorums.{AreQuorums, Quorums, is_majority, nobody, with_member};
+ghost use Rattle.agreement.specs.Votes.{Ballot, Has, IsChosen, IsLawful, PromiseOf, VoteOf, ballot, kept_report};
+ghost use Rattle.agreement.specs.Messages.{Nay, Offer, Propose, Vote};
+ghost use Rattle.agreement.specs.Member.{Closed, Gathering, Held, Opened, Promised, Voted, Voting, facts_of, restored};
+ghost use Rattle.agreement.specs.Step.{notes_and_says, on_offer, on_promise, on_propose, on_start, on_vote, says, still};
+ghost use Rattle.agreement.specs.World.{Event, IsLawfulWorld, WasProposed, run, start};
+ghost use Rattle.agreement.specs.Agreed.{IsAgreed, IsBuilt, IsValue, agreed_value};
+ghost use Rattle.agreement.specs.Examples.{bound_to, claim, plain, taken_over, three};
+
+/// A proposal at or above a chosen one has its value, and so any two that are chosen have one value.
+pub fn chosen_stays<V>()
+    ensures repeats { (enough : Quorums)
+        → AreQuorums enough
+        → (proposals : List (Ballot V)) (promises : List (PromiseOf V)) (votes : List (VoteOf V))
+        → IsLawful V enough (Has proposals) (Has promises) (Has votes)
+        → (b d : Ballot V)
+        → IsChosen V enough (Has votes) b
+        → Has proposals d
+        → AtMost b.claim d.claim
+        → d.value ≡ b.value }
+    ensures one_value { (enough : Quorums)
+        → AreQuorums enough
+        → (proposals : List (Ballot V)) (promises : List (PromiseOf V)) (votes : List (VoteOf V))
+        → IsLawful V enough (Has proposals) (Has promises) (Has votes)
+        → (a b : Ballot V)
+        → IsChosen V enough (Has votes) a
+        → IsChosen V enough (Has votes) b
+        → a.value ≡ b.value }
+{}
+
+/// Whatever is lost, repeated, reordered or stopped: what is proposed, promised and voted stays lawful; each proposal at
+/// or above an agreed one repeats its value; at most one value is agreed, for good; what a member holds is agreed; and
+/// what is agreed was built.
+pub fn agrees_on_one_value<V>()
+    ensures lawful { (enough : Quorums)
+        → AreQuorums enough
+        → (events : List (Event V))
+        → IsLawfulWorld enough (run enough events start) }
+    ensures repeats { (enough : Quorums)
+        → AreQuorums enough
+        → (events : List (Event V)) (b d : Ballot V)
+        → IsAgreed enough (run enough events start) b
+        → WasProposed (run enough events start) d
+        → AtMost b.claim d.claim
+        → d.value ≡ b.value }
+    ensures one_value { (enough : Quorums)
+        → AreQuorums enough
+        → (early late : List (Event V)) (a b : Ballot V)
+        → IsAgreed enough (run enough early start) a
+        → IsAgreed enough (run enough (early ++ late) start) b
+        → a.value ≡ b.value }
+    ensures value { (enough : Quorums)
+        → AreQuorums enough
+        → (events : List (Event V))
+        → IsValue enough (run enough events start) (agreed_value enough events) }
+    ensures stays { (enough : Quorums) (early late : List (Event V)) (v : V)
+        → agreed_value enough early ≡ Some v
+        → agreed_value enough (early ++ late) ≡ Some v }
+    ensures held { (enough : Quorums)
+        → AreQuorums enough
+        → (events : List (Event V)) (i : ℕ) (v : V)
+        → ((run enough events start).members i).held ≡ Some v
+        → agreed_value enough events ≡ Some v }
+    ensures built { (enough : Quorums)
+        → AreQuorums enough
+        → (events : List (Event V)) (v : V)
+        → agreed_value enough events ≡ Some v
+        → IsBuilt enough start events v }
+{}
+
+/// The same for majorities by weights, with no premise.
+pub fn majorities_agree<V>()
+    ensures value { (weights : List ℕ) (events : List (Event V))
+        → IsValue (is_majority weights) (run (is_majority weights) events start) (agreed_value (is_majority weights) events) }
+    ensures stays { (weights : List ℕ) (early late : List (Event V)) (v : V)
+        → agreed_value (is_majority weights) early ≡ Some v
+        → agreed_value (is_majority weights) (early ++ late) ≡ Some v }
+    ensures held { (weights : List ℕ) (events : List (Event V)) (i : ℕ) (v : V)
+        → ((run (is_majority weights) events start).members i).held ≡ Some v
+        → agreed_value (is_majority weights) events ≡ Some v }
+    ensures built { (weights : List ℕ) (events : List (Event V)) (v : V)
+        → agreed_value (is_majority weights) events ≡ Some v
+        → IsBuilt (is_majority weights) start events v }
+{}
+
+/// After every list of events a member's facts are those that its notes restore, so that it may forget all but its notes;
+/// who holds the value has no open claim; and a value that is held is held for good.
+pub fn notes_restore_facts<V>()
+    ensures restored { (enough : Quorums) (events : List (Event V)) (i : ℕ)
+        → facts_of ((run enough events start).members i) ≡ restored ((run enough events start).logs i) }
+    ensures closed { (enough : Quorums) (events : List (Event V)) (i : ℕ) (v : V)
+        → ((run enough events start).members i).held ≡ Some v
+        → ((run enough events start).members i).stage ≡ Closed }
+    ensures stays { (enough : Quorums) (early late : List (Event V)) (i : ℕ) (v : V)
+        → ((run enough early start).members i).held ≡ Some v
+        → ((run enough (early ++ late) start).members i).held ≡ Some v }
+{}
+
+/// Three members do agree, also where one takes over from another.
+pub fn members_do_agree()
+    ensures plain { agreed_value (is_majority three) plain ≡ Some 7 }
+    ensures held { ((run (is_majority three) plain start).members 2).held ≡ Some 7 }
+    ensures not_before { agreed_value (is_majority three) (take 7 plain) ≡ None }
+    ensures taken_over { agreed_value (is_majority three) taken_over ≡ Some 7 }
+{}
+
+/// What a careless member would get wrong, at some claims and values.
+pub fn members_are_careful()
+    ensures no_vote_below_the_promise { let x = bound_to (claim 2 1) None Closed in
+        on_propose 3 x (ballot (claim 2 0) 7) ≡ says x (Nay 3 (claim 2 0) (Some (claim 2 1))) }
+    ensures no_promise_below_the_promise { let x = bound_to (claim 2 1) None Closed in
+        on_offer 3 x (claim 2 0) ≡ says x (Nay 3 (claim 2 0) (Some (claim 2 1))) }
+    ensures no_promise_after_the_vote { let x = bound_to (claim 2 1) (Some (ballot (claim 2 1) 7)) Closed in
+        on_offer 3 x (claim 2 1) ≡ says x (Nay 3 (claim 2 1) (Some (claim 2 1))) }
+    ensures no_vote_twice { let x = bound_to (claim 2 1) (Some (ballot (claim 2 1) 7)) Closed in
+        on_propose 3 x (ballot (claim 2 1) 7) ≡ says x (Vote 3 (claim 2 1)) }
+    ensures no_count_twice { let once = with_member nobody 2 in
+        let x = bound_to (claim 1 0) None (Voting (ballot (claim 1 0) 7) once) in
+        on_vote (is_majority three) x x.stage 2 (claim 1 0) ≡ still (record x { stage = Voting (ballot (claim 1 0) 7) (with_member once 2) }) }
+    ensures greatest_report { (a b c : ℕ)
+        → kept_report (kept_report (Some (ballot (claim 1 2) a)) (Some (ballot (claim 1 2) b))) (Some (ballot (claim 2 0) c))
+        ≡ Some (ballot (claim 2 0) c) }
+    ensures reported_value_again { let x = bound_to (claim 2 1) None (Gathering (claim 2 1) (with_member nobody 1) None) in
+        let promise : PromiseOf ℕ = record { member = 2; claim = claim 2 1; report = Some (ballot (claim 1 0) 7) } in
+        on_promise (is_majority three) x x.stage promise
+        ≡ says (record x { stage = Voting (ballot (claim 2 1) 7) nobody }) (Propose (ballot (claim 2 1) 7)) }
+    ensures new_round_each_time { let x = bound_to (claim 1 0) None Closed in
+        on_start 0 x None 0
+        ≡ Some (notes_and_says (record x { opened = 2; stage = Gathering (claim 2 0) nobody None }) (Opened 2) (Offer (claim 2 0))) }
+    ensures first_of_equal_reports { (a b : ℕ)
+        → kept_report (Some (ballot (claim 1 2) a)) (Some (ballot (claim 1 2) b)) ≡ Some (ballot (claim 1 2) a) }
+    ensures restored { (a b : ℕ)
+        → restored (Held b ∷ Held a ∷ Promised (claim 1 1) ∷ Voted (ballot (claim 1 0) a) ∷ Promised (claim 1 0) ∷ Opened 1 ∷ [])
+        ≡ record { opened = 1; promised = Some (claim 1 1); voted = Some (ballot (claim 1 0) a); held = Some a } }
+{}

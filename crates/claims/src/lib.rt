@@ -1,0 +1,61 @@
+//! Claims, how they compare, and the rounds that are left for them.
+#![tactic(auto)]
+
+ghost use Rattle.std.specs.Prelude.{◌≡◌, ◌+◌, ◌≤◌, ◌↔◌, None, Option, Some, IfOk, IsErr};
+ghost use Rattle.std.specs.Cmp.{IsTotalOrder};
+ghost use Rattle.std.specs.Ordering.{is_eq, is_gt, is_lt};
+ghost use Rattle.agreement.specs.Claims.{claim_below, claim_same, is_above, is_below};
+ghost use Rattle.claims.specs.Claim.{claim_cmp, promised_cmp};
+
+pub use agreement::Claim;
+use faults::Fault;
+use thiserror::Error;
+
+/// The greatest round of a claim. The least is 1.
+pub const GREATEST_ROUND: u64 = 9_223_372_036_854_775_807;
+
+/// Members are numbered from 0, below this.
+pub const MEMBERS: u8 = 9;
+
+/// No round is left above this one.
+#[derive(Clone, Copy, Debug, PartialEq, Eq, Error)]
+#[error("no round is left")]
+pub struct RoundsSpent;
+
+impl Fault for RoundsSpent {
+    ghost number_of = { λ _. 601 };
+
+    ghost place_of = { λ _. None };
+
+    fn number(&self) -> u32 {
+        601
+    }
+
+    fn place(&self) -> Option<u64> {
+        None
+    }
+}
+
+/// The round above. The greatest round, and any number above it, has none.
+pub fn next_round(round: u64) -> Result<u64, RoundsSpent>
+    ensures above { IfOk result (λ next. next ≡ round + 1) }
+    ensures spent { IsErr result ↔ (GREATEST_ROUND ≤ round) }
+{
+    if round >= GREATEST_ROUND {
+        return Err(RoundsSpent);
+    }
+    Ok(round + 1)
+}
+
+/// Claims compare by round, and then by member; the order is total, and it is the one by which promises and reports are
+/// judged. No claim at all is below every claim.
+pub fn claims_compare()
+    ensures same { (a b : _) → ⟦<Claim as Ord>⟧.cmp a b ≡ claim_cmp a b }
+    ensures same_claim { (a b : _) → ⟦<Claim as PartialEq>⟧.eq a b ≡ claim_same a b }
+    ensures same_promised { (p q : _) → ⟦<Option<Claim> as Ord>⟧.cmp p q ≡ promised_cmp p q }
+    ensures total { IsTotalOrder claim_cmp }
+    ensures below { (c d : _) → is_lt (claim_cmp c d) ≡ claim_below c d }
+    ensures equal { (c d : _) → is_eq (claim_cmp c d) ≡ claim_same c d }
+    ensures above_promised { (c : _) (promised : Option _) → is_lt (promised_cmp promised (Some c)) ≡ is_above c promised }
+    ensures below_promised { (c : _) (promised : Option _) → is_gt (promised_cmp promised (Some c)) ≡ is_below c promised }
+{}

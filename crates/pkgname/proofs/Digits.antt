@@ -1,0 +1,85 @@
+-- Digits without leading zeros compare as numbers by their length, and then by their bytes.
+use Rattle.std.proofs.Common.{◌≡◌, ℕ, ◌+◌, ◌*◌, ◌<◌, ◌≤◌, ◌&&◌, ◌==◌, Bool, true, false, not, List, [], ◌∷◌, length, slice_index, refl, sym, ap, ◌∙◌, arith, inl, inr, Less, Equal, Greater}
+use Rattle.std.proofs.lemmas.Bool.{cases_lt, cases_Bool, lt-ltb, le-ltb, eq-eqb}
+use Rattle.std.proofs.lemmas.Grind.{common_steps}
+use Rattle.std.specs.Char.{digit_value, is_ascii_digit}
+use Rattle.std.specs.Cmp.Lexicographic.{slice_cmp}
+use Rattle.std.specs.List.{list_all}
+use Rattle.std.specs.Ordering.{nat_cmp, ordering_then}
+use Rattle.std.specs.Str.Parse.{digits_value_after}
+use Rattle.pkgname.specs.Version.{number_of}
+
+digit_is : (x : ℕ) → is_ascii_digit x ≡ true → x ≡ 48 + digit_value x
+digit_is x h = grind arith
+
+digit_below_ten : (x : ℕ) → is_ascii_digit x ≡ true → digit_value x < 10
+digit_below_ten x h = grind arith
+
+nat_cmp-Less : (m n : ℕ) → m < n → nat_cmp m n ≡ Less
+nat_cmp-Less m n h = rw (lt-ltb m n h) refl
+
+nat_cmp-Equal : (m n : ℕ) → m ≡ n → nat_cmp m n ≡ Equal
+nat_cmp-Equal m n h = grind arith
+
+nat_cmp-Greater : (m n : ℕ) → n < m → nat_cmp m n ≡ Greater
+nat_cmp-Greater m n h = grind arith
+
+first_digit : (x : ℕ) (xs : List ℕ) → list_all is_ascii_digit (x ∷ xs) ≡ true → is_ascii_digit x ≡ true
+first_digit x xs h = grind arith
+
+other_digits : (x : ℕ) (xs : List ℕ) → list_all is_ascii_digit (x ∷ xs) ≡ true → list_all is_ascii_digit xs ≡ true
+other_digits x xs h = grind arith
+
+grows : (n : ℕ) (xs : List ℕ) → n ≤ digits_value_after 10 n xs
+grows n [] = omega arith
+grows n (x ∷ xs) = omega (arith, grows (n * 10 + digit_value x) xs)
+
+-- a smaller front stays smaller, where no more digits follow it
+less : (xs ys : List ℕ) (m n : ℕ) → m < n → length xs ≤ length ys → list_all is_ascii_digit xs ≡ true → digits_value_after 10 m xs < digits_value_after 10 n ys
+less [] ys m n lt le d = omega (arith, grows n ys)
+less (x ∷ xs) [] m n lt le d = absurd (omega arith)
+less (x ∷ xs) (y ∷ ys) m n lt le d =
+    let small = digit_below_ten x (first_digit x xs d) in
+    less xs ys (m * 10 + digit_value x) (n * 10 + digit_value y) (omega arith) (omega arith) (other_digits x xs d)
+
+-- as many digits behind the same front compare by their bytes
+level : (xs ys : List ℕ) (m : ℕ) → length xs ≡ length ys → list_all is_ascii_digit xs ≡ true → list_all is_ascii_digit ys ≡ true
+    → nat_cmp (digits_value_after 10 m xs) (digits_value_after 10 m ys) ≡ slice_cmp nat_cmp xs ys
+level [] [] m e d f = nat_cmp-Equal m m refl
+level [] (y ∷ ys) m e d f = absurd (omega arith)
+level (x ∷ xs) [] m e d f = absurd (omega arith)
+level (x ∷ xs) (y ∷ ys) m e d f =
+    let x_is = digit_is x (first_digit x xs d) in
+    let y_is = digit_is y (first_digit y ys f) in
+    elim (cases_lt x y) [
+      | inl below ↦
+          rw (nat_cmp-Less x y below) (nat_cmp-Less _ _ (less xs ys (m * 10 + digit_value x) (m * 10 + digit_value y) (omega arith) (omega arith) (other_digits x xs d)))
+      | inr from ↦ elim (cases_lt y x) [
+        | inl above ↦
+            rw (nat_cmp-Greater x y above) (nat_cmp-Greater _ _ (less ys xs (m * 10 + digit_value y) (m * 10 + digit_value x) (omega arith) (omega arith) (other_digits y ys f)))
+        | inr upto ↦
+            let same : x ≡ y = omega arith in
+            rw (nat_cmp-Equal x y same, same) (level xs ys (m * 10 + digit_value y) (omega arith) (other_digits x xs d) (other_digits y ys f))
+      ]
+    ]
+
+-- fewer digits are a smaller number, where the others begin with none that is 0
+shorter : (xs ys : List ℕ) → length xs < length ys → list_all is_ascii_digit xs ≡ true → list_all is_ascii_digit ys ≡ true → not (slice_index ys 0 == 48) ≡ true
+    → number_of xs < number_of ys
+shorter xs [] lt d f leading = absurd (omega arith)
+shorter xs (y ∷ ys) lt d f leading =
+    let y_is = digit_is y (first_digit y ys f) in
+    let some : 0 < digit_value y = grind arith in
+    less xs ys 0 (0 * 10 + digit_value y) (omega arith) (omega arith) d
+
+pub number_cmp : (xs ys : List ℕ) → list_all is_ascii_digit xs ≡ true → not (slice_index xs 0 == 48) ≡ true → list_all is_ascii_digit ys ≡ true → not (slice_index ys 0 == 48) ≡ true
+    → nat_cmp (number_of xs) (number_of ys) ≡ ordering_then (nat_cmp (length xs) (length ys)) (slice_cmp nat_cmp xs ys)
+number_cmp xs ys d leading f other_leading = elim (cases_lt (length xs) (length ys)) [
+  | inl fewer ↦ rw (nat_cmp-Less (length xs) (length ys) fewer) (nat_cmp-Less _ _ (shorter xs ys fewer d f other_leading))
+  | inr from ↦ elim (cases_lt (length ys) (length xs)) [
+    | inl more ↦ rw (nat_cmp-Greater (length xs) (length ys) more) (nat_cmp-Greater _ _ (shorter ys xs more f d leading))
+    | inr upto ↦
+        let as_many : length xs ≡ length ys = omega arith in
+        rw (nat_cmp-Equal (length xs) (length ys) as_many) (level xs ys 0 as_many d f)
+  ]
+]

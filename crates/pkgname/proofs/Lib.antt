@@ -1,0 +1,6 @@
+mod Examples
+pub mod Copies
+pub mod Cutting
+pub mod Digits
+pub mod Fronts
+pub mod Splitting

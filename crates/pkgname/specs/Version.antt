@@ -1,0 +1,72 @@
+-- What a version says: its markers, and the components of its body.
+use Rattle.std.specs.Prelude.{◌≡◌, ◌-◌, ℕ, Bool, true, false, ◌&&◌, not, List, [], ◌∷◌, length, take, drop, map, nat_eq, codes, slice_get, Option, Some, None, if◌then◌else◌}
+use Rattle.std.specs.Char.{is_ascii_digit}
+use Rattle.std.specs.List.{ends_with, list_all, prefix_len, suffix_len, take_while}
+use Rattle.std.specs.Option.{option_map_or}
+use Rattle.std.specs.Str.Parse.{digits_value}
+use Rattle.faults.specs.Bytes.{Text, dash, dot, has_byte, is_empty, letter_p, letter_v}
+use Rattle.faults.specs.Pieces.{pieces_at}
+use Rattle.pkgname.specs.PkgName.{is_name_byte}
+
+-- the text of a version: it begins with a digit, and has the bytes of a name without a dash
+abbrev pub is_version : Text → Bool
+is_version text = option_map_or is_ascii_digit (slice_get text 0) false && list_all is_name_byte text && not (has_byte dash text)
+
+abbrev pub IsVersion : Text → Type 0
+IsVersion text = is_version text ≡ true
+
+-- the number that digits write; none write 0
+abbrev pub number_of : Text → ℕ
+number_of digits = digits_value 10 digits
+
+-- ---- the markers at the end
+
+abbrev pub digits_at_end : Text → Text
+digits_at_end text = drop (length text - suffix_len is_ascii_digit text) text
+
+abbrev pub before_digits_at_end : Text → Text
+before_digits_at_end text = take (length text - suffix_len is_ascii_digit text) text
+
+-- the text ends with the letter and at least one digit
+abbrev pub has_marker : ℕ → Text → Bool
+has_marker letter text = not (is_empty (digits_at_end text)) && ends_with nat_eq (before_digits_at_end text) (letter ∷ [])
+
+abbrev pub marker : ℕ → Text → Option ℕ
+marker letter text = if has_marker letter text then Some (number_of (digits_at_end text)) else None
+
+abbrev pub without_marker : ℕ → Text → Text
+without_marker letter text = if has_marker letter text then take (length (before_digits_at_end text) - 1) text else text
+
+-- ---- the components of the body
+
+pub record Component : Type 0 where
+  -- what the digits at its front write
+  pub number : ℕ
+  -- what stands behind them
+  pub rest : Text
+
+abbrev pub component_of : Text → Component
+component_of piece = record {
+  number = number_of (take_while is_ascii_digit piece);
+  rest = drop (prefix_len is_ascii_digit piece) piece;
+}
+
+-- the components between the dots
+abbrev pub components_of : Text → List Component
+components_of body = map component_of (pieces_at dot body)
+
+-- what a version says
+pub record Parts : Type 0 where
+  pub v : Option ℕ
+  pub components : List Component
+  pub p : Option ℕ
+
+-- the marker v is the last, the marker p stands before it, and the body before that
+abbrev pub parts_of : Text → Parts
+parts_of text =
+    let without_v = without_marker letter_v text in
+    record {
+      v = marker letter_v text;
+      components = components_of (without_marker letter_p without_v);
+      p = marker letter_p without_v;
+    }

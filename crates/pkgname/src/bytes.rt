@@ -1,0 +1,42 @@
+//! The bytes of a name, and where its version begins.
+ghost use Rattle.std.specs.Prelude.{◌≡◌, ◌+◌, ◌<◌, ◌||◌, IfSome, length};
+ghost use Rattle.std.specs.Char.{is_ascii_digit};
+ghost use Rattle.std.specs.List.{list_all};
+ghost use Rattle.faults.specs.Bytes.{is_one_of};
+ghost use Rattle.pkgname.specs.PkgName.{is_dash_before, is_name_byte, version_dash};
+
+/// Whether each byte may stand in a name: printable, and with no meaning in paths, specs and lists.
+pub fn has_name_bytes(text: &[u8]) -> bool
+    ensures { result ≡ list_all is_name_byte text.now }
+{
+    text.iter().all(|byte| is_name_byte(*byte))
+}
+
+fn is_name_byte(byte: u8) -> bool
+    ensures { result ≡ is_name_byte byte }
+{
+    byte.is_ascii_graphic()
+        && !matches!(
+            byte,
+            b'/' | b':' | b'|' | b',' | b'!' | b'*' | b'<' | b'>' | b'='
+        )
+}
+
+/// Where the dash before a version stands: the first, other than at the front, that a digit or one
+/// of the bytes `also` follows.
+pub fn dash_before_version(text: &[u8], also: &[u8]) -> Option<usize>
+    ensures place { result ≡ version_dash (λ b. is_one_of also.now b || is_ascii_digit b) text.now }
+    ensures within { IfSome result (λ at. at + 1 < length text.now) }
+{
+    (1..text.len()).find(|at| is_dash_before(text, *at, also))
+}
+
+fn is_dash_before(text: &[u8], at: usize, also: &[u8]) -> bool
+    requires { at < length text.now }
+    ensures { result ≡ is_dash_before (λ b. is_one_of also.now b || is_ascii_digit b) text.now at }
+{
+    match text.get(at + 1) {
+        Some(next) => text[at] == b'-' && (also.contains(next) || next.is_ascii_digit()),
+        None => false,
+    }
+}

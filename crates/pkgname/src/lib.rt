@@ -1,0 +1,84 @@
+//! Package names, and the order of versions.
+#![tactic(auto)]
+
+ghost use Rattle.std.specs.Prelude.{◌≡◌, None};
+ghost use Rattle.pkgname.specs.declared.NameFault.TheVariants.{Memory as OutOfMemory};
+ghost use Rattle.pkgname.specs.Refusals.{refusal_number};
+
+use faults::{Fault, Memory};
+use std::alloc::{AllocError, AllocFailed};
+use thiserror::Error;
+
+mod bytes;
+mod component;
+mod laws;
+mod name;
+mod number;
+mod parts;
+mod pieces;
+mod rest;
+#[cfg(test)]
+mod tests;
+mod version;
+
+pub use crate::bytes::{dash_before_version, has_name_bytes};
+pub use crate::laws::version_order_is_total;
+pub use crate::name::PkgName;
+pub use crate::pieces::first_piece;
+pub use crate::version::{Version, is_version};
+
+/// Why a text is no package name. Of several reasons the first below `Memory` is the one.
+#[derive(Clone, Copy, Debug, PartialEq, Eq, Error)]
+pub enum NameFault {
+    #[error("out of memory")]
+    Memory,
+    #[error("the name has more than 255 bytes")]
+    TooLong,
+    #[error("the name has a byte that may not stand there, or an empty flavor")]
+    BadByte,
+    #[error("the name has no version")]
+    NoVersion,
+}
+
+impl Fault for NameFault {
+    ghost number_of = { refusal_number };
+
+    ghost place_of = { λ _. None };
+
+    fn number(&self) -> u32 {
+        match self {
+            NameFault::Memory => 1,
+            NameFault::NoVersion => 201,
+            NameFault::BadByte => 202,
+            NameFault::TooLong => 203,
+        }
+    }
+
+    fn place(&self) -> Option<u64> {
+        None
+    }
+}
+
+impl From<Memory> for NameFault {
+    ghost from_gives = { λ _ e. e ≡ OutOfMemory };
+
+    fn from(_error: Memory) -> NameFault {
+        NameFault::Memory
+    }
+}
+
+impl From<AllocError> for NameFault {
+    ghost from_gives = { λ _ e. e ≡ OutOfMemory };
+
+    fn from(_error: AllocError) -> NameFault {
+        NameFault::Memory
+    }
+}
+
+impl<T: Drop> From<AllocFailed<T>> for NameFault {
+    ghost from_gives = { λ _ e. e ≡ OutOfMemory };
+
+    fn from(_error: AllocFailed<T>) -> NameFault {
+        NameFault::Memory
+    }
+}

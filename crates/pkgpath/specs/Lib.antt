@@ -1,0 +1,4 @@
+pub mod Kind
+pub mod Laws
+pub mod PkgPath
+pub mod Refusals

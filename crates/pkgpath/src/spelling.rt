@@ -1,0 +1,178 @@
+//! What a text spells, and the canonical text of that.
+ghost use Rattle.std.specs.Prelude.{◌≡◌, ◌<◌, ◌≤◌, ◌++◌, ◌∷◌, [], not, filter, length, nat_lt, option_to_list, ◌&&◌, ◌==◌, if◌then◌else◌, IfOk, MatchOption, OnOk};
+ghost use Rattle.std.specs.List.{flat_map};
+ghost use Rattle.std.specs.Option.{option_copied};
+ghost use Rattle.faults.specs.Answers.{IsRightUnless, first_that_applies, map_ok};
+ghost use Rattle.faults.specs.Bytes.{comma, has_byte, slash};
+ghost use Rattle.faults.specs.Pieces.{pieces_at, set_of};
+ghost use Rattle.pkgpath.specs.Kind.{IsTally};
+ghost use Rattle.pkgpath.specs.PkgPath as grammar;
+
+use crate::PathFault;
+use crate::flavors::flavor_set;
+use crate::grammar::is_directory;
+use crate::parts::{Tally, count_parts};
+use std::alloc::{AllocError, Global};
+
+/// The most bytes that the text of a path has.
+const LONGEST: usize = 255;
+
+/// The texts before and behind the first comma.
+fn split_at_comma(text: &[u8]) -> Option<(&[u8], &[u8])>
+    ensures { MatchOption result
+        (pieces_at comma text.now ≡ text.now ∷ [])
+        (λ halves. pieces_at comma text.now ≡ halves.0.now ∷ pieces_at comma halves.1.now) }
+{
+    let place = text.iter().position(|byte| *byte == b',')?;
+    Some((&text[..place], &text[place + 1..]))
+}
+
+fn directory_fault(directory: &[u8]) -> Option<PathFault>
+    ensures { result ≡ first_that_applies (
+        (not (has_byte slash directory.now), PathFault.NoSlash)
+        ∷ (not (grammar.is_directory directory.now), PathFault.BadByte) ∷ []) }
+{
+    if !directory.contains(&b'/') {
+        Some(PathFault::NoSlash)
+    } else if !is_directory(directory) {
+        Some(PathFault::BadByte)
+    } else {
+        None
+    }
+}
+
+/// The canonical text of a text without commas.
+fn read_directory(alloc: Global, text: &[u8]) -> Result<Vec<u8>, PathFault>
+    requires filled { 0 < length text.now }
+    requires short { length text.now ≤ 255 }
+    requires alone { pieces_at comma text.now ≡ text.now ∷ [] }
+    ensures { IsRightUnless PathFault.Memory (map_ok (λ v. v.items) result) (grammar.path_of text.now) }
+{
+    if let Some(fault) = directory_fault(text) {
+        return Err(fault);
+    }
+    Ok(Vec::from_slice(alloc, text)?)
+}
+
+/// Appends a part behind a comma.
+fn push_part(out: &mut Vec<u8>, part: &[u8]) -> Result<(), AllocError>
+    ensures { OnOk result (out.new.items ≡ out.old.items ++ comma ∷ part.now) }
+{
+    out.push(b',')?;
+    out.extend_from_slice(part)?;
+    Ok(())
+}
+
+/// Appends each part behind a comma.
+fn push_parts(out: &mut Vec<u8>, parts: &[&[u8]]) -> Result<(), AllocError>
+    ensures { OnOk result (out.new.items ≡ out.old.items ++ flat_map (λ part. comma ∷ part.now) parts.now) }
+{
+    for part in parts {
+        push_part(out, part)?;
+    }
+    Ok(())
+}
+
+/// Appends a comma where the path says that it has no flavor.
+fn push_mark(out: &mut Vec<u8>, tally: &Tally<'_>) -> Result<(), AllocError>
+    ensures { let mark = nat_lt 0 tally.now.empties && (tally.now.flavors == 0) in
+        OnOk result (out.new.items ≡ out.old.items ++ (if mark then comma ∷ [] else [])) }
+{
+    if tally.empties > 0 && tally.flavors == 0 {
+        out.push(b',')?;
+    }
+    Ok(())
+}
+
+/// Appends the flavors among the parts, each once, in byte order.
+fn push_flavors(
+    alloc: Global,
+    out: &mut Vec<u8>,
+    parts: &[u8],
+    tally: &Tally<'_>,
+) -> Result<(), AllocError>
+    requires { IsTally tally.now (pieces_at comma parts.now) }
+    ensures { OnOk result (out.new.items ≡ out.old.items
+        ++ flat_map (λ part. comma ∷ part) (set_of (filter grammar.is_flavor (pieces_at comma parts.now)))) }
+{
+    if tally.flavors > 1 {
+        let set = flavor_set(alloc, parts)?;
+        push_parts(out, set.as_slice())?;
+    } else if let Some(flavor) = tally.flavor {
+        push_part(out, flavor)?;
+    }
+    Ok(())
+}
+
+fn push_subpackage(out: &mut Vec<u8>, subpackage: Option<&[u8]>) -> Result<(), AllocError>
+    ensures { OnOk result (out.new.items ≡ out.old.items
+        ++ flat_map (λ part. comma ∷ part) (option_to_list (option_copied subpackage.entry))) }
+{
+    if let Some(subpackage) = subpackage {
+        push_part(out, subpackage)?;
+    }
+    Ok(())
+}
+
+/// The canonical text of a directory and the parts behind it.
+fn write_canonical(
+    alloc: Global,
+    capacity: usize,
+    directory: &[u8],
+    parts: &[u8],
+    tally: &Tally<'_>,
+) -> Result<Vec<u8>, AllocError>
+    requires { IsTally tally.now (pieces_at comma parts.now) }
+    ensures { IfOk result (λ v.
+        v.items ≡ grammar.canonical_text (grammar.value_from directory.now (pieces_at comma parts.now))) }
+{
+    let mut text = Vec::with_capacity(alloc, capacity)?;
+    text.extend_from_slice(directory)?;
+    push_mark(&mut text, tally)?;
+    push_flavors(alloc, &mut text, parts, tally)?;
+    push_subpackage(&mut text, tally.subpackage)?;
+    Ok(text)
+}
+
+/// The canonical text of a text that is cut at its first comma.
+fn read_parts(
+    alloc: Global,
+    text: &[u8],
+    directory: &[u8],
+    parts: &[u8],
+) -> Result<Vec<u8>, PathFault>
+    requires filled { 0 < length text.now }
+    requires short { length text.now ≤ 255 }
+    requires cut { pieces_at comma text.now ≡ directory.now ∷ pieces_at comma parts.now }
+    ensures { IsRightUnless PathFault.Memory (map_ok (λ v. v.items) result) (grammar.path_of text.now) }
+{
+    if let Some(fault) = directory_fault(directory) {
+        return Err(fault);
+    }
+    let Some(tally) = count_parts(parts) else {
+        return Err(PathFault::BadByte);
+    };
+    if tally.subpackages > 1 {
+        return Err(PathFault::TwoSubpackages);
+    }
+    if tally.empties > 1 {
+        return Err(PathFault::TwoEmptyParts);
+    }
+    Ok(write_canonical(alloc, text.len(), directory, parts, &tally)?)
+}
+
+/// The canonical text of what the text spells.
+pub(crate) fn canonical_text(alloc: Global, text: &[u8]) -> Result<Vec<u8>, PathFault>
+    ensures { IsRightUnless PathFault.Memory (map_ok (λ v. v.items) result) (grammar.path_of text.now) }
+{
+    if text.is_empty() {
+        return Err(PathFault::Empty);
+    }
+    if text.len() > LONGEST {
+        return Err(PathFault::TooLong);
+    }
+    match split_at_comma(text) {
+        None => read_directory(alloc, text),
+        Some((directory, parts)) => read_parts(alloc, text, directory, parts),
+    }
+}

@@ -1,0 +1,4 @@
+pub mod Spec
+pub mod Reading
+pub mod Matching
+pub mod Refusals

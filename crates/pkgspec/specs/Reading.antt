@@ -1,0 +1,26 @@
+-- The answers to the texts of an alternative's parts.
+use Rattle.std.specs.Prelude.{List, Option, Result, Ok, Err, filter_map, map, if◌then◌else◌}
+use Rattle.std.specs.List.{list_all}
+use Rattle.faults.specs.Answers.{first_given, unless_fault}
+use Rattle.faults.specs.Bytes.{Text}
+use Rattle.pkgspec.specs.Spec.{Alternative, Bound, Demand, alternative_fault, alternative_of, bound_of, demand_of, is_bound, is_demand}
+use Rattle.pkgspec.specs.declared.SpecFault.{SpecFault}
+use Rattle.pkgspec.specs.declared.SpecFault.TheVariants.{BadByte, BadBound}
+
+abbrev pub bound_or_fault : Text → Result (Option Bound) SpecFault
+bound_or_fault text = if is_bound text then Ok (bound_of text) else Err BadBound
+
+abbrev pub bounds_or_fault : List Text → Result (List Bound) SpecFault
+bounds_or_fault texts = if list_all is_bound texts then Ok (filter_map bound_of texts) else Err BadBound
+
+abbrev pub demand_or_fault : Text → Result Demand SpecFault
+demand_or_fault text = if is_demand text then Ok (demand_of text) else Err BadByte
+
+abbrev pub demands_or_fault : List Text → Result (List Demand) SpecFault
+demands_or_fault texts = if list_all is_demand texts then Ok (map demand_of texts) else Err BadByte
+
+abbrev pub alternative_or_fault : Text → Result Alternative SpecFault
+alternative_or_fault text = unless_fault (alternative_fault text) (alternative_of text)
+
+abbrev pub alternatives_or_fault : List Text → Result (List Alternative) SpecFault
+alternatives_or_fault texts = unless_fault (first_given alternative_fault texts) (map alternative_of texts)

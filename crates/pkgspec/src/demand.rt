@@ -1,0 +1,66 @@
+//! A demand on a name's flavors.
+ghost use Rattle.std.specs.Prelude.{◌≡◌, IfOk, map, vec_items};
+ghost use Rattle.std.specs.List.{list_any};
+ghost use Rattle.std.specs.Str.{bytes_eq};
+ghost use Rattle.faults.specs.Answers.{IsRightUnless};
+ghost use Rattle.pkgspec.specs.Matching.{is_met_by};
+ghost use Rattle.pkgspec.specs.Reading.{demand_or_fault};
+
+use crate::SpecFault;
+use faults::Memory;
+use pkgname::has_name_bytes;
+use std::alloc::Global;
+use std::marker::Model;
+
+/// A flavor that has to be there, or must not be.
+#[derive(Drop)]
+pub(crate) struct Demand {
+    flavor: Vec<u8>,
+    is_present: bool,
+}
+
+impl Model for Demand {
+    ghost use Rattle.pkgspec.specs.Spec.{Demand};
+
+    ghost Value = { Demand };
+
+    ghost view = { λ d. record { flavor = d.flavor.items; is_present = d.is_present } };
+}
+
+impl Demand {
+    pub fn parse(alloc: Global, text: &[u8]) -> Result<Demand, SpecFault>
+        ensures { IsRightUnless SpecFault.Memory result (demand_or_fault text.now) }
+    {
+        let (flavor, is_present) = match text.strip_prefix(b"!") {
+            Some(flavor) => (flavor, false),
+            None => (text, true),
+        };
+        if flavor.is_empty() || !has_name_bytes(flavor) {
+            return Err(SpecFault::BadByte);
+        }
+        let flavor = Vec::from_slice(alloc, flavor)?;
+        Ok(Demand { flavor, is_present })
+    }
+
+    pub fn is_met_by(&self, flavors: &[Vec<u8>]) -> bool
+        ensures { result ≡ is_met_by (map vec_items flavors.now) self.now }
+    {
+        is_among(flavors, self.flavor.as_slice()) == self.is_present
+    }
+
+    pub fn copy(&self) -> Result<Demand, Memory>
+        ensures { IfOk result (λ demand. demand ≡ self.now) }
+    {
+        let flavor = self.flavor.clone()?;
+        Ok(Demand {
+            flavor,
+            is_present: self.is_present,
+        })
+    }
+}
+
+fn is_among(flavors: &[Vec<u8>], flavor: &[u8]) -> bool
+    ensures { result ≡ list_any (λ other. bytes_eq other.items flavor.now) flavors.now }
+{
+    flavors.iter().any(|other| other.as_slice() == flavor)
+}

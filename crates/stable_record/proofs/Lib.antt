@@ -1,0 +1,11 @@
+mod Along
+mod AsLeft
+mod Examples
+mod Files
+mod Filled
+mod NewLog
+mod NotesRead
+mod Steps
+mod Opens
+mod Torn
+mod Trim

@@ -1,0 +1,112 @@
+//! Notes behind gates. The closed gate is on the disk before anything is written behind it, and is opened by a
+//! write of its own, once what stands behind it is on the disk.
+ghost use Rattle.std.specs.Prelude.{◌≡◌, ◌<◌, ◌≤◌, ◌+◌, ◌∷◌, [], ◌++◌, ◌⊎◌, ℕ, List, length, IsTrue, IsErrOf, IfOk, OnOk, OnErr, true};
+ghost use Rattle.stable_record.specs.Crash.{AllAlong};
+ghost use Rattle.stable_record.specs.Faults.{HasRisen, UsesRoomFor};
+ghost use Rattle.stable_record.specs.History.{History, seen};
+ghost use Rattle.stable_record.specs.Log.{Holds, HasBeforeOrAfter, IsSettled, Note, staged};
+
+use crate::down::write_down;
+use crate::{Disk, DiskFault, Identity, LogFault};
+use faults::Memory;
+use std::alloc::Global;
+
+const MAX_LEN: u64 = 2_147_483_648;
+
+/// A log in a file.
+#[derive(Drop)]
+pub struct Log<D: Disk> {
+    pub(crate) alloc: Global,
+    pub(crate) disk: D,
+    pub(crate) identity: Identity,
+    /// Where the closed gate stands.
+    pub(crate) end: u64,
+    /// The device failed in `append`.
+    pub(crate) stopped: bool,
+}
+
+impl<D: Disk> Log<D> {
+    /// Adds a note. At `Ok` each crash leaves it from then on. After `Device` the log has to be opened again.
+    pub fn append(&mut self, note: &[u8]) -> Result<(), LogFault>
+        ensures acknowledged { D.is_kept self.new.disk → (notes : List Note) → Holds D.history self.old notes
+            → OnOk result (Holds D.history self.new (notes ++ note.now ∷ [])) }
+
+        // A crash at any moment of the call leaves the notes from before it, with the new one or without.
+        ensures any_moment { D.is_kept self.new.disk → (notes : List Note) → Holds D.history self.old notes
+            → AllAlong (HasBeforeOrAfter self.old.identity notes note.now) (D.history self.old.disk) (D.history self.new.disk) }
+
+        // It doesn't give up by itself.
+        ensures device { IsErrOf result LogFault.Device → HasRisen (D.failures_of self.old.disk) (D.failures_of self.new.disk) }
+        ensures full { IsErrOf result LogFault.Full → MAX_LEN < self.old.end + 6 + length note.now }
+        ensures within { OnOk result (self.old.end + 6 + length note.now ≤ MAX_LEN) }
+        ensures stopped { IsErrOf result LogFault.MustReopen → self.old.stopped ≡ true }
+        ensures no_opening { IsErrOf result LogFault.NotALog ⊎ IsErrOf result LogFault.OtherCluster → ⊥ }
+
+        // After a failure of the device it goes on only once it was opened again.
+        ensures stops { IsErrOf result LogFault.Device → self.new.stopped ≡ true }
+        ensures must_reopen { self.old.stopped ≡ true → IsErrOf result LogFault.MustReopen × (self.new ≡ self.old) }
+
+        // Where memory was wanting or the log is full, nothing happened.
+        ensures refused { D.is_kept self.new.disk → (notes : List Note) → Holds D.history self.old notes
+            → IsErrOf result LogFault.Memory ⊎ IsErrOf result LogFault.Full
+            → Holds D.history self.new notes × (D.history self.new.disk ≡ D.history self.old.disk) }
+        ensures owner { self.new.identity ≡ self.old.identity }
+    {
+        if self.stopped {
+            return Err(LogFault::MustReopen);
+        }
+        let len = note.len() as u64;
+        if self.end > MAX_LEN || len > MAX_LEN || self.end + 6 + len > MAX_LEN {
+            return Err(LogFault::Full);
+        }
+        let bytes = behind_the_gate(self.alloc, note)?;
+        self.disk.reserve(len + 6, 4)?;
+        if let Err(fault) = write_note(&mut self.disk, self.end, &bytes) {
+            self.stopped = true;
+            return Err(fault.into());
+        }
+        self.end += len + 5;
+        Ok(())
+    }
+
+    /// The disk of the log.
+    pub fn into_disk(self) -> D
+        ensures { result ≡ self.disk }
+    {
+        self.disk
+    }
+}
+
+/// The note's length, the note and a closed gate.
+fn behind_the_gate(alloc: Global, note: &[u8]) -> Result<Vec<u8>, Memory>
+    requires { length note.now ≤ MAX_LEN }
+    ensures { IfOk result (λ bytes. bytes.items ≡ staged note.now) }
+{
+    let mut bytes = Vec::new(alloc);
+    bytes.extend_from_slice(&(note.len() as u32).to_be_bytes())?;
+    bytes.extend_from_slice(note)?;
+    bytes.push(0)?;
+    Ok(bytes)
+}
+
+/// Writes a note behind the closed gate at a place, and opens the gate.
+fn write_note<D: Disk>(disk: &mut D, gate: u64, bytes: &[u8]) -> Result<(), DiskFault>
+    requires { gate ≤ MAX_LEN }
+
+    ensures settled { D.is_kept disk.new → (i : Identity) (notes : List Note) (note : Note) → bytes.now ≡ staged note → length note ≤ MAX_LEN
+        → IsSettled (D.history disk.old) i notes gate
+        → OnOk result (IsSettled (D.history disk.new) i (notes ++ note ∷ []) (gate + (length note + 5))) }
+
+    ensures any_moment { D.is_kept disk.new → (i : Identity) (notes : List Note) (note : Note) → bytes.now ≡ staged note → length note ≤ MAX_LEN
+        → IsSettled (D.history disk.old) i notes gate
+        → AllAlong (HasBeforeOrAfter i notes note) (D.history disk.old) (D.history disk.new) }
+
+    ensures room { D.is_kept disk.new → gate < length (seen (D.history disk.old))
+        → UsesRoomFor (length bytes.now + 1) 4 (D.room disk.old) (D.room disk.new) result }
+    ensures kept { D.is_kept disk.new → D.is_kept disk.old }
+    ensures later { D.failures_of disk.old ≤ D.failures_of disk.new }
+    ensures cause { IsErrOf result DiskFault.Device → HasRisen (D.failures_of disk.old) (D.failures_of disk.new) }
+{
+    write_down(disk, gate + 1, bytes)?;
+    write_down(disk, gate, &[1])
+}

@@ -1,0 +1,272 @@
+//! A disk in memory.
+ghost use Rattle.std.specs.Prelude.{◌≡◌, ◌-◌, ◌+◌, ◌≤◌, ◌<◌, ◌^◌, ℕ, [], ◌∷◌, ◌++◌, length, map, min, take, drop, replicate, IfOk, IsOk, OnOk, false, if◌then◌else◌, ⊤, vec_len, vec_capacity};
+ghost use Rattle.stable_record.specs.Crash.{MayLeave};
+ghost use Rattle.stable_record.specs.Events.{replay};
+ghost use Rattle.stable_record.specs.History.{History, overwritten, seen, stands};
+ghost use Rattle.stable_record.specs.Memory.{blanked, filled, left_file, on_disk, unsynced};
+ghost use Rattle.stable_record.specs.Possible.{replay_possible};
+ghost use Rattle.stable_record.specs.Room.{Room};
+
+use crate::record::Record;
+use crate::{Disk, DiskFault};
+use faults::Memory;
+use std::alloc::Global;
+
+const BEGUN: u64 = 0;
+
+const WRITTEN: u64 = 1;
+
+const CUT: u64 = 2;
+
+const SYNCED: u64 = 3;
+
+/// What a crash leaves.
+#[derive(Clone, Copy, Debug, PartialEq, Eq)]
+pub enum Left {
+    /// Unsynced writes and cuts are undone.
+    Before,
+    /// They stand.
+    Written,
+    /// They stand, with this byte in every unsynced place.
+    Fill(u8),
+}
+
+/// A file in memory, and what a crash would leave of it.
+#[derive(Drop)]
+pub struct MemDisk {
+    file: Vec<u8>,
+    /// Nothing was written or cut since the last sync.
+    is_synced: bool,
+    /// Otherwise, the file as of then.
+    before: Vec<u8>,
+    /// Where the ranges begin that were written since then, and how many bytes each has.
+    ranges: Vec<(usize, usize)>,
+    noted: Record,
+    ghost file_is: { file.items ≡ seen (replay noted.events) },
+    ghost before_is: { (if is_synced then file.items else before.items) ≡ on_disk (replay noted.events) },
+    ghost ranges_are: { ranges.items ≡ unsynced (replay noted.events) },
+    ghost fits: { length file.items ≤ vec_capacity before },
+    ghost fits_back: { length before.items ≤ vec_capacity file },
+}
+
+impl MemDisk {
+    /// A file with these bytes, all of them on the disk.
+    pub fn new(alloc: Global, bytes: &[u8]) -> Result<MemDisk, Memory>
+        ensures { IfOk result (λ disk. replay disk.noted.events ≡ stands bytes.now ∷ []) }
+    {
+        let file = bytes.to_vec(alloc)?;
+        let before = Vec::with_capacity(alloc, bytes.len())?;
+        let mut noted = Record::new();
+        noted.note(&[BEGUN], bytes);
+        Ok(MemDisk {
+            file,
+            is_synced: true,
+            before,
+            ranges: Vec::new(alloc),
+            noted,
+        })
+    }
+
+    /// What a read gives.
+    pub fn bytes(&self) -> &[u8]
+        ensures { result.now ≡ seen (replay self.now.noted.events) }
+    {
+        &self.file
+    }
+}
+
+impl MemDisk {
+    /// The disk after a crash.
+    pub fn crash(self, left: Left) -> MemDisk
+        ensures left { replay result.noted.events ≡ stands (left_file left (replay self.noted.events)) ∷ [] }
+        ensures possible { MayLeave (replay self.noted.events) (left_file left (replay self.noted.events)) }
+    {
+        let MemDisk {
+            file,
+            is_synced,
+            before,
+            ranges,
+            ..
+        } = self;
+        let (mut file, before) = match left {
+            Left::Before if !is_synced => (before, file),
+            _ => (file, before),
+        };
+        let mut ranges = ranges;
+        if let Left::Fill(byte) = left {
+            fill(&mut file, &ranges, byte);
+        }
+        ranges.clear();
+        let mut noted = Record::new();
+        noted.note(&[BEGUN], &file);
+        MemDisk {
+            file,
+            is_synced: true,
+            before,
+            ranges,
+            noted,
+        }
+    }
+}
+
+impl MemDisk {
+    /// Makes room for a file that ends here, and for one range more.
+    fn make_room(&mut self, end: usize) -> Result<(), Memory>
+        ensures same { (self.new.noted ≡ self.old.noted) × (self.new.is_synced ≡ self.old.is_synced) }
+        ensures items { (self.new.file.items ≡ self.old.file.items) × (self.new.before.items ≡ self.old.before.items) × (self.new.ranges.items ≡ self.old.ranges.items) }
+        ensures room { OnOk result ((end ≤ vec_capacity self.new.file) × (end ≤ vec_capacity self.new.before) × (length self.new.ranges.items < vec_capacity self.new.ranges)) }
+        ensures grown { (vec_capacity self.old.file ≤ vec_capacity self.new.file) × (vec_capacity self.old.before ≤ vec_capacity self.new.before)
+            × (vec_capacity self.old.ranges ≤ vec_capacity self.new.ranges) }
+        ensures needed { end ≤ min (vec_capacity self.old.file) (vec_capacity self.old.before) → length self.old.ranges.items < vec_capacity self.old.ranges → IsOk result }
+    {
+        if end > self.file.capacity() {
+            self.file.reserve(end - self.file.len())?;
+        }
+        if end > self.before.capacity() {
+            self.before.reserve(end - self.before.len())?;
+        }
+        self.ranges.reserve(1)?;
+        Ok(())
+    }
+
+    /// Keeps the file as of the last sync, before it is changed.
+    fn keep_before(&mut self)
+        ensures same { (self.new.noted ≡ self.old.noted) × (self.new.file ≡ self.old.file) × (self.new.ranges ≡ self.old.ranges) }
+        ensures unsynced { self.new.is_synced ≡ false }
+        ensures capacity { vec_capacity self.old.before ≤ vec_capacity self.new.before }
+    {
+        if self.is_synced {
+            self.before.clear();
+            self.before.extend_from_slice(&self.file).unwrap();
+            self.is_synced = false;
+        }
+    }
+}
+
+/// Puts a byte in each place of some ranges.
+fn fill(file: &mut Vec<u8>, ranges: &[(usize, usize)], byte: u8)
+    ensures items { file.new.items ≡ filled byte ranges.now file.old.items }
+    ensures len { length file.new.items ≡ length file.old.items }
+    ensures capacity { vec_capacity file.new ≡ vec_capacity file.old }
+{
+    for range in ranges {
+        fill_range(file, *range, byte);
+    }
+}
+
+/// Puts a byte in each place of a range: where it begins and how many bytes it has.
+fn fill_range(file: &mut Vec<u8>, range: (usize, usize), byte: u8)
+    ensures items { file.new.items ≡ blanked byte range file.old.items }
+    ensures len { length file.new.items ≡ length file.old.items }
+    ensures capacity { vec_capacity file.new ≡ vec_capacity file.old }
+{
+    let (at, count) = range;
+    let start = at.min(file.len());
+    let end = start + count.min(file.len() - start);
+    file[start..end].fill(byte);
+}
+
+/// Puts bytes at a place, and zeros between the end and the place.
+fn overwrite(file: &mut Vec<u8>, at: usize, bytes: &[u8])
+    requires far { at + length bytes.now < 2 ^ 64 }
+    requires room { at + length bytes.now ≤ vec_capacity file.old }
+    ensures items { file.new.items ≡ overwritten at bytes.now file.old.items }
+    ensures capacity { vec_capacity file.old ≤ vec_capacity file.new }
+{
+    reach(file, at);
+    put(file, at, bytes);
+}
+
+/// Puts zeros at the end, up to a place.
+fn reach(file: &mut Vec<u8>, at: usize)
+    requires room { at ≤ vec_capacity file.old }
+    ensures items { file.new.items ≡ file.old.items ++ replicate (at - length file.old.items) 0 }
+    ensures capacity { vec_capacity file.old ≤ vec_capacity file.new }
+{
+    if at > file.len() {
+        file.resize(at, 0).unwrap();
+    }
+}
+
+/// Puts bytes at a place up to the end.
+fn put(file: &mut Vec<u8>, at: usize, bytes: &[u8])
+    requires within { at ≤ length file.old.items }
+    requires far { at + length bytes.now < 2 ^ 64 }
+    requires room { at + length bytes.now ≤ vec_capacity file.old }
+    ensures items { file.new.items ≡ take at file.old.items ++ bytes.now ++ drop (at + length bytes.now) file.old.items }
+    ensures capacity { vec_capacity file.old ≤ vec_capacity file.new }
+{
+    let over = bytes.len().min(file.len() - at);
+    file[at..at + over].copy_from_slice(&bytes[..over]);
+    file.extend_from_slice(&bytes[over..]).unwrap();
+}
+
+impl Disk for MemDisk {
+    ghost history = { λ d. replay d.noted.events };
+
+    ghost is_kept = { λ _. ⊤ };
+
+    ghost failures_of = { λ _. 0 };
+
+    ghost room = { λ d. record { bytes = min (vec_capacity d.file) (vec_capacity d.before) - length d.file.items; calls = vec_capacity d.ranges - length d.ranges.items } };
+
+    ghost stays_possible = { λ d. replay_possible d.noted.events };
+
+    fn len(&mut self) -> Result<u64, DiskFault> {
+        Ok(self.file.len() as u64)
+    }
+
+    fn read(&mut self, at: u64, buf: &mut [u8]) -> Result<usize, DiskFault> {
+        let start = (at as usize).min(self.file.len());
+        let count = buf.len().min(self.file.len() - start);
+        buf[..count].copy_from_slice(&self.file[start..start + count]);
+        Ok(count)
+    }
+
+    fn write_at(&mut self, at: u64, bytes: &[u8]) -> Result<(), DiskFault> {
+        let start = at as usize;
+        if bytes.len() > usize::MAX - start {
+            return Err(DiskFault::Memory);
+        }
+        let end = start + bytes.len();
+        self.make_room(end)?;
+        self.keep_before();
+        let first = start.min(self.file.len());
+        self.ranges.push_reserved((first, end - first));
+        overwrite(&mut self.file, start, bytes);
+        self.noted.note(&[WRITTEN, at], bytes);
+        Ok(())
+    }
+
+    fn cut(&mut self, len: u64) -> Result<(), DiskFault> {
+        self.keep_before();
+        self.file.truncate(len as usize);
+        self.noted.note(&[CUT, len], &[]);
+        Ok(())
+    }
+
+    fn sync(&mut self) -> Result<(), DiskFault> {
+        self.is_synced = true;
+        self.ranges.clear();
+        self.noted.note(&[SYNCED], &[]);
+        Ok(())
+    }
+
+    fn reserve(&mut self, bytes: u64, calls: u32) -> Result<(), Memory> {
+        let bytes = bytes as usize;
+        self.file.reserve(bytes)?;
+        if bytes > usize::MAX - self.file.len() {
+            return Err(Memory);
+        }
+        let end = self.file.len() + bytes;
+        if end > self.before.capacity() {
+            self.before.reserve(end - self.before.len())?;
+        }
+        self.ranges.reserve(calls as usize)?;
+        Ok(())
+    }
+
+    fn failures(&self) -> u64 {
+        0
+    }
+}

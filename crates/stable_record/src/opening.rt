@@ -1,0 +1,123 @@
+//! Opening a file that a crash may have left.
+ghost use Rattle.std.specs.Prelude.{◌≡◌, ◌≢◌, ◌⊎◌, ◌≤◌, ◌∷◌, List, Result, length, map, IsErrOf, IfOk, IfErr, OnOk, OnErr, Ok, Err};
+ghost use Rattle.stable_record.specs.Crash.{AllAlong, IsOnDisk, OnlySyncs};
+ghost use Rattle.stable_record.specs.Faults.{HasRisen};
+ghost use Rattle.stable_record.specs.History.{seen, synced};
+ghost use Rattle.stable_record.specs.Log.{HasNotes, Holds, IsSettled, Note, gate_place, note_of};
+ghost use Rattle.stable_record.specs.Opening.{HasOneAnswer, Opens, OpensAsLeft, StaysAs};
+
+use crate::down::cut_down;
+use crate::making::make;
+use crate::reading::{Opening, opening_of, read_all};
+use crate::{Disk, DiskFault, Identity, Log, LogFault};
+use std::alloc::Global;
+
+impl<D: Disk> Log<D> {
+    /// Opens a file that a crash may have left, repairs its end, and gives its notes in order. Of an empty file, or of
+    /// one whose making a crash broke off, it makes a log. A crash may come at any moment of it. An `Err` hands the
+    /// disk back.
+    pub fn open(
+        alloc: Global,
+        disk: D,
+        identity: Identity,
+    ) -> Result<(Log<D>, Vec<Vec<u8>>), (LogFault, D)>
+        // What is read is what the file's notes are, and they are on the disk.
+        ensures notes { IfOk result (λ r. D.is_kept r.0.disk → Opens identity (seen (D.history disk)) (Ok (map note_of r.1.items))) }
+        ensures holds { IfOk result (λ r. D.is_kept r.0.disk → Holds D.history r.0 (map note_of r.1.items)) }
+        ensures owner { IfOk result (λ r. r.0.identity ≡ identity) }
+
+        // A file has no two answers.
+        ensures one_answer { HasOneAnswer identity }
+
+        // A crash at any moment leaves notes that a crash at the start could leave.
+        ensures any_moment { IfOk result (λ r. D.is_kept r.0.disk → AllAlong (OpensAsLeft identity (D.history disk)) (D.history disk) (D.history r.0.disk)) }
+        ensures any_moment_err { IfErr result (λ e. D.is_kept e.1 → AllAlong (OpensAsLeft identity (D.history disk)) (D.history disk) (D.history e.1)) }
+
+        // A file that is no log of this member is left as it is.
+        ensures refused { IfErr result (λ e. D.is_kept e.1 → e.0 ≡ LogFault.NotALog ⊎ (e.0 ≡ LogFault.OtherCluster)
+            → Opens identity (seen (D.history disk)) (Err e.0) × OnlySyncs (D.history disk) (D.history e.1)) }
+
+        // It doesn't give up by itself.
+        ensures device { IfErr result (λ e. e.0 ≡ LogFault.Device → HasRisen (D.failures_of disk) (D.failures_of e.1)) }
+        ensures no_append { IfErr result (λ e. e.0 ≢ LogFault.Full × (e.0 ≢ LogFault.MustReopen)) }
+    {
+        let mut disk = disk;
+        match ready(alloc, &mut disk, &identity) {
+            Ok((notes, end)) => Ok((
+                Log {
+                    alloc,
+                    disk,
+                    identity,
+                    end,
+                    stopped: false,
+                },
+                notes,
+            )),
+            Err(fault) => Err((fault, disk)),
+        }
+    }
+}
+
+/// Makes the file ready for notes, and gives those that it has and the place of the closed gate behind them.
+fn ready<D: Disk>(
+    alloc: Global,
+    disk: &mut D,
+    identity: &Identity,
+) -> Result<(Vec<Vec<u8>>, u64), LogFault>
+    ensures notes { D.is_kept disk.new → IfOk result (λ r. Opens identity.now (seen (D.history disk.old)) (Ok (map note_of r.0.items))) }
+    ensures settled { D.is_kept disk.new → IfOk result (λ r. IsSettled (D.history disk.new) identity.now (map note_of r.0.items) r.1) }
+    ensures any_moment { D.is_kept disk.new → AllAlong (OpensAsLeft identity.now (D.history disk.old)) (D.history disk.old) (D.history disk.new) }
+    ensures refused { D.is_kept disk.new → IfErr result (λ e. e ≡ LogFault.NotALog ⊎ (e ≡ LogFault.OtherCluster)
+        → Opens identity.now (seen (D.history disk.old)) (Err e) × OnlySyncs (D.history disk.old) (D.history disk.new)) }
+    ensures later { D.failures_of disk.old ≤ D.failures_of disk.new }
+    ensures device { IsErrOf result LogFault.Device → HasRisen (D.failures_of disk.old) (D.failures_of disk.new) }
+    ensures no_append { IfErr result (λ e. e ≢ LogFault.Full × (e ≢ LogFault.MustReopen)) }
+{
+    let file = synced_bytes(alloc, disk)?;
+    match opening_of(alloc, &file, identity)? {
+        Opening::Blank => {
+            let owner = identity.header(alloc)?;
+            let place = make(disk, owner)?;
+            Ok((Vec::new(alloc), place))
+        }
+        Opening::Notes(notes, end) => {
+            let end = end as u64;
+            trim(disk, end, file.len() as u64)?;
+            Ok((notes, end))
+        }
+    }
+}
+
+/// The file's bytes, once they are on the disk. What is read is to stay, also where an earlier sync failed and no
+/// crash came since.
+fn synced_bytes<D: Disk>(alloc: Global, disk: &mut D) -> Result<Vec<u8>, DiskFault>
+    ensures bytes { D.is_kept disk.new → IfOk result (λ bytes. bytes.items ≡ seen (D.history disk.old)) }
+    ensures synced { D.is_kept disk.new → OnOk result (D.history disk.new ≡ synced ∷ D.history disk.old) }
+    ensures failed { D.is_kept disk.new → OnErr result ((D.history disk.new ≡ D.history disk.old) ⊎ (D.history disk.new ≡ synced ∷ D.history disk.old)) }
+    ensures kept { D.is_kept disk.new → D.is_kept disk.old }
+    ensures later { D.failures_of disk.old ≤ D.failures_of disk.new }
+    ensures cause { IsErrOf result DiskFault.Device → HasRisen (D.failures_of disk.old) (D.failures_of disk.new) }
+{
+    disk.reserve(0, 3)?;
+    disk.sync()?;
+    read_all(alloc, disk)
+}
+
+/// Cuts off what stands behind the closed gate at a place.
+fn trim<D: Disk>(disk: &mut D, end: u64, len: u64) -> Result<(), DiskFault>
+    ensures any_moment { D.is_kept disk.new → (i : Identity) (notes : List Note) → IsOnDisk (D.history disk.old)
+        → HasNotes i notes (seen (D.history disk.old)) → end ≡ gate_place i notes
+        → StaysAs i notes (D.history disk.old) (D.history disk.new) }
+    ensures settled { D.is_kept disk.new → (i : Identity) (notes : List Note) → IsOnDisk (D.history disk.old)
+        → HasNotes i notes (seen (D.history disk.old)) → end ≡ gate_place i notes → len ≡ length (seen (D.history disk.old))
+        → OnOk result (IsSettled (D.history disk.new) i notes end) }
+    ensures kept { D.is_kept disk.new → D.is_kept disk.old }
+    ensures later { D.failures_of disk.old ≤ D.failures_of disk.new }
+    ensures cause { IsErrOf result DiskFault.Device → HasRisen (D.failures_of disk.old) (D.failures_of disk.new) }
+{
+    if end >= len.saturating_sub(1) {
+        return Ok(());
+    }
+    disk.reserve(0, 2)?;
+    cut_down(disk, end + 1)
+}

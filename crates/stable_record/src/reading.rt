@@ -1,0 +1,139 @@
+//! What the bytes of a file are opened as.
+ghost use Rattle.std.specs.Prelude.{◌≡◌, ◌⊎◌, ◌≤◌, ◌↔◌, ◌∷◌, length, take, IfOk, IfErr, IsErrOf, IsTrue, Err};
+ghost use Rattle.stable_record.specs.Faults.{HasRisen};
+ghost use Rattle.stable_record.specs.History.{seen};
+ghost use Rattle.stable_record.specs.Log.{header, open_gate};
+ghost use Rattle.stable_record.specs.Opening.{IsBlank, IsBroken, IsLog, Opens, OpensTo, StandsAt};
+
+use crate::{Disk, DiskFault, Identity, LogFault};
+use std::alloc::Global;
+
+const CLOSED: u8 = 0;
+
+const OPEN: u8 = 1;
+
+const MAGIC_LEN: usize = 8;
+
+/// What a file is opened as.
+#[derive(Drop)]
+pub(crate) enum Opening {
+    /// A log is to be made.
+    Blank,
+    /// The notes, and the place of the closed gate behind them.
+    Notes(Vec<Vec<u8>>, usize),
+}
+
+/// What stands at a gate.
+enum AtGate<'a> {
+    /// The gate is closed.
+    Closed,
+    /// It is open. The note behind it, and what begins with the next gate.
+    Note(&'a [u8], &'a [u8]),
+    /// There is no gate, or what is behind it isn't whole.
+    CutShort,
+}
+
+/// All the bytes of the file.
+pub(crate) fn read_all<D: Disk>(alloc: Global, disk: &mut D) -> Result<Vec<u8>, DiskFault>
+    ensures kept { D.is_kept disk.new → D.is_kept disk.old }
+    ensures same { D.is_kept disk.new → D.history disk.new ≡ D.history disk.old }
+    ensures bytes { D.is_kept disk.new → IfOk result (λ bytes. bytes.items ≡ seen (D.history disk.old)) }
+    ensures later { D.failures_of disk.old ≤ D.failures_of disk.new }
+    ensures cause { IsErrOf result DiskFault.Device → HasRisen (D.failures_of disk.old) (D.failures_of disk.new) }
+{
+    let len = disk.len()?;
+    let mut bytes = vec![in alloc; 0; len as usize]?;
+    let count = disk.read(0, bytes.as_mut_slice())?;
+    bytes.truncate(count);
+    Ok(bytes)
+}
+
+/// What the bytes of a file are opened as.
+pub(crate) fn opening_of(
+    alloc: Global,
+    file: &[u8],
+    identity: &Identity,
+) -> Result<Opening, LogFault>
+    ensures ok { IfOk result (OpensTo identity.now file.now) }
+    ensures refused { IfErr result (λ e. (e ≡ LogFault.Memory) ⊎ Opens identity.now file.now (Err e)) }
+{
+    let header = identity.header(alloc)?;
+    if is_blank(file, &header) {
+        return Ok(Opening::Blank);
+    }
+    if !is_log(file, &header) {
+        return Err(LogFault::NotALog);
+    }
+    if !begins_with(&file[1..], &header) {
+        return Err(LogFault::OtherCluster);
+    }
+    notes_behind(alloc, file, header.len() + 1)
+}
+
+/// A crash may have left this of a log in making.
+fn is_blank(file: &[u8], owner: &[u8]) -> bool
+    requires { 8 ≤ length owner.now }
+    ensures { (i : Identity) → owner.now ≡ header i → IsTrue result ↔ IsBlank i file.now }
+{
+    let shortest = owner.len() + 2;
+    if file.len() < 2 || file[0] == CLOSED && file.len() <= shortest {
+        return true;
+    }
+    file[0] != OPEN && file.len() == shortest && begins_with(&file[1..], &owner[..MAGIC_LEN])
+}
+
+/// It is a log, whoever owns it.
+fn is_log(file: &[u8], owner: &[u8]) -> bool
+    requires { 8 ≤ length owner.now }
+    ensures { (i : Identity) → owner.now ≡ header i → IsTrue result ↔ IsLog i file.now }
+{
+    file.len() >= owner.len() + 2 && file[0] == OPEN && begins_with(&file[1..], &owner[..MAGIC_LEN])
+}
+
+fn begins_with(bytes: &[u8], front: &[u8]) -> bool
+    ensures { IsTrue result ↔ (take (length front.now) bytes.now ≡ front.now) }
+{
+    bytes.starts_with(front)
+}
+
+/// The notes behind the gates from this place on.
+fn notes_behind(alloc: Global, file: &[u8], first: usize) -> Result<Opening, LogFault>
+    requires { first ≤ length file.now }
+    ensures ok { IfOk result (λ opening. (i : Identity) → take first file.now ≡ open_gate ∷ header i → OpensTo i file.now opening) }
+    ensures refused { IfErr result (λ e. (e ≡ LogFault.Memory) ⊎ ((e ≡ LogFault.NotALog)
+        × ((i : Identity) → take first file.now ≡ open_gate ∷ header i → IsBroken i file.now))) }
+{
+    let mut notes = Vec::new(alloc);
+    let mut rest = &file[first..];
+    loop {
+        match at_gate(rest) {
+            AtGate::Closed => return Ok(Opening::Notes(notes, file.len() - rest.len())),
+            AtGate::CutShort => return Err(LogFault::NotALog),
+            AtGate::Note(note, behind) => {
+                notes.push(note.to_vec(alloc)?)?;
+                rest = behind;
+            }
+        }
+    }
+}
+
+/// What stands at the gate that these bytes begin with.
+fn at_gate(file: &[u8]) -> AtGate<'_>
+    ensures { StandsAt file.now result }
+{
+    let Some((gate, behind)) = file.split_first() else {
+        return AtGate::CutShort;
+    };
+    if *gate != OPEN {
+        return AtGate::Closed;
+    }
+    let Some((len, behind)) = behind.split_first_chunk::<4>() else {
+        return AtGate::CutShort;
+    };
+    let len = u32::from_be_bytes(*len) as usize;
+    if behind.len() <= len {
+        return AtGate::CutShort;
+    }
+    let (note, rest) = behind.split_at(len);
+    AtGate::Note(note, rest)
+}
