@@ -1,4 +1,4 @@
-//! Claims, how they compare, and the rounds that are left for them.
+//! Claims, how they compare, the rounds that are left for them, and the dependencies that a build under a claim stood on.
 #![tactic(auto)]
 
 ghost use Rattle.std.specs.Prelude.{◌≡◌, ◌+◌, ◌≤◌, ◌↔◌, None, Option, Some, IfOk, IsErr};
@@ -7,6 +7,9 @@ ghost use Rattle.std.specs.Ordering.{is_eq, is_gt, is_lt};
 ghost use Rattle.agreement.specs.Claims.{claim_below, claim_same, is_above, is_below};
 ghost use Rattle.claims.specs.Claim.{claim_cmp, promised_cmp};
 
+mod deps;
+
+pub use crate::deps::{Dep, Deps};
 pub use agreement::Claim;
 use faults::Fault;
 use thiserror::Error;

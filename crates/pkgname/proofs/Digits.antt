@@ -1,7 +1,6 @@
 -- Digits without leading zeros compare as numbers by their length, and then by their bytes.
-use Rattle.std.proofs.Common.{◌≡◌, ℕ, ◌+◌, ◌*◌, ◌<◌, ◌≤◌, ◌&&◌, ◌==◌, Bool, true, false, not, List, [], ◌∷◌, length, slice_index, refl, sym, ap, ◌∙◌, arith, inl, inr, Less, Equal, Greater}
-use Rattle.std.proofs.lemmas.Bool.{cases_lt, cases_Bool, lt-ltb, le-ltb, eq-eqb}
-use Rattle.std.proofs.lemmas.Grind.{common_steps}
+use Rattle.std.proofs.Common.{◌≡◌, ℕ, ◌+◌, ◌*◌, ◌<◌, ◌≤◌, ◌==◌, true, not, List, [], ◌∷◌, length, slice_index, refl, arith, inl, inr, Less, Equal, Greater}
+use Rattle.std.proofs.lemmas.Bool.{cases_lt, lt-ltb}
 use Rattle.std.specs.Char.{digit_value, is_ascii_digit}
 use Rattle.std.specs.Cmp.Lexicographic.{slice_cmp}
 use Rattle.std.specs.List.{list_all}
@@ -9,27 +8,41 @@ use Rattle.std.specs.Ordering.{nat_cmp, ordering_then}
 use Rattle.std.specs.Str.Parse.{digits_value_after}
 use Rattle.pkgname.specs.Version.{number_of}
 
+-- ---- one digit
+
+-- a digit's byte is that of 0 and its value
 digit_is : (x : ℕ) → is_ascii_digit x ≡ true → x ≡ 48 + digit_value x
 digit_is x h = grind arith
 
+-- a digit's value is below ten
 digit_below_ten : (x : ℕ) → is_ascii_digit x ≡ true → digit_value x < 10
 digit_below_ten x h = grind arith
 
+-- ---- what comparing numbers answers
+
+-- the first is below
 nat_cmp-Less : (m n : ℕ) → m < n → nat_cmp m n ≡ Less
 nat_cmp-Less m n h = rw (lt-ltb m n h) refl
 
+-- they are one
 nat_cmp-Equal : (m n : ℕ) → m ≡ n → nat_cmp m n ≡ Equal
 nat_cmp-Equal m n h = grind arith
 
+-- the first is above
 nat_cmp-Greater : (m n : ℕ) → n < m → nat_cmp m n ≡ Greater
 nat_cmp-Greater m n h = grind arith
 
+-- ---- digits in a row
+
+-- the first of digits is one
 first_digit : (x : ℕ) (xs : List ℕ) → list_all is_ascii_digit (x ∷ xs) ≡ true → is_ascii_digit x ≡ true
 first_digit x xs h = grind arith
 
+-- those behind the first are digits, too
 other_digits : (x : ℕ) (xs : List ℕ) → list_all is_ascii_digit (x ∷ xs) ≡ true → list_all is_ascii_digit xs ≡ true
 other_digits x xs h = grind arith
 
+-- a front never shrinks when digits follow it
 grows : (n : ℕ) (xs : List ℕ) → n ≤ digits_value_after 10 n xs
 grows n [] = omega arith
 grows n (x ∷ xs) = omega (arith, grows (n * 10 + digit_value x) xs)
@@ -72,6 +85,7 @@ shorter xs (y ∷ ys) lt d f leading =
     let some : 0 < digit_value y = grind arith in
     less xs ys 0 (0 * 10 + digit_value y) (omega arith) (omega arith) d
 
+-- without leading zeros, numbers compare by how many digits they have, and then by their bytes
 pub number_cmp : (xs ys : List ℕ) → list_all is_ascii_digit xs ≡ true → not (slice_index xs 0 == 48) ≡ true → list_all is_ascii_digit ys ≡ true → not (slice_index ys 0 == 48) ≡ true
     → nat_cmp (number_of xs) (number_of ys) ≡ ordering_then (nat_cmp (length xs) (length ys)) (slice_cmp nat_cmp xs ys)
 number_cmp xs ys d leading f other_leading = elim (cases_lt (length xs) (length ys)) [

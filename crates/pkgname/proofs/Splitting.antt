@@ -1,6 +1,6 @@
 -- What a text is as a name, by the place of the dash before its version.
-use Rattle.std.proofs.Common.{◌≡◌, ℕ, suc, ◌+◌, ◌<◌, ◌≤◌, ◌==◌, Bool, true, false, List, [], ◌∷◌, length, take, drop, drop-cons, Some, None, Ok, Err, refl, sym, ap, ◌∙◌, arith, inl, inr, slice_index, get_or}
-use Rattle.std.proofs.lemmas.Bool.{and_from, and_parts, cases_Bool, cases_lt, le-ltb, lt-ltb}
+use Rattle.std.proofs.Common.{◌≡◌, ℕ, suc, ◌+◌, ◌<◌, ◌≤◌, ◌==◌, Bool, true, false, List, [], ◌∷◌, length, take, drop, drop-cons, Some, Ok, refl, sym, ap, ◌∙◌, arith, inl, inr, slice_index, get_or}
+use Rattle.std.proofs.lemmas.Bool.{and_from, and_parts, cases_Bool, cases_lt, le-ltb}
 use Rattle.std.proofs.lemmas.List.Folds.{list_all-append}
 use Rattle.std.proofs.lemmas.Option.{slice_get-get_or, slice_get_past}
 use Rattle.std.proofs.Math.ListN.{take-append-drop}
@@ -13,8 +13,8 @@ use Rattle.faults.specs.Pieces.{pieces_at}
 use Rattle.pkgname.proofs.Cutting.{first_piece-cons, list_all-first_piece, list_any-first_piece}
 use Rattle.pkgname.specs.PkgName.{Parts, is_dash_before, is_name_byte, name_of, parts_of, version_dash}
 use Rattle.pkgname.specs.Version.{IsVersion}
-use Rattle.pkgname.specs.declared.NameFault.TheVariants.{BadByte, NoVersion, TooLong}
 
+-- what is found passes
 find_passes : (p : ℕ → Bool) (xs : List ℕ) (i : ℕ) → find p xs ≡ Some i → p i ≡ true
 find_passes p [] i e = cc
 find_passes p (x ∷ xs) i e = elim (cases_Bool (p x)) [
@@ -35,6 +35,7 @@ begins_behind begins text i h =
       | inr past ↦ cc (rw (slice_get_past text (i + 1) past) at behind)
     ]
 
+-- what holds of each byte holds of each behind a place
 list_all-drop : (q : ℕ → Bool) (n : ℕ) (text : Text) → list_all q text ≡ true → list_all q (drop n text) ≡ true
 list_all-drop q n text h =
     let whole = sym (list_all-append q (take n text) (drop n text)) ∙ (ap (list_all q) (take-append-drop n text) ∙ h) in
@@ -58,11 +59,6 @@ version_behind text i version flavors bytes at pieces =
     and_from _ _ (and_from _ _ (rw is behind.1) (list_all-first_piece (λ b. b == dash) is_name_byte (drop (i + 1) text) version flavors pieces (list_all-drop is_name_byte (i + 1) text bytes)))
     (rw (list_any-first_piece (λ b. b == dash) (drop (i + 1) text) version flavors pieces) refl)
 
+-- a text with a version and without an empty flavor is a name
 pub name_from_parts : (text : Text) (parts : Parts) → length text ≤ 255 → list_all is_name_byte text ≡ true → parts_of text ≡ Some parts → list_any is_empty parts.flavors ≡ false → name_of text ≡ Ok text
 name_from_parts text parts short bytes split filled = rw (le-ltb 255 (length text) short, bytes, split, filled) refl
-
-pub empty_flavor_from_parts : (text : Text) (parts : Parts) → length text ≤ 255 → list_all is_name_byte text ≡ true → parts_of text ≡ Some parts → list_any is_empty parts.flavors ≡ true → name_of text ≡ Err BadByte
-empty_flavor_from_parts text parts short bytes split empty = rw (le-ltb 255 (length text) short, bytes, split, empty) refl
-
-pub no_version : (text : Text) → length text ≤ 255 → list_all is_name_byte text ≡ true → version_dash is_ascii_digit text ≡ None → name_of text ≡ Err NoVersion
-no_version text short bytes none = rw (le-ltb 255 (length text) short, bytes, none) refl

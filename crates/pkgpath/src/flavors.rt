@@ -18,7 +18,8 @@ fn is_flavor(part: &[u8]) -> bool
 fn place_for(set: &[&[u8]], flavor: &[u8]) -> Option<usize>
     ensures { let members = map (λ x. x.now) set.now in MatchOption result
         (with_member flavor.now members ≡ members)
-        (λ place. (place ≤ length set.now) × (with_member flavor.now members ≡ insert members place flavor.now)) }
+        (λ place. (place ≤ length set.now)
+        × (with_member flavor.now members ≡ insert members place flavor.now)) }
 {
     for (place, member) in set.iter().enumerate() {
         match flavor.cmp(member) {

@@ -1,5 +1,5 @@
 //! The parts of a package path behind its directory.
-ghost use Rattle.std.specs.Prelude.{◌≡◌, ◌≤◌, true, false, length, MatchOption};
+ghost use Rattle.std.specs.Prelude.{◌≡◌, true, false, MatchOption};
 ghost use Rattle.std.specs.List.{list_all};
 ghost use Rattle.faults.specs.Bytes.{comma};
 ghost use Rattle.faults.specs.Pieces.{pieces_at};
@@ -44,9 +44,9 @@ fn kind_of(part: &[u8]) -> Option<Kind>
 
 /// Counts the parts of a text with commas between them, if all are parts.
 pub(crate) fn count_parts<'a>(text: &'a [u8]) -> Option<Tally<'a>>
-    ensures { MatchOption result
-        (list_all is_part (pieces_at comma text.now) ≡ false)
-        (λ tally. (list_all is_part (pieces_at comma text.now) ≡ true) × IsTally tally (pieces_at comma text.now)) }
+    ensures { let parts = pieces_at comma text.now in MatchOption result
+        (list_all is_part parts ≡ false)
+        (λ tally. (list_all is_part parts ≡ true) × IsTally tally parts) }
 {
     let mut empties = 0;
     let mut subpackages = 0;

@@ -65,7 +65,8 @@ fn push_part(out: &mut Vec<u8>, part: &[u8]) -> Result<(), AllocError>
 
 /// Appends each part behind a comma.
 fn push_parts(out: &mut Vec<u8>, parts: &[&[u8]]) -> Result<(), AllocError>
-    ensures { OnOk result (out.new.items ≡ out.old.items ++ flat_map (λ part. comma ∷ part.now) parts.now) }
+    ensures { OnOk result
+        (out.new.items ≡ out.old.items ++ flat_map (λ part. comma ∷ part.now) parts.now) }
 {
     for part in parts {
         push_part(out, part)?;

@@ -1,7 +1,7 @@
 -- How a run of calls goes on.
-use Rattle.std.proofs.Common.{◌≡◌, ◌⊎◌, ⊎_elim, inl, inr, ℕ, List, [], ◌∷◌, length, take, Result, Ok, Err, refl, sym, subst}
+use Rattle.std.proofs.Common.{⊎_elim, inr, ℕ, List, [], ◌∷◌, length, take, Result, Ok, Err, sym, subst}
 use Rattle.stable_record.specs.declared.disk_fault.DiskFault.{DiskFault}
-use Rattle.stable_record.specs.History.{History, Call, written, cut_to, synced, seen, overwritten}
+use Rattle.stable_record.specs.History.{History, written, cut_to, synced, seen, overwritten}
 use Rattle.stable_record.specs.Crash.{MayLeave, Leaves, Torn, AllAlong, at_first, and_then}
 use Rattle.stable_record.specs.Faults.{WritesDown, CutsDown}
 use Rattle.stable_record.specs.Possible.{overwritten_is_torn}

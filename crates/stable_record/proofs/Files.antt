@@ -1,13 +1,12 @@
 -- What files of logs stand for.
-use Rattle.std.proofs.Common.{◌≡◌, ◌≢◌, inl, inr, ℕ, zero, suc, ◌+◌, ◌<◌, ◌^◌, List, [], ◌∷◌, ◌++◌, length, All, refl, sym, ◌∙◌, ap, arith, append_assoc, length-append}
+use Rattle.std.proofs.Common.{◌≡◌, inl, inr, ℕ, zero, suc, ◌+◌, ◌<◌, ◌^◌, List, [], ◌∷◌, ◌++◌, length, All, sym, ◌∙◌, ap, arith, append_assoc, length-append}
 use Rattle.std.proofs.lemmas.Bool.{cases_eq}
 use Rattle.std.proofs.lemmas.List.{append-nil}
 use Rattle.std.proofs.lemmas.List.Elements.{All-append}
 use Rattle.std.proofs.lemmas.Grind.{flat_map-append}
-use Rattle.std.specs.List.{flat_map}
 use Rattle.std.specs.Int.{w32, to_be_bytes}
 use Rattle.stable_record.specs.declared.identity.Identity.{Identity}
-use Rattle.stable_record.specs.Log.{Note, open_gate, closed_gate, header, entry, entries, log_file, gate_place, HasNotes, HasBeforeOrAfter, staged}
+use Rattle.stable_record.specs.Log.{Note, open_gate, closed_gate, header, entry, entries, log_file, gate_place, HasBeforeOrAfter, staged}
 
 -- what stands in front of the closed gate
 abbrev pub front : Identity → List Note → List ℕ

@@ -1,12 +1,12 @@
 -- A byte put into ranges of a file, and what a disk in memory may leave.
-use Rattle.std.proofs.Common.{◌≡◌, ◌⊎◌, ⊎_elim, inl, inr, ℕ, zero, suc, ◌+◌, ◌-◌, ◌≤◌, ◌<◌, min, max, List, [], ◌∷◌, ◌++◌, length, take, drop, replicate, refl, sym, ◌∙◌, ap, arith, append_assoc, length-append, length-take, length-drop}
+use Rattle.std.proofs.Common.{◌≡◌, ⊎_elim, inl, inr, ℕ, zero, suc, ◌+◌, ◌-◌, min, max, List, [], ◌∷◌, ◌++◌, length, take, drop, replicate, refl, sym, ◌∙◌, ap, arith, append_assoc, length-append, length-take, length-drop}
 use Rattle.std.proofs.lemmas.Bool.{cases_lt}
-use Rattle.std.proofs.lemmas.List.{append-nil, take_all, take_at, drop_all, drop_at, length-replicate, take-append-drop, drop-drop}
+use Rattle.std.proofs.lemmas.List.{take_at, drop_all, drop_at, length-replicate, take-append-drop, drop-drop}
 use Rattle.stable_record.specs.declared.mem_disk.Left.{Left}
 use Rattle.stable_record.specs.declared.mem_disk.Left.TheVariants.{Before, Written, Fill}
 use Rattle.stable_record.specs.Crash.{MayLeave, Torn}
 use Rattle.stable_record.specs.Events.{Event, replay, holds, was_there, writes, cuts, syncs, reads, measures, fails}
-use Rattle.stable_record.specs.History.{History, seen, overwritten}
+use Rattle.stable_record.specs.History.{seen, overwritten}
 use Rattle.stable_record.specs.Memory.{on_disk, unsynced, blanked, filled, left_file}
 use Rattle.stable_record.specs.Possible.{replay_possible}
 

@@ -1,5 +1,7 @@
 mod Along
+mod Answered
 mod AsLeft
+mod Entries
 mod Examples
 mod Files
 mod Filled

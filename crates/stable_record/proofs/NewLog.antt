@@ -1,15 +1,15 @@
 -- A log in making: what a crash leaves of it opens without notes.
-use Rattle.std.proofs.Common.{◌≡◌, ◌≢◌, ◌⊎◌, ⊎_elim, inl, inr, ℕ, ◌+◌, ◌<◌, ◌≤◌, List, [], ◌∷◌, ◌++◌, length, take, drop, Result, Ok, Err, OnOk, Some, refl, sym, ◌∙◌, ap, subst, arith, append_assoc, length-append}
+use Rattle.std.proofs.Common.{◌≡◌, ⊎_elim, inl, inr, ℕ, ◌+◌, ◌≤◌, List, [], ◌∷◌, ◌++◌, length, take, drop, Result, Ok, Err, OnOk, Some, refl, sym, ◌∙◌, ap, subst, arith, length-append}
 use Rattle.std.specs.Prelude.{slice_get}
 use Rattle.std.proofs.lemmas.Bool.{cases_eq}
 use Rattle.std.proofs.lemmas.List.{append-nil}
 use Rattle.stable_record.specs.declared.disk_fault.DiskFault.{DiskFault}
 use Rattle.stable_record.specs.declared.identity.Identity.{Identity}
-use Rattle.stable_record.specs.Crash.{MayLeave, Leaves, IsOnDisk, Torn, CutOrNot, AllAlong, at_first}
+use Rattle.stable_record.specs.Crash.{MayLeave, Leaves, IsOnDisk, Torn, at_first}
 use Rattle.stable_record.specs.Faults.{WritesDown, CutsDown}
-use Rattle.stable_record.specs.History.{History, written, cut_to, synced, seen, overwritten}
-use Rattle.stable_record.specs.Log.{Note, open_gate, closed_gate, header, log_file, gate_place, IsSettled}
-use Rattle.stable_record.specs.Opening.{IsBlank, no_more_than_a_gate, begun, not_opened, Opens, StaysAs, shortest}
+use Rattle.stable_record.specs.History.{History, written, synced, seen, overwritten}
+use Rattle.stable_record.specs.Log.{open_gate, closed_gate, header, IsSettled}
+use Rattle.stable_record.specs.Opening.{IsBlank, no_more_than_a_gate, begun, not_opened, Opens, StaysAs}
 use Rattle.stable_record.proofs.Along.{wrote_down, cut_along, along_on}
 use Rattle.stable_record.proofs.Torn.{overwritten_end, torn_end, overwritten_byte, torn_byte}
 

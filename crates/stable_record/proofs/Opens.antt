@@ -1,5 +1,5 @@
 -- A file opens to one thing.
-use Rattle.std.proofs.Common.{◌≡◌, ◌≢◌, ◌⊎◌, inl, inr, ⊎_elim, ℕ, zero, suc, ◌+◌, ◌<◌, ◌≤◌, ◌^◌, List, [], ◌∷◌, ◌++◌, length, take, drop, All, Result, Ok, Err, Some, refl, sym, ◌∙◌, ap, subst, arith, append_assoc, length-append}
+use Rattle.std.proofs.Common.{◌≡◌, ◌≢◌, inl, inr, ℕ, suc, ◌+◌, ◌<◌, ◌^◌, List, [], ◌∷◌, ◌++◌, length, take, drop, All, Result, Ok, Err, Some, refl, sym, ◌∙◌, ap, subst, arith, append_assoc, length-append}
 use Rattle.std.specs.Int.{w32, to_be_bytes, from_be_bytes}
 use Rattle.std.specs.Prelude.{slice_get}
 use Rattle.std.proofs.lemmas.List.{append_cancel_left, take_at, drop_at}
@@ -8,7 +8,7 @@ use Rattle.stable_record.specs.declared.identity.Identity.{Identity}
 use Rattle.stable_record.specs.declared.log_fault.LogFault.{LogFault}
 use Rattle.stable_record.specs.declared.log_fault.LogFault.TheVariants.{Memory, Device, Full, MustReopen, NotALog, OtherCluster}
 use Rattle.stable_record.specs.Log.{Note, open_gate, closed_gate, header, magic, entry, entries, log_file, HasNotes}
-use Rattle.stable_record.specs.Opening.{IsBlank, no_more_than_a_gate, begun, not_opened, IsLog, IsAsOwner, IsBroken, IsCutShort, Opens, shortest}
+use Rattle.stable_record.specs.Opening.{IsBlank, no_more_than_a_gate, begun, not_opened, IsLog, IsAsOwner, IsCutShort, Opens}
 
 abbrev Fit : List Note → Type 0
 Fit notes = All (λ note. length note < 2 ^ 32) notes

@@ -1,11 +1,11 @@
 -- Cutting off what is behind the closed gate.
-use Rattle.std.proofs.Common.{◌≡◌, ◌≢◌, ⊎_elim, inl, inr, ℕ, ◌+◌, ◌-◌, ◌≤◌, List, [], ◌∷◌, ◌++◌, length, take, drop, Result, Ok, Err, OnOk, refl, sym, ◌∙◌, ap, subst, arith, append_assoc, length-append}
+use Rattle.std.proofs.Common.{◌≡◌, ⊎_elim, inr, ℕ, ◌+◌, ◌≤◌, List, [], ◌∷◌, ◌++◌, length, take, Result, Ok, Err, OnOk, sym, ◌∙◌, ap, subst, arith, append_assoc, length-append}
 use Rattle.std.proofs.lemmas.List.{take_at, nil_from_length}
 use Rattle.stable_record.specs.declared.disk_fault.DiskFault.{DiskFault}
 use Rattle.stable_record.specs.declared.identity.Identity.{Identity}
-use Rattle.stable_record.specs.Crash.{MayLeave, Leaves, IsOnDisk, at_first}
+use Rattle.stable_record.specs.Crash.{MayLeave, IsOnDisk, at_first}
 use Rattle.stable_record.specs.Faults.{CutsDown}
-use Rattle.stable_record.specs.History.{History, cut_to, synced, seen}
+use Rattle.stable_record.specs.History.{History, cut_to, seen}
 use Rattle.stable_record.specs.Log.{Note, log_file, gate_place, HasNotes, IsSettled}
 use Rattle.stable_record.specs.Opening.{Opens, StaysAs}
 use Rattle.stable_record.proofs.Along.{cut_along}

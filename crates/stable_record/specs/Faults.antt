@@ -1,5 +1,5 @@
 -- How a disk counts its failures, and what a call that was refused has done.
-use Rattle.std.specs.Prelude.{◌≡◌, ◌⊎◌, ℕ, ◌+◌, ◌≤◌, ◌^◌, ◌==◌, nat_le, nat_lt, Bool, if◌then◌else◌, List, [], ◌∷◌, length, take, drop, min, ◌-◌, Result, Ok, Err, OnOk, OnErr, IsErrOf}
+use Rattle.std.specs.Prelude.{◌≡◌, ◌⊎◌, ℕ, ◌+◌, ◌≤◌, ◌==◌, nat_le, nat_lt, Bool, if◌then◌else◌, List, ◌∷◌, length, take, drop, min, ◌-◌, Result, Ok, Err, OnOk, OnErr, IsErrOf}
 use Rattle.stable_record.specs.declared.disk_fault.DiskFault.{DiskFault}
 use Rattle.stable_record.specs.declared.disk_fault.DiskFault.TheVariants.{Memory, Device}
 use Rattle.stable_record.specs.declared.fault_disk.Failing.{Failing}

@@ -1,5 +1,5 @@
 -- What a file is opened as.
-use Rattle.std.specs.Prelude.{◌≡◌, ◌≢◌, ◌⊎◌, ◌↔◌, ℕ, ◌+◌, ◌<◌, ◌≤◌, ◌^◌, All, List, [], ◌∷◌, ◌++◌, length, take, drop, Option, Some, Result, Ok, Err, slice_get, map}
+use Rattle.std.specs.Prelude.{◌≡◌, ◌≢◌, ◌⊎◌, ◌↔◌, ℕ, ◌+◌, ◌<◌, ◌≤◌, ◌^◌, All, List, [], ◌∷◌, ◌++◌, length, take, drop, Some, Result, Ok, Err, slice_get, slice_index, map}
 use Rattle.std.specs.Int.{w32, from_be_bytes}
 use Rattle.stable_record.specs.declared.identity.Identity.{Identity}
 use Rattle.stable_record.specs.declared.log_fault.LogFault.{LogFault}
@@ -9,7 +9,7 @@ use Rattle.stable_record.specs.declared.reading.Opening.TheVariants.{Blank, Note
 use Rattle.stable_record.specs.declared.reading.AtGate.{AtGate}
 use Rattle.stable_record.specs.declared.reading.AtGate.TheVariants as at
 use Rattle.stable_record.specs.Log.{Note, entry, HasNotes, note_of, gate_place, magic, header, log_file, open_gate, closed_gate}
-use Rattle.stable_record.specs.History.{History, seen}
+use Rattle.stable_record.specs.History.{History}
 use Rattle.stable_record.specs.Crash.{AllAlong, MayLeave}
 
 -- the length of a log without notes: two gates and the header
@@ -79,6 +79,7 @@ pub record OpensAsLeft (i : Identity) (start : History) (file : List ℕ) : Type
   pub could_be : MayLeave start left
   pub same : (answer : Result (List Note) LogFault) → Opens i left answer ↔ Opens i file answer
 
--- no file opens to two things
-abbrev pub HasOneAnswer : Identity → Type 0
-HasOneAnswer i = (file : List ℕ) (a b : Result (List Note) LogFault) → Opens i file a → Opens i file b → a ≡ b
+-- Each file of bytes opens to something, and no file to two things.
+pub record HasOneAnswer (i : Identity) : Type 0 where
+  pub some_answer : (file : List ℕ) → ((k : ℕ) → slice_index file k < 256) → (answer : Result (List Note) LogFault) × Opens i file answer
+  pub no_second : (file : List ℕ) (a b : Result (List Note) LogFault) → Opens i file a → Opens i file b → a ≡ b

@@ -26,7 +26,7 @@ impl<D: Disk> Log<D> {
         ensures holds { IfOk result (λ r. D.is_kept r.0.disk → Holds D.history r.0 (map note_of r.1.items)) }
         ensures owner { IfOk result (λ r. r.0.identity ≡ identity) }
 
-        // A file has no two answers.
+        // A file of bytes has one answer.
         ensures one_answer { HasOneAnswer identity }
 
         // A crash at any moment leaves notes that a crash at the start could leave.

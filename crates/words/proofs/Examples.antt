@@ -1,5 +1,5 @@
 -- The calls of `dpbr` at words that are known.
-use Rattle.std.proofs.Common.{◌≡◌, codes, refl, Option, Some, None, true, false, List, [], ◌∷◌, option_map, option_and_then}
+use Rattle.std.proofs.Common.{◌≡◌, codes, refl, Option, Some, true, false, List, [], ◌∷◌, option_map, option_and_then}
 use Rattle.clap.specs.Words.{Row, Text, first_of}
 use Rattle.clap.proofs.OnLiterals.{clap_on_literals}
 use Rattle.words.specs.Calls.{are_taken, dpbr_app, matched}

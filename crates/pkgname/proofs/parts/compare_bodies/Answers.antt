@@ -1,4 +1,4 @@
-use Rattle.std.proofs.Common.{◌≡◌, ℕ, List, [], ◌∷◌, Less, Equal, Greater, false, sym, ap, ◌∙◌, map, refl, ◌==◌}
+use Rattle.std.proofs.Common.{◌≡◌, List, [], ◌∷◌, Less, Equal, Greater, false, sym, ap, ◌∙◌, map, refl, ◌==◌}
 use Rattle.std.specs.Cmp.Lexicographic.{slice_cmp}
 use Rattle.std.specs.Ordering.{is_ne, ordering_then}
 use Rattle.std.specs.declared.cmp.Ordering.{Ordering}
@@ -9,6 +9,7 @@ use Rattle.pkgname.specs.Order.{component_cmp}
 use Rattle.pkgname.specs.Version.{Component, component_of, components_of}
 use Rattle.pkgname.proofs.parts.compare_bodies.Goals as goal
 
+-- an answer that isn't unequal is equal
 equal_from_is_ne : (o : Ordering) → is_ne o ≡ false → o ≡ Equal
 equal_from_is_ne Less h = cc
 equal_from_is_ne Equal h = refl
@@ -27,6 +28,7 @@ longer own own_first own_behind other other_first o own_pieces other_pieces comp
     let on = goes_on own own_first own_behind own_pieces in
     (λ i. slice_cmp component_cmp (on.2 i) (map component_of (other_pieces i))) ∙ ap (λ r. ordering_then r Greater) (sym compared ∙ equal_from_is_ne o tie)
 
+-- and the one that ends is below
 shorter : (own own_first other other_first other_behind : Text) (o : Ordering) → pieces_at dot own ≡ own_first ∷ [] → pieces_at dot other ≡ other_first ∷ pieces_at dot other_behind
     → o ≡ component_cmp (component_of own_first) (component_of other_first) → is_ne o ≡ false → slice_cmp component_cmp (components_of own) (components_of other) ≡ Less
 shorter own own_first other other_first other_behind o own_pieces other_pieces compared tie =

@@ -1,4 +1,4 @@
-use Rattle.std.proofs.Common.{rules, true, false, ap, sym, ◌∙◌, Some, refl}
+use Rattle.std.proofs.Common.{true, sym, ◌∙◌, refl}
 use Rattle.pkgname.proofs.Fronts.{begins_from_stripped}
 use Rattle.pkgname.proofs.rest.number_behind.Goals as goal
 

@@ -1,6 +1,5 @@
-use Rattle.std.proofs.Common.{◌∷◌, [], Ok, take, ap}
+use Rattle.std.proofs.Common.{◌∷◌, take, ap}
 use Rattle.stable_record.specs.History.{seen, cut_to}
-use Rattle.stable_record.specs.Log.{closed_gate}
 use Rattle.stable_record.proofs.NewLog.{emptied, gate_put, on_disk_after, possible_after}
 use Rattle.stable_record.proofs.making.begin.Goals as goal
 

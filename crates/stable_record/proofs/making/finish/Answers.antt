@@ -1,4 +1,4 @@
-use Rattle.std.proofs.Common.{◌≡◌, ◌∷◌, ◌++◌, [], Ok, length, ap, subst, ◌∙◌}
+use Rattle.std.proofs.Common.{◌∷◌, ◌++◌, [], Ok, length, ap, subst, ◌∙◌}
 use Rattle.stable_record.specs.Faults.{WritesDown}
 use Rattle.stable_record.specs.History.{seen, written, overwritten}
 use Rattle.stable_record.specs.Log.{closed_gate, header}

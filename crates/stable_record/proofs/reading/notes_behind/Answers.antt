@@ -1,4 +1,4 @@
-use Rattle.std.proofs.Common.{◌≡◌, inl, inr, refl, map, length, arith, ap, length-append}
+use Rattle.std.proofs.Common.{inr, refl, map, length, arith, ap, length-append}
 use Rattle.stable_record.specs.Log.{note_of, entry}
 use Rattle.stable_record.proofs.NotesRead.{entries_more, lengths_more, gate_found, notes_found, break_found}
 use Rattle.stable_record.proofs.reading.notes_behind.Goals as goal

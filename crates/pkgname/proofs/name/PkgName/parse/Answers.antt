@@ -1,10 +1,9 @@
-use Rattle.std.proofs.Common.{◌≡◌, ◌+◌, ◌∷◌, ◌∙◌, arith, drop, length, Some, sym, true}
+use Rattle.std.proofs.Common.{◌≡◌, ◌+◌, ◌∙◌, arith, Some, sym, true}
 use Rattle.std.proofs.lemmas.List.{take_rest}
 use Rattle.std.specs.Char.{is_ascii_digit}
 use Rattle.std.specs.List.{list_all}
 use Rattle.std.specs.Prelude.{option_copied}
 use Rattle.faults.specs.Bytes.{dash}
-use Rattle.faults.specs.Pieces.{pieces_at}
 use Rattle.pkgname.specs.Pieces.{pieces_behind}
 use Rattle.pkgname.specs.PkgName.{is_name_byte, version_dash}
 use Rattle.pkgname.proofs.Splitting.{name_from_parts, parts_from_pieces, version_behind, version_dash-Some}

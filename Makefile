@@ -1,0 +1,20 @@
+# For BSD make and GNU make.
+PREFIX ?=	/usr/local
+BINDIR ?=	$(PREFIX)/bin
+MANDIR ?=	$(PREFIX)/man
+
+all:
+	./dpbr status /dev/null /dev/null >/dev/null
+
+check:
+	tests/run
+
+install: all
+	install -d $(DESTDIR)$(BINDIR) $(DESTDIR)$(MANDIR)/man1
+	install -m 755 crates/dpbr/out/dpbr $(DESTDIR)$(BINDIR)/dpbr
+	install -m 644 man/dpbr.1 $(DESTDIR)$(MANDIR)/man1/dpbr.1
+
+bench: all
+	bench/status
+
+.PHONY: all check install bench

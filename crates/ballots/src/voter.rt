@@ -1,0 +1,139 @@
+//! The voter of one path: what it promised, and what it last voted for.
+ghost use Rattle.std.specs.Prelude.{◌≡◌, IfOk, Some};
+ghost use Rattle.agreement.specs.Member.{greater};
+ghost use Rattle.agreement.specs.Step.{on_offer, on_propose};
+ghost use Rattle.agreement.specs.Votes.{ballot, is_voted, report_of};
+ghost use Rattle.ballots.specs.InTheAgreement.{IsStepOf, kept_of, promised_then, refusal_of, voted_then};
+
+use crate::{Body, Fact, Value};
+use agreement::{is_above, is_below, is_promised};
+use claims::Claim;
+use faults::Memory;
+
+/// What a member promised, and its last vote, for one path.
+#[derive(Drop)]
+pub struct Voter<V> {
+    pub promised: Option<Claim>,
+    pub voted: Option<(Claim, V)>,
+}
+
+/// What a voter is to note first, and then what it answers to the claim's member. It holds all that was grown for the step:
+/// `kept` is the value that the voter keeps where it votes.
+#[derive(Drop)]
+pub struct VoterStep<V> {
+    pub note: Option<Fact<V>>,
+    pub answer: Body<V>,
+    pub kept: Option<V>,
+}
+
+impl<V: Value> Voter<V> {
+    /// The step for an offer: a promise that reports the last vote, or a refusal.
+    pub fn offer(&self, claim: Claim) -> Result<VoterStep<V>, Memory>
+        ensures { IfOk result (λ step. IsStepOf V self.now (λ i x. on_offer i x claim) step) }
+    {
+        if is_above(claim, self.promised) {
+            let voted = self.copy_of_vote()?;
+            return Ok(VoterStep {
+                note: Some(Fact::Promised(claim)),
+                answer: Body::Promise(claim, voted),
+                kept: None,
+            });
+        }
+        if is_promised(claim, self.promised) && !self.has_voted(claim) {
+            let voted = self.copy_of_vote()?;
+            return Ok(VoterStep {
+                note: None,
+                answer: Body::Promise(claim, voted),
+                kept: None,
+            });
+        }
+        Ok(self.refusal(claim))
+    }
+
+    /// The step for a proposal: a vote, or a refusal.
+    pub fn propose(&self, claim: Claim, value: &V) -> Result<VoterStep<V>, Memory>
+        ensures { IfOk result (λ step. IsStepOf V self.now (λ i x. on_propose i x (ballot claim value.now)) step) }
+    {
+        let voted = self.has_voted(claim);
+        if !is_below(claim, self.promised) && !voted {
+            let noted = value.copy()?;
+            let kept = value.copy()?;
+            return Ok(VoterStep {
+                note: Some(Fact::Voted(claim, noted)),
+                answer: Body::Vote(claim),
+                kept: Some(kept),
+            });
+        }
+        if voted && is_promised(claim, self.promised) {
+            return Ok(VoterStep {
+                note: None,
+                answer: Body::Vote(claim),
+                kept: None,
+            });
+        }
+        Ok(self.refusal(claim))
+    }
+
+    /// Takes the step, and gives its note and its answer. It moves what the step holds, and takes no memory.
+    pub fn apply(&mut self, step: VoterStep<V>) -> (Option<Fact<V>>, Body<V>)
+        requires { kept_of step.note ≡ step.kept }
+        ensures promised { self.new.promised ≡ promised_then self.old step.note }
+        ensures voted { report_of self.new.voted ≡ voted_then self.old step.note }
+        ensures handed_out { result ≡ (step.note, step.answer) }
+    {
+        let VoterStep { note, answer, kept } = step;
+        match &note {
+            Some(Fact::Promised(claim)) => self.promised = self.greater(*claim),
+            Some(Fact::Voted(claim, _)) => {
+                self.promised = self.greater(*claim);
+                if let Some(value) = kept {
+                    self.voted = Some((*claim, value));
+                }
+            }
+            _ => {}
+        }
+        (note, answer)
+    }
+
+    fn copy_of_vote(&self) -> Result<Option<(Claim, V)>, Memory>
+        ensures { IfOk result (λ vote. vote ≡ self.now.voted) }
+    {
+        match &self.voted {
+            Some((claim, value)) => {
+                let value = value.copy()?;
+                Ok(Some((*claim, value)))
+            }
+            None => Ok(None),
+        }
+    }
+
+    fn has_voted(&self, claim: Claim) -> bool
+        ensures { result ≡ is_voted claim (report_of self.now.voted) }
+    {
+        match &self.voted {
+            Some((voted, _)) => claim == *voted,
+            None => false,
+        }
+    }
+
+    fn refusal(&self, claim: Claim) -> VoterStep<V>
+        ensures { result ≡ refusal_of self.now claim }
+    {
+        let promised = self.promised.unwrap_or(claim);
+        VoterStep {
+            note: None,
+            answer: Body::Nay(claim, promised),
+            kept: None,
+        }
+    }
+
+    fn greater(&self, claim: Claim) -> Option<Claim>
+        ensures { result ≡ greater self.now.promised claim }
+    {
+        if is_above(claim, self.promised) {
+            Some(claim)
+        } else {
+            self.promised
+        }
+    }
+}

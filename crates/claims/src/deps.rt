@@ -1,0 +1,77 @@
+//! Dependencies with their digests.
+ghost use Rattle.std.specs.Prelude.{◌≡◌, IfOk};
+
+use faults::Memory;
+use pkgname::PkgName;
+use pkgpath::PkgPath;
+use std::alloc::Global;
+use std::marker::Model;
+
+/// A package that a build stood on, as its signature.
+#[derive(Drop)]
+pub struct Dep {
+    pub path: PkgPath,
+    pub name: PkgName,
+    pub digest: [u8; 32],
+}
+
+impl Dep {
+    pub fn copy(&self) -> Result<Dep, Memory>
+        ensures { IfOk result (λ dep. dep ≡ self.now) }
+    {
+        let path = self.path.copy()?;
+        let name = self.name.copy()?;
+        Ok(Dep {
+            path,
+            name,
+            digest: self.digest,
+        })
+    }
+}
+
+/// A list of dependencies, which contracts see as such.
+#[derive(Drop)]
+pub struct Deps {
+    items: Vec<Dep>,
+}
+
+impl Model for Deps {
+    ghost use Rattle.std.specs.Prelude.{List};
+    ghost use Rattle.claims.specs.declared.deps.Dep.{Dep};
+
+    ghost Value = { List Dep };
+
+    ghost view = { λ d. d.items.items };
+}
+
+impl Deps {
+    pub fn new(items: Vec<Dep>) -> Deps
+        ensures { result ≡ items.items }
+    {
+        Deps { items }
+    }
+
+    pub fn into_vec(self) -> Vec<Dep>
+        ensures { result.items ≡ self }
+    {
+        self.items
+    }
+
+    pub fn as_slice(&self) -> &[Dep]
+        ensures { result.now ≡ self.now }
+    {
+        self.items.as_slice()
+    }
+
+    pub fn copy(&self) -> Result<Deps, Memory>
+        ensures { IfOk result (λ deps. deps ≡ self.now) }
+    {
+        let alloc: Global = *self.items.allocator();
+        let all = self.items.as_slice();
+        let mut items = Vec::with_capacity(alloc, all.len())?;
+        for dep in all {
+            items.push(dep.copy()?)?;
+        }
+        Ok(Deps { items })
+    }
+}

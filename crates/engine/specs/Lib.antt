@@ -1,0 +1,4 @@
+pub mod Laws
+pub mod Letters
+pub mod Marks
+pub mod State

@@ -1,0 +1,45 @@
+-- The shape of a dependency, by its fields.
+use Rattle.std.proofs.Common.{◌≡◌, ◌<◌, ◌≤◌, ◌+◌, ◌==◌, ◌&&◌, ℕ, suc, zero, Bool, true, false, not, cond, nat_le, List, [], ◌∷◌, length, Option, None, Some, unwrap_or, find, option_map, is_some, Bor, refl, sym, ap, ◌∙◌, arith}
+use Rattle.std.specs.List.{count_by, position_or_len, slice_split, onto_first}
+use Rattle.std.proofs.lemmas.Bool.Decides.{nat_tests}
+use Rattle.faults.specs.Bytes.{Text, colon, has_byte, slash}
+use Rattle.listing.specs.Dependencies.{are_shaped, fields_before_path, fields_of, is_shaped}
+use Rattle.listing.specs.Parts.{IsFirstField}
+
+-- four fields are too many
+too_long : (b : Bool) (n before : ℕ) → 4 ≤ n → (b && nat_le before 1 && nat_le n (before + 2)) ≡ false
+too_long false n before h = refl
+too_long true n before h = grind (arith, nat_tests)
+
+pub four_fields : (a b c d : Text) (more : List Text) → are_shaped (a ∷ b ∷ c ∷ d ∷ more) ≡ false
+four_fields a b c d more =
+    too_long (count_by (has_byte slash) (a ∷ b ∷ c ∷ d ∷ more) == 1) (length (a ∷ b ∷ c ∷ d ∷ more)) (fields_before_path (a ∷ b ∷ c ∷ d ∷ more)) (omega arith)
+
+-- a text has at least one field
+pub first_of_fields : (text : Text) → (first : Text) × (rest : List Text) × (fields_of text ≡ first ∷ rest)
+first_of_fields [] = ([], [], refl)
+first_of_fields (x ∷ xs) = by (x == colon) (slice_split (λ b. b == colon) xs)
+  where
+    by : (b : Bool) (pieces : List Text) → (first : Text) × (rest : List Text) × (cond b ([] ∷ pieces) (onto_first x pieces) ≡ first ∷ rest)
+    by true pieces = ([], pieces, refl)
+    by false [] = (x ∷ [], [], refl)
+    by false (p ∷ ps) = (x ∷ p, ps, refl)
+
+-- three fields and more behind them are too many
+pub more_than_three : (word rest : Text) (a b c : Text) → fields_of word ≡ a ∷ b ∷ c ∷ fields_of rest → are_shaped (fields_of word) ≡ false
+more_than_three word rest a b c e =
+    let r = first_of_fields rest in
+    ap are_shaped (e ∙ ap (λ fs. a ∷ b ∷ c ∷ fs) r.2) ∙ four_fields a b c r.0 r.1
+
+-- what stands behind the first field, where something does
+pub more_fields : (text first : Text) (o : Option (Bor Text)) → is_some o ≡ true → IsFirstField text first (option_map (λ r. r.now) o)
+    → (rest : Text) × (fields_of text ≡ first ∷ fields_of rest)
+more_fields text first None there h = cc
+more_fields text first (Some r) there h = (r.now, h)
+
+pub three_and_more : (word first second third : Text) (rest1 rest2 : Text) (o : Option (Bor Text))
+    → IsFirstField word first (Some rest1) → IsFirstField rest1 second (Some rest2) → IsFirstField rest2 third (option_map (λ r. r.now) o) → is_some o ≡ true
+    → is_shaped word ≡ false
+three_and_more word first second third rest1 rest2 o e1 e2 e3 there =
+    let m = more_fields rest2 third o there e3 in
+    more_than_three word m.0 first second third (e1 ∙ ap (λ fs. first ∷ fs) e2 ∙ ap (λ fs. first ∷ second ∷ fs) m.1)

@@ -1,0 +1,13 @@
+mod Examples
+pub mod Positions
+pub mod Places
+pub mod Fields
+pub mod LineLemmas
+pub mod First
+pub mod Numbers
+pub mod Settings
+pub mod Rows
+pub mod Reading
+pub mod Members
+pub mod NodeLemmas
+pub mod Parsing

@@ -1,0 +1,109 @@
+-- A listing, line by line.
+use Rattle.std.proofs.Common.{◌≡◌, ◌<◌, ◌≤◌, ◌+◌, ◌++◌, ◌==◌, ◌⊎◌, ℕ, List, [], ◌∷◌, length, take, get_or, slice_get, option_to_list, option_and_then, Option, None, Some, Ok, Err, Result, MatchResult, refl, sym, ap, subst, ◌∙◌, arith, inl, inr, zero-add, add_comm}
+use Rattle.std.specs.List.{enumerate_from, filter_map, cons_option, range_with_len, slice_split}
+use Rattle.std.proofs.lemmas.List.{take_more, take_all}
+use Rattle.std.proofs.lemmas.List.Elements.{filter_map-append}
+use Rattle.std.proofs.lemmas.List.FromFn.{get_or-enumerate_from, length-enumerate_from, get_or-range_with_len, length-range_with_len}
+use Rattle.std.proofs.lemmas.Option.{slice_get-get_or}
+use Rattle.faults.specs.Answers.{IsRightUnless, first_given, option_or, unless_fault}
+use Rattle.faults.specs.Bytes.{Text, line_feed}
+use Rattle.listing.specs.Lines.{Line, Setting, lines_of, setting_of, settings_of}
+use Rattle.listing.specs.Listing.{fault_at, fault_of, line_fault, nameless_fault, tree_of, tree_of_settings}
+use Rattle.listing.specs.Rules.{words_as_names}
+use Rattle.listing.specs.Table.{Stands}
+use Rattle.listing.specs.Tree.{Tree}
+use Rattle.listing.specs.declared.ListingFault.{ListingFault}
+use Rattle.listing.specs.declared.ListingFault.TheVariants.{Memory}
+use Rattle.listing.specs.declared.table.Table.{Table}
+use Rattle.listing.proofs.First.{given_at, none_given_at_all, none_given_more}
+
+abbrev pub pieces : Text → List Text
+pieces text = slice_split (λ b. b == line_feed) text
+
+-- the k-th line
+line_at : (text : Text) (k n : ℕ) (line : Text) → k < length (pieces text) → line ≡ get_or (pieces text) k line → n ≡ k
+    → get_or (lines_of text) k (n + 1, line) ≡ (n + 1, line)
+line_at text k n line within here same =
+    let number : 1 + k ≡ n + 1 = omega (arith, same) in
+    get_or-enumerate_from 1 (pieces text) k (n + 1, line) within ∙ (λ i. (number i, sym here i))
+
+lines_size : (text : Text) → length (lines_of text) ≡ length (pieces text)
+lines_size text = length-enumerate_from 1 (pieces text)
+
+as_list : (o : Option Setting) → cons_option o [] ≡ option_to_list o
+as_list None = refl
+as_list (Some s) = refl
+
+-- what one more line sets
+pub settings_more : (text : Text) (k n : ℕ) (line : Text) → k < length (pieces text) → line ≡ get_or (pieces text) k line → n ≡ k
+    → settings_of (take (k + 1) (lines_of text)) ≡ settings_of (take k (lines_of text)) ++ option_to_list (setting_of (n + 1, line))
+settings_more text k n line within here same =
+    ap settings_of (take_more (lines_of text) k (n + 1, line) (omega (arith, within, lines_size text))
+    ∙ ap (λ l. take k (lines_of text) ++ l ∷ []) (line_at text k n line within here same))
+    ∙ filter_map-append setting_of (take k (lines_of text)) ((n + 1, line) ∷ [])
+    ∙ ap (λ ss. settings_of (take k (lines_of text)) ++ ss) (as_list (setting_of (n + 1, line)))
+
+-- the fault of the k-th line
+fault_here : (text : Text) (k n : ℕ) (line : Text) → k < length (pieces text) → line ≡ get_or (pieces text) k line → n ≡ k
+    → fault_at words_as_names (lines_of text) k ≡ line_fault words_as_names (settings_of (take k (lines_of text))) (n + 1, line)
+fault_here text k n line within here same =
+    ap (option_and_then (line_fault words_as_names (settings_of (take k (lines_of text)))))
+    (slice_get-get_or (lines_of text) k (n + 1, line) (omega (arith, within, lines_size text)) ∙ ap Some (line_at text k n line within here same))
+
+abbrev pub numbers : Text → List ℕ
+numbers text = range_with_len 0 (length (lines_of text))
+
+number_at : (text : Text) (k : ℕ) → k < length (pieces text) → get_or (numbers text) k 0 ≡ k
+number_at text k within =
+    get_or-range_with_len 0 (length (lines_of text)) k 0 (omega (arith, within, lines_size text)) ∙ zero-add k
+
+numbers_size : (text : Text) → length (numbers text) ≡ length (pieces text)
+numbers_size text = length-range_with_len 0 (length (lines_of text)) ∙ lines_size text
+
+-- the first lines have no fault, and the table stands for what they set
+pub record ParsedSoFar (text : Text) (table : Table) (k : ℕ) : Type 0 where
+  pub faultless : first_given (fault_at words_as_names (lines_of text)) (take k (numbers text)) ≡ None
+  pub stands : Stands table (settings_of (take k (lines_of text)))
+
+pub parsed_nothing : (text : Text) (table : Table) → Stands table [] → ParsedSoFar text table 0
+parsed_nothing text table h = record { faultless = refl; stands = h }
+
+pub parsed_more : (text : Text) (table now : Table) (k n : ℕ) (line : Text) → k < length (pieces text) → line ≡ get_or (pieces text) k line → n ≡ k
+    → ParsedSoFar text table k
+    → (line_fault words_as_names (settings_of (take k (lines_of text))) (n + 1, line) ≡ None)
+    × Stands now (settings_of (take k (lines_of text)) ++ option_to_list (setting_of (n + 1, line)))
+    → ParsedSoFar text now (k + 1)
+parsed_more text table now k n line within here same so_far h = record {
+  faultless = none_given_more (fault_at words_as_names (lines_of text)) (numbers text) k 0 (omega (arith, within, numbers_size text)) so_far.faultless
+      (ap (fault_at words_as_names (lines_of text)) (number_at text k within) ∙ fault_here text k n line within here same ∙ h.0);
+  stands = subst (Stands now) (sym (settings_more text k n line within here same)) h.1;
+}
+
+-- a faulty line
+pub parse_fault : (text : Text) (table : Table) (k n : ℕ) (line : Text) (e : ListingFault) → k < length (pieces text) → line ≡ get_or (pieces text) k line → n ≡ k
+    → ParsedSoFar text table k → line_fault words_as_names (settings_of (take k (lines_of text))) (n + 1, line) ≡ Some e
+    → tree_of words_as_names text ≡ Err e
+parse_fault text table k n line e within here same so_far bad =
+    let first = given_at (fault_at words_as_names (lines_of text)) (numbers text) k 0 e (omega (arith, within, numbers_size text)) so_far.faultless
+    (ap (fault_at words_as_names (lines_of text)) (number_at text k within) ∙ fault_here text k n line within here same ∙ bad) in
+    ap (λ o. unless_fault (option_or o (nameless_fault (settings_of (lines_of text)))) (tree_of_settings words_as_names (settings_of (lines_of text)))) first
+
+-- no faulty line
+pub parsed_all : (text : Text) (table : Table) (k : ℕ) → k ≡ length (pieces text) → ParsedSoFar text table k
+    → Stands table (settings_of (lines_of text)) × (fault_of words_as_names text ≡ nameless_fault (settings_of (lines_of text)))
+parsed_all text table k all so_far = (
+  subst (λ ls. Stands table (settings_of ls)) (take_all k (lines_of text) (omega (arith, all, lines_size text))) so_far.stands,
+  ap (λ o. option_or o (nameless_fault (settings_of (lines_of text))))
+      (none_given_at_all (fault_at words_as_names (lines_of text)) (numbers text) k (omega (arith, all, numbers_size text)) so_far.faultless),
+)
+
+pub nameless_refusal : (text : Text) (e : ListingFault) → fault_of words_as_names text ≡ nameless_fault (settings_of (lines_of text))
+    → nameless_fault (settings_of (lines_of text)) ≡ Some e → tree_of words_as_names text ≡ Err e
+nameless_refusal text e same bad = ap (λ o. unless_fault o (tree_of_settings words_as_names (settings_of (lines_of text)))) (same ∙ bad)
+
+pub right_tree : (text : Text) (r : Result Tree ListingFault) → fault_of words_as_names text ≡ nameless_fault (settings_of (lines_of text))
+    → nameless_fault (settings_of (lines_of text)) ≡ None
+    → MatchResult r (λ t. t ≡ tree_of_settings words_as_names (settings_of (lines_of text))) (λ e. e ≡ Memory)
+    → IsRightUnless Memory r (tree_of words_as_names text)
+right_tree text (Ok t) same good h = ap (λ o. unless_fault o (tree_of_settings words_as_names (settings_of (lines_of text)))) (same ∙ good) ∙ ap Ok (sym h)
+right_tree text (Err e) same good h = inl h

@@ -1,0 +1,10 @@
+pub mod Tree
+pub mod Lines
+pub mod Dependencies
+pub mod Listing
+pub mod Rules
+pub mod Refusals
+pub mod Parts
+pub mod Entries
+pub mod Table
+pub mod Nodes

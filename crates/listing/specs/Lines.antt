@@ -1,0 +1,86 @@
+-- The lines of a listing, and what they set.
+use Rattle.std.specs.Prelude.{◌-◌, ℕ, Bool, ◌&&◌, ◌||◌, ◌==◌, not, List, [], ◌∷◌, length, take, drop, filter_map, codes, Option, None, Some, Result, Ok, Err, if◌then◌else◌}
+use Rattle.std.specs.List.{after_first, after_last, before_first, before_last, enumerate_from, prefix_len, suffix_len}
+use Rattle.faults.specs.Bytes.{Text, begins_with, blank, dot, equals_sign, has_byte, is_among, is_empty, is_one_of, line_feed, tab}
+use Rattle.faults.specs.Pieces.{pieces_at}
+use Rattle.pkgpath.specs.PkgPath.{path_of}
+
+-- a line with its number, counted from 1
+abbrev pub Line : Type 0
+Line = ℕ × Text
+
+-- the lines, each ended by LF; the last may lack it, and what stands behind the last LF is then an empty line
+abbrev pub lines_of : Text → List Line
+lines_of text = enumerate_from 1 (pieces_at line_feed text)
+
+abbrev pub is_skipped : Text → Bool
+is_skipped line = is_empty line || begins_with (codes "===>") line
+
+-- what stands before the first `=`
+abbrev pub key_of : Text → Text
+key_of line = before_first (λ b. b == equals_sign) line
+
+-- the line has a `=`, and before it a dot
+abbrev pub is_cut : Text → Bool
+is_cut line = has_byte equals_sign line && has_byte dot (key_of line)
+
+-- before the key's last dot stands a path, and behind it a variable
+abbrev pub path_text : Text → Text
+path_text line = before_last (λ b. b == dot) (key_of line)
+
+abbrev pub variable_text : Text → Text
+variable_text line = after_last (λ b. b == dot) (key_of line)
+
+abbrev pub is_blank : ℕ → Bool
+is_blank b = is_one_of (blank ∷ tab ∷ []) b
+
+-- without the blanks at both ends
+abbrev pub trimmed : Text → Text
+trimmed text =
+    let rest = drop (prefix_len is_blank text) text in
+    take (length rest - suffix_len is_blank rest) rest
+
+abbrev pub value_text : Text → Text
+value_text line = trimmed (after_first (λ b. b == equals_sign) line)
+
+abbrev pub full_name : Text
+full_name = codes "FULLPKGNAME"
+
+abbrev pub build_depends : Text
+build_depends = codes "BUILD_DEPENDS"
+
+abbrev pub lib_depends : Text
+lib_depends = codes "LIB_DEPENDS"
+
+abbrev pub run_depends : Text
+run_depends = codes "RUN_DEPENDS"
+
+abbrev pub ignore : Text
+ignore = codes "IGNORE"
+
+-- the variables that are read
+abbrev pub variables : List Text
+variables = full_name ∷ build_depends ∷ lib_depends ∷ run_depends ∷ ignore ∷ []
+
+-- the line sets a variable that is read
+abbrev pub is_read : Text → Bool
+is_read line = not (is_skipped line) && is_cut line && is_among variables (variable_text line)
+
+-- what a line sets
+pub record Setting : Type 0 where
+  pub line : ℕ
+  pub path : Text
+  pub variable : Text
+  pub value : Text
+
+abbrev pub setting_from : {F : Type 0} → Line → Result Text F → Option Setting
+setting_from line (Ok path) = Some (record { line = line.0; path = path; variable = variable_text line.1; value = value_text line.1 })
+setting_from line (Err e) = None
+
+-- what the line sets, where it is one that is read
+abbrev pub setting_of : Line → Option Setting
+setting_of line = if is_read line.1 then setting_from line (path_of (path_text line.1)) else None
+
+-- all that the lines set, in their order
+abbrev pub settings_of : List Line → List Setting
+settings_of lines = filter_map setting_of lines

@@ -1,0 +1,79 @@
+//! The tree of packages that a listing describes.
+#![tactic(auto)]
+
+ghost use Rattle.std.specs.Prelude.{◌≡◌};
+ghost use Rattle.listing.specs.declared.ListingFault.TheVariants.{Memory};
+ghost use Rattle.listing.specs.Refusals.{number_of, place_of};
+
+use faults::Fault;
+use std::alloc::{AllocError, AllocFailed};
+use thiserror::Error;
+
+mod dependency;
+mod line;
+mod node;
+mod table;
+mod tree;
+
+pub use crate::tree::Tree;
+
+/// Why a text is no listing: the first faulty line, counted from 1.
+#[derive(Clone, Copy, Debug, PartialEq, Eq, Error)]
+pub enum ListingFault {
+    #[error("out of memory")]
+    Memory,
+    #[error("line {0} is no line of a listing")]
+    BadLine(u64),
+    #[error("line {0} has a text that is no package path")]
+    BadPath(u64),
+    #[error("line {0} sets a variable to another value")]
+    TwiceSet(u64),
+    #[error("line {0} has one path or one dependency too many")]
+    TooMany(u64),
+    #[error("the path at line {0} has no name")]
+    NoName(u64),
+}
+
+impl Fault for ListingFault {
+    ghost number_of = { number_of };
+
+    ghost place_of = { place_of };
+
+    fn number(&self) -> u32 {
+        match self {
+            ListingFault::Memory => 1,
+            ListingFault::BadLine(_) => 401,
+            ListingFault::BadPath(_) => 402,
+            ListingFault::TwiceSet(_) => 403,
+            ListingFault::TooMany(_) => 404,
+            ListingFault::NoName(_) => 405,
+        }
+    }
+
+    fn place(&self) -> Option<u64> {
+        match self {
+            ListingFault::Memory => None,
+            ListingFault::BadLine(n) => Some(*n),
+            ListingFault::BadPath(n) => Some(*n),
+            ListingFault::TwiceSet(n) => Some(*n),
+            ListingFault::TooMany(n) => Some(*n),
+            ListingFault::NoName(n) => Some(*n),
+        }
+    }
+}
+
+impl From<AllocError> for ListingFault {
+    ghost from_gives = { λ _ e. e ≡ Memory };
+
+    fn from(_error: AllocError) -> ListingFault {
+        ListingFault::Memory
+    }
+}
+
+impl<T: Drop> From<AllocFailed<T>> for ListingFault {
+    ghost from_gives = { λ _ e. e ≡ Memory };
+
+    fn from(_error: AllocFailed<T>) -> ListingFault {
+        ListingFault::Memory
+    }
+}

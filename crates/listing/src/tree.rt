@@ -1,0 +1,217 @@
+//! A tree, which contracts see as the list of its packages.
+ghost use Rattle.std.specs.Prelude.{◌≡◌, ◌<◌, ◌≤◌, List, length, map, position, MatchResult};
+ghost use Rattle.std.specs.Str.{bytes_eq};
+ghost use Rattle.faults.specs.Answers.{IsRightUnless};
+ghost use Rattle.listing.specs.Lines.{Setting};
+ghost use Rattle.listing.specs.Listing.{tree_of, tree_of_settings};
+ghost use Rattle.listing.specs.Rules.{words_as_names};
+ghost use Rattle.listing.specs.Table.{Stands};
+ghost use Rattle.listing.specs.Tree.{ArePositions, IsTree, build_at, is_marked_at, name_at, path_at, run_at};
+
+use crate::ListingFault;
+use crate::node::Node;
+use crate::table::Table;
+use indexmap::IndexSet;
+use pkgpath::PkgPath;
+use std::alloc::Global;
+use std::marker::Model;
+
+/// The packages of a listing, by position.
+#[derive(Drop)]
+pub struct Tree {
+    paths: IndexSet<PkgPath>,
+    nodes: Vec<Node>,
+}
+
+impl Model for Tree {
+    ghost use Rattle.std.specs.Prelude.{◌≡◌, List, length};
+    ghost use Rattle.listing.specs.Table.{Stands};
+    ghost use Rattle.listing.specs.Tree.{IsTree, Package};
+    ghost use Rattle.listing.specs.Nodes.{packages_of};
+
+    ghost Value = { List Package };
+
+    ghost view = { λ t. packages_of t.paths.keys t.nodes.items };
+
+    ghost invariant = { λ t. (length t.nodes.items ≡ length t.paths.keys) × IsTree (packages_of t.paths.keys t.nodes.items) };
+}
+
+impl Tree {
+    /// The tree that the listing describes.
+    pub fn parse(alloc: Global, text: &[u8]) -> Result<Tree, ListingFault>
+        ensures { IsRightUnless ListingFault.Memory result (tree_of words_as_names text.now) }
+    {
+        let mut table = Table::new(alloc);
+        let mut number = 0;
+        for line in text.split(|byte| *byte == b'\n') {
+            number += 1;
+            table.read(alloc, number, line)?;
+        }
+        table.check_names()?;
+        Tree::of_table(alloc, table)
+    }
+
+    /// The tree of all that the lines set.
+    fn of_table(alloc: Global, table: Table<'_>) -> Result<Tree, ListingFault>
+        requires { (settings : List Setting) × Stands table settings }
+        ensures { (settings : List Setting) → Stands table.entry settings
+            → MatchResult result (λ t. t ≡ tree_of_settings words_as_names settings) (λ e. e ≡ ListingFault.Memory) }
+    {
+        let Table {
+            paths,
+            rows,
+            dependencies,
+        } = table;
+        let positions = dependencies.positions(alloc, &paths)?;
+        let mut nodes = Vec::with_capacity(alloc, rows.len())?;
+        for row in &rows {
+            nodes.push(Node::of_row(alloc, row, positions.as_slice())?)?;
+        }
+        Ok(Tree { paths, nodes })
+    }
+
+    /// How many packages are listed.
+    pub fn len(&self) -> u32
+        ensures count { result ≡ length self.now }
+        ensures tree { IsTree self.now }
+    {
+        self.nodes.len() as u32
+    }
+
+    /// The position of a path, if it is listed.
+    pub fn position(&self, path: &PkgPath) -> Option<u32>
+        ensures { result ≡ position (λ x. bytes_eq x.path path.now) self.now }
+    {
+        let position = self.paths.get_index_of(path)?;
+        Some(position as u32)
+    }
+
+    pub fn path(&self, position: u32) -> &PkgPath
+        requires { position < length self.now }
+        ensures { result.now ≡ path_at self.now position }
+    {
+        &self.paths.as_slice()[position as usize]
+    }
+
+    pub fn name(&self, position: u32) -> &[u8]
+        requires { position < length self.now }
+        ensures { result.now ≡ name_at self.now position }
+    {
+        self.nodes[position as usize].name.as_slice()
+    }
+
+    /// The positions of what a build needs, ascending.
+    pub fn build_deps(&self, position: u32) -> &[u32]
+        requires { position < length self.now }
+        ensures value { result.now ≡ build_at self.now position }
+        ensures positions { ArePositions self.now result.now }
+    {
+        self.nodes[position as usize].build.as_slice()
+    }
+
+    /// The positions of what an installed package needs, ascending.
+    pub fn run_deps(&self, position: u32) -> &[u32]
+        requires { position < length self.now }
+        ensures value { result.now ≡ run_at self.now position }
+        ensures positions { ArePositions self.now result.now }
+    {
+        self.nodes[position as usize].run.as_slice()
+    }
+
+    /// Whether the package is named to be left out, or lacks a dependency.
+    pub fn marked(&self, position: u32) -> bool
+        requires { position < length self.now }
+        ensures { result ≡ is_marked_at self.now position }
+    {
+        self.nodes[position as usize].is_marked
+    }
+}
+
+#[cfg(test)]
+mod tests {
+    use super::*;
+    use faults::Fault;
+    use std::io;
+    use std::io::Write;
+    use std::test::Fail;
+
+    // Each package in a line: path, name, positions of its dependencies, and a mark.
+    fn told(alloc: Global, tree: &Tree) -> io::Result<Vec<u8>> {
+        let mut out = Vec::new(alloc);
+        for position in 0..tree.len() {
+            out.write_all(tree.path(position).as_bytes())?;
+            out.write_all(b" ")?;
+            out.write_all(tree.name(position))?;
+            for dependency in tree.build_deps(position) {
+                write!(out, " b{dependency}")?;
+            }
+            for dependency in tree.run_deps(position) {
+                write!(out, " r{dependency}")?;
+            }
+            if tree.marked(position) {
+                out.write_all(b" !")?;
+            }
+            out.write_all(b"\n")?;
+        }
+        Ok(out)
+    }
+
+    #[test]
+    fn trees(rt: HostRuntime) -> Result<(), Fail> {
+        let cases = [
+            ("", ""),
+            (
+                "===> lang/python/3.10\nlang/python/3.10,-main.FULLPKGNAME=python-3.10.4p1\nlang/python/3.10,-main.HOMEPAGE=https://x/?a=b\n",
+                "lang/python/3.10,-main python-3.10.4p1\n",
+            ),
+            (
+                "a/x.FULLPKGNAME=x-1\na/x.RUN_DEPENDS=a/y\na/y.FULLPKGNAME=y-1\na/y.RUN_DEPENDS=a/x",
+                "a/x x-1 r1\na/y y-1 r0\n",
+            ),
+            (
+                "a/p.FULLPKGNAME= p-1\t\na/p.BUILD_DEPENDS=q->=2:a/q:patch a/q>1 a/p\na/q.FULLPKGNAME=q-1\na/p.FULLPKGNAME=p-1\n",
+                "a/p p-1 b0 b1\na/q q-1\n",
+            ),
+            (
+                "a/p,f,e.LIB_DEPENDS=a/r a/q\na/q.FULLPKGNAME=q-1\na/p,e,f.FULLPKGNAME=p-1\na/q.IGNORE=broken\n",
+                "a/p,e,f p-1 b1 r1 !\na/q q-1 !\n",
+            ),
+        ];
+        for (text, expected) in cases {
+            let tree = Tree::parse(rt.alloc(), text.as_bytes())?;
+            assert!(rt;
+                told(rt.alloc(), &tree)?.as_slice() == expected.as_bytes(),
+                "{text}"
+            );
+            for position in 0..tree.len() {
+                assert_eq!(rt; tree.position(tree.path(position)), Some(position));
+            }
+        }
+        Ok(())
+    }
+
+    #[test]
+    fn refusals(rt: HostRuntime) -> Result<(), Fail> {
+        let cases = [
+            ("a/p", 401, 1),
+            ("\n \n", 401, 2),
+            ("a/p.FULLPKGNAME=x y", 401, 1),
+            ("a/p.RUN_DEPENDS=a:b", 401, 1),
+            ("a/p.RUN_DEPENDS=\na/p.RUN_DEPENDS=a/b:c/d", 401, 2),
+            ("vim.FULLPKGNAME=vim-9", 402, 1),
+            ("a/p.LIB_DEPENDS=a>=2/3", 402, 1),
+            ("a/p.FULLPKGNAME=p-1\na/p.FULLPKGNAME=p-2", 403, 2),
+            ("a/p.IGNORE=\na/p.IGNORE=x", 403, 2),
+            ("\na/p.RUN_DEPENDS=", 405, 2),
+            ("a/p.RUN_DEPENDS=\n\na/q", 401, 3),
+        ];
+        for (text, number, line) in cases {
+            let answer = Tree::parse(rt.alloc(), text.as_bytes());
+            assert!(rt;
+                answer.is_err_and(|fault| fault.number() == number && fault.place() == Some(line)),
+                "{text}"
+            );
+        }
+        Ok(())
+    }
+}

@@ -1,0 +1,10 @@
+pub mod Ascending
+pub mod Cuts
+pub mod Files
+pub mod FirstBad
+pub mod Many
+pub mod Numbers
+pub mod Steps
+pub mod Taken
+pub mod Texts
+pub mod Whole

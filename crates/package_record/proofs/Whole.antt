@@ -1,0 +1,409 @@
+-- What is read is spelled so.
+use Rattle.std.proofs.Common.{◌≡◌, ℕ, zero, suc, ◌+◌, ◌-◌, ◌*◌, ◌<◌, ◌≤◌, ◌^◌, Bool, true, false, cond, ltb, leb, List, [], ◌∷◌, ◌++◌, ◌&&◌, ◌⊎◌, inl, inr, length, get_or, take, drop, map, Option, Some, None, Result, Ok, Err, refl, sym, ap, subst, ◌∙◌, append_assoc, arith, codes, decimal}
+use Rattle.std.specs.List.{All, flat_map, join_with_byte, sum_by}
+use Rattle.std.specs.Str.{bytes_eq}
+use Rattle.std.specs.Str.Parse.{digits_value}
+use Rattle.std.proofs.lemmas.Bool.{and_parts, cases_lt, leb-true, ltb-false}
+use Rattle.std.proofs.lemmas.List.{append-nil, drop_at, length-append, length-drop, length-take, map-append, take-append-drop, take-append-le, take_at}
+use Rattle.std.proofs.Math.ListN.{get_or-append}
+use Rattle.std.proofs.Math.Seq.{get_or-append_seam, take-append_seam}
+use Rattle.std.proofs.lemmas.List.Concat.{flat_map_single}
+use Rattle.std.proofs.lemmas.List.Elements.{All-append, All-nil}
+use Rattle.std.proofs.lemmas.List.Sums.{sum_by-cons}
+use Rattle.std.proofs.lemmas.List.Splits.{join_with_byte-slice_split}
+use Rattle.std.proofs.lemmas.Slice.Eq.{bytes_eq-Decides}
+use Rattle.hex.specs.Hex.{decode_sized, encode_lower, lower_digits}
+use Rattle.hex.proofs.HexLemmas.{decode_sized-ok, length-encode_with}
+use Rattle.sha2.specs.Sha256.{sha256}
+use Rattle.faults.specs.Bytes.{Text, is_empty}
+use Rattle.faults.specs.Pieces.{pieces_at}
+use Rattle.pkgname.specs.PkgName.{IsName}
+use Rattle.pkgpath.specs.PkgPath.{IsPath}
+use Rattle.claims.specs.Claim.{IsClaim}
+use Rattle.agreement.specs.declared.claim.Claim.{Claim}
+use Rattle.claims.specs.Deps.{is_ascending}
+use Rattle.claims.specs.declared.deps.Dep.{Dep}
+use Rattle.package_record.specs.Content.{AreFileNames, Content, IsDep, IsRecord, NamedFile, built_line, claim_line, ended, file_lines, header_lines, is_next_name, names_of, record_text, run_line}
+use Rattle.package_record.specs.Given.{Fails, refusal_of}
+use Rattle.package_record.specs.Reading.{Front, Head, Header, Place, ◌>>=◌, all_at, built_at, claim_at, claim_in, content_of_parts, cut_in, field_at, file_at, files_in, first_of, front_at, header_of, host_at, is_above, name_at, name_in, is_number, line_at, number_in, path_at, path_in, run_at, total_of, version_at, whole_of}
+use Rattle.package_record.specs.declared.RecordFault.{RecordFault}
+use Rattle.package_record.specs.declared.RecordFault.TheVariants.{BadLine, DigestDiffers, Memory, TooLarge, Trailing, Truncated}
+use Rattle.package_record.specs.declared.fault.ReadError.{ReadError}
+use Rattle.package_record.specs.declared.fault.ReadError.TheVariants as errors
+use Rattle.package_record.proofs.Ascending.{ascending_more, last_mapped}
+use Rattle.package_record.proofs.Many.{many_taken}
+use Rattle.package_record.proofs.Steps.{bind_ok, ok_is, refusal_ok, test_ok, ways}
+use Rattle.package_record.proofs.Taken.{IsHead, IsRead, built_stops, built_taken, cut_taken, entry_stops, entry_taken, field_taken, head_lines, line_taken, name_taken, number_text, path_taken, run_stops, run_taken}
+
+-- the refusal of a reader that failed
+pub failed : {Y : Type 0} (e : ReadError) (f : RecordFault) (read : Result Y RecordFault) → f ≡ refusal_of e → Fails e read → (f ≡ Memory) ⊎ (read ≡ Err f)
+failed errors.Memory f read e h = inl e
+failed (errors.Fault d) f read e h = inr (h ∙ ap Err (sym e))
+
+-- ---- the first five lines
+
+number_taken : (least greatest n : ℕ) (text : Text) (v : ℕ) → greatest < 2 ^ 64 → number_in least greatest n text ≡ Ok v → (text ≡ decimal v) × (least ≤ v) × (v ≤ greatest)
+unfolding number_in
+number_taken least greatest n text v small e =
+    let d = digits_value 10 text in
+    let t = test_ok (is_number text && leb least d && leb d greatest) (BadLine n) (Ok d) v e in
+    let outer = and_parts (is_number text && leb least d) (leb d greatest) t.0 in
+    let inner = and_parts (is_number text) (leb least d) outer.0 in
+    let most : d ≤ greatest = leb-true _ _ outer.1 in
+    subst (λ (v : ℕ). (text ≡ decimal v) × (least ≤ v) × (v ≤ greatest)) (ok_is d v t.1) (sym (number_text text inner.0 (omega (arith, most, small))), leb-true _ _ inner.1, most)
+
+version_taken : (p q : Place) → version_at p ≡ Ok q → p.lines ≡ codes "@dpb 1" ∷ q.lines
+unfolding version_at
+version_taken p q e =
+    let a = bind_ok (line_at p) (λ line. cond (bytes_eq line.0 (codes "@dpb 1")) (Ok line.1) (Err (BadLine line.1.passed))) q e in
+    let t = test_ok (bytes_eq a.0.0 (codes "@dpb 1")) (BadLine a.0.1.passed) (Ok a.0.1) q a.2 in
+    (line_taken p a.0 a.1).0 ∙ ap (λ (l : Text). l ∷ a.0.1.lines) ((bytes_eq-Decides a.0.0 (codes "@dpb 1")).0 t.0) ∙ ap (λ (q : Place). codes "@dpb 1" ∷ q.lines) (ok_is a.0.1 q t.1)
+
+name_line_taken : (p : Place) (x : Text × Place) → name_at p ≡ Ok x → (p.lines ≡ (codes "@name " ++ x.0) ∷ x.1.lines) × IsName x.0
+unfolding name_at
+name_line_taken p x e =
+    let word = codes "@name " in
+    let a = bind_ok (field_at word p) (λ field. name_in field.1.passed field.0 >>= λ name. Ok (name, field.1)) x e in
+    let b = bind_ok (name_in a.0.1.passed a.0.0) (λ name. Ok (name, a.0.1)) x a.2 in
+    let name = name_taken a.0.1.passed a.0.0 b.0 b.1 in
+    subst (λ (y : Text × Place). (p.lines ≡ (word ++ y.0) ∷ y.1.lines) × IsName y.0) (ok_is (b.0, a.0.1) x b.2)
+    ((field_taken word p a.0 a.1).0 ∙ ap (λ (t : Text). (word ++ t) ∷ a.0.1.lines) name.0, name.1)
+
+path_line_taken : (p : Place) (x : Text × Place) → path_at p ≡ Ok x → (p.lines ≡ (codes "@comment pkgpath=" ++ x.0) ∷ x.1.lines) × IsPath x.0
+unfolding path_at
+path_line_taken p x e =
+    let word = codes "@comment pkgpath=" in
+    let a = bind_ok (field_at word p) (λ field. path_in field.1.passed field.0 >>= λ path. Ok (path, field.1)) x e in
+    let b = bind_ok (path_in a.0.1.passed a.0.0) (λ path. Ok (path, a.0.1)) x a.2 in
+    let path = path_taken a.0.1.passed a.0.0 b.0 b.1 in
+    subst (λ (y : Text × Place). (p.lines ≡ (word ++ y.0) ∷ y.1.lines) × IsPath y.0) (ok_is (b.0, a.0.1) x b.2)
+    ((field_taken word p a.0 a.1).0 ∙ ap (λ (t : Text). (word ++ t) ∷ a.0.1.lines) path.0, path.1)
+
+host_taken : (p : Place) (x : ℕ × Place) → host_at p ≡ Ok x → (p.lines ≡ (codes "@host " ++ decimal x.0) ∷ x.1.lines) × (x.0 ≤ 65535)
+unfolding host_at
+host_taken p x e =
+    let word = codes "@host " in
+    let a = bind_ok (field_at word p) (λ field. number_in 0 65535 field.1.passed field.0 >>= λ host. Ok (host, field.1)) x e in
+    let b = bind_ok (number_in 0 65535 a.0.1.passed a.0.0) (λ host. Ok (host, a.0.1)) x a.2 in
+    let host = number_taken 0 65535 a.0.1.passed a.0.0 b.0 (omega arith) b.1 in
+    subst (λ (y : ℕ × Place). (p.lines ≡ (word ++ decimal y.0) ∷ y.1.lines) × (y.0 ≤ 65535)) (ok_is (b.0, a.0.1) x b.2)
+    ((field_taken word p a.0 a.1).0 ∙ ap (λ (t : Text). (word ++ t) ∷ a.0.1.lines) host.0, host.2)
+
+claim_taken : (n : ℕ) (text : Text) (c : Claim) → claim_in n text ≡ Ok c → (text ≡ decimal c.round ++ 46 ∷ decimal c.member) × IsClaim c
+unfolding claim_in
+claim_taken n text c e =
+    let a = bind_ok (cut_in 46 n text) (λ parts. number_in 1 9223372036854775807 n parts.0 >>= λ round. number_in 0 8 n parts.1 >>= λ member. Ok (claim round member)) c e in
+    let b = bind_ok (number_in 1 9223372036854775807 n a.0.0) (λ round. number_in 0 8 n a.0.1 >>= λ member. Ok (claim round member)) c a.2 in
+    let f = bind_ok (number_in 0 8 n a.0.1) (λ member. Ok (claim b.0 member)) c b.2 in
+    let round = number_taken 1 9223372036854775807 n a.0.0 b.0 (omega arith) b.1 in
+    let member = number_taken 0 8 n a.0.1 f.0 (omega arith) f.1 in
+    subst (λ (c : Claim). (text ≡ decimal c.round ++ 46 ∷ decimal c.member) × IsClaim c) (ok_is (claim b.0 f.0) c f.2) (
+      cut_taken 46 n text a.0 a.1 ∙ ap (λ (t : Text). t ++ 46 ∷ a.0.1) round.0 ∙ ap (λ (t : Text). decimal b.0 ++ 46 ∷ t) member.0,
+      record { round = (round.1, round.2); member = omega (arith, member.2) },
+    )
+  where
+    claim : ℕ → ℕ → Claim
+    claim round member = record { round = round; member = member }
+
+dotted : (word round member : Text) → word ++ (round ++ 46 ∷ member) ≡ word ++ round ++ 46 ∷ [] ++ member
+dotted word round member = sym (simp append_assoc)
+
+claim_line_taken : (p : Place) (x : Claim × Place) → claim_at p ≡ Ok x → (p.lines ≡ claim_line x.0 ∷ x.1.lines) × IsClaim x.0
+unfolding claim_at
+claim_line_taken p x e =
+    let word = codes "@claim " in
+    let a = bind_ok (field_at word p) (λ field. claim_in field.1.passed field.0 >>= λ claim. Ok (claim, field.1)) x e in
+    let b = bind_ok (claim_in a.0.1.passed a.0.0) (λ claim. Ok (claim, a.0.1)) x a.2 in
+    let claim = claim_taken a.0.1.passed a.0.0 b.0 b.1 in
+    let line : word ++ a.0.0 ≡ claim_line b.0 = ap (λ (t : Text). word ++ t) claim.0 ∙ dotted word (decimal b.0.round) (decimal b.0.member) in
+    subst (λ (y : Claim × Place). (p.lines ≡ claim_line y.0 ∷ y.1.lines) × IsClaim y.0) (ok_is (b.0, a.0.1) x b.2)
+    ((field_taken word p a.0 a.1).0 ∙ ap (λ (t : Text). t ∷ a.0.1.lines) line, claim.1)
+
+abbrev lines_of : Front → List Text
+lines_of f = codes "@dpb 1" ∷ (codes "@name " ++ f.name) ∷ (codes "@comment pkgpath=" ++ f.path) ∷ (codes "@host " ++ decimal f.host) ∷ claim_line f.claim ∷ []
+
+record IsFront (f : Front) : Type 0 where
+  name : IsName f.name
+  path : IsPath f.path
+  host : f.host ≤ 65535
+  claim : IsClaim f.claim
+
+front_taken : (p : Place) (x : Front × Place) → front_at p ≡ Ok x → (p.lines ≡ lines_of x.0 ++ x.1.lines) × IsFront x.0
+unfolding front_at
+front_taken p x e =
+    let a = bind_ok (version_at p) (λ names. name_at names >>= λ name. path_at name.1 >>= λ path. host_at path.1 >>= λ host. claim_at host.1 >>= λ claim. Ok (front name.0 path.0 host.0 claim.0, claim.1)) x e in
+    let b = bind_ok (name_at a.0) (λ name. path_at name.1 >>= λ path. host_at path.1 >>= λ host. claim_at host.1 >>= λ claim. Ok (front name.0 path.0 host.0 claim.0, claim.1)) x a.2 in
+    let f = bind_ok (path_at b.0.1) (λ path. host_at path.1 >>= λ host. claim_at host.1 >>= λ claim. Ok (front b.0.0 path.0 host.0 claim.0, claim.1)) x b.2 in
+    let g = bind_ok (host_at f.0.1) (λ host. claim_at host.1 >>= λ claim. Ok (front b.0.0 f.0.0 host.0 claim.0, claim.1)) x f.2 in
+    let h = bind_ok (claim_at g.0.1) (λ claim. Ok (front b.0.0 f.0.0 g.0.0 claim.0, claim.1)) x g.2 in
+    let name = name_line_taken a.0 b.0 b.1 in
+    let path = path_line_taken b.0.1 f.0 f.1 in
+    let host = host_taken f.0.1 g.0 g.1 in
+    let claim = claim_line_taken g.0.1 h.0 h.1 in
+    let lines : p.lines ≡ lines_of (front b.0.0 f.0.0 g.0.0 h.0.0) ++ h.0.1.lines =
+    version_taken p a.0 a.1
+    ∙ ap (λ (ls : List Text). codes "@dpb 1" ∷ ls) (name.0
+    ∙ ap (λ (ls : List Text). (codes "@name " ++ b.0.0) ∷ ls) (path.0
+    ∙ ap (λ (ls : List Text). (codes "@comment pkgpath=" ++ f.0.0) ∷ ls) (host.0
+    ∙ ap (λ (ls : List Text). (codes "@host " ++ decimal g.0.0) ∷ ls) claim.0))) in
+    let good : IsFront (front b.0.0 f.0.0 g.0.0 h.0.0) = record { name = name.1; path = path.1; host = host.1; claim = claim.1 } in
+    subst (λ (y : Front × Place). (p.lines ≡ lines_of y.0 ++ y.1.lines) × IsFront y.0) (ok_is (front b.0.0 f.0.0 g.0.0 h.0.0, h.0.1) x h.2) (lines, good)
+  where
+    front : Text → Text → ℕ → Claim → Front
+    front name path host claim = record { name = name; path = path; host = host; claim = claim }
+
+-- ---- the lines that may stand any number of times
+
+one_all : {X : Type 0} (P : X → Type 0) (x : X) → P x → All P (x ∷ [])
+one_all P x h zero d lt = h
+one_all P x h (suc k) d lt = absurd (omega arith)
+
+dep_of_read : (d : Dep) → IsRead d → IsDep d
+dep_of_read d r = record {
+  path = r.path;
+  name = r.name;
+  digest = omega (arith, decode_sized-ok (encode_lower d.digest) 32 d.digest r.digest, length-encode_with lower_digits d.digest);
+}
+
+-- dependencies in order of path
+record AreDeps (ds : List Dep) : Type 0 where
+  deps : All IsDep ds
+  order : is_ascending (map (λ d. d.path) ds) ≡ true
+
+built_step : (front : List Dep) (p : Place) (d : Dep) (q : Place) → built_at front p ≡ Ok (Some d, q) → AreDeps front → (p.lines ≡ (built_line d ∷ []) ++ q.lines) × AreDeps (front ++ d ∷ [])
+built_step front p d q e kept =
+    let t = built_taken front p d q e in (
+      t.0,
+      record {
+        deps = All-append IsDep front (d ∷ []) kept.deps (one_all IsDep d (dep_of_read d t.1));
+        order = ap is_ascending (map-append (λ d. d.path) front (d ∷ [])) ∙ ascending_more (map (λ d. d.path) front) d.path kept.order (ap (λ (o : Option Text). is_above o d.path) (sym (last_mapped (λ d. d.path) front)) ∙ t.2);
+      },
+    )
+
+all_built : (p : Place) (ds : List Dep) (q : Place) → all_at built_at p ≡ Ok (ds, q) → (p.lines ≡ map built_line ds ++ q.lines) × AreDeps ds
+all_built p ds q e =
+    let t = many_taken built_at (λ d. built_line d ∷ []) AreDeps built_step (length p.lines) [] p ds q e (record { deps = All-nil IsDep; order = refl }) in
+    (t.parts ∙ ap (λ (ls : List Text). ls ++ t.last.lines) (flat_map_single built_line t.more ∙ ap (map built_line) (sym t.all)) ∙ ap (λ (ls : List Text). map built_line ds ++ ls) (built_stops ds t.last q t.stops), t.keeps)
+
+record ArePaths (ts : List Text) : Type 0 where
+  paths : All IsPath ts
+  order : is_ascending ts ≡ true
+
+run_step : (front : List Text) (p : Place) (t : Text) (q : Place) → run_at front p ≡ Ok (Some t, q) → ArePaths front → (p.lines ≡ (run_line t ∷ []) ++ q.lines) × ArePaths (front ++ t ∷ [])
+run_step front p path q e kept =
+    let t = run_taken front p path q e in (
+      t.0,
+      record {
+        paths = All-append IsPath front (path ∷ []) kept.paths (one_all IsPath path t.1);
+        order = ascending_more front path kept.order t.2;
+      },
+    )
+
+all_run : (p : Place) (ts : List Text) (q : Place) → all_at run_at p ≡ Ok (ts, q) → (p.lines ≡ map run_line ts ++ q.lines) × ArePaths ts
+all_run p ts q e =
+    let t = many_taken run_at (λ path. run_line path ∷ []) ArePaths run_step (length p.lines) [] p ts q e (record { paths = All-nil IsPath; order = refl }) in
+    (t.parts ∙ ap (λ (ls : List Text). ls ++ t.last.lines) (flat_map_single run_line t.more ∙ ap (map run_line) (sym t.all)) ∙ ap (λ (ls : List Text). map run_line ts ++ ls) (run_stops ts t.last q t.stops), t.keeps)
+
+-- one more name that may stand behind the others
+names_push : (names : List Text) (name : Text) → AreFileNames names → is_next_name names name ≡ true → AreFileNames (names ++ name ∷ [])
+names_push names name good next k lt =
+    elim (cases_lt k (length names)) [
+      | inl below ↦ rw (take-append-le k names (name ∷ []) (omega (arith, below)), get_or-append names (name ∷ []) [] k below) (good k below)
+      | inr above ↦
+          let same : k ≡ length names = omega (arith, length-append names (name ∷ []), lt, above) in
+          rw (same, take-append_seam names (name ∷ []), get_or-append_seam names name [] []) next
+    ]
+
+abbrev HaveNames : List Head → Type 0
+HaveNames hs = AreFileNames (map (λ h. h.name) hs)
+
+file_step : (front : List Head) (p : Place) (h : Head) (q : Place) → file_at front p ≡ Ok (Some h, q) → HaveNames front → (p.lines ≡ head_lines h ++ q.lines) × HaveNames (front ++ h ∷ [])
+file_step front p h q e kept =
+    let t = entry_taken _ _ p h q e in
+    (t.0, rw (map-append (λ h. h.name) front (h ∷ [])) (names_push (map (λ h. h.name) front) h.name kept t.1.name))
+
+all_files : (p : Place) (hs : List Head) (q : Place) → all_at file_at p ≡ Ok (hs, q) → (p.lines ≡ flat_map head_lines hs ++ ([] ∷ q.lines)) × HaveNames hs × (0 < length q.lines)
+all_files p hs q e =
+    let t = many_taken file_at head_lines HaveNames file_step (length p.lines) [] p hs q e (λ k lt. absurd (omega (arith, lt))) in
+    let ends = entry_stops _ _ t.last q t.stops in
+    (t.parts ∙ ap (λ (hs : List Head). flat_map head_lines hs ++ t.last.lines) (sym t.all) ∙ ap (λ (ls : List Text). flat_map head_lines hs ++ ls) ends.0, t.keeps, ends.1)
+
+-- ---- the bytes
+
+-- the files that stand behind the header
+record Bodies (front : List NamedFile) (hs : List Head) (bytes : Text) (fs : List NamedFile) (rest : Text) : Type 0 where
+  more : List NamedFile
+  all : fs ≡ front ++ more
+  parts : bytes ≡ flat_map (λ f. f.bytes) more ++ rest
+  lines : flat_map head_lines hs ≡ flat_map file_lines more
+  names : map (λ h. h.name) hs ≡ names_of more
+  sizes : sum_by (λ h. h.size) hs ≡ length (flat_map (λ f. f.bytes) more)
+
+files_taken : (front : List NamedFile) (hs : List Head) (bytes : Text) (fs : List NamedFile) (rest : Text) → sum_by (λ h. h.size) hs ≤ length bytes → files_in front hs bytes ≡ Ok (fs, rest) → Bodies front hs bytes fs rest
+unfolding files_in
+files_taken front [] bytes fs rest enough e =
+    let same = ok_is (front, bytes) (fs, rest) e in
+    record {
+      more = [];
+      all = sym (ap (λ (x : List NamedFile × Text). x.0) same) ∙ sym (append-nil front);
+      parts = ap (λ (x : List NamedFile × Text). x.1) same;
+      lines = refl;
+      names = refl;
+      sizes = refl;
+    }
+files_taken front (h ∷ hs) bytes fs rest enough e =
+    let body = take h.size bytes in
+    let file : NamedFile = record { name = h.name; bytes = body } in
+    let t = test_ok (bytes_eq (sha256 body) h.digest) (DigestDiffers h.line) (files_in (front ++ record { name = h.name; bytes = take h.size bytes } ∷ []) hs (drop h.size bytes)) (fs, rest) e in
+    let first = sum_by-cons (λ h. h.size) h hs in
+    let digest : sha256 body ≡ h.digest = (bytes_eq-Decides (sha256 body) h.digest).0 t.0 in
+    let size : length body ≡ h.size = omega (arith, length-take h.size bytes, enough, first) in
+    let behind = files_taken (front ++ record { name = h.name; bytes = take h.size bytes } ∷ []) hs (drop h.size bytes) fs rest (omega (arith, length-drop h.size bytes, enough, first)) t.1 in
+    let here : head_lines h ≡ file_lines (record { name = h.name; bytes = take h.size bytes }) =
+    ap (λ (d : List ℕ). h.name ∷ (codes "@sha " ++ encode_lower d) ∷ (codes "@size " ++ decimal h.size) ∷ []) (sym digest)
+    ∙ ap (λ (n : ℕ). h.name ∷ (codes "@sha " ++ encode_lower (sha256 body)) ∷ (codes "@size " ++ decimal n) ∷ []) (sym size) in
+    record {
+      more = record { name = h.name; bytes = take h.size bytes } ∷ behind.more;
+      all = behind.all ∙ append_assoc front (record { name = h.name; bytes = take h.size bytes } ∷ []) behind.more;
+      parts = sym (take-append-drop h.size bytes) ∙ ap (λ (t : Text). body ++ t) behind.parts ∙ sym (append_assoc body (flat_map (λ f. f.bytes) behind.more) rest);
+      lines = ap (λ (ls : List Text). ls ++ flat_map head_lines hs) here ∙ ap (λ (ls : List Text). file_lines (record { name = h.name; bytes = take h.size bytes }) ++ ls) behind.lines;
+      names = ap (λ (ls : List Text). h.name ∷ ls) behind.names;
+      sizes = omega (arith, first, size, behind.sizes, length-append body (flat_map (λ f. f.bytes) behind.more));
+    }
+
+-- ---- the lines as a text
+
+join_behind : (l : Text) (ls : List Text) → 0 < length ls → join_with_byte 10 (l ∷ ls) ≡ l ++ 10 ∷ join_with_byte 10 ls
+join_behind l [] some = absurd (omega arith)
+join_behind l (m ∷ ls) some = refl
+
+-- the header's lines, the empty line, and what is left
+join_ended : (hs qs : List Text) → 0 < length qs → join_with_byte 10 (hs ++ ([] ∷ qs)) ≡ ended hs ++ 10 ∷ join_with_byte 10 qs
+unfolding ended
+join_ended [] qs some = join_behind [] qs some
+join_ended (h ∷ hs) qs some =
+    join_behind h (hs ++ ([] ∷ qs)) (omega (arith, length-append hs ([] ∷ qs)))
+    ∙ ap (λ (t : Text). h ++ 10 ∷ t) (join_ended hs qs some)
+    ∙ sym (append_assoc h (10 ∷ []) (flat_map (λ line. line ++ 10 ∷ []) hs ++ 10 ∷ join_with_byte 10 qs))
+    ∙ sym (append_assoc (h ++ 10 ∷ []) (flat_map (λ line. line ++ 10 ∷ []) hs) (10 ∷ join_with_byte 10 qs))
+
+abbrev header_of_parts : Header → List Text
+header_of_parts h = lines_of h.front ++ map built_line h.built ++ map run_line h.run ++ flat_map head_lines h.heads
+
+-- what was read of the header
+record IsHeader (h : Header) : Type 0 where
+  front : IsFront h.front
+  built : AreDeps h.built
+  run : ArePaths h.run
+  names : HaveNames h.heads
+
+header_taken : (text : Text) (x : Header × Text) → header_of text ≡ Ok x → (text ≡ ended (header_of_parts x.0) ++ 10 ∷ x.1) × IsHeader x.0
+unfolding header_of
+header_taken text x e =
+    let start : Place = record { passed = 0; lines = pieces_at 10 text } in
+    let a = bind_ok (front_at start) (λ front. all_at built_at front.1 >>= λ built. all_at run_at built.1 >>= λ run. all_at file_at run.1 >>= λ heads. Ok (made front.0 built.0 run.0 heads.0, join_with_byte 10 heads.1.lines)) x e in
+    let b = bind_ok (all_at built_at a.0.1) (λ built. all_at run_at built.1 >>= λ run. all_at file_at run.1 >>= λ heads. Ok (made a.0.0 built.0 run.0 heads.0, join_with_byte 10 heads.1.lines)) x a.2 in
+    let f = bind_ok (all_at run_at b.0.1) (λ run. all_at file_at run.1 >>= λ heads. Ok (made a.0.0 b.0.0 run.0 heads.0, join_with_byte 10 heads.1.lines)) x b.2 in
+    let g = bind_ok (all_at file_at f.0.1) (λ heads. Ok (made a.0.0 b.0.0 f.0.0 heads.0, join_with_byte 10 heads.1.lines)) x f.2 in
+    let front = front_taken start a.0 a.1 in
+    let built = all_built a.0.1 b.0.0 b.0.1 b.1 in
+    let run = all_run b.0.1 f.0.0 f.0.1 f.1 in
+    let heads = all_files f.0.1 g.0.0 g.0.1 g.1 in
+    let lines : pieces_at 10 text ≡ header_of_parts (made a.0.0 b.0.0 f.0.0 g.0.0) ++ ([] ∷ g.0.1.lines) =
+    front.0 ∙ ap (λ (ls : List Text). lines_of a.0.0 ++ ls) (built.0 ∙ ap (λ (ls : List Text). map built_line b.0.0 ++ ls) (run.0 ∙ ap (λ (ls : List Text). map run_line f.0.0 ++ ls) heads.0))
+    ∙ grouped (lines_of a.0.0) (map built_line b.0.0) (map run_line f.0.0) (flat_map head_lines g.0.0) ([] ∷ g.0.1.lines) in
+    let whole : text ≡ ended (header_of_parts (made a.0.0 b.0.0 f.0.0 g.0.0)) ++ 10 ∷ join_with_byte 10 g.0.1.lines =
+    sym (join_with_byte-slice_split 10 text) ∙ ap (join_with_byte 10) lines ∙ join_ended (header_of_parts (made a.0.0 b.0.0 f.0.0 g.0.0)) g.0.1.lines heads.2 in
+    let good : IsHeader (made a.0.0 b.0.0 f.0.0 g.0.0) = record { front = front.1; built = built.1; run = run.1; names = heads.1 } in
+    subst (λ (y : Header × Text). (text ≡ ended (header_of_parts y.0) ++ 10 ∷ y.1) × IsHeader y.0) (ok_is (made a.0.0 b.0.0 f.0.0 g.0.0, join_with_byte 10 g.0.1.lines) x g.2) (whole, good)
+  where
+    made : Front → List Dep → List Text → List Head → Header
+    made front built run heads = record { front = front; built = built; run = run; heads = heads }
+
+    grouped : (a b c d e : List Text) → a ++ (b ++ (c ++ (d ++ e))) ≡ (((a ++ b) ++ c) ++ d) ++ e
+    grouped a b c d e = sym (simp append_assoc)
+
+-- what the parts say: all that a record's value needs but for its length
+record Says (h : Header) (bytes : Text) (c : Content) (rest : Text) : Type 0 where
+  text : ended (header_of_parts h) ++ 10 ∷ bytes ≡ record_text c ++ rest
+  size : length bytes ≡ total_of h + length rest
+  fits : length (record_text c) ≤ 60000 → IsRecord c
+
+content_taken : (h : Header) (bytes : Text) (x : Content × Text) → IsHeader h → content_of_parts h bytes ≡ Ok x → Says h bytes x.0 x.1
+unfolding content_of_parts
+content_taken h bytes x good e =
+    let a = refusal_ok (ltb (length bytes) (total_of h)) Truncated (files_in [] h.heads bytes >>= λ files. Ok (made files.0, files.1)) x e in
+    let b = bind_ok (files_in [] h.heads bytes) (λ files. Ok (made files.0, files.1)) x a.1 in
+    let bodies = files_taken [] h.heads bytes b.0.0 b.0.1 (ltb-false _ _ a.0) b.1 in
+    let c = made b.0.0 in
+    let lines : header_of_parts h ≡ header_lines c =
+    ap (λ (ls : List Text). lines_of h.front ++ map built_line h.built ++ map run_line h.run ++ ls) (bodies.lines ∙ ap (flat_map file_lines) (sym bodies.all)) in
+    let names : map (λ h. h.name) h.heads ≡ names_of b.0.0 = bodies.names ∙ ap names_of (sym bodies.all) in
+    let parts : bytes ≡ flat_map (λ f. f.bytes) b.0.0 ++ b.0.1 = bodies.parts ∙ ap (λ (fs : List NamedFile). flat_map (λ f. f.bytes) fs ++ b.0.1) (sym bodies.all) in
+    let text : ended (header_of_parts h) ++ 10 ∷ bytes ≡ record_text c ++ b.0.1 =
+    ap (λ (ls : List Text). ended ls ++ 10 ∷ bytes) lines ∙ ap (λ (t : Text). ended (header_lines c) ++ 10 ∷ t) parts
+    ∙ regrouped (ended (header_lines c)) (flat_map (λ f. f.bytes) b.0.0) b.0.1 in
+    let size : length bytes ≡ total_of h + length b.0.1 =
+    omega (arith, bodies.sizes, ap length bodies.parts, length-append (flat_map (λ f. f.bytes) bodies.more) b.0.1) in
+    let fits : length (record_text c) ≤ 60000 → IsRecord c = λ short. record {
+      names = record { path = good.front.path; name = good.front.name; built = good.built.deps; run = good.run.paths };
+      host = good.front.host;
+      claim = good.front.claim;
+      built = good.built.order;
+      run = good.run.order;
+      file_names = subst AreFileNames names good.names;
+      fits = short;
+    } in
+    subst (λ (y : Content × Text). Says h bytes y.0 y.1) (ok_is (c, b.0.1) x b.2) (record { text = text; size = size; fits = fits })
+  where
+    made : List NamedFile → Content
+    made files = record {
+      path = h.front.path;
+      name = h.front.name;
+      host = h.front.host;
+      claim = h.front.claim;
+      built = h.built;
+      run = h.run;
+      files = files;
+    }
+
+    regrouped : (a b c : Text) → a ++ 10 ∷ (b ++ c) ≡ a ++ 10 ∷ [] ++ b ++ c
+    regrouped a b c = sym (simp append_assoc)
+
+empty_is : (text : Text) → is_empty text ≡ true → text ≡ []
+empty_is [] e = refl
+empty_is (b ∷ text) e = absurd cc
+
+-- what is read as a whole is spelled so
+pub whole_taken : (text : Text) (c : Content) → whole_of text ≡ Ok c → IsRecord c × (text ≡ record_text c)
+unfolding whole_of
+whole_taken text c e =
+    let a = refusal_ok (ltb 60000 (length text)) TooLarge (header_of text >>= λ header. content_of_parts header.0 header.1 >>= λ content. cond (is_empty content.1) (Ok content.0) (Err Trailing)) c e in
+    let b = bind_ok (header_of text) (λ header. content_of_parts header.0 header.1 >>= λ content. cond (is_empty content.1) (Ok content.0) (Err Trailing)) c a.1 in
+    let f = bind_ok (content_of_parts b.0.0 b.0.1) (λ content. cond (is_empty content.1) (Ok content.0) (Err Trailing)) c b.2 in
+    let t = test_ok (is_empty f.0.1) Trailing (Ok f.0.0) c f.2 in
+    let header = header_taken text b.0 b.1 in
+    let says = content_taken b.0.0 b.0.1 f.0 header.1 f.1 in
+    let spelled : text ≡ record_text f.0.0 = header.0 ∙ says.text ∙ ap (λ (t : Text). record_text f.0.0 ++ t) (empty_is f.0.1 t.0) ∙ append-nil (record_text f.0.0) in
+    let short : length text ≤ 60000 = ltb-false _ _ a.0 in
+    let whole : IsRecord f.0.0 × (text ≡ record_text f.0.0) = (says.fits (omega (arith, ap length spelled, short)), spelled) in
+    subst (λ (c : Content). IsRecord c × (text ≡ record_text c)) (ok_is f.0.0 c t.1) whole
+
+-- what is read at the front is spelled so
+pub first_taken : (text : Text) (x : Content × Text) → first_of text ≡ Ok x → IsRecord x.0 × (text ≡ record_text x.0 ++ x.1)
+unfolding first_of
+first_taken text x e =
+    let b = bind_ok (header_of text) (λ header. cond (ltb 60000 (length text - length header.1 + total_of header.0)) (Err TooLarge) (content_of_parts header.0 header.1)) x e in
+    let a = refusal_ok (ltb 60000 (length text - length b.0.1 + total_of b.0.0)) TooLarge (content_of_parts b.0.0 b.0.1) x b.2 in
+    let header = header_taken text b.0 b.1 in
+    let says = content_taken b.0.0 b.0.1 x header.1 a.1 in
+    let spelled : text ≡ record_text x.0 ++ x.1 = header.0 ∙ says.text in
+    let short : length text - length b.0.1 + total_of b.0.0 ≤ 60000 = ltb-false _ _ a.0 in
+    let long : length text ≡ length (ended (header_of_parts b.0.0)) + suc (length b.0.1) = ap length header.0 ∙ length-append (ended (header_of_parts b.0.0)) (10 ∷ b.0.1) in
+    (says.fits (omega (arith, ap length spelled, length-append (record_text x.0) x.1, short, long, says.size)), spelled)
+
+-- the front of a text, by how long the rest is
+pub front_cut : (text front rest : Text) (n : ℕ) → text ≡ front ++ rest → n ≡ length text - length rest → (n ≡ length front) × (take n text ≡ front) × (drop n text ≡ rest)
+front_cut text front rest n e size =
+    let len : length front ≡ n = omega (arith, ap length e, length-append front rest, size) in
+    (sym len, ap (take n) e ∙ take_at front rest n len, ap (drop n) e ∙ drop_at front rest n len)

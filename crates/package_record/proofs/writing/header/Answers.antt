@@ -1,0 +1,18 @@
+use Rattle.std.proofs.Common.{ap, [], ◌∷◌, ◌∙◌, ◌++◌, List, ℕ, map}
+use Rattle.std.specs.List.{flat_map}
+use Rattle.package_record.proofs.Texts.{ended_more}
+use Rattle.package_record.specs.Content.{built_line, file_lines, front_lines, run_line}
+use Rattle.package_record.specs.Inside.{content_of}
+use Rattle.package_record.proofs.writing.header.Goals as goal
+
+pub returns-clause-text : goal.returns-clause-text
+returns-clause-text c =
+    let r = content_of c.args.fields.now in
+    let front = rw c.new-text.ensures.items at c.in_ok-put_front.ensures.text in
+    let built = rw c.as_slice.ensures at c.in_ok-put_dependencies.ensures.text in
+    let run = rw c.as_slice-2.ensures.value at c.in_ok-put_run.ensures.text in
+    let files = rw c.as_slice-3.ensures.value at c.in_ok-put_files.ensures in
+    let with_built = ended_more [] _ _ (front_lines r) (map built_line r.built) front built in
+    let with_run = ended_more [] _ _ (front_lines r ++ map built_line r.built) (map run_line r.run) with_built run in
+    let with_files = ended_more [] _ _ (front_lines r ++ map built_line r.built ++ map run_line r.run) (flat_map file_lines r.files) with_run files in
+    c.in_ok-push.ensures.items ∙ ap (λ (t : List ℕ). t ++ 10 ∷ []) with_files

@@ -1,0 +1,19 @@
+-- What a contract sees of a record's fields.
+use Rattle.std.specs.Prelude.{map}
+use Rattle.package_record.specs.Content.{Content, IsRecord, NamedFile}
+use Rattle.package_record.specs.declared.fields.Fields.{Fields}
+use Rattle.package_record.specs.declared.file.File.{File}
+
+abbrev pub file_view : File → NamedFile
+file_view f = record { name = f.name.items; bytes = f.bytes.items }
+
+abbrev pub content_of : Fields → Content
+content_of r = record {
+  path = r.path;
+  name = r.name;
+  host = r.host;
+  claim = r.claim;
+  built = r.built;
+  run = r.run.items;
+  files = map file_view r.files.items;
+}

@@ -1,0 +1,9 @@
+pub mod Content
+pub mod Cursor
+pub mod Given
+pub mod Making
+pub mod Heads
+pub mod Inside
+pub mod Names
+pub mod Reading
+pub mod Refusals

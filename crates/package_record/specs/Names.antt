@@ -1,0 +1,8 @@
+-- The texts of a set of slices, in the order in which they were entered.
+use Rattle.std.specs.Prelude.{ℕ, List, map}
+use Rattle.std.specs.Borrow.{Bor}
+use Rattle.indexmap.specs.IndexSet.{IndexSet}
+use Rattle.faults.specs.Bytes.{Text}
+
+abbrev pub names_in : {H : Type 0} → IndexSet (Bor Text) H → List Text
+names_in s = map (λ k. k.now) s.keys

@@ -1,0 +1,66 @@
+//! A place in a text, and the line that stands there.
+ghost use Rattle.std.specs.Prelude.{◌≡◌, ◌+◌, ◌<◌, ◌^◌, ◌==◌, length, MatchOption};
+ghost use Rattle.std.specs.List.{after_first, before_first, position_or_len};
+
+use crate::RecordFault;
+use crate::fault::ReadError;
+
+/// What is left of a text, and how many lines were passed.
+#[derive(Clone, Copy)]
+pub struct Cursor<'a> {
+    pub rest: &'a [u8],
+    pub passed: u64,
+    pub ghost fits: { passed + length rest.now < 2 ^ 64 },
+}
+
+/// What stands before the first such byte, and what stands behind it.
+pub fn split<'a>(text: &'a [u8], byte: u8) -> Option<(&'a [u8], &'a [u8])>
+    ensures { MatchOption result
+        (position_or_len (λ b. b == byte) text.entry.now ≡ length text.entry.now)
+        (λ x. (position_or_len (λ b. b == byte) text.entry.now < length text.entry.now)
+        × (x.0.now ≡ before_first (λ b. b == byte) text.entry.now)
+        × (x.1.now ≡ after_first (λ b. b == byte) text.entry.now)) }
+{
+    match text.iter().position(|other| *other == byte) {
+        Some(place) => Some((&text[..place], &text[place + 1..])),
+        None => None,
+    }
+}
+
+impl<'a> Cursor<'a> {
+    ghost use Rattle.package_record.specs.Cursor.{place_of};
+    ghost use Rattle.package_record.specs.Given.{Gives};
+    ghost use Rattle.package_record.specs.Reading.{field_at, line_at};
+
+    /// The line without its LF, and the cursor behind it.
+    pub fn line(self) -> Result<(&'a [u8], Cursor<'a>), ReadError>
+        ensures { Gives (λ x. (x.0.now, place_of x.1)) result (line_at (place_of self.entry)) }
+    {
+        match split(self.rest, b'\n') {
+            Some((line, rest)) => {
+                let passed = self.passed + 1;
+                Ok((line, Cursor { rest, passed }))
+            }
+            None => Err(ReadError::Fault(RecordFault::Truncated)),
+        }
+    }
+
+    /// What belongs to the word that begins the line, and the cursor behind the line.
+    #[tactic(auto, unfolding(crate::specs::Reading::field_at))]
+    pub fn field(self, word: &[u8]) -> Result<(&'a [u8], Cursor<'a>), ReadError>
+        ensures { Gives (λ x. (x.0.now, place_of x.1)) result (field_at word.now (place_of self.entry)) }
+    {
+        let (line, after) = self.line()?;
+        match line.strip_prefix(word) {
+            Some(text) => Ok((text, after)),
+            None => Err(after.bad_line()),
+        }
+    }
+
+    /// The line that was passed last is not what stands there.
+    pub fn bad_line(self) -> ReadError
+        ensures { result ≡ ReadError.Fault (RecordFault.BadLine self.entry.passed) }
+    {
+        ReadError::Fault(RecordFault::BadLine(self.passed))
+    }
+}

@@ -1,0 +1,22 @@
+//! A file of a package.
+ghost use Rattle.std.specs.Prelude.{◌≡◌, IfOk};
+
+use faults::Memory;
+
+/// A file by its name, in which slashes stand between components, and its bytes.
+#[derive(Drop)]
+pub struct File {
+    pub name: Vec<u8>,
+    pub bytes: Vec<u8>,
+}
+
+impl File {
+    pub fn copy(&self) -> Result<File, Memory>
+        ensures name { IfOk result (λ file. file.name.items ≡ self.now.name.items) }
+        ensures bytes { IfOk result (λ file. file.bytes.items ≡ self.now.bytes.items) }
+    {
+        let name = self.name.clone()?;
+        let bytes = self.bytes.clone()?;
+        Ok(File { name, bytes })
+    }
+}

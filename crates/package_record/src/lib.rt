@@ -1,0 +1,103 @@
+//! Records of built packages, and their texts.
+#![tactic(auto)]
+
+ghost use Rattle.std.specs.Prelude.{◌≡◌};
+ghost use Rattle.package_record.specs.declared.RecordFault.TheVariants.{Memory as out_of_memory};
+ghost use Rattle.package_record.specs.Refusals.{refusal_number, refusal_place};
+
+use faults::{Fault, Memory};
+use std::alloc::{AllocError, AllocFailed};
+use thiserror::Error;
+
+mod cursor;
+mod fault;
+mod fields;
+mod file;
+mod file_name;
+mod header;
+mod making;
+mod names;
+mod number;
+mod package;
+mod parsing;
+mod reading;
+mod writing;
+
+pub use crate::file::File;
+pub use crate::package::{Record, make};
+
+/// The most bytes that a record's text has.
+pub const LIMIT: usize = 60_000;
+
+/// Why a text is no record, or why none can be made: the first fault. Lines and files are counted from 1.
+#[derive(Clone, Copy, Debug, PartialEq, Eq, Error)]
+pub enum RecordFault {
+    #[error("out of memory")]
+    Memory,
+    #[error("line {0} is not what stands there in a record")]
+    BadLine(u64),
+    #[error("the record is cut short")]
+    Truncated,
+    #[error("bytes follow the record")]
+    Trailing,
+    #[error("the file of line {0} has another digest")]
+    DigestDiffers(u64),
+    #[error("the file name {0} is bad, or stands twice")]
+    BadFileName(u64),
+    #[error("the record is too large")]
+    TooLarge,
+}
+
+impl From<Memory> for RecordFault {
+    ghost from_gives = { λ _ e. e ≡ out_of_memory };
+
+    fn from(_e: Memory) -> RecordFault {
+        RecordFault::Memory
+    }
+}
+
+impl From<AllocError> for RecordFault {
+    ghost from_gives = { λ _ e. e ≡ out_of_memory };
+
+    fn from(_e: AllocError) -> RecordFault {
+        RecordFault::Memory
+    }
+}
+
+impl<T: Drop> From<AllocFailed<T>> for RecordFault {
+    ghost from_gives = { λ _ e. e ≡ out_of_memory };
+
+    fn from(_e: AllocFailed<T>) -> RecordFault {
+        RecordFault::Memory
+    }
+}
+
+impl Fault for RecordFault {
+    ghost number_of = { refusal_number };
+
+    ghost place_of = { refusal_place };
+
+    fn number(&self) -> u32 {
+        match self {
+            RecordFault::Memory => 1,
+            RecordFault::BadLine(_) => 701,
+            RecordFault::Truncated => 702,
+            RecordFault::Trailing => 703,
+            RecordFault::DigestDiffers(_) => 704,
+            RecordFault::BadFileName(_) => 705,
+            RecordFault::TooLarge => 706,
+        }
+    }
+
+    fn place(&self) -> Option<u64> {
+        match self {
+            RecordFault::BadLine(n) => Some(*n),
+            RecordFault::DigestDiffers(n) => Some(*n),
+            RecordFault::BadFileName(n) => Some(*n),
+            RecordFault::Memory => None,
+            RecordFault::Truncated => None,
+            RecordFault::Trailing => None,
+            RecordFault::TooLarge => None,
+        }
+    }
+}

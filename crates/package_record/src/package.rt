@@ -1,0 +1,172 @@
+//! A record, which contracts see as what it says.
+ghost use Rattle.std.specs.Prelude.{◌≡◌, ◌++◌, drop, length, map, take, true, IfOk, OnOk, OnErr};
+ghost use Rattle.sha2.specs.Sha256.{sha256};
+ghost use Rattle.faults.specs.Answers.{IsRightUnless, map_ok, unless_fault};
+ghost use Rattle.claims.specs.Claim.{IsClaim};
+ghost use Rattle.claims.specs.Deps.{AreInOrder, is_ascending};
+ghost use Rattle.package_record.specs.Content.{Content, IsRecord, record_text};
+ghost use Rattle.package_record.specs.Inside.{file_view};
+ghost use Rattle.package_record.specs.Making.{make_fault};
+ghost use Rattle.package_record.specs.Reading.{first_of, whole_of};
+
+use crate::fields::Fields;
+use crate::making::{test_length, test_names};
+use crate::{File, RecordFault, parsing, writing};
+use claims::{Claim, Dep, Deps};
+use faults::Memory;
+use pkgname::PkgName;
+use pkgpath::PkgPath;
+use sha2::{Digest, Sha256};
+use std::alloc::Global;
+use std::marker::Model;
+
+#[derive(Drop)]
+pub struct Record {
+    fields: Fields,
+}
+
+impl Model for Record {
+    ghost use Rattle.package_record.specs.Content.{Content, IsRecord};
+    ghost use Rattle.package_record.specs.Inside.{content_of};
+
+    ghost Value = { Content };
+
+    ghost view = { λ r. content_of r.fields };
+
+    ghost invariant = { λ r. IsRecord (content_of r.fields) };
+}
+
+/// The record that says this. A bad file name is refused at the number of its file, counted
+/// from 1, and so is one that an earlier file has; the length is tested after the names.
+pub fn make(
+    alloc: Global,
+    path: PkgPath,
+    name: PkgName,
+    host: u16,
+    claim: Claim,
+    built: Deps,
+    run: Vec<PkgPath>,
+    files: Vec<File>,
+) -> Result<Record, RecordFault>
+    requires claim { IsClaim claim }
+    requires built { AreInOrder built }
+    requires run { is_ascending run.items ≡ true }
+    ensures { let content : Content = record {
+      path = path;
+      name = name;
+      host = host;
+      claim = claim;
+      built = built;
+      run = run.items;
+      files = map file_view files.items;
+    } in IsRightUnless RecordFault.Memory result (unless_fault (make_fault content) content) }
+{
+    test_names(alloc, files.as_slice())?;
+    let fields = Fields {
+        path,
+        name,
+        host,
+        claim,
+        built,
+        run,
+        files,
+    };
+    test_length(alloc, &fields)?;
+    Ok(Record { fields })
+}
+
+impl Record {
+    /// The record whose text this is. Which fault a text has is the first from the left.
+    pub fn parse(alloc: Global, text: &[u8]) -> Result<Record, RecordFault>
+        // What is read is spelled so.
+        ensures text { IfOk result (λ r. IsRecord r × (text.now ≡ record_text r)) }
+        // Which record or fault it is.
+        ensures exact { IsRightUnless RecordFault.Memory result (whole_of text.now) }
+    {
+        let fields = parsing::whole(alloc, text)?;
+        Ok(Record { fields })
+    }
+
+    /// The record at the front of the text, and how many bytes its text takes.
+    pub fn read_first(alloc: Global, text: &[u8]) -> Result<(Record, usize), RecordFault>
+        ensures text { IfOk result (λ first. IsRecord first.0 × (take first.1 text.now ≡ record_text first.0)) }
+        ensures length { IfOk result (λ first. first.1 ≡ length (record_text first.0)) }
+        ensures exact { IsRightUnless RecordFault.Memory (map_ok (λ first. (first.0, drop first.1 text.now)) result) (first_of text.now) }
+    {
+        let (fields, rest) = parsing::first(alloc, text)?;
+        let length = text.len().saturating_sub(rest.len());
+        Ok((Record { fields }, length))
+    }
+
+    /// Appends the text.
+    pub fn write_to(&self, out: &mut Vec<u8>) -> Result<(), Memory>
+        ensures ok { OnOk result (out.new.items ≡ out.old.items ++ record_text self.now) }
+        ensures err { OnErr result (out.new.items ≡ out.old.items) }
+    {
+        let text = writing::text(self.allocator(), &self.fields)?;
+        out.extend_from_slice(text.as_slice())?;
+        Ok(())
+    }
+
+    /// The SHA-256 (FIPS 180-4) of the text.
+    pub fn digest(&self) -> Result<[u8; 32], Memory>
+        ensures { IfOk result (λ digest. digest ≡ sha256 (record_text self.now)) }
+    {
+        let text = writing::text(self.allocator(), &self.fields)?;
+        Ok(Sha256::digest(text.as_slice()))
+    }
+
+    fn allocator(&self) -> Global {
+        *self.fields.files.allocator()
+    }
+
+    pub fn path(&self) -> &PkgPath
+        ensures path { result.now ≡ self.now.path }
+        ensures record { IsRecord self.now }
+    {
+        &self.fields.path
+    }
+
+    pub fn name(&self) -> &PkgName
+        ensures { result.now ≡ self.now.name }
+    {
+        &self.fields.name
+    }
+
+    pub fn host(&self) -> u16
+        ensures { result ≡ self.now.host }
+    {
+        self.fields.host
+    }
+
+    pub fn claim(&self) -> Claim
+        ensures { result ≡ self.now.claim }
+    {
+        self.fields.claim
+    }
+
+    pub fn built(&self) -> &[Dep]
+        ensures { result.now ≡ self.now.built }
+    {
+        self.fields.built.as_slice()
+    }
+
+    pub fn run(&self) -> &[PkgPath]
+        ensures { result.now ≡ self.now.run }
+    {
+        self.fields.run.as_slice()
+    }
+
+    pub fn files(&self) -> &[File]
+        ensures { map file_view result.now ≡ self.now.files }
+    {
+        self.fields.files.as_slice()
+    }
+
+    pub fn copy(&self) -> Result<Record, Memory>
+        ensures { IfOk result (λ r. r ≡ self.now) }
+    {
+        let fields = self.fields.copy()?;
+        Ok(Record { fields })
+    }
+}

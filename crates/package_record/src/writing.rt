@@ -1,0 +1,184 @@
+//! The text of a record.
+ghost use Rattle.std.specs.Prelude.{◌≡◌, ◌++◌, [], ◌∷◌, All, OnOk, IfOk, codes, decimal, flat_map, length, map};
+ghost use Rattle.hex.specs.Hex.{encode_lower};
+ghost use Rattle.sha2.specs.Sha256.{sha256};
+ghost use Rattle.faults.specs.Bytes.{line_feed};
+ghost use Rattle.pkgname.specs.PkgName.{IsName};
+ghost use Rattle.pkgpath.specs.PkgPath.{IsPath};
+ghost use Rattle.package_record.specs.Content.{HasNames, IsDep, built_line, claim_line, ended, file_lines, front_lines, header_lines, name_lines, record_text, run_line};
+ghost use Rattle.package_record.specs.Inside.{content_of, file_view};
+
+use crate::File;
+use crate::fields::Fields;
+use claims::{Claim, Dep};
+use faults::Memory;
+use itoa::Buffer;
+use pkgpath::PkgPath;
+use sha2::{Digest, Sha256};
+use std::alloc::Global;
+
+/// Appends a line that is made of these parts.
+#[tactic(auto, unfolding(crate::specs::Content::ended))]
+fn put_line(out: &mut Vec<u8>, parts: &[&[u8]]) -> Result<(), Memory>
+    ensures { OnOk result (out.new.items ≡ out.old.items ++ ended (flat_map (λ part. part.now) parts.now ∷ [])) }
+{
+    for part in parts {
+        out.extend_from_slice(part)?;
+    }
+    out.push(b'\n')?;
+    Ok(())
+}
+
+/// Appends the line of a word and what belongs to it.
+fn put_field(out: &mut Vec<u8>, word: &[u8], text: &[u8]) -> Result<(), Memory>
+    ensures { OnOk result (out.new.items ≡ out.old.items ++ ended ((word.now ++ text.now) ∷ [])) }
+{
+    put_line(out, &[word, text])
+}
+
+pub fn digest_text(digest: &[u8; 32]) -> [u8; 64]
+    ensures text { result ≡ encode_lower digest.now }
+    ensures size { length digest.now ≡ 32 }
+{
+    let mut text = [0; 64];
+    hex::encode_to_slice(digest, &mut text).unwrap();
+    text
+}
+
+/// The lines that say what the package is.
+fn put_names(out: &mut Vec<u8>, fields: &Fields) -> Result<(), Memory>
+    ensures text { OnOk result (out.new.items ≡ out.old.items ++ ended (name_lines (content_of fields.now))) }
+    ensures names { OnOk result (IsName fields.now.name × IsPath fields.now.path) }
+{
+    put_field(out, b"@dpb 1", b"")?;
+    put_field(out, b"@name ", fields.name.as_bytes())?;
+    put_field(out, b"@comment pkgpath=", fields.path.as_bytes())?;
+    Ok(())
+}
+
+fn put_host(out: &mut Vec<u8>, host: u16) -> Result<(), Memory>
+    ensures { OnOk result (out.new.items ≡ out.old.items ++ ended ((codes "@host " ++ decimal host) ∷ [])) }
+{
+    let mut text = Buffer::new();
+    put_field(out, b"@host ", text.format(host).as_bytes())
+}
+
+fn put_claim(out: &mut Vec<u8>, claim: Claim) -> Result<(), Memory>
+    ensures { OnOk result (out.new.items ≡ out.old.items ++ ended (claim_line claim ∷ [])) }
+{
+    let mut round = Buffer::new();
+    let mut member = Buffer::new();
+    put_line(
+        out,
+        &[
+            b"@claim ".as_slice(),
+            round.format(claim.round).as_bytes(),
+            b".".as_slice(),
+            member.format(claim.member).as_bytes(),
+        ],
+    )
+}
+
+fn put_front(out: &mut Vec<u8>, fields: &Fields) -> Result<(), Memory>
+    ensures text { OnOk result (out.new.items ≡ out.old.items ++ ended (front_lines (content_of fields.now))) }
+    ensures names { OnOk result (IsName fields.now.name × IsPath fields.now.path) }
+{
+    put_names(out, fields)?;
+    put_host(out, fields.host)?;
+    put_claim(out, fields.claim)?;
+    Ok(())
+}
+
+fn put_built(out: &mut Vec<u8>, dep: &Dep) -> Result<(), Memory>
+    ensures text { OnOk result (out.new.items ≡ out.old.items ++ ended (built_line dep.now ∷ [])) }
+    ensures names { OnOk result (IsDep dep.now) }
+{
+    put_line(
+        out,
+        &[
+            b"@built ".as_slice(),
+            dep.path.as_bytes(),
+            b" ".as_slice(),
+            dep.name.as_bytes(),
+            b" ".as_slice(),
+            digest_text(&dep.digest).as_slice(),
+        ],
+    )
+}
+
+fn put_digest(out: &mut Vec<u8>, bytes: &[u8]) -> Result<(), Memory>
+    ensures { OnOk result (out.new.items ≡ out.old.items ++ ended ((codes "@sha " ++ encode_lower (sha256 bytes.now)) ∷ [])) }
+{
+    let digest: [u8; 32] = Sha256::digest(bytes);
+    put_field(out, b"@sha ", digest_text(&digest).as_slice())
+}
+
+fn put_size(out: &mut Vec<u8>, size: usize) -> Result<(), Memory>
+    ensures { OnOk result (out.new.items ≡ out.old.items ++ ended ((codes "@size " ++ decimal size) ∷ [])) }
+{
+    let mut text = Buffer::new();
+    put_field(out, b"@size ", text.format(size).as_bytes())
+}
+
+fn put_file(out: &mut Vec<u8>, file: &File) -> Result<(), Memory>
+    ensures { OnOk result (out.new.items ≡ out.old.items ++ ended (file_lines (file_view file.now))) }
+{
+    put_field(out, b"", file.name.as_slice())?;
+    put_digest(out, file.bytes.as_slice())?;
+    put_size(out, file.bytes.len())?;
+    Ok(())
+}
+
+fn put_dependencies(out: &mut Vec<u8>, deps: &[Dep]) -> Result<(), Memory>
+    ensures text { OnOk result (out.new.items ≡ out.old.items ++ ended (map built_line deps.now)) }
+    ensures names { OnOk result (All IsDep deps.now) }
+{
+    for dep in deps {
+        put_built(out, dep)?;
+    }
+    Ok(())
+}
+
+fn put_run(out: &mut Vec<u8>, paths: &[PkgPath]) -> Result<(), Memory>
+    ensures text { OnOk result (out.new.items ≡ out.old.items ++ ended (map run_line paths.now)) }
+    ensures names { OnOk result (All IsPath paths.now) }
+{
+    for path in paths {
+        put_field(out, b"@run ", path.as_bytes())?;
+    }
+    Ok(())
+}
+
+fn put_files(out: &mut Vec<u8>, files: &[File]) -> Result<(), Memory>
+    ensures { OnOk result (out.new.items ≡ out.old.items ++ ended (flat_map file_lines (map file_view files.now))) }
+{
+    for file in files {
+        put_file(out, file)?;
+    }
+    Ok(())
+}
+
+/// The header with the empty line at its end.
+pub fn header(alloc: Global, fields: &Fields) -> Result<Vec<u8>, Memory>
+    ensures text { IfOk result (λ text. text.items ≡ ended (header_lines (content_of fields.now)) ++ line_feed ∷ []) }
+    ensures names { OnOk result (HasNames (content_of fields.now)) }
+{
+    let mut text = Vec::new(alloc);
+    put_front(&mut text, fields)?;
+    put_dependencies(&mut text, fields.built.as_slice())?;
+    put_run(&mut text, fields.run.as_slice())?;
+    put_files(&mut text, fields.files.as_slice())?;
+    text.push(b'\n')?;
+    Ok(text)
+}
+
+/// The whole text.
+pub fn text(alloc: Global, fields: &Fields) -> Result<Vec<u8>, Memory>
+    ensures { IfOk result (λ text. text.items ≡ record_text (content_of fields.now)) }
+{
+    let mut text = header(alloc, fields)?;
+    for file in fields.files.as_slice() {
+        text.extend_from_slice(file.bytes.as_slice())?;
+    }
+    Ok(text)
+}

@@ -1,0 +1,16 @@
+// Answers lines of standard input, each a text in hexadecimal: what the text is as a whole, and
+// what record stands at its front; a path, the digest of the record and its length, or the number of the refusal and
+// its place.
+#![tactic(auto)]
+
+mod answers;
+
+use std::io;
+
+fn main(rt: HostRuntime) -> io::Result<()> {
+    for line in rt.lines(rt.alloc()) {
+        let answer = answers::answer(rt.alloc(), line?.as_bytes())?;
+        println!(rt; "{answer}")?;
+    }
+    Ok(())
+}

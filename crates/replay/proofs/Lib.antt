@@ -1,0 +1,4 @@
+pub mod Holding
+pub mod NumberedLines
+pub mod PackageLines
+pub mod Positions

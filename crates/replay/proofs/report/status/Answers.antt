@@ -1,0 +1,16 @@
+use Rattle.replay.proofs.report.status.Goals as goal
+
+pub returns-clause-ok : goal.returns-clause-ok
+returns-clause-ok c = record {
+  state = c.in_ok-engine.engine;
+  tree_is = c.in_ok-engine.ensures.tree;
+  are_held = c.in_ok-engine.ensures.held;
+  status = c.in_ok-text.ensures;
+}
+
+pub returns-clause-listing : goal.returns-clause-listing
+returns-clause-listing c = λ rules listing described. record {
+  tree = c.args.tree.now;
+  described = described;
+  status = returns-clause-ok c;
+}

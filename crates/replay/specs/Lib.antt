@@ -1,0 +1,4 @@
+pub mod Held
+pub mod Printed
+pub mod Refusals
+pub mod Status

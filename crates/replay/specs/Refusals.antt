@@ -1,0 +1,16 @@
+-- The numbers and places of the refusals.
+use Rattle.std.specs.Prelude.{ℕ, Option, None, Some}
+use Rattle.replay.specs.declared.held.HeldFault.{HeldFault}
+use Rattle.replay.specs.declared.held.HeldFault.TheVariants.{Memory, BadList, Unlisted, Ignored}
+
+abbrev pub number_of : HeldFault → ℕ
+number_of Memory = 1
+number_of (BadList line) = 1308
+number_of (Unlisted line) = 901
+number_of (Ignored line) = 902
+
+abbrev pub place_of : HeldFault → Option ℕ
+place_of Memory = None
+place_of (BadList line) = Some line
+place_of (Unlisted line) = Some line
+place_of (Ignored line) = Some line

@@ -1,0 +1,9 @@
+//! Runs of the programs and calls of the crates below them, on texts that are written out.
+#![tactic(auto)]
+
+#[cfg(test)]
+mod paths;
+#[cfg(test)]
+mod runs;
+#[cfg(test)]
+mod trees;
