@@ -2,14 +2,14 @@
 use Rattle.std.specs.Prelude.{ℕ, List, Option}
 use Rattle.std.specs.Io.KnownBytes.{Appends}
 use Rattle.faults.specs.Bytes.{Text}
-use Rattle.listing.specs.Rules.{words_as_names}
+use Rattle.listing.specs.Rules.{names_and_specs}
 use Rattle.replay.specs.Status.{IsStatusOfListing}
 
 -- the status that a listing and a text of held package paths describe
 pub record IsPrinted (text : Text) : Type 0 where
   pub listing : Text
   pub held : Text
-  pub status : IsStatusOfListing words_as_names listing held text
+  pub status : IsStatusOfListing names_and_specs listing held text
 
 -- what was written since is one such text
 pub record HasPrinted (before after : Option (List ℕ)) : Type 0 where

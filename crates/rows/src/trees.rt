@@ -18,7 +18,7 @@ fn a_tree_is_read(rt: HostRuntime) -> Result<(), Fail> {
     let path = PkgPath::parse(alloc, b"a/q")?;
     assert!(rt; tree.position(&path) == Some(1) && tree.path(1) == &path);
     assert!(rt;
-        tree.name(0) == b"p-1".as_slice()
+        tree.name(0).as_bytes() == b"p-1".as_slice()
             && tree.build_deps(0) == [1].as_slice()
             && tree.run_deps(0) == [1].as_slice()
     );
@@ -80,6 +80,36 @@ fn held_paths_and_words_are_read(rt: HostRuntime) -> Result<(), Fail> {
     let call = dpbr_words(alloc, &["dpbr", "status", "t", "h"])?;
     let Call::Status { listing, held } = call;
     assert!(rt; listing == "t" && held == "h");
+    Ok(())
+}
+
+static SPEC_BEFORE: &[u8] =
+    b"a/p.FULLPKGNAME=p-1\na/p.BUILD_DEPENDS=q->=2:a/q:patch\na/q.FULLPKGNAME=q-";
+
+static BOUNDS_BEHIND: &[u8] =
+    b"a/p.FULLPKGNAME=p-1\na/p.BUILD_DEPENDS=a/q>=2\na/q.FULLPKGNAME=q-";
+
+#[test]
+fn a_spec_that_the_name_does_not_match_marks(rt: HostRuntime) -> Result<(), Fail> {
+    let alloc = rt.alloc();
+    for listing in [SPEC_BEFORE, BOUNDS_BEHIND] {
+        for (version, want) in [
+            (
+                b"1",
+                b"! a/p p-1\nQ a/q q-1\nI=0 B=0 Q=1 T=0 !=1\n".as_slice(),
+            ),
+            (
+                b"2",
+                b"T a/p p-1\nQ a/q q-2\nI=0 B=0 Q=1 T=1 !=0\n".as_slice(),
+            ),
+        ] {
+            let mut text = Vec::from_slice(alloc, listing)?;
+            text.extend_from_slice(version.as_slice())?;
+            let tree = Tree::parse(alloc, text.as_slice())?;
+            let letters = status(alloc, &tree, b"")?;
+            assert!(rt; letters.as_slice() == want);
+        }
+    }
     Ok(())
 }
 
