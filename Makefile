@@ -16,5 +16,6 @@ install: all
 
 bench: all
 	bench/status
+	bench/audit
 
 .PHONY: all check install bench

@@ -1,4 +1,9 @@
+pub mod Ends
+pub mod Fields
 pub mod Holding
+pub mod Lines
 pub mod NumberedLines
 pub mod PackageLines
 pub mod Positions
+pub mod Saying
+pub mod Slices

@@ -5,24 +5,10 @@ use Rattle.std.proofs.lemmas.List.{take_more}
 use Rattle.std.proofs.lemmas.List.FromFn.{get_or-enumerate_from, length-enumerate_from}
 use Rattle.std.proofs.lemmas.Option.{slice_get-get_or}
 use Rattle.std.specs.List.{slice_get}
+use Rattle.replay.proofs.Slices.{length_now, now_at, taken_whole}
 use Rattle.faults.specs.Bytes.{Text, is_empty, line_feed}
 use Rattle.faults.specs.Pieces.{pieces_at}
 use Rattle.listing.specs.Lines.{Line, lines_of}
-
-now_at : (items : List (Bor Text)) (i : ℕ) (d : Bor Text) (t : Text) → i < length items → get_or (map (λ l. l.now) items) i t ≡ (get_or items i d).now
-now_at [] i d t within = absurd (omega arith)
-now_at (x ∷ xs) zero d t within = refl
-now_at (x ∷ xs) (suc i) d t within = now_at xs i d t (omega arith)
-
-length_now : (items : List (Bor Text)) → length (map (λ l. l.now) items) ≡ length items
-length_now [] = refl
-length_now (x ∷ xs) = ap suc (length_now xs)
-
-taken_whole : (lines : List Line) (i : ℕ) → length lines ≤ i → take i lines ≡ lines
-taken_whole [] zero past = refl
-taken_whole [] (suc i) past = refl
-taken_whole (x ∷ xs) zero past = absurd (omega arith)
-taken_whole (x ∷ xs) (suc i) past = ap (λ (ls : List Line). x ∷ ls) (taken_whole xs i (omega arith))
 
 module _ (text : Text) (items : List (Bor Text)) (are : map (λ l. l.now) items ≡ pieces_at line_feed text) where
   pub length_lines : length (lines_of text) ≡ length items

@@ -1,14 +1,14 @@
 //! A text of held package paths, one a line.
-ghost use Rattle.std.specs.Prelude.{◌≡◌, ◌⊎◌, IfErr, IfOk, OnOk, false, map};
+ghost use Rattle.std.specs.Prelude.{◌≡◌, ◌⊎◌, IfErr, IfOk, OnOk, false};
 ghost use Rattle.std.specs.FinSet as set;
 ghost use Rattle.engine.specs.Letters.{IsIgnored};
 ghost use Rattle.engine.specs.State.{has_agreed};
-ghost use Rattle.faults.specs.Bytes.{is_empty, line_feed};
-ghost use Rattle.faults.specs.Pieces.{pieces_at};
+ghost use Rattle.faults.specs.Bytes.{is_empty};
 ghost use Rattle.replay.specs.Held.{AreHeld, Holds, IsFaultOf, IsFirstFault};
 ghost use Rattle.replay.specs.Refusals.{number_of, place_of};
 ghost use Rattle.replay.specs.declared.held.HeldFault.TheVariants.{Memory as OutOfMemory};
 
+use crate::pieces::pieces;
 use engine::{Engine, Letter};
 use faults::{Fault, Memory};
 use listing::Tree;
@@ -77,7 +77,7 @@ pub fn held_engine<'a>(alloc: Global, tree: &'a Tree, text: &[u8]) -> Result<Eng
     ensures held { IfOk result (λ engine. AreHeld tree.entry.now text.now (has_agreed engine)) }
     ensures refused { IfErr result (λ e. (e ≡ HeldFault.Memory) ⊎ IsFirstFault tree.entry.now text.now e) }
 {
-    let lines = lines_of(alloc, text)?;
+    let lines = pieces(alloc, b'\n', text)?;
     let mut engine = Engine::new(alloc, tree)?;
     for (index, line) in lines.iter().enumerate() {
         if !line.is_empty() {
@@ -85,13 +85,6 @@ pub fn held_engine<'a>(alloc: Global, tree: &'a Tree, text: &[u8]) -> Result<Eng
         }
     }
     Ok(engine)
-}
-
-/// The lines of a text, each without its end.
-fn lines_of<'t>(alloc: Global, text: &'t [u8]) -> Result<Vec<&'t [u8]>, AllocError>
-    ensures { IfOk result (λ lines. map (λ line. line.now) lines.items ≡ pieces_at line_feed text.entry.now) }
-{
-    text.split(|byte| *byte == b'\n').collect(alloc)
 }
 
 /// Adds the package that a line names to the held ones.

@@ -2,11 +2,18 @@
 #![tactic(auto)]
 
 mod held;
+mod list;
+mod list_line;
+mod pieces;
 mod program;
 mod refusal;
 mod report;
+mod verdict;
 
 pub use crate::held::{HeldFault, held_engine};
+pub use crate::list::{ListFault, read_list};
 pub use crate::program::dpbr_main;
 pub use crate::report::status;
+pub use crate::verdict::{audit_list, verdict_text};
+pub use auditing::{Entry, Reason, Verdict, audit};
 pub use words::{Call, dpbr_words};

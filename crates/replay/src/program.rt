@@ -1,11 +1,12 @@
 //! The program `dpbr`.
-ghost use Rattle.std.specs.Prelude.{◌≡◌, ◌≤◌, IfOk, OnOk, map, string_bytes, true};
+ghost use Rattle.std.specs.Prelude.{◌≡◌, ◌≤◌, ◌⊎◌, IfOk, map, string_bytes, true};
 ghost use Rattle.std.specs.Io.KnownBytes.{Keeps};
-ghost use Rattle.replay.specs.Printed.{HasPrinted, IsPrinted};
+ghost use Rattle.replay.specs.Printed.{HasCarriedOut, HasPrinted, IsAudit, IsOutputOf, IsStatus};
 ghost use Rattle.words.specs.Calls.{IsCallOf, are_taken, matched};
 
 use crate::refusal::Refusal;
 use crate::report::status;
+use crate::verdict::{audit_list, status_after, verdict_text};
 use clap::error::ErrorKind;
 use faults::Memory;
 use listing::Tree;
@@ -14,9 +15,9 @@ use std::io::Write;
 use std::rt::Files;
 use words::{Call, dpbr_words};
 
-/// Carries out the call that the words make, and gives the status with which the program ends: 0; 1 after a fault, of
-/// which it writes one line to `err`, `dpbr: fault N` or `dpbr: fault N at K`; 2 where the words make no call, or ask for
-/// help, after clap's text on `err`.
+/// Carries out the call that the words make, and gives the status with which the program ends: 0; 3 after an audit that
+/// answers no; 1 after a fault, of which it writes one line to `err`, `dpbr: fault N` or `dpbr: fault N at K`; 2 where the
+/// words make no call, or ask for help, after clap's text on `err`.
 ///
 /// The first word is the program's name. The whole output is made before any of it is written to `out`; output that can't
 /// be written is fault 2.
@@ -26,8 +27,9 @@ pub fn dpbr_main<R: Files + AllocGlobal, O: Write, E: Write>(
     out: &mut O,
     err: &mut E,
 ) -> u8
-    ensures status { result ≤ 2 }
-    ensures printed { result ≡ 0 → HasPrinted (O.contents out.old) (O.contents out.new) }
+    ensures status { result ≤ 3 }
+    ensures done { result ≡ 0 → HasCarriedOut (matched (map string_bytes words.now)) 0 (O.contents out.old) (O.contents out.new) }
+    ensures denied { result ≡ 3 → HasCarriedOut (matched (map string_bytes words.now)) 3 (O.contents out.old) (O.contents out.new) }
     // Words that clap takes, and that name each value of a call, are no wrong words.
     ensures wrong_words { result ≡ 2 → are_taken (map string_bytes words.now) ≡ true
         → (call : Call) → ¬ IsCallOf (matched (map string_bytes words.now)) call }
@@ -35,7 +37,7 @@ pub fn dpbr_main<R: Files + AllocGlobal, O: Write, E: Write>(
 {
     let refusal = match dpbr_words(rt.alloc(), words) {
         Ok(call) => match carry_out(rt, &call, out) {
-            Ok(()) => return 0,
+            Ok(status) => return status,
             Err(refusal) => refusal,
         },
         Err(error) if error.kind() == ErrorKind::OutOfMemory => Refusal::of(&Memory),
@@ -48,25 +50,38 @@ pub fn dpbr_main<R: Files + AllocGlobal, O: Write, E: Write>(
     1
 }
 
-/// Prints what the call asks for.
+/// Prints what the call asks for, and gives the status that goes with it.
 fn carry_out<R: Files + AllocGlobal, O: Write>(
     rt: &R,
     call: &Call<'_>,
     out: &mut O,
-) -> Result<(), Refusal>
-    ensures { OnOk result (HasPrinted (O.contents out.old) (O.contents out.new)) }
+) -> Result<u8, Refusal>
+    ensures printed { IfOk result (λ status. HasPrinted call.now status (O.contents out.old) (O.contents out.new)) }
+    ensures status { IfOk result (λ status. (status ≡ 0) ⊎ (status ≡ 3)) }
 {
-    let text = output(rt, call)?;
-    out.write_all(text.as_slice())?;
+    let output = output(rt, call)?;
+    out.write_all(output.text.as_slice())?;
     out.flush()?;
-    Ok(())
+    Ok(output.status)
 }
 
-fn output<R: Files + AllocGlobal>(rt: &R, call: &Call<'_>) -> Result<Vec<u8>, Refusal>
-    ensures { IfOk result (λ text. IsPrinted text.items) }
+/// What a call prints, and the status with which the program then ends.
+#[derive(Drop)]
+struct Answer {
+    text: Vec<u8>,
+    status: u8,
+}
+
+fn output<R: Files + AllocGlobal>(rt: &R, call: &Call<'_>) -> Result<Answer, Refusal>
+    ensures output { IfOk result (λ output. IsOutputOf call.now output.status output.text.items) }
+    ensures status { IfOk result (λ output. (output.status ≡ 0) ⊎ (output.status ≡ 3)) }
 {
     match call {
-        Call::Status { listing, held } => status_of_files(rt, listing, held),
+        Call::Status { listing, held } => {
+            let text = status_of_files(rt, listing, held)?;
+            Ok(Answer { text, status: 0 })
+        }
+        Call::Audit { listing, list } => audit_of_files(rt, listing, list),
     }
 }
 
@@ -75,7 +90,7 @@ fn status_of_files<R: Files + AllocGlobal>(
     listing: &str,
     held: &str,
 ) -> Result<Vec<u8>, Refusal>
-    ensures { IfOk result (λ text. IsPrinted text.items) }
+    ensures { IfOk result (λ text. IsStatus text.items) }
 {
     let listing = fs::read(rt, listing)?;
     let tree = Tree::parse(rt.alloc(), listing.as_slice())?;
@@ -83,4 +98,24 @@ fn status_of_files<R: Files + AllocGlobal>(
     let held = fs::read(rt, held)?;
     let text = status(rt.alloc(), &tree, held.as_slice())?;
     Ok(text)
+}
+
+fn audit_of_files<R: Files + AllocGlobal>(
+    rt: &R,
+    listing: &str,
+    list: &str,
+) -> Result<Answer, Refusal>
+    ensures audit { IfOk result (λ output. IsAudit output.status output.text.items) }
+    ensures status { IfOk result (λ output. (output.status ≡ 0) ⊎ (output.status ≡ 3)) }
+{
+    let listing = fs::read(rt, listing)?;
+    let tree = Tree::parse(rt.alloc(), listing.as_slice())?;
+    drop(listing);
+    let list = fs::read(rt, list)?;
+    let verdict = audit_list(rt.alloc(), &tree, list.as_slice())?;
+    let text = verdict_text(rt.alloc(), verdict)?;
+    Ok(Answer {
+        text: text.into_bytes(),
+        status: status_after(verdict),
+    })
 }

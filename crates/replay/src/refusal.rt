@@ -1,11 +1,14 @@
 //! Why a call of the program was not carried out, as it is printed.
 ghost use Rattle.std.specs.Prelude.{◌≡◌, ◌⊎◌, None};
 ghost use Rattle.listing.specs.Refusals as listings;
+ghost use Rattle.replay.specs.ListRefusals as lists;
 ghost use Rattle.replay.specs.Refusals as held;
 
 use crate::held::HeldFault;
+use crate::list::ListFault;
 use faults::{Fault, Memory};
 use listing::ListingFault;
+use std::alloc::AllocError;
 use std::io::ErrorKind;
 use std::{fmt, io};
 
@@ -61,6 +64,22 @@ impl From<HeldFault> for Refusal {
 
     fn from(fault: HeldFault) -> Refusal {
         Refusal::of(&fault)
+    }
+}
+
+impl From<ListFault> for Refusal {
+    ghost from_gives = { λ f r. (r.number ≡ lists.number_of f) × (r.place ≡ lists.place_of f) };
+
+    fn from(fault: ListFault) -> Refusal {
+        Refusal::of(&fault)
+    }
+}
+
+impl From<AllocError> for Refusal {
+    ghost from_gives = { λ _ r. (r.number ≡ 1) × (r.place ≡ None) };
+
+    fn from(_e: AllocError) -> Refusal {
+        Refusal::of(&Memory)
     }
 }
 

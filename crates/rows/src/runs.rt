@@ -6,13 +6,13 @@ use std::{fs, io};
 
 /// How a run of `dpbr` ended, and what it wrote.
 #[derive(Drop)]
-struct Outcome {
-    status: u8,
-    out: String,
-    err: String,
+pub(crate) struct Outcome {
+    pub status: u8,
+    pub out: String,
+    pub err: String,
 }
 
-fn run(rt: &HostRuntime, words: &[&str]) -> Result<Outcome, Fail> {
+pub(crate) fn run(rt: &HostRuntime, words: &[&str]) -> Result<Outcome, Fail> {
     let alloc = rt.alloc();
     let words = owned(alloc, words)?;
     let mut out = Vec::new(alloc);
@@ -43,7 +43,7 @@ static PYTHON: &str =
 static RUN_CYCLE: &str =
     "a/x.FULLPKGNAME=x-1\na/x.RUN_DEPENDS=a/y\na/y.FULLPKGNAME=y-1\na/y.RUN_DEPENDS=a/x\n";
 
-static CHAIN: &str =
+pub(crate) static CHAIN: &str =
     "a/p.FULLPKGNAME=p-1\na/p.BUILD_DEPENDS=a/q\na/q.FULLPKGNAME=q-1\na/q.RUN_DEPENDS=a/r\na/r.FULLPKGNAME=r-1\n";
 
 static IGNORED: &str =
@@ -157,14 +157,15 @@ fn words_that_make_no_call_end_with_2(rt: HostRuntime) -> Result<(), Fail> {
     fs::write(&rt, "LISTING", b"")?;
     fs::write(&rt, "HELD", b"")?;
     let none: &[&str] = &[];
-    let lists: [&[&str]; 12] = [
+    let lists: [&[&str]; 13] = [
         none,
         &["dpbr"],
         &["dpbr", "status"],
         &["dpbr", "status", "LISTING"],
         &["dpbr", "status", "LISTING", "HELD", "HELD"],
         &["dpbr", "status", "--single", "LISTING", "HELD"],
-        &["dpbr", "audit", "LISTING", "HELD"],
+        &["dpbr", "audit", "LISTING"],
+        &["dpbr", "audits", "LISTING", "HELD"],
         &["dpbr", "LISTING", "HELD"],
         &["dpbr", "--help"],
         &["dpbr", "help"],

@@ -78,8 +78,25 @@ fn held_paths_and_words_are_read(rt: HostRuntime) -> Result<(), Fail> {
     let refused = status(alloc, &tree, b"a/p\na/s\n");
     assert!(rt; matches!(&refused, Err(HeldFault::Ignored(2))));
     let call = dpbr_words(alloc, &["dpbr", "status", "t", "h"])?;
-    let Call::Status { listing, held } = call;
-    assert!(rt; listing == "t" && held == "h");
+    assert!(rt;
+        matches!(
+            &call,
+            Call::Status {
+                listing: "t",
+                held: "h"
+            }
+        )
+    );
+    let call = dpbr_words(alloc, &["dpbr", "audit", "t", "l"])?;
+    assert!(rt;
+        matches!(
+            &call,
+            Call::Audit {
+                listing: "t",
+                list: "l"
+            }
+        )
+    );
     Ok(())
 }
 

@@ -29,12 +29,31 @@ example_status_held : value_at (codes "HELD") status_words ≡ Some (codes "held
 unfolding matched dpbr_app clap_on_literals
 example_status_held = refl
 
+abbrev audit_words : List Text
+audit_words = codes "dpbr" ∷ codes "audit" ∷ codes "tree" ∷ codes "packages" ∷ []
+
+example_audit : are_taken audit_words ≡ true
+unfolding are_taken dpbr_app clap_on_literals
+example_audit = refl
+
+example_audit_name : name_at audit_words ≡ Some (codes "audit")
+unfolding matched dpbr_app clap_on_literals
+example_audit_name = refl
+
+example_audit_listing : value_at (codes "LISTING") audit_words ≡ Some (codes "tree")
+unfolding matched dpbr_app clap_on_literals
+example_audit_listing = refl
+
+example_audit_list : value_at (codes "LIST") audit_words ≡ Some (codes "packages")
+unfolding matched dpbr_app clap_on_literals
+example_audit_list = refl
+
 -- no subcommand, one that is not there, a word too few, a word too many, help
 example_none : are_taken (codes "dpbr" ∷ []) ≡ false
 unfolding are_taken dpbr_app clap_on_literals
 example_none = refl
 
-example_unknown : are_taken (codes "dpbr" ∷ codes "audit" ∷ codes "t" ∷ codes "l" ∷ []) ≡ false
+example_unknown : are_taken (codes "dpbr" ∷ codes "audits" ∷ codes "t" ∷ codes "l" ∷ []) ≡ false
 unfolding are_taken dpbr_app clap_on_literals
 example_unknown = refl
 

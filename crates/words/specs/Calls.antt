@@ -2,7 +2,7 @@
 use Rattle.std.specs.Prelude.{◌≡◌, codes, fold, List, [], ◌∷◌, Bool, Option, None, Some, true}
 use Rattle.clap.specs.Words.{App, Row, Rule, Shape, Text, first_of, new_app, new_rule, subcommand_of, takes, with_rule, with_subcommand}
 use Rattle.words.specs.declared.Call.{Call}
-use Rattle.words.specs.declared.Call.TheVariants.{Status}
+use Rattle.words.specs.declared.Call.TheVariants.{Audit, Status}
 
 -- ---- what clap is told
 
@@ -17,12 +17,15 @@ command name rules = (fold with_rule (new_app name) rules).top
 abbrev pub status_command : Shape
 status_command = command (codes "status") (word (codes "LISTING") ∷ word (codes "HELD") ∷ [])
 
+abbrev pub audit_command : Shape
+audit_command = command (codes "audit") (word (codes "LISTING") ∷ word (codes "LIST") ∷ [])
+
 -- the program, which has to be given one of its subcommands
 unfoldable pub dpbr_app : App
 dpbr_app =
     let program = new_app (codes "dpbr") in
     fold with_subcommand (record program { top = record program.top { subcommand_required = true } })
-    (status_command ∷ [])
+    (status_command ∷ audit_command ∷ [])
 
 -- clap takes the words
 unfoldable pub are_taken : List Text → Bool
@@ -43,3 +46,5 @@ abbrev pub IsCallOf : Option (Text × List Row) → Call → Type 0
 IsCallOf None call = ⊥
 IsCallOf (Some (name, rows)) (Status listing held) =
     (name ≡ codes "status") × IsWord rows (codes "LISTING") listing.now × IsWord rows (codes "HELD") held.now
+IsCallOf (Some (name, rows)) (Audit listing list) =
+    (name ≡ codes "audit") × IsWord rows (codes "LISTING") listing.now × IsWord rows (codes "LIST") list.now

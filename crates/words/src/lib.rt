@@ -7,6 +7,7 @@ ghost use Rattle.clap.specs.declared.error.kind.ErrorKind.TheVariants.{OutOfMemo
 ghost use Rattle.words.specs.Calls.{IsCallOf, are_taken, dpbr_app, matched};
 
 mod arguments;
+mod audit;
 mod status;
 
 use clap::error::ErrorKind;
@@ -19,6 +20,8 @@ use std::convert::AsStr;
 pub enum Call<'a> {
     /// The letters of a listing's packages, where those named in a text of package paths are held.
     Status { listing: &'a str, held: &'a str },
+    /// Whether a list of packages is allowed by a listing.
+    Audit { listing: &'a str, list: &'a str },
 }
 
 /// The call that the words make, the first of which is the program's name.
@@ -52,6 +55,7 @@ fn call_of<'a>(matches: &ArgMatches<'a>) -> Option<Call<'a>>
 {
     match matches.subcommand() {
         Some(("status", found)) => status::call_of(found),
+        Some(("audit", found)) => audit::call_of(found),
         _ => None,
     }
 }
@@ -69,5 +73,6 @@ fn dpbr_command<'a>(alloc: Global) -> Result<Command<'a>, AllocError>
     Command::new(alloc, "dpbr")
         .about("Replays and judges bulk builds of a ports tree.")
         .subcommand_required(true)
-        .subcommand(status::command(alloc)?)
+        .subcommand(status::command(alloc)?)?
+        .subcommand(audit::command(alloc)?)
 }

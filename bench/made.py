@@ -1,0 +1,86 @@
+"""Listings that are made up, the same in every run, and how long a program takes on them.
+
+The listings have layers, as a ports tree has: a path depends on paths of lower layers, often on few hubs (a compiler, a make,
+a library of everything) and seldom far down; most paths have few dependencies, a few have sixty; some are subpackages, some
+have flavors, some are ignored.
+"""
+import os
+import statistics
+import subprocess
+import sys
+import time
+
+TOP = os.path.dirname(os.path.dirname(os.path.abspath(__file__)))
+PROGRAM = f"{TOP}/crates/dpbr/out/dpbr"
+CATEGORIES = ["archivers", "audio", "databases", "devel", "editors", "games", "graphics", "lang", "mail", "math", "multimedia",
+              "net", "print", "security", "sysutils", "textproc", "www", "x11"]
+LAYERS = 12
+HUBS = 40
+
+
+class Numbers:
+    """A small generator of numbers, the same on every machine."""
+
+    def __init__(self, seed):
+        self.state = seed
+
+    def below(self, limit):
+        self.state = (self.state * 6364136223846793005 + 1442695040888963407) % 2**64
+        return (self.state >> 33) % limit
+
+
+def path_of(numbers, n):
+    path = f"{CATEGORIES[numbers.below(len(CATEGORIES))]}/port{n}"
+    kind = numbers.below(10)
+    if kind == 0:
+        path += ",no_x11"
+    if kind < 3:
+        path += ",-main"
+    return path
+
+
+def listing(paths, some_ignored=True):
+    """The listing's lines, its paths in order, and for each its name and the places of its build dependencies."""
+    numbers = Numbers(paths)
+    names = [path_of(numbers, n) for n in range(paths)]
+    lines, packages = [], []
+    least = 0 if some_ignored else 5
+    for n, path in enumerate(names):
+        layer = n * LAYERS // paths
+        lines.append(f"===> {path}")
+        name = f"port{n}-{least + numbers.below(20)}.{numbers.below(20)}p{numbers.below(4)}"
+        lines.append(f"{path}.FULLPKGNAME={name}")
+        lines.append(f"{path}.COMMENT=port number {n} of a tree that nobody has")
+        lines.append(f"{path}.HOMEPAGE=https://ports.example/port{n}/?a=b")
+        start = layer * paths // LAYERS
+        if start == 0:
+            packages.append((name, []))
+            continue
+        count = 60 if numbers.below(100) == 0 else 1 + numbers.below(24)
+        found = [numbers.below(min(HUBS, start)) if numbers.below(3) else numbers.below(start) for _ in range(count)]
+        specs = [f"STEM->=0.0,<{20 + numbers.below(5)}:{names[it]}" if numbers.below(8) == 0 else names[it] for it in found]
+        cuts = sorted((numbers.below(count + 1), numbers.below(count + 1)))
+        for variable, words in zip(("BUILD_DEPENDS", "LIB_DEPENDS", "RUN_DEPENDS"), (specs[: cuts[0]], specs[cuts[0] : cuts[1]], specs[cuts[1] :])):
+            if words:
+                lines.append(f"{path}.{variable}={' '.join(words)}")
+        packages.append((name, sorted(set(found[: cuts[1]]))))
+        if some_ignored and n > paths * 9 // 10 and numbers.below(40) == 0:
+            lines.append(f"{path}.IGNORE=is marked as broken: does not build")
+    return "\n".join(lines) + "\n", names, packages
+
+
+def measured(words, folder):
+    """Seconds of the fastest of some runs, and the peak memory in KiB of the last, and what it wrote."""
+    times = []
+    for _ in range(5):
+        with open(f"{folder}/answer", "wb") as out:
+            began = time.perf_counter()
+            child = subprocess.Popen(words, stdout=out, cwd=folder)
+            _, status, usage = os.wait4(child.pid, 0)
+            times.append(time.perf_counter() - began)
+            child.returncode = os.waitstatus_to_exitcode(status)
+        if child.returncode:
+            sys.exit(f"{sys.argv[0]}: {words} ended with {child.returncode}")
+        if times[-1] > 5:
+            break
+    return statistics.median(times), usage.ru_maxrss

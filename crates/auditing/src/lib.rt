@@ -1,0 +1,10 @@
+//! The audit of a list of packages: whether it was built in order, each package against what stood in the list before it.
+#![tactic(auto)]
+
+mod entry;
+mod judging;
+mod verdict;
+
+pub use crate::entry::Entry;
+pub use crate::judging::audit;
+pub use crate::verdict::{Reason, Verdict};

@@ -1,0 +1,26 @@
+//! What an audit answers.
+
+/// Why a package may not follow those before it. Of several reasons the first is the one.
+#[derive(Clone, Copy, Debug, PartialEq, Eq)]
+pub enum Reason {
+    /// The tree has no such path.
+    Unlisted,
+    /// The path is left out, or depends on one that is.
+    Ignored,
+    /// The tree gives the path another name.
+    OtherName,
+    /// An earlier package has the path.
+    PathTwice,
+    /// The package was not built on the build dependencies of its path, each once.
+    OtherDependencies,
+    /// A package that it was built on does not stand earlier with that name and digest.
+    DependencyNotEarlier,
+}
+
+/// Whether a list is allowed.
+#[derive(Clone, Copy, Debug, PartialEq, Eq)]
+pub enum Verdict {
+    Yes,
+    /// The first bad package, counted from 1, and its first reason.
+    No { package: u64, reason: Reason },
+}

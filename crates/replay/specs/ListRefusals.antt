@@ -1,0 +1,12 @@
+-- The number and place of a refusal of a list.
+use Rattle.std.specs.Prelude.{ℕ, Option, None, Some}
+use Rattle.replay.specs.declared.list.ListFault.{ListFault}
+use Rattle.replay.specs.declared.list.ListFault.TheVariants.{Memory, BadList}
+
+abbrev pub number_of : ListFault → ℕ
+number_of Memory = 1
+number_of (BadList line) = 1308
+
+abbrev pub place_of : ListFault → Option ℕ
+place_of Memory = None
+place_of (BadList line) = Some line

@@ -1,0 +1,39 @@
+-- The packages of the lines that were read.
+use Rattle.std.specs.Prelude.{◌≡◌, Bool, false, List, [], ◌∷◌, ◌++◌, Option, None, Some}
+use Rattle.std.specs.List.{flat_map}
+use Rattle.faults.specs.Bytes.{Text, is_empty}
+use Rattle.auditing.specs.declared.entry.Entry.{Entry}
+use Rattle.replay.specs.List.{Says, said_of}
+use Rattle.replay.specs.declared.list.Packages.{Packages}
+use Rattle.replay.specs.declared.list_line.ListLine.{ListLine}
+use Rattle.replay.specs.declared.list_line.ListLine.TheVariants.{Package, Built}
+
+abbrev pub has_empty_end : List Text → Bool
+has_empty_end [] = false
+has_empty_end (t ∷ []) = is_empty t
+has_empty_end (t ∷ u ∷ ts) = has_empty_end (u ∷ ts)
+
+abbrev pub last_entry : Packages → Entry
+last_entry p = record { path = p.last.path; name = p.last.name; digest = p.last.digest; built = p.built.items }
+
+abbrev pub entries_in : Option Packages → List Entry
+entries_in None = []
+entries_in (Some p) = p.earlier.items ++ last_entry p ∷ []
+
+-- what the lines said
+abbrev pub said_in : Option Packages → List ListLine
+said_in packages = flat_map said_of (entries_in packages)
+
+abbrev pub IsBuilt : ListLine → Type 0
+IsBuilt (Package d) = ⊥
+IsBuilt (Built d) = Unit {0}
+
+-- what the line says was added
+pub record AddsLine (before : Option Packages) (line : Text) (after : Packages) : Type 0 where
+  pub said : ListLine
+  pub says : Says line said
+  pub added : said_in (Some after) ≡ said_in before ++ said ∷ []
+
+-- if the line says anything, it is what no package was built on
+abbrev pub CannotFollow : Option Packages → Text → Type 0
+CannotFollow before line = (said : ListLine) → Says line said → (before ≡ None) × IsBuilt said

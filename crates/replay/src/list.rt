@@ -1,0 +1,175 @@
+//! A list of packages, in the order in which they were built.
+ghost use Rattle.std.specs.Prelude.{◌≡◌, ◌∷◌, [], ◌++◌, ◌⊎◌, IfErr, IfNone, IfOk, IfSome, None, Some, map};
+ghost use Rattle.replay.specs.List.{AreEntries, IsFirstBadLine, lines_in};
+ghost use Rattle.replay.specs.ListRefusals.{number_of, place_of};
+ghost use Rattle.replay.specs.Listed.{AddsLine, CannotFollow, IsBuilt, entries_in, has_empty_end, said_in};
+ghost use Rattle.replay.specs.declared.list.ListFault.TheVariants.{Memory as OutOfMemory};
+
+use crate::list_line::{ListLine, list_line};
+use crate::pieces::pieces;
+use auditing::Entry;
+use claims::{Dep, Deps};
+use faults::{Fault, Memory};
+use std::alloc::{AllocError, Global};
+use thiserror::Error;
+
+/// Why a text is no list of packages: its first line that belongs to none, counted from 1.
+#[derive(Clone, Copy, Debug, PartialEq, Eq, Error)]
+pub enum ListFault {
+    #[error("out of memory")]
+    Memory,
+    #[error("line {0} belongs to no list of packages")]
+    BadList(u64),
+}
+
+impl Fault for ListFault {
+    ghost number_of = { number_of };
+
+    ghost place_of = { place_of };
+
+    fn number(&self) -> u32 {
+        match self {
+            ListFault::Memory => 1,
+            ListFault::BadList(_) => 1308,
+        }
+    }
+
+    fn place(&self) -> Option<u64> {
+        match self {
+            ListFault::Memory => None,
+            ListFault::BadList(line) => Some(*line),
+        }
+    }
+}
+
+impl From<Memory> for ListFault {
+    ghost from_gives = { λ _ e. e ≡ OutOfMemory };
+
+    fn from(_e: Memory) -> ListFault {
+        ListFault::Memory
+    }
+}
+
+impl From<AllocError> for ListFault {
+    ghost from_gives = { λ _ e. e ≡ OutOfMemory };
+
+    fn from(_e: AllocError) -> ListFault {
+        ListFault::Memory
+    }
+}
+
+/// The packages of lines that were read. The last may still be followed by what it was built on.
+#[derive(Drop)]
+pub(crate) struct Packages {
+    earlier: Vec<Entry>,
+    last: Dep,
+    built: Vec<Dep>,
+}
+
+/// The entries of a list of packages.
+///
+/// A package has a line `package PATH NAME DIGEST`, and behind it a line `built PATH NAME DIGEST` for each package that it
+/// was built on; the paths may have any of their spellings, and the digests are in lower-case hexadecimal digits. Each line
+/// but the last ends with LF. A text of no bytes is the empty list, and an empty line is a fault.
+pub fn read_list(alloc: Global, text: &[u8]) -> Result<Vec<Entry>, ListFault>
+    ensures entries { IfOk result (λ entries. AreEntries text.now entries.items) }
+    ensures refused { IfErr result (λ e. (e ≡ ListFault.Memory) ⊎ IsFirstBadLine text.now e) }
+{
+    let lines = list_lines(alloc, text)?;
+    let mut packages = None;
+    for (index, line) in lines.iter().enumerate() {
+        packages = Some(with_line(alloc, packages, line, index as u64 + 1)?);
+    }
+    Ok(entries(alloc, packages)?)
+}
+
+/// The lines of the text, each without its end.
+fn list_lines<'t>(alloc: Global, text: &'t [u8]) -> Result<Vec<&'t [u8]>, AllocError>
+    ensures { IfOk result (λ lines. map (λ line. line.now) lines.items ≡ lines_in text.entry.now) }
+{
+    let mut lines = pieces(alloc, b'\n', text)?;
+    if ends_empty(lines.as_slice()) {
+        lines.pop();
+    }
+    Ok(lines)
+}
+
+fn ends_empty(lines: &[&[u8]]) -> bool
+    ensures { result ≡ has_empty_end (map (λ line. line.now) lines.now) }
+{
+    match lines.last() {
+        Some(line) => line.is_empty(),
+        None => false,
+    }
+}
+
+/// The packages with one line more, which has that number.
+fn with_line(
+    alloc: Global,
+    packages: Option<Packages>,
+    line: &[u8],
+    number: u64,
+) -> Result<Packages, ListFault>
+    ensures ok { IfOk result (AddsLine packages line.now) }
+    ensures err { IfErr result (λ e. (e ≡ ListFault.Memory) ⊎ ((e ≡ ListFault.BadList number) × CannotFollow packages line.now)) }
+{
+    let Some(said) = list_line(alloc, line)? else {
+        return Err(ListFault::BadList(number));
+    };
+    match with_said(alloc, packages, said)? {
+        Some(packages) => Ok(packages),
+        None => Err(ListFault::BadList(number)),
+    }
+}
+
+/// The packages with what one line more says, if that can follow.
+fn with_said(
+    alloc: Global,
+    packages: Option<Packages>,
+    said: ListLine,
+) -> Result<Option<Packages>, Memory>
+    ensures some { IfOk result (λ more. IfSome more (λ after. said_in (Some after) ≡ said_in packages ++ said ∷ [])) }
+    ensures none { IfOk result (λ more. IfNone more ((packages ≡ None) × IsBuilt said)) }
+{
+    match said {
+        ListLine::Package(last) => {
+            let earlier = entries(alloc, packages)?;
+            let built = Vec::new(alloc);
+            Ok(Some(Packages {
+                earlier,
+                last,
+                built,
+            }))
+        }
+        ListLine::Built(dep) => {
+            let Some(mut packages) = packages else {
+                return Ok(None);
+            };
+            packages.built.push(dep)?;
+            Ok(Some(packages))
+        }
+    }
+}
+
+/// The packages as entries.
+fn entries(alloc: Global, packages: Option<Packages>) -> Result<Vec<Entry>, Memory>
+    ensures { IfOk result (λ entries. entries.items ≡ entries_in packages) }
+{
+    let Some(packages) = packages else {
+        return Ok(Vec::new(alloc));
+    };
+    let Packages {
+        mut earlier,
+        last,
+        built,
+    } = packages;
+    let Dep { path, name, digest } = last;
+    let built = Deps::new(built);
+    earlier.push(Entry {
+        path,
+        name,
+        digest,
+        built,
+    })?;
+    Ok(earlier)
+}
