@@ -55,3 +55,13 @@ ascending_more ts u up above = push ts up (all_below ts u up above)
         let parts = and_parts (list_all (λ v. is_lt (text_cmp t v)) ts) (is_ascending ts) up in
         let low = and_parts (is_lt (text_cmp t u)) (list_all (λ v. is_lt (text_cmp v u)) ts) below in
         and_from _ _ (list_all-append (λ v. is_lt (text_cmp t v)) ts (u ∷ []) ∙ and_from _ _ parts.0 (and_from _ true low.0 refl)) (push ts parts.1 low.1)
+
+-- what stands behind others in ascending order is above the last of them
+pub ascending_above : (ts : List Text) (u : Text) (us : List Text) → is_ascending (ts ++ u ∷ us) ≡ true → is_above (last_of ts) u ≡ true
+ascending_above [] u us up = refl
+ascending_above (t ∷ []) u us up =
+    let parts = and_parts (list_all (λ v. is_lt (text_cmp t v)) (u ∷ us)) (is_ascending (u ∷ us)) up in
+    (and_parts (is_lt (text_cmp t u)) (list_all (λ v. is_lt (text_cmp t v)) us) parts.0).0
+ascending_above (t ∷ s ∷ ts) u us up =
+    let parts = and_parts (list_all (λ v. is_lt (text_cmp t v)) ((s ∷ ts) ++ u ∷ us)) (is_ascending ((s ∷ ts) ++ u ∷ us)) up in
+    ap (λ (o : Option Text). is_above o u) (last_behind t s ts) ∙ ascending_above (s ∷ ts) u us parts.1

@@ -1,9 +1,14 @@
 pub mod Ascending
 pub mod Cuts
+pub mod Digests
 pub mod Files
 pub mod FirstBad
+pub mod Lacking
 pub mod Many
 pub mod Numbers
+pub mod ReadFields
+pub mod ReadLines
+pub mod ReadWhole
 pub mod Steps
 pub mod Taken
 pub mod Texts

@@ -169,19 +169,20 @@ run_taken paths p t q e =
 
 -- ---- the lines of a file
 
+-- the test of digits, one after the other
+pub digits_test : IsDigitsTest (λ ds. list_all is_ascii_digit ds ≡ true)
+digits_test = record {
+  empty = refl;
+  parts = λ c cs p. let both = and_parts (is_ascii_digit c) (list_all is_ascii_digit cs) p in let range = and_parts (leb 48 c) (leb c 57) both.0 in ((leb-true _ _ range.0, leb-true _ _ range.1), both.1);
+  more = λ c cs k d. and_from (is_ascii_digit c) (list_all is_ascii_digit cs) (and_from (leb 48 c) (leb c 57) (le-leb _ _ k.0) (le-leb _ _ k.1)) d;
+}
+
 pub number_text : (text : Text) → is_number text ≡ true → digits_value 10 text < 2 ^ 64 → decimal (digits_value 10 text) ≡ text
 number_text text e lt =
     let parts = and_parts (list_all is_ascii_digit text && not (is_empty text)) (eqb (length text) 1 || not (begins_with (codes "0") text)) e in
     let front = and_parts (list_all is_ascii_digit text) (not (is_empty text)) parts.0 in
     decimal-digits_value (numerals_by_value (λ ds. list_all is_ascii_digit ds ≡ true) digits_test) text front.0 (some_byte text front.1) (first_zero text parts.1) lt
   where
-    digits_test : IsDigitsTest (λ ds. list_all is_ascii_digit ds ≡ true)
-    digits_test = record {
-      empty = refl;
-      parts = λ c cs p. let both = and_parts (is_ascii_digit c) (list_all is_ascii_digit cs) p in let range = and_parts (leb 48 c) (leb c 57) both.0 in ((leb-true _ _ range.0, leb-true _ _ range.1), both.1);
-      more = λ c cs k d. and_from (is_ascii_digit c) (list_all is_ascii_digit cs) (and_from (leb 48 c) (leb c 57) (le-leb _ _ k.0) (le-leb _ _ k.1)) d;
-    }
-
     some_byte : (text : Text) → not (is_empty text) ≡ true → 0 < length text
     some_byte [] e = absurd cc
     some_byte (c ∷ cs) e = omega arith

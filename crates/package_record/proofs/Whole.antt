@@ -13,7 +13,7 @@ use Rattle.std.proofs.lemmas.List.Sums.{sum_by-cons}
 use Rattle.std.proofs.lemmas.List.Splits.{join_with_byte-slice_split}
 use Rattle.std.proofs.lemmas.Slice.Eq.{bytes_eq-Decides}
 use Rattle.hex.specs.Hex.{decode_sized, encode_lower, lower_digits}
-use Rattle.hex.proofs.HexLemmas.{decode_sized-ok, length-encode_with}
+use Rattle.hex.proofs.HexLemmas.{decode_of-ok, decode_sized-ok, decode_sized-twice, length-encode_with}
 use Rattle.sha2.specs.Sha256.{sha256}
 use Rattle.faults.specs.Bytes.{Text, is_empty}
 use Rattle.faults.specs.Pieces.{pieces_at}
@@ -159,11 +159,14 @@ one_all P x h zero d lt = h
 one_all P x h (suc k) d lt = absurd (omega arith)
 
 dep_of_read : (d : Dep) → IsRead d → IsDep d
-dep_of_read d r = record {
-  path = r.path;
-  name = r.name;
-  digest = omega (arith, decode_sized-ok (encode_lower d.digest) 32 d.digest r.digest, length-encode_with lower_digits d.digest);
-}
+dep_of_read d r =
+    let long = decode_sized-ok (encode_lower d.digest) 32 d.digest r.digest in
+    record {
+      path = r.path;
+      name = r.name;
+      digest = omega (arith, long, length-encode_with lower_digits d.digest);
+      bytes = (decode_of-ok (encode_lower d.digest) d.digest (sym (decode_sized-twice (encode_lower d.digest) 32 long) ∙ r.digest)).3;
+    }
 
 -- dependencies in order of path
 record AreDeps (ds : List Dep) : Type 0 where

@@ -1,7 +1,7 @@
 -- What a record says, and its text.
 use Rattle.std.specs.Prelude.{◌≡◌, ◌<◌, ◌≤◌, ◌++◌, ℕ, Bool, true, ◌&&◌, not, nat_le, List, [], ◌∷◌, All, length, take, map, flat_map, decimal, codes}
 use Rattle.std.specs.List.{list_all, slice_index_or}
-use Rattle.hex.specs.Hex.{encode_lower}
+use Rattle.hex.specs.Hex.{IsBytes, encode_lower}
 use Rattle.sha2.specs.Sha256.{sha256}
 use Rattle.faults.specs.Bytes.{Text, begins_with, is_among, line_feed, slash}
 use Rattle.faults.specs.Pieces.{pieces_at}
@@ -91,6 +91,7 @@ pub record IsDep (d : Dep) : Type 0 where
   pub path : IsPath d.path
   pub name : IsName d.name
   pub digest : length d.digest ≡ 32
+  pub bytes : IsBytes d.digest
 
 -- names and paths are such, and digests have their size
 pub record HasNames (c : Content) : Type 0 where

@@ -4,6 +4,7 @@ pub mod Given
 pub mod Making
 pub mod Heads
 pub mod Inside
+pub mod Laws
 pub mod Names
 pub mod Reading
 pub mod Refusals

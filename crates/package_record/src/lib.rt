@@ -15,6 +15,7 @@ mod fields;
 mod file;
 mod file_name;
 mod header;
+mod laws;
 mod making;
 mod names;
 mod number;
@@ -24,6 +25,9 @@ mod reading;
 mod writing;
 
 pub use crate::file::File;
+pub use crate::laws::{
+    no_text_begins_another, record_text_is_read_again, record_text_is_read_at_the_front,
+};
 pub use crate::package::{Record, make};
 
 /// The most bytes that a record's text has.

@@ -1,6 +1,6 @@
 //! The text of a record.
 ghost use Rattle.std.specs.Prelude.{◌≡◌, ◌++◌, [], ◌∷◌, All, OnOk, IfOk, codes, decimal, flat_map, length, map};
-ghost use Rattle.hex.specs.Hex.{encode_lower};
+ghost use Rattle.hex.specs.Hex.{IsBytes, encode_lower};
 ghost use Rattle.sha2.specs.Sha256.{sha256};
 ghost use Rattle.faults.specs.Bytes.{line_feed};
 ghost use Rattle.pkgname.specs.PkgName.{IsName};
@@ -39,6 +39,7 @@ fn put_field(out: &mut Vec<u8>, word: &[u8], text: &[u8]) -> Result<(), Memory>
 pub fn digest_text(digest: &[u8; 32]) -> [u8; 64]
     ensures text { result ≡ encode_lower digest.now }
     ensures size { length digest.now ≡ 32 }
+    ensures bytes { IsBytes digest.now }
 {
     let mut text = [0; 64];
     hex::encode_to_slice(digest, &mut text).unwrap();
