@@ -1,4 +1,5 @@
 mod Examples
+mod DigestExamples
 pub mod Positions
 pub mod Places
 pub mod Fields

@@ -8,3 +8,4 @@ pub mod Parts
 pub mod Entries
 pub mod Table
 pub mod Nodes
+pub mod Digest

@@ -10,6 +10,7 @@ use std::alloc::{AllocError, AllocFailed};
 use thiserror::Error;
 
 mod dependency;
+mod digest;
 mod line;
 mod node;
 mod table;

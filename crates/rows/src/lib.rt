@@ -4,6 +4,8 @@
 #[cfg(test)]
 mod audits;
 #[cfg(test)]
+mod digests;
+#[cfg(test)]
 mod paths;
 #[cfg(test)]
 mod runs;

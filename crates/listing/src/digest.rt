@@ -1,0 +1,56 @@
+//! The digest of a tree.
+ghost use Rattle.std.specs.Prelude.{◌≡◌, ◌<◌, ◌++◌, length};
+ghost use Rattle.sha2.specs.Sha256.{sha256};
+ghost use Rattle.listing.specs.Digest.{Takes, digest_text, line, package_lines, path_lines};
+ghost use Rattle.listing.specs.Tree.{ArePositions, package_at};
+
+use crate::tree::Tree;
+use sha2::{Digest, Sha256};
+
+impl Tree {
+    /// SHA-256 (FIPS 180-4) of the tree as lines: for each package, by position, `P PATH`, `N NAME`, `X` if it is
+    /// marked, `B PATH` for each dependency of its build, and `R PATH` for each that it needs once installed.
+    #[tactic(auto, unfolding(crate::specs::Digest::digest_text))]
+    pub fn digest(&self) -> [u8; 32]
+        ensures { result ≡ sha256 (digest_text self.now) }
+    {
+        let mut hasher = Sha256::new();
+        for position in 0..self.len() {
+            put_package(&mut hasher, self, position);
+        }
+        hasher.finalize()
+    }
+}
+
+/// Feeds the lines of a package.
+fn put_package(hasher: &mut Sha256, tree: &Tree, position: u32)
+    requires { position < length tree.now }
+    ensures { Takes hasher.old hasher.new (package_lines tree.now (package_at tree.now position)) }
+{
+    put(hasher, b"P ", tree.path(position).as_bytes());
+    put(hasher, b"N ", tree.name(position));
+    if tree.marked(position) {
+        put(hasher, b"X", b"");
+    }
+    put_paths(hasher, b"B ", tree, tree.build_deps(position));
+    put_paths(hasher, b"R ", tree, tree.run_deps(position));
+}
+
+/// Feeds a line for each position: the word, then the path there.
+fn put_paths(hasher: &mut Sha256, word: &[u8], tree: &Tree, positions: &[u32])
+    requires { ArePositions tree.now positions.now }
+    ensures { Takes hasher.old hasher.new (path_lines tree.now word.now positions.now) }
+{
+    for position in positions {
+        put(hasher, word, tree.path(*position).as_bytes());
+    }
+}
+
+/// Feeds a line: the word, then the bytes.
+fn put(hasher: &mut Sha256, word: &[u8], bytes: &[u8])
+    ensures { Takes hasher.old hasher.new (line (word.now ++ bytes.now)) }
+{
+    hasher.update(word);
+    hasher.update(bytes);
+    hasher.update(b"\n");
+}
