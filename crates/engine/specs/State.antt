@@ -10,10 +10,12 @@ use Rattle.engine.specs.declared.Counts.{Counts}
 use Rattle.engine.specs.declared.Letter.{Letter}
 use Rattle.engine.specs.declared.Letter.TheVariants.{T, Q, B, I, Ignored}
 
+-- the tree, and the positions that are agreed
 pub record State : Type 0 where
   pub tree : Tree
   pub agreed : set.FinSet nat_cmp
 
+-- the package at the position is agreed
 abbrev pub has_agreed : State → ℕ → Bool
 has_agreed s p = set.contains s.agreed p
 
@@ -27,6 +29,7 @@ pub record IsEngine (s : State) : Type 0 where
 abbrev pub HasLetter : State → ℕ → Letter → Type 0
 HasLetter s p letter = IsLetter s.tree (has_agreed s) p letter
 
+-- a number for each letter, no two alike
 abbrev pub index_of : Letter → ℕ
 index_of T = 0
 index_of Q = 1
@@ -34,9 +37,11 @@ index_of B = 2
 index_of I = 3
 index_of Ignored = 4
 
+-- how many of the letters are this one
 abbrev pub count_of : Letter → List Letter → ℕ
 count_of letter letters = count_by (λ l. index_of l == index_of letter) letters
 
+-- how many of the letters there are of each
 abbrev pub counts_of : List Letter → Counts
 counts_of letters = record {
   i = count_of I letters;
@@ -65,6 +70,7 @@ IsNextQueued s (Some p) = (p < length s.tree) × HasLetter s p Q × ((k : ℕ) �
 
 -- ---- how such a value is stored
 
+-- a package as its path, its name, its two lists of positions and its mark
 abbrev pub package_code : Coded Package
 package_code =
     let positions : Coded (List ℕ) = coded_list coded_ℕ in
@@ -73,6 +79,7 @@ package_code =
     (λ p. ((p.path, p.name), ((p.build, p.run), p.is_marked)))
     (λ c. record { path = c.0.0; name = c.0.1; build = c.1.0.0; run = c.1.0.1; is_marked = c.1.1 }) (λ _. refl)
 
+-- an engine as its tree and the set that is agreed
 abbrev pub state_code : Coded State
 state_code =
     code_by (List Package × set.FinSet nat_cmp) (coded× (coded_list package_code) (set.code coded_ℕ))

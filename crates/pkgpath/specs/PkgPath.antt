@@ -27,9 +27,11 @@ directory_of text = unwrap_or (slice_get (pieces_at comma text) 0) []
 abbrev pub parts_of : Text → List Text
 parts_of text = drop 1 (pieces_at comma text)
 
+-- a printable byte other than the blank and the bytes that separate: `,` `/` `:` `=` `<` `>`
 abbrev pub is_path_byte : ℕ → Bool
 is_path_byte b = is_word_byte b && not (is_one_of (codes ",/:=<>") b)
 
+-- one or more bytes of a path, but neither `.` nor `..`
 abbrev pub is_component : Text → Bool
 is_component c = list_all is_path_byte c && not (is_among ([] ∷ codes "." ∷ codes ".." ∷ []) c)
 
@@ -37,12 +39,15 @@ is_component c = list_all is_path_byte c && not (is_among ([] ∷ codes "." ∷ 
 abbrev pub is_directory : Text → Bool
 is_directory d = list_all is_component (pieces_at slash d)
 
+-- a dash and at least one byte behind it
 abbrev pub is_subpackage : Text → Bool
 is_subpackage part = begins_with (codes "-") part && nat_lt 1 (length part)
 
+-- at least one byte, the first of them no dash
 abbrev pub is_flavor : Text → Bool
 is_flavor part = not (is_empty part) && not (begins_with (codes "-") part)
 
+-- bytes of a path that are nothing, a subpackage or a flavor
 abbrev pub is_part : Text → Bool
 is_part part = list_all is_path_byte part && (is_empty part || is_subpackage part || is_flavor part)
 
@@ -71,6 +76,7 @@ value_from directory parts = record {
   subpackage = find is_subpackage parts;
 }
 
+-- the path of a text's directory and of the parts behind it
 abbrev pub value_of : Text → Parts
 value_of text = value_from (directory_of text) (parts_of text)
 
