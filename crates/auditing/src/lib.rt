@@ -1,6 +1,7 @@
 //! The audit of a list of packages: whether it was built in order, each package against what stood in the list before it.
 #![tactic(auto)]
 
+mod dependencies;
 mod entry;
 mod judging;
 mod verdict;
