@@ -1,13 +1,14 @@
 -- Where paths stand in a tree.
-use Rattle.std.proofs.Common.{◌≡◌, ◌≢◌, ◌<◌, ◌≤◌, ◌+◌, ℕ, suc, zero, Bool, true, false, not, cond, nat_lt, nat_eq, List, [], ◌∷◌, ◌++◌, length, take, map, position, get_or, Option, None, Some, refl, sym, ap, subst, ◌∙◌, arith}
+use Rattle.std.proofs.Common.{◌≡◌, ◌≢◌, ◌<◌, ◌≤◌, ◌+◌, ◌⊎◌, inl, inr, ℕ, suc, zero, Bool, true, false, not, cond, nat_lt, nat_eq, List, [], ◌∷◌, ◌++◌, length, take, map, position, get_or, Option, None, Some, refl, sym, ap, subst, ◌∙◌, arith}
 use Rattle.std.specs.Prelude.{All}
 use Rattle.std.specs.List.{position_or_len}
 use Rattle.std.specs.Str.{bytes_eq}
 use Rattle.std.specs.Cmp.Lexicographic.{nat_list_eq_equiv, same_text}
-use Rattle.std.proofs.lemmas.Bool.{ltb-false, true≢false}
-use Rattle.std.proofs.lemmas.List.{map-append, take_more}
+use Rattle.std.proofs.lemmas.Bool.{cases_Bool, cases_lt, le-ltb, lt-ltb, ltb-false, ltb-true, true≢false}
+use Rattle.std.proofs.lemmas.List.{get_or-append_right, get_or_append_left, get_or_push, length_push, map-append, take_more}
 use Rattle.std.proofs.lemmas.List.Elements.{All-cons, All-nil}
 use Rattle.std.proofs.lemmas.List.Quantifiers.{position-Some}
+use Rattle.std.proofs.lemmas.List.Sums.{fails_before_first, position_or_len_is}
 use Rattle.faults.specs.Bytes.{Text}
 use Rattle.claims.specs.declared.deps.Dep.{Dep}
 use Rattle.listing.specs.Tree.{IsTree, Package, Tree, no_package, path_at}
@@ -15,29 +16,25 @@ use Rattle.auditing.specs.Allowed.{paths_of, position_of}
 
 -- ---- the first place where a test passes
 
-before_by : {X : Type 0} (test : X → Bool) (x d : X) (xs : List X) (b : Bool) (k : ℕ) → test x ≡ b → k < position_or_len test (x ∷ xs)
-    → ((i : ℕ) → i < position_or_len test xs → test (get_or xs i d) ≡ false) → test (get_or (x ∷ xs) k d) ≡ false
-before_by test x d xs true k e l later =
-    absurd (let none : position_or_len test (x ∷ xs) ≡ 0 = ap (λ b. cond (not b) (1 + position_or_len test xs) 0) e in omega (arith, none, l))
-before_by test x d xs false zero e l later = e
-before_by test x d xs false (suc k) e l later =
-    let more : position_or_len test (x ∷ xs) ≡ 1 + position_or_len test xs = ap (λ b. cond (not b) (1 + position_or_len test xs) 0) e in
-    later k (omega (arith, more, l))
-
--- nothing passes before that place
-none_before : {X : Type 0} (test : X → Bool) (d : X) (xs : List X) (k : ℕ) → k < position_or_len test xs → test (get_or xs k d) ≡ false
-none_before test d [] k l = absurd (omega arith)
-none_before test d (x ∷ xs) k l = before_by test x d xs (test x) k refl l (none_before test d xs)
-
 past_by : (b : Bool) (n : ℕ) → cond b (Some n) None ≡ None → b ≡ false
 past_by true n e = cc
 past_by false n e = refl
+
+within_by : (b : Bool) (n i : ℕ) → cond b (Some n) None ≡ Some i → (b ≡ true) × (n ≡ i)
+within_by true n i e = (refl, cc)
+within_by false n i e = cc
+
+-- the place is one of the list
+pub within_place : {X : Type 0} (test : X → Bool) (xs : List X) (i : ℕ) → position test xs ≡ Some i → i < length xs
+within_place test xs i e =
+    let parts = within_by (nat_lt (position_or_len test xs) (length xs)) (position_or_len test xs) i e in
+    omega (arith, ltb-true _ _ parts.0, parts.1)
 
 -- where there is no such place, nothing passes
 pub nowhere : {X : Type 0} (test : X → Bool) (xs : List X) → position test xs ≡ None → All (λ x. test x ≡ false) xs
 nowhere test xs e k d l =
     let past = ltb-false _ _ (past_by (nat_lt (position_or_len test xs) (length xs)) (position_or_len test xs) e) in
-    none_before test d xs k (omega arith)
+    fails_before_first test xs k d (omega arith)
 
 -- where something passes, there is such a place
 pub somewhere : {X : Type 0} (test : X → Bool) (xs : List X) (k : ℕ) (d : X) → k < length xs → test (get_or xs k d) ≡ true
@@ -48,6 +45,53 @@ somewhere test xs k d l e = by_place (position test xs) refl
     by_place None none = absurd (true≢false (sym e ∙ nowhere test xs none k d l))
     by_place (Some i) some = (i, some)
 
+-- it is the place before which nothing passes
+first_place : {X : Type 0} (test : X → Bool) (xs : List X) (i : ℕ) (d : X) → i < length xs → ((k : ℕ) → k < i → test (get_or xs k d) ≡ false)
+    → test (get_or xs i d) ≡ true → position test xs ≡ Some i
+first_place test xs i d l before here =
+    let place = position_or_len_is test xs i d (omega arith) before (λ _. here) in
+    let picked : position test xs ≡ cond (nat_lt i (length xs)) (Some i) None = λ j. cond (nat_lt (place j) (length xs)) (Some (place j)) None in
+    picked ∙ ap (λ b. cond b (Some i) None) (lt-ltb i (length xs) l)
+
+no_place : {X : Type 0} (test : X → Bool) (xs : List X) (d : X) → ((k : ℕ) → k < length xs → test (get_or xs k d) ≡ false) → position test xs ≡ None
+no_place test xs d none =
+    let place = position_or_len_is test xs (length xs) d (omega arith) none (λ l. absurd (omega arith)) in
+    let picked : position test xs ≡ cond (nat_lt (length xs) (length xs)) (Some (length xs)) None = λ j. cond (nat_lt (place j) (length xs)) (Some (place j)) None in
+    picked ∙ ap (λ b. cond b (Some (length xs)) None) (le-ltb (length xs) (length xs) (omega arith))
+
+-- ---- the first place, with one more element
+
+in_front : {X : Type 0} (test : X → Bool) (xs : List X) (y d : X) (k : ℕ) (b : Bool) → k < length xs → test (get_or xs k d) ≡ b → test (get_or (xs ++ y ∷ []) k d) ≡ b
+in_front test xs y d k b l e = ap test (get_or_append_left xs (y ∷ []) d k l) ∙ e
+
+at_end : {X : Type 0} (test : X → Bool) (xs : List X) (y d : X) (k : ℕ) (b : Bool) → length xs ≡ k → test y ≡ b → test (get_or (xs ++ y ∷ []) k d) ≡ b
+at_end test xs y d k b last e = ap test (get_or_push xs y d k last) ∙ e
+
+-- nothing changes where it does not pass
+pub place_push_other : {X : Type 0} (test : X → Bool) (xs : List X) (y : X) → test y ≡ false → position test (xs ++ y ∷ []) ≡ position test xs
+place_push_other test xs y fails = by_place (position test xs) refl
+  where
+    by_place : (o : Option ℕ) → position test xs ≡ o → position test (xs ++ y ∷ []) ≡ position test xs
+    by_place None e =
+        let still : (k : ℕ) → k < length (xs ++ y ∷ []) → test (get_or (xs ++ y ∷ []) k y) ≡ false = λ k l.
+        elim (cases_lt k (length xs)) [
+          | inl front ↦ in_front test xs y y k false front (nowhere test xs e k y front)
+          | inr past ↦ at_end test xs y y k false (omega (arith, length_push xs y)) fails
+        ] in
+        no_place test (xs ++ y ∷ []) y still ∙ sym e
+    by_place (Some i) e =
+        let here = position-Some test xs i y e in
+        first_place test (xs ++ y ∷ []) i y (omega (arith, length_push xs y, here.0)) (λ k l. in_front test xs y y k false (omega (arith, here.0)) (here.2 k l))
+        (in_front test xs y y i true here.0 here.1)
+        ∙ sym e
+
+-- it is the first where it passes
+pub place_push_here : {X : Type 0} (test : X → Bool) (xs : List X) (y : X) → test y ≡ true → ((k : ℕ) → k < length xs → test (get_or xs k y) ≡ false)
+    → position test (xs ++ y ∷ []) ≡ Some (length xs)
+place_push_here test xs y passes none =
+    first_place test (xs ++ y ∷ []) (length xs) y (omega (arith, length_push xs y)) (λ k l. in_front test xs y y k false l (none k l))
+    (at_end test xs y y (length xs) true refl passes)
+
 -- ---- texts
 
 pub same_bytes : (s t : Text) → bytes_eq s t ≡ true → s ≡ t
@@ -55,6 +99,9 @@ same_bytes s t e = same_text s t (sym e)
 
 pub equal_bytes : (s t : Text) → s ≡ t → bytes_eq s t ≡ true
 equal_bytes s t e = subst (λ u. bytes_eq s u ≡ true) e (nat_list_eq_equiv.refl s)
+
+pub differing_bytes : (s t : Text) → s ≢ t → bytes_eq s t ≡ false
+differing_bytes s t differ = elim (cases_Bool (bytes_eq s t)) [ inl e ↦ absurd (differ (same_bytes s t e)) | inr e ↦ e ]
 
 pub other_bytes : (s t : Text) → bytes_eq s t ≡ false → s ≢ t
 other_bytes s t e same = true≢false (sym (equal_bytes s t same) ∙ e)

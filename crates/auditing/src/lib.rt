@@ -4,8 +4,11 @@
 mod dependencies;
 mod entry;
 mod judging;
+mod laws;
+mod standing;
 mod verdict;
 
 pub use crate::entry::Entry;
 pub use crate::judging::audit;
+pub use crate::laws::{allowed_lists, only_one_verdict};
 pub use crate::verdict::{Reason, Verdict};
