@@ -12,19 +12,18 @@ use Rattle.auditing.specs.declared.entry.Entry.{Entry}
 
 -- ---- one more entry
 
-
 pub extended : (tree : Tree) (list : List Entry) (entry : Entry) → IsAllowed tree list → MayFollow tree list entry → IsAllowed tree (list ++ entry ∷ [])
 extended tree list entry allowed may k e here =
     elim (cases_lt k (length list)) [
       | inl l ↦
-        let found : get_or list k e ≡ e = sym (get_or_append_left list (entry ∷ []) e k l) ∙ get_or_from_slice_get (list ++ entry ∷ []) k e e here in
-        let stands : slice_get list k ≡ Some e = slice_get-get_or list k e l ∙ (λ i. Some (found i)) in
-        subst (λ xs. MayFollow tree xs e) (sym (take-append-le k list (entry ∷ []) (omega arith))) (allowed k e stands)
+          let found : get_or list k e ≡ e = sym (get_or_append_left list (entry ∷ []) e k l) ∙ get_or_from_slice_get (list ++ entry ∷ []) k e e here in
+          let stands : slice_get list k ≡ Some e = slice_get-get_or list k e l ∙ (λ i. Some (found i)) in
+          subst (λ xs. MayFollow tree xs e) (sym (take-append-le k list (entry ∷ []) (omega arith))) (allowed k e stands)
       | inr past ↦
-        let within = slice_get_within (list ++ entry ∷ []) k e here in
-        let last : length list ≡ k = omega (arith, length_push list entry, within, past) in
-        let is : entry ≡ e = sym (get_or_push list entry e k last) ∙ get_or_from_slice_get (list ++ entry ∷ []) k e e here in
-        subst (λ xs. MayFollow tree xs e) (sym (take_at list (entry ∷ []) k last)) (subst (MayFollow tree list) is may)
+          let within = slice_get_within (list ++ entry ∷ []) k e here in
+          let last : length list ≡ k = omega (arith, length_push list entry, within, past) in
+          let is : entry ≡ e = sym (get_or_push list entry e k last) ∙ get_or_from_slice_get (list ++ entry ∷ []) k e e here in
+          subst (λ xs. MayFollow tree xs e) (sym (take_at list (entry ∷ []) k last)) (subst (MayFollow tree list) is may)
     ]
 
 pub shortened : (tree : Tree) (list : List Entry) (entry : Entry) → IsAllowed tree (list ++ entry ∷ []) → IsAllowed tree list
@@ -60,16 +59,16 @@ only_one_with tree list path j e allowed within here has = record {
   among = (j, within, here);
   has = has;
   only = λ other (i, l, there) same.
-  let path_of : Entry → Text = λ x. x.path in
-  let at_i : get_or list i e ≡ other = get_or_default list i e other l ∙ there in
-  let equal : (get_or list i e).path ≡ (get_or list j e).path = ap path_of at_i ∙ same ∙ sym has ∙ ap path_of (sym here) in
-  elim (cases_order i j) [
-    | inl e' ↦ sym at_i ∙ ap (λ n. get_or list n e) e' ∙ here
-    | inr apart ↦ elim apart [
-      | inl below ↦ absurd (paths_differ tree list i j e allowed below within equal)
-      | inr above ↦ absurd (paths_differ tree list j i e allowed above l (sym equal))
-    ]
-  ];
+      let path_of : Entry → Text = λ x. x.path in
+      let at_i : get_or list i e ≡ other = get_or_default list i e other l ∙ there in
+      let equal : (get_or list i e).path ≡ (get_or list j e).path = ap path_of at_i ∙ same ∙ sym has ∙ ap path_of (sym here) in
+      elim (cases_order i j) [
+        | inl e' ↦ sym at_i ∙ ap (λ n. get_or list n e) e' ∙ here
+        | inr apart ↦ elim apart [
+          | inl below ↦ absurd (paths_differ tree list i j e allowed below within equal)
+          | inr above ↦ absurd (paths_differ tree list j i e allowed above l (sym equal))
+        ]
+      ];
 }
 
 -- each path is listed, so an unlisted one is new

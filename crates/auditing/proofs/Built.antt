@@ -72,14 +72,14 @@ are_from_same tree p built ps qs is_tree needed listed moved same =
       once = subst (AllPairs ◌≢◌) (sym paths) (images_differ tree ps is_tree (all_listed tree ps built listed) differ);
       exactly = λ path. (
         λ member.
-        let from = has_preimage (path_at tree) ps path (subst (λ ts. Contains ts path) paths member) in
-        subst (Contains (needed_paths tree p)) from.2
-        (contains_image (path_at tree) (build_at tree p) from.0 (subst (λ xs. Contains xs from.0) same (Contains-permutation ps qs from.0 moved from.1))),
+            let from = has_preimage (path_at tree) ps path (subst (λ ts. Contains ts path) paths member) in
+            subst (Contains (needed_paths tree p)) from.2
+            (contains_image (path_at tree) (build_at tree p) from.0 (subst (λ xs. Contains xs from.0) same (Contains-permutation ps qs from.0 moved from.1))),
         λ member.
-        let from = has_preimage (path_at tree) (build_at tree p) path member in
-        subst (λ ts. Contains ts path) (sym paths)
-        (subst (Contains (map (path_at tree) ps)) from.2
-        (contains_image (path_at tree) ps from.0 (Contains-permutation qs ps from.0 back (subst (λ xs. Contains xs from.0) (sym same) from.1)))),
+            let from = has_preimage (path_at tree) (build_at tree p) path member in
+            subst (λ ts. Contains ts path) (sym paths)
+            (subst (Contains (map (path_at tree) ps)) from.2
+            (contains_image (path_at tree) ps from.0 (Contains-permutation qs ps from.0 back (subst (λ xs. Contains xs from.0) (sym same) from.1)))),
       );
     }
 
@@ -97,15 +97,15 @@ same_from_are tree p built ps qs is_tree needed listed moved sorted are =
     same_ascending qs (build_at tree p) up needed.rising
     (λ q. (
       λ member.
-      let mine = Contains-permutation qs ps q back member in
-      member_by_path tree ps (build_at tree p) q is_tree within needed.within mine
-      ((are.exactly (path_at tree q)).0 (subst (λ ts. Contains ts (path_at tree q)) (sym paths) (contains_image (path_at tree) ps q mine))),
+          let mine = Contains-permutation qs ps q back member in
+          member_by_path tree ps (build_at tree p) q is_tree within needed.within mine
+          ((are.exactly (path_at tree q)).0 (subst (λ ts. Contains ts (path_at tree q)) (sym paths) (contains_image (path_at tree) ps q mine))),
       λ member.
-      member_by_path tree (build_at tree p) qs q is_tree needed.within all member
-      (let there : Contains (map (path_at tree) ps) (path_at tree q) =
-      subst (λ ts. Contains ts (path_at tree q)) paths ((are.exactly (path_at tree q)).1 (contains_image (path_at tree) (build_at tree p) q member)) in
-      let from = has_preimage (path_at tree) ps (path_at tree q) there in
-      subst (Contains (map (path_at tree) qs)) from.2 (contains_image (path_at tree) qs from.0 (Contains-permutation ps qs from.0 moved from.1))),
+          member_by_path tree (build_at tree p) qs q is_tree needed.within all member
+          (let there : Contains (map (path_at tree) ps) (path_at tree q) =
+          subst (λ ts. Contains ts (path_at tree q)) paths ((are.exactly (path_at tree q)).1 (contains_image (path_at tree) (build_at tree p) q member)) in
+          let from = has_preimage (path_at tree) ps (path_at tree q) there in
+          subst (Contains (map (path_at tree) qs)) from.2 (contains_image (path_at tree) qs from.0 (Contains-permutation ps qs from.0 moved from.1))),
     ))
 
 -- an unlisted path is no build dependency

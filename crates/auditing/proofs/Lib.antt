@@ -1,3 +1,4 @@
+mod Examples
 pub mod Ascending
 pub mod Positions
 pub mod Built

@@ -46,16 +46,16 @@ set_at tree earlier entry places p q is_tree each kept listed new l =
     let there = listed_at tree entry.path p listed in
     elim (cases_eq q p) [
       | inl same ↦
-        let path : path_at tree q ≡ entry.path = ap (path_at tree) same ∙ there.1 in
-        let passes : has_path (path_at tree q) entry ≡ true = equal_bytes entry.path (path_at tree q) (sym path) in
-        let none : (k : ℕ) → k < length earlier → has_path (path_at tree q) (get_or earlier k entry) ≡ false = λ k m.
-        differing_bytes (get_or earlier k entry).path (path_at tree q) (λ e. new k entry m (e ∙ path)) in
-        ap (λ r. get_or (set places p (Some (length earlier))) r None) same ∙ get_or-set_same places p (Some (length earlier)) None (omega (arith, there.0, each))
-        ∙ sym (place_push_here (has_path (path_at tree q)) earlier entry passes none)
+          let path : path_at tree q ≡ entry.path = ap (path_at tree) same ∙ there.1 in
+          let passes : has_path (path_at tree q) entry ≡ true = equal_bytes entry.path (path_at tree q) (sym path) in
+          let none : (k : ℕ) → k < length earlier → has_path (path_at tree q) (get_or earlier k entry) ≡ false = λ k m.
+          differing_bytes (get_or earlier k entry).path (path_at tree q) (λ e. new k entry m (e ∙ path)) in
+          ap (λ r. get_or (set places p (Some (length earlier))) r None) same ∙ get_or-set_same places p (Some (length earlier)) None (omega (arith, there.0, each))
+          ∙ sym (place_push_here (has_path (path_at tree q)) earlier entry passes none)
       | inr other ↦
-        let fails : has_path (path_at tree q) entry ≡ false =
-        differing_bytes entry.path (path_at tree q) (λ e. other (is_tree.once q p l there.0 (sym e ∙ sym there.1))) in
-        get_or-set_other places p q (Some (length earlier)) None other ∙ kept q l ∙ sym (place_push_other (has_path (path_at tree q)) earlier entry fails)
+          let fails : has_path (path_at tree q) entry ≡ false =
+          differing_bytes entry.path (path_at tree q) (λ e. other (is_tree.once q p l there.0 (sym e ∙ sym there.1))) in
+          get_or-set_other places p q (Some (length earlier)) None other ∙ kept q l ∙ sym (place_push_other (has_path (path_at tree q)) earlier entry fails)
     ]
 
 -- what is kept with one more entry

@@ -16,10 +16,8 @@ pub fn audit(alloc: Global, tree: &Tree, list: &[Entry]) -> Result<Verdict, Memo
     for (index, entry) in list.iter().enumerate() {
         let earlier = &list[..index];
         if let Some(reason) = standing.first_reason(alloc, earlier, entry)? {
-            return Ok(Verdict::No {
-                package: index as u64 + 1,
-                reason,
-            });
+            let package = index as u64 + 1;
+            return Ok(Verdict::No { package, reason });
         }
         standing.add(earlier, entry);
     }

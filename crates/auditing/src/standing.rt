@@ -62,7 +62,7 @@ impl<'a> Standing<'a> {
         if !is_name_of(self.tree, position, &entry.name) {
             return Ok(Some(Reason::OtherName));
         }
-        if self.entry_with(earlier, &entry.path).is_some() {
+        if !self.is_new(earlier, &entry.path) {
             return Ok(Some(Reason::PathTwice));
         }
         let built = entry.built.as_slice();
@@ -94,6 +94,14 @@ impl<'a> Standing<'a> {
         ensures { IsTrue result ↔ IsIgnored self.now.tree.now position }
     {
         matches!(self.engine.letter(position), Letter::Ignored)
+    }
+
+    /// Whether no earlier entry has the path.
+    fn is_new(&self, earlier: &[Entry], path: &PkgPath) -> bool
+        requires { HasRead self.now earlier.now }
+        ensures { IsTrue result ↔ IsNew earlier.now path.now }
+    {
+        self.entry_with(earlier, path).is_none()
     }
 
     /// Whether each of the dependencies is the signature of an earlier entry.

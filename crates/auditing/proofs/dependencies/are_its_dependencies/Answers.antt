@@ -22,8 +22,8 @@ returns c =
     let qs = c.sort_unstable.new.self.items in
     let moved = c.sort_unstable.ensures.permutation in (
       λ yes. are_from_same tree c.args.position c.args.built.now ps qs c.requires.is_tree needed listed moved
-        (sym c.as_slice.ensures.value ∙ same_bytes c.as_slice.result.now c.build_deps.result.now (sym c.eq.ensures ∙ yes) ∙ c.build_deps.ensures.value),
+          (sym c.as_slice.ensures.value ∙ same_bytes c.as_slice.result.now c.build_deps.result.now (sym c.eq.ensures ∙ yes) ∙ c.build_deps.ensures.value),
       λ are.
-      let same = same_from_are tree c.args.position c.args.built.now ps qs c.requires.is_tree needed listed moved c.sort_unstable.ensures.sorted are in
-      c.eq.ensures ∙ equal_bytes c.as_slice.result.now c.build_deps.result.now (c.as_slice.ensures.value ∙ same ∙ sym c.build_deps.ensures.value),
+          let same = same_from_are tree c.args.position c.args.built.now ps qs c.requires.is_tree needed listed moved c.sort_unstable.ensures.sorted are in
+          c.eq.ensures ∙ equal_bytes c.as_slice.result.now c.build_deps.result.now (c.as_slice.ensures.value ∙ same ∙ sym c.build_deps.ensures.value),
     )

@@ -16,12 +16,12 @@ returns-in-Some c =
     let back : k ≡ k + 1 - 1 = omega arith in (
       omega arith,
       subst (λ n. IsFirstBad c.args.tree.now list n c.in-Some.reason) back
-      (record {
-        entry = entry;
-        stands = slice_get-get_or list k entry c.loop-index-test.true ∙ (λ i. Some (sym c.index-list-index.is i));
-        before = subst (λ (t : Tree). IsAllowed t (take k list)) same c.loop-index.invariant.read.allowed;
-        reason_is = subst (λ (t : Tree). IsFirstReason t (take k list) entry c.in-Some.reason) same reason;
-      }),
+          (record {
+            entry = entry;
+            stands = slice_get-get_or list k entry c.loop-index-test.true ∙ (λ i. Some (sym c.index-list-index.is i));
+            before = subst (λ (t : Tree). IsAllowed t (take k list)) same c.loop-index.invariant.read.allowed;
+            reason_is = subst (λ (t : Tree). IsFirstReason t (take k list) entry c.in-Some.reason) same reason;
+          }),
     )
 
 pub returns : goal.returns

@@ -9,11 +9,11 @@ returns-then-eq c =
     let dep = c.args.dep.now in
     let entry = c.in-Some.entry.now in (
       λ yes.
-      signature_of_one c.args.earlier.now dep entry c.in-Some.ensures (same_bytes entry.name dep.name (sym c.if-eq.ensures))
-      (same_bytes entry.digest dep.digest (sym c.eq-then-eq.ensures ∙ yes)),
+          signature_of_one c.args.earlier.now dep entry c.in-Some.ensures (same_bytes entry.name dep.name (sym c.if-eq.ensures))
+          (same_bytes entry.digest dep.digest (sym c.eq-then-eq.ensures ∙ yes)),
       λ any.
-      let signature = one_of_signature c.args.earlier.now dep entry c.in-Some.ensures any in
-      c.eq-then-eq.ensures ∙ equal_bytes entry.digest dep.digest signature.digest,
+          let signature = one_of_signature c.args.earlier.now dep entry c.in-Some.ensures any in
+          c.eq-then-eq.ensures ∙ equal_bytes entry.digest dep.digest signature.digest,
     )
 
 pub returns-else-eq : goal.returns-else-eq
@@ -22,6 +22,6 @@ returns-else-eq c =
     let entry = c.in-Some.entry.now in (
       λ yes. absurd (false≢true (sym c.if-eq.false ∙ yes)),
       λ any.
-      let signature = one_of_signature c.args.earlier.now dep entry c.in-Some.ensures any in
-      c.eq.ensures ∙ equal_bytes entry.name dep.name signature.name,
+          let signature = one_of_signature c.args.earlier.now dep entry c.in-Some.ensures any in
+          c.eq.ensures ∙ equal_bytes entry.name dep.name signature.name,
     )

@@ -11,8 +11,8 @@ returns-then-not-is_signature c =
     let stood = λ (d : Dep). Any (IsSignatureOf d) c.args.earlier.now in (
       λ yes. absurd (false≢true yes),
       λ all.
-      let here = all c.loop-dep.dep-index c.dep-item.result c.loop-dep-test.true in
-      absurd (iff_false c.is_signature.ensures c.if-not-is_signature.true (subst stood (sym c.dep-item.is) here)),
+          let here = all c.loop-dep.dep-index c.dep-item.result c.loop-dep-test.true in
+          absurd (iff_false c.is_signature.ensures c.if-not-is_signature.true (subst stood (sym c.dep-item.is) here)),
     )
 
 pub loop-dep-preserved : goal.loop-dep-preserved
