@@ -1,3 +1,4 @@
 pub mod Allowed
 pub mod Laws
+pub mod Standing
 pub mod Verdicts

@@ -2,6 +2,7 @@
 ghost use Rattle.std.specs.Prelude.{IfOk};
 ghost use Rattle.auditing.specs.Verdicts.{IsVerdict};
 
+use crate::standing::Standing;
 use crate::{Entry, Verdict};
 use faults::Memory;
 use listing::Tree;
@@ -11,8 +12,14 @@ use std::alloc::Global;
 pub fn audit(alloc: Global, tree: &Tree, list: &[Entry]) -> Result<Verdict, Memory>
     ensures { IfOk result (IsVerdict tree.now list.now) }
 {
-    let _ = alloc;
-    let _ = tree;
-    let _ = list;
-    Err(Memory)
+    let mut standing = Standing::new(alloc, tree)?;
+    for (index, entry) in list.iter().enumerate() {
+        let earlier = &list[..index];
+        if let Some(reason) = standing.first_reason(alloc, earlier, entry)? {
+            let package = index as u64 + 1;
+            return Ok(Verdict::No { package, reason });
+        }
+        standing.add(earlier, entry);
+    }
+    Ok(Verdict::Yes)
 }

@@ -1,10 +1,16 @@
 //! The audit of a list of packages: whether it was built in order, each package against what stood in the list before it.
 #![tactic(auto)]
 
+mod dependencies;
 mod entry;
 mod judging;
+mod laws;
+mod standing;
+#[cfg(test)]
+mod tests;
 mod verdict;
 
 pub use crate::entry::Entry;
 pub use crate::judging::audit;
+pub use crate::laws::{allowed_lists, only_one_verdict};
 pub use crate::verdict::{Reason, Verdict};
