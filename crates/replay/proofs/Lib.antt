@@ -1,3 +1,4 @@
+mod Examples
 pub mod Ends
 pub mod Fields
 pub mod Holding
