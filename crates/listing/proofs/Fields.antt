@@ -1,6 +1,6 @@
 -- The shape of a dependency, by its fields.
-use Rattle.std.proofs.Common.{◌≡◌, ◌<◌, ◌≤◌, ◌+◌, ◌++◌, ◌==◌, ◌&&◌, ℕ, suc, zero, Bool, true, false, not, cond, nat_le, List, [], ◌∷◌, length, map, Ok, Option, None, Some, unwrap_or, find, option_map, is_some, Bor, refl, sym, ap, ◌∙◌, arith}
-use Rattle.std.specs.List.{count_by, position_or_len, slice_split, onto_first}
+use Rattle.std.proofs.Common.{◌≡◌, ◌≤◌, ◌+◌, ◌++◌, ◌==◌, ◌&&◌, ℕ, Bool, true, false, not, cond, nat_le, List, [], ◌∷◌, length, map, Ok, Option, None, Some, option_map, is_some, Bor, refl, sym, ap, ◌∙◌, arith}
+use Rattle.std.specs.List.{count_by, slice_split, onto_first}
 use Rattle.std.proofs.lemmas.Bool.Decides.{nat_tests}
 use Rattle.std.proofs.lemmas.List.{map-append}
 use Rattle.faults.specs.Bytes.{Text, colon, has_byte, is_empty, slash}

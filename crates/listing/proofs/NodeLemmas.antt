@@ -1,12 +1,11 @@
 -- What a node says of a row.
-use Rattle.std.proofs.Common.{◌≡◌, ◌<◌, ◌+◌, ◌++◌, ◌&&◌, ◌||◌, ◌==◌, ℕ, suc, zero, Bool, true, false, not, cond, List, [], ◌∷◌, All, length, map, take, get_or, position, is_some, nat_lt, unwrap_or, option_and_then, option_map, IfSome, Option, None, Some, Ok, refl, sym, ap, subst, ◌∙◌, arith, ext_get_or, true≢false, inl, inr}
-use Rattle.std.specs.List.{list_any, list_all, filter_map, cons_option, flat_map, enumerate_from, zip, IsDistinct, position_or_len, prefix_len, position_from}
-use Rattle.std.specs.List.Sorted.{IsStrictlyIncreasing}
+use Rattle.std.proofs.Common.{◌≡◌, ◌<◌, ◌+◌, ◌++◌, ◌&&◌, ◌||◌, ℕ, Bool, true, false, not, cond, List, [], ◌∷◌, All, length, map, take, get_or, position, is_some, unwrap_or, option_and_then, option_map, IfSome, Option, None, Some, Ok, refl, sym, ap, subst, ◌∙◌, arith, ext_get_or, true≢false, inl, inr}
+use Rattle.std.specs.List.{list_any, list_all, filter_map, cons_option, IsDistinct, position_from}
 use Rattle.std.specs.Option.{option_map_or}
 use Rattle.std.specs.Str.{bytes_eq}
 use Rattle.std.proofs.lemmas.Bool.{cases_eq, cases_lt}
-use Rattle.std.proofs.lemmas.List.{append-nil, append_assoc, get_or-map, get_or_append_left, get_or_default, get_or_push, length_push, length-map, map-append, nil_from_length, take_more}
-use Rattle.std.proofs.lemmas.List.Elements.{All-head, All-tail, All-get_or, All-map, All-nil, All-weaker, filter_map-append}
+use Rattle.std.proofs.lemmas.List.{append-nil, append_assoc, get_or-map, get_or_append_left, get_or_default, get_or_push, length_push, length-map, nil_from_length, take_more}
+use Rattle.std.proofs.lemmas.List.Elements.{All-head, All-tail, All-map, All-nil, All-weaker, filter_map-append}
 use Rattle.std.proofs.lemmas.List.Quantifiers.{position-Some}
 use Rattle.std.proofs.lemmas.Iterator.Adapters.{position_from-zero}
 use Rattle.std.proofs.lemmas.Map.Keys.{apart_from_distinct}
@@ -17,13 +16,13 @@ use Rattle.pkgname.specs.PkgName.{IsName}
 use Rattle.pkgname.specs.declared.NameFault.{NameFault}
 use Rattle.pkgpath.specs.PkgPath.{IsPath}
 use Rattle.listing.specs.Dependencies.{words_of}
-use Rattle.listing.specs.Lines.{Setting, build_depends, full_name, ignore, lib_depends, run_depends}
+use Rattle.listing.specs.Lines.{Setting, build_depends, ignore, lib_depends, run_depends}
 use Rattle.listing.specs.Listing.{dependencies_of, dependency_path, dependency_positions, is_met, name_of, package_of, paths_of, positions_of, tree_of_settings, value_of}
 use Rattle.listing.specs.Nodes.{IsNodeOf, IsSetOf, are_met, listed_positions, numbers_of_value, numbers_read, package_of_node, packages_of, resolution_at, resolution_of_word, text_of_value, unlisted, word_matches}
-use Rattle.listing.specs.Parts.{AreNumbersOf, IsReadAs, has_dependencies, name_of_variable, position_of_word}
+use Rattle.listing.specs.Parts.{AreNumbersOf, IsReadAs, has_dependencies, position_of_word}
 use Rattle.listing.specs.Rules.{names_and_specs}
-use Rattle.listing.specs.Table.{AreRowsOf, IsRowOf, name_in, name_read, new_row, value_in}
-use Rattle.listing.specs.Tree.{ArePositions, IsTree, Package, Tree, no_package, path_at}
+use Rattle.listing.specs.Table.{AreRowsOf, IsRowOf, name_in, name_read, new_row}
+use Rattle.listing.specs.Tree.{ArePositions, IsTree, Package, no_package, path_at}
 use Rattle.listing.specs.declared.dependency.Resolution.{Resolution}
 use Rattle.listing.specs.declared.line.Variable.{Variable}
 use Rattle.listing.specs.declared.line.Variable.TheVariants.{FullName, BuildDepends, LibDepends, RunDepends, Ignore}

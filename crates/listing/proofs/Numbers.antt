@@ -1,9 +1,9 @@
 -- The numbers of dependencies.
-use Rattle.std.proofs.Common.{◌≡◌, ◌<◌, ◌≤◌, ◌+◌, ◌++◌, ◌⊎◌, ℕ, suc, zero, Bool, true, false, not, ◌&&◌, cond, nat_lt, nat_le, List, [], ◌∷◌, All, length, map, take, drop, get_or, position, is_some, is_err, is_ok, option_map, Option, None, Some, Ok, Err, Bor, refl, sym, ap, subst, ◌∙◌, arith, inl, inr, zero-add}
+use Rattle.std.proofs.Common.{◌≡◌, ◌<◌, ◌≤◌, ◌+◌, ◌++◌, ◌⊎◌, ℕ, Bool, true, false, not, ◌&&◌, cond, nat_lt, nat_le, List, [], ◌∷◌, All, length, map, take, get_or, position, is_some, is_err, is_ok, Option, None, Some, Ok, Bor, refl, sym, ap, subst, ◌∙◌, arith, inl, inr, zero-add}
 use Rattle.std.specs.List.{list_all, enumerate_from, position_or_len, prefix_len}
 use Rattle.std.specs.Map.{keys_of}
 use Rattle.std.specs.Str.{bytes_eq}
-use Rattle.std.proofs.lemmas.Bool.{ltb-false, lt-ltb}
+use Rattle.std.proofs.lemmas.Bool.{ltb-false}
 use Rattle.std.proofs.lemmas.Bool.Decides.{nat_tests}
 use Rattle.std.proofs.lemmas.List.{get_or-map, get_or_append_left, get_or_push, length_push, length-map, length-append, map_push, append_assoc, take_more, take_all, append-nil}
 use Rattle.std.proofs.lemmas.List.Elements.{All-get_or, All-head, All-push, All-tail, All-weaker, All-nil}
@@ -19,7 +19,7 @@ use Rattle.listing.specs.Dependencies.{dependency_path_text, is_shaped, specs_of
 use Rattle.listing.specs.Entries.{Entry, IsRead, IsReadEntry, words_of_entries}
 use Rattle.listing.specs.Listing.{dependencies_fault, dependency_fault, dependency_path, path_or_empty, word_fault}
 use Rattle.listing.specs.Nodes.{all_match, resolution_at, resolution_of, resolution_of_word, word_matches}
-use Rattle.listing.specs.Parts.{AreFieldsOf, AreNumbersOf, Grows, IsNumberOf, position_of_word, specs_from}
+use Rattle.listing.specs.Parts.{AreFieldsOf, AreNumbersOf, Grows, IsNumberOf, specs_from}
 use Rattle.listing.specs.Rules.{names_and_specs, read_spec_matches}
 use Rattle.listing.specs.declared.ListingFault.{ListingFault}
 use Rattle.listing.specs.declared.ListingFault.TheVariants.{BadLine, BadPath, Memory, TooMany}

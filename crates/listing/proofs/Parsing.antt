@@ -1,13 +1,13 @@
 -- A listing, line by line.
-use Rattle.std.proofs.Common.{◌≡◌, ◌<◌, ◌≤◌, ◌+◌, ◌++◌, ◌==◌, ◌⊎◌, ℕ, List, [], ◌∷◌, length, take, get_or, slice_get, option_to_list, option_and_then, Option, None, Some, Ok, Err, Result, MatchResult, refl, sym, ap, subst, ◌∙◌, arith, inl, inr, zero-add, add_comm}
-use Rattle.std.specs.List.{enumerate_from, filter_map, cons_option, range_with_len, slice_split}
+use Rattle.std.proofs.Common.{◌≡◌, ◌<◌, ◌+◌, ◌++◌, ◌==◌, ◌⊎◌, ℕ, List, [], ◌∷◌, length, take, get_or, option_to_list, option_and_then, Option, None, Some, Ok, Err, Result, MatchResult, refl, sym, ap, subst, ◌∙◌, arith, inl, inr, zero-add}
+use Rattle.std.specs.List.{cons_option, range_with_len, slice_split}
 use Rattle.std.proofs.lemmas.List.{take_more, take_all}
 use Rattle.std.proofs.lemmas.List.Elements.{filter_map-append}
 use Rattle.std.proofs.lemmas.List.FromFn.{get_or-enumerate_from, length-enumerate_from, get_or-range_with_len, length-range_with_len}
 use Rattle.std.proofs.lemmas.Option.{slice_get-get_or}
 use Rattle.faults.specs.Answers.{IsRightUnless, first_given, option_or, unless_fault}
 use Rattle.faults.specs.Bytes.{Text, line_feed}
-use Rattle.listing.specs.Lines.{Line, Setting, lines_of, setting_of, settings_of}
+use Rattle.listing.specs.Lines.{Setting, lines_of, setting_of, settings_of}
 use Rattle.listing.specs.Listing.{fault_at, fault_of, line_fault, nameless_fault, tree_of, tree_of_settings}
 use Rattle.listing.specs.Rules.{names_and_specs}
 use Rattle.listing.specs.Table.{Stands}

@@ -1,6 +1,6 @@
 -- Where in a text a test first or last passes.
-use Rattle.std.proofs.Common.{◌≡◌, ◌<◌, ◌≤◌, ◌+◌, ◌-◌, ◌==◌, ℕ, suc, zero, Bool, true, false, not, cond, ◌||◌, nat_lt, List, [], ◌∷◌, ◌++◌, length, take, drop, reverse, position, get_or, Option, None, Some, refl, sym, ap, subst, ◌∙◌, arith}
-use Rattle.std.specs.List.{prefix_len, suffix_len, position_or_len, slice_split, onto_first, before_first, after_first, list_any}
+use Rattle.std.proofs.Common.{◌≡◌, ◌<◌, ◌≤◌, ◌+◌, ◌-◌, ℕ, suc, zero, Bool, true, false, not, cond, ◌||◌, nat_lt, List, [], ◌∷◌, length, take, drop, reverse, position, get_or, None, Some, refl, sym, ap, ◌∙◌, arith}
+use Rattle.std.specs.List.{prefix_len, suffix_len, position_or_len, slice_split, onto_first, before_first, list_any}
 use Rattle.std.proofs.lemmas.List.Quantifiers.{position-Some}
 use Rattle.std.proofs.lemmas.Bool.{ltb-true, ltb-false}
 use Rattle.std.proofs.lemmas.List.{drop_all, get_or-reverse, length-reverse, take_all, take_rest}

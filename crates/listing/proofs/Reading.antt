@@ -1,5 +1,5 @@
 -- What a line sets, and its fault.
-use Rattle.std.proofs.Common.{◌≡◌, ◌++◌, ◌&&◌, ◌⊎◌, ℕ, Bool, true, false, not, List, [], ◌∷◌, option_to_list, Option, None, Some, Ok, Err, Result, is_err, is_none, is_some, MatchResult, refl, sym, ap, subst, ◌∙◌, if◌then◌else◌, inl, inr}
+use Rattle.std.proofs.Common.{◌≡◌, ◌&&◌, ◌⊎◌, ℕ, true, false, not, List, [], ◌∷◌, option_to_list, Option, None, Some, Ok, Err, Result, is_err, is_none, is_some, refl, sym, ap, ◌∙◌, if◌then◌else◌, inl, inr}
 use Rattle.faults.specs.Bytes.{Text, is_among}
 use Rattle.pkgpath.specs.PkgPath.{path_of}
 use Rattle.pkgpath.specs.declared.PathFault.{PathFault}

@@ -1,11 +1,11 @@
 -- Rows that stand for what lines set, and one more setting.
-use Rattle.std.proofs.Common.{◌≡◌, ◌<◌, ◌≤◌, ◌+◌, ◌++◌, ◌&&◌, ◌||◌, ◌⊎◌, ℕ, suc, zero, Bool, true, false, not, cond, nat_le, List, [], ◌∷◌, All, length, map, set, position, option_and_then, option_map, option_to_list, Option, None, Some, IfSome, Ok, Err, Result, is_err, is_some, MatchResult, ◌≢◌, refl, sym, ap, subst, ◌∙◌, arith, if◌then◌else◌, get_or, inl, inr}
+use Rattle.std.proofs.Common.{◌≡◌, ◌<◌, ◌≤◌, ◌+◌, ◌++◌, ◌&&◌, ◌||◌, ◌⊎◌, ℕ, suc, zero, Bool, true, false, not, nat_le, List, [], ◌∷◌, length, set, position, option_and_then, option_map, Option, None, Some, IfSome, is_some, ◌≢◌, refl, sym, ap, subst, ◌∙◌, arith, if◌then◌else◌, get_or, inl, inr}
 use Rattle.std.specs.List.{list_any, IsDistinct}
 use Rattle.std.specs.Str.{bytes_eq}
 use Rattle.std.specs.Cmp.Lexicographic.{nat_list_eq_equiv}
 use Rattle.std.proofs.lemmas.Bool.{cases_eq, cases_lt}
 use Rattle.std.proofs.lemmas.Bool.Decides.{nat_tests}
-use Rattle.std.proofs.lemmas.List.{get_or_default, get_or-set_same, get_or-set_other, get_or_append_left, get_or_push, length-set, length_push, length-append}
+use Rattle.std.proofs.lemmas.List.{get_or_default, get_or-set_same, get_or-set_other, get_or_append_left, get_or_push, length-set, length_push}
 use Rattle.std.proofs.lemmas.List.Elements.{All-push}
 use Rattle.std.proofs.lemmas.List.Quantifiers.{position-Some}
 use Rattle.std.proofs.lemmas.Map.Keys.{apart_from_distinct, IsDistinct-push}
@@ -20,7 +20,7 @@ use Rattle.listing.specs.Parts.{Grows, IsReadAs, name_of_variable}
 use Rattle.listing.specs.Rules.{names_and_specs}
 use Rattle.listing.specs.Table.{AreRowsOf, IsRowOf, name_in, name_read, new_row, row_fault, setting, text_in, value_in, with_value}
 use Rattle.listing.specs.declared.ListingFault.{ListingFault}
-use Rattle.listing.specs.declared.ListingFault.TheVariants.{Memory, NoName, TooMany, TwiceSet}
+use Rattle.listing.specs.declared.ListingFault.TheVariants.{NoName, TooMany, TwiceSet}
 use Rattle.listing.specs.declared.line.Variable.{Variable}
 use Rattle.listing.specs.declared.line.Variable.TheVariants.{FullName, BuildDepends, LibDepends, RunDepends, Ignore}
 use Rattle.listing.specs.declared.table.Reading.{Reading}

@@ -1,5 +1,5 @@
 -- What the parts of a line and of a dependency are.
-use Rattle.std.specs.Prelude.{◌≡◌, ◌<◌, ◌++◌, ℕ, Bool, true, false, not, List, [], ◌∷◌, All, codes, filter, length, map, position, take, Option, None, Some, MatchOption, Ok}
+use Rattle.std.specs.Prelude.{◌≡◌, ◌<◌, ◌++◌, ℕ, Bool, true, false, not, List, [], ◌∷◌, All, codes, filter, length, map, position, take, Option, None, Some, Ok}
 use Rattle.std.specs.List.{slice_index_or}
 use Rattle.std.specs.Str.{bytes_eq}
 use Rattle.faults.specs.Bytes.{Text, is_empty}

@@ -1,5 +1,5 @@
 -- How the rows of a table stand for what lines set.
-use Rattle.std.specs.Prelude.{◌≡◌, ◌<◌, ◌≤◌, ◌++◌, ℕ, Bool, true, false, not, List, [], ◌∷◌, All, length, map, find, position, option_and_then, option_map, Option, None, Some, IfSome, MatchOption, is_some, if◌then◌else◌}
+use Rattle.std.specs.Prelude.{◌≡◌, ◌<◌, ◌≤◌, ℕ, List, [], All, length, find, option_and_then, option_map, Option, None, Some, IfSome, is_some, if◌then◌else◌}
 use Rattle.std.specs.List.{slice_index_or, IsDistinct}
 use Rattle.std.specs.Str.{bytes_eq}
 use Rattle.faults.specs.Answers.{option_or}

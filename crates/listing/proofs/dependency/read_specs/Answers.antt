@@ -1,6 +1,6 @@
-use Rattle.std.proofs.Common.{◌≡◌, ◌++◌, ◌∷◌, [], List, Ok, true, false, map, codes, ap, sym, ◌∙◌}
+use Rattle.std.proofs.Common.{◌≡◌, ◌++◌, ◌∷◌, [], Ok, true, false, map, codes, ap, sym, ◌∙◌}
 use Rattle.std.proofs.lemmas.List.{append-nil}
-use Rattle.pkgspec.specs.Spec.{Alternative, spec_of}
+use Rattle.pkgspec.specs.Spec.{spec_of}
 use Rattle.listing.specs.Parts.{filled}
 use Rattle.listing.proofs.Fields.{both_said, filled_by, none_said, one_said}
 use Rattle.listing.proofs.dependency.read_specs.Goals as goal

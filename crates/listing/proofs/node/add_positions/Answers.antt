@@ -1,4 +1,4 @@
-use Rattle.std.proofs.Common.{◌≡◌, ℕ, get_or, ap, ◌∙◌}
+use Rattle.std.proofs.Common.{ℕ, get_or, ap, ◌∙◌}
 use Rattle.std.proofs.lemmas.List.{get_or_default}
 use Rattle.listing.proofs.NodeLemmas.{add_none, add_some}
 use Rattle.listing.proofs.node.add_positions.Goals as goal

@@ -1,4 +1,4 @@
-use Rattle.std.proofs.Common.{◌≡◌, map, ap, sym, ◌∙◌}
+use Rattle.std.proofs.Common.{map, ap, ◌∙◌}
 use Rattle.std.proofs.lemmas.Map.Iter.{iter_end}
 use Rattle.listing.specs.Nodes.{resolution_of, resolution_of_word}
 use Rattle.listing.proofs.Numbers.{resolutions_are, map_deref, map_values}

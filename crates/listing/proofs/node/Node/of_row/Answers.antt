@@ -1,5 +1,4 @@
-use Rattle.std.proofs.Common.{◌≡◌, Some, option_map, ap, sym, ◌∙◌, rules}
-use Rattle.listing.specs.Nodes.{IsNodeOf}
+use Rattle.std.proofs.Common.{Some, option_map, ap, sym, ◌∙◌, rules}
 use Rattle.listing.proofs.node.Node.of_row.Goals as goal
 
 pub returns : goal.returns

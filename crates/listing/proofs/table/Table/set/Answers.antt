@@ -1,4 +1,4 @@
-use Rattle.std.proofs.Common.{◌≡◌, ◌<◌, ◌≤◌, ◌++◌, ◌∷◌, ◌⊎◌, [], Bool, true, false, not, is_some, true≢false, refl, Some, MatchResult, ap, sym, subst, ◌∙◌, inl, inr, arith, length, set, get_or, position, if◌then◌else◌}
+use Rattle.std.proofs.Common.{◌≡◌, ◌<◌, ◌++◌, ◌∷◌, ◌⊎◌, [], true, false, not, is_some, true≢false, refl, Some, ap, sym, subst, ◌∙◌, inl, inr, arith, length, position}
 use Rattle.std.specs.List.{list_any}
 use Rattle.std.specs.Str.{bytes_eq}
 use Rattle.std.proofs.lemmas.Result.{MatchResult-weaker, err_from_is_err_and}
