@@ -144,5 +144,5 @@ fn is_name_of(tree: &Tree, position: u32, name: &PkgName) -> bool
     requires { position < length tree.now }
     ensures { result ≡ bytes_eq name.now (name_at tree.now position) }
 {
-    name.as_bytes() == tree.name(position)
+    name == tree.name(position)
 }

@@ -28,7 +28,7 @@ fn put_package(hasher: &mut Sha256, tree: &Tree, position: u32)
     ensures { Takes hasher.old hasher.new (package_lines tree.now (package_at tree.now position)) }
 {
     put(hasher, b"P ", tree.path(position).as_bytes());
-    put(hasher, b"N ", tree.name(position));
+    put(hasher, b"N ", tree.name(position).as_bytes());
     if tree.marked(position) {
         put(hasher, b"X", b"");
     }

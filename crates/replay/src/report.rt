@@ -9,6 +9,7 @@ use crate::held::{HeldFault, held_engine};
 use engine::{Counts, Engine, Letter};
 use faults::Memory;
 use listing::Tree;
+use pkgname::PkgName;
 use pkgpath::PkgPath;
 use std::alloc::{AllocError, Global};
 
@@ -44,7 +45,7 @@ fn write_package(
     text: &mut Vec<u8>,
     letter: Letter,
     path: &PkgPath,
-    name: &[u8],
+    name: &PkgName,
 ) -> Result<(), Memory>
     ensures { OnOk result (text.new.items ≡ text.old.items ++ package_line letter path.now name.now) }
 {
@@ -52,7 +53,7 @@ fn write_package(
     text.push(b' ')?;
     path.write_to(text)?;
     text.push(b' ')?;
-    text.extend_from_slice(name)?;
+    name.write_to(text)?;
     text.push(b'\n')?;
     Ok(())
 }
