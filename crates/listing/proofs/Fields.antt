@@ -1,10 +1,12 @@
 -- The shape of a dependency, by its fields.
-use Rattle.std.proofs.Common.{◌≡◌, ◌<◌, ◌≤◌, ◌+◌, ◌==◌, ◌&&◌, ℕ, suc, zero, Bool, true, false, not, cond, nat_le, List, [], ◌∷◌, length, Option, None, Some, unwrap_or, find, option_map, is_some, Bor, refl, sym, ap, ◌∙◌, arith}
-use Rattle.std.specs.List.{count_by, position_or_len, slice_split, onto_first}
+use Rattle.std.proofs.Common.{◌≡◌, ◌≤◌, ◌+◌, ◌++◌, ◌==◌, ◌&&◌, ℕ, Bool, true, false, not, cond, nat_le, List, [], ◌∷◌, length, map, Ok, Option, None, Some, option_map, is_some, Bor, refl, sym, ap, ◌∙◌, arith}
+use Rattle.std.specs.List.{count_by, slice_split, onto_first}
 use Rattle.std.proofs.lemmas.Bool.Decides.{nat_tests}
-use Rattle.faults.specs.Bytes.{Text, colon, has_byte, slash}
+use Rattle.std.proofs.lemmas.List.{map-append}
+use Rattle.faults.specs.Bytes.{Text, colon, has_byte, is_empty, slash}
 use Rattle.listing.specs.Dependencies.{are_shaped, fields_before_path, fields_of, is_shaped}
-use Rattle.listing.specs.Parts.{IsFirstField}
+use Rattle.listing.specs.Parts.{IsFirstField, filled}
+use Rattle.pkgspec.specs.Spec.{Alternative, spec_of}
 
 -- four fields are too many
 too_long : (b : Bool) (n before : ℕ) → 4 ≤ n → (b && nat_le before 1 && nat_le n (before + 2)) ≡ false
@@ -43,3 +45,23 @@ pub three_and_more : (word first second third : Text) (rest1 rest2 : Text) (o : 
 three_and_more word first second third rest1 rest2 o e1 e2 e3 there =
     let m = more_fields rest2 third o there e3 in
     more_than_three word m.0 first second third (e1 ∙ ap (λ fs. first ∷ fs) e2 ∙ ap (λ fs. first ∷ second ∷ fs) m.1)
+
+-- ---- specs that were read
+
+empty_by_length : (t : Text) → is_empty t ≡ (length t == 0)
+empty_by_length [] = refl
+empty_by_length (x ∷ xs) = let more : (length (x ∷ xs) == 0) ≡ false = grind (arith, nat_tests) in sym more
+
+pub filled_by : (t : Text) (r b : Bool) → r ≡ (length t == 0) → r ≡ b → filled (t ∷ []) ≡ cond (not b) (t ∷ []) []
+filled_by t r b is e = ap (λ c. cond (not c) (t ∷ []) []) (empty_by_length t ∙ sym is ∙ e)
+
+pub none_said : (texts : List Text) (specs : List (List Alternative)) → texts ≡ [] → specs ≡ [] → map spec_of texts ≡ map Ok specs
+none_said texts specs e is = ap (map spec_of) e ∙ ap (map Ok) (sym is)
+
+pub one_said : (texts : List Text) (t : Text) (specs : List (List Alternative)) (spec : List Alternative) → texts ≡ t ∷ [] → spec_of t ≡ Ok spec → specs ≡ spec ∷ []
+    → map spec_of texts ≡ map Ok specs
+one_said texts t specs spec e read is = ap (map spec_of) e ∙ ap (λ r. r ∷ []) read ∙ ap (map Ok) (sym is)
+
+pub both_said : (xs ys : List Text) (a b all : List (List Alternative)) → map spec_of xs ≡ map Ok a → map spec_of ys ≡ map Ok b → all ≡ a ++ b
+    → map spec_of (xs ++ ys) ≡ map Ok all
+both_said xs ys a b all front back is = map-append spec_of xs ys ∙ (λ i. front i ++ back i) ∙ sym (map-append Ok a b) ∙ ap (map Ok) (sym is)

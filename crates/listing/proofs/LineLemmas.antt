@@ -1,9 +1,9 @@
 -- What the parts of a line are, by places.
-use Rattle.std.proofs.Common.{◌≡◌, ◌<◌, ◌≤◌, ◌+◌, ◌-◌, ◌==◌, ◌&&◌, ◌||◌, ℕ, suc, zero, Bool, true, false, not, List, [], ◌∷◌, length, take, drop, position, get_or, Some, None, refl, sym, ap, ◌∙◌, arith, eq-eqb}
-use Rattle.std.specs.List.{prefix_len, suffix_len, before_first, after_first, before_last, after_last, list_any}
+use Rattle.std.proofs.Common.{◌≡◌, ◌<◌, ◌≤◌, ◌+◌, ◌-◌, ◌==◌, ◌&&◌, ◌||◌, ℕ, Bool, true, false, not, length, take, drop, position, get_or, Some, None, refl, sym, ap, ◌∙◌, arith, eq-eqb}
+use Rattle.std.specs.List.{prefix_len, suffix_len, before_last, after_last}
 use Rattle.std.specs.Str.{bytes_eq}
 use Rattle.std.specs.Cmp.Lexicographic.{nat_list_eq_equiv}
-use Rattle.std.proofs.lemmas.List.{get_or-drop, length-drop, length-take, take_rest}
+use Rattle.std.proofs.lemmas.List.{get_or-drop, length-drop, take_rest}
 use Rattle.faults.specs.Bytes.{Text, dot, equals_sign, has_byte, is_among}
 use Rattle.listing.specs.Lines.{build_depends, full_name, ignore, is_blank, is_cut, key_of, lib_depends, path_text, run_depends, trimmed, value_text, variable_text, variables}
 use Rattle.listing.proofs.Places.{before_first_at, none_at_all, none_anywhere, passes_at, place_is, prefix_len_is, some_there, suffix_len_is}

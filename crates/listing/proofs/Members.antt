@@ -1,16 +1,16 @@
 -- Sets of positions: ascending, each once.
-use Rattle.std.proofs.Common.{◌≡◌, ◌<◌, ◌≤◌, ◌+◌, ◌++◌, ◌&&◌, ◌||◌, ◌==◌, ℕ, suc, zero, Bool, true, false, not, cond, List, [], ◌∷◌, All, Contains, length, map, filter, get_or, position, nat_lt, is_some, Option, None, Some, refl, sym, ap, subst, ◌∙◌, arith, eq-eqb, true≢false, inl, inr}
-use Rattle.std.specs.List.{list_any, list_all, enumerate_from, filter_map, cons_option, IsDistinct, AllByRecursion, position_from, position_or_len, prefix_len}
+use Rattle.std.proofs.Common.{◌≡◌, ◌<◌, ◌≤◌, ◌+◌, ◌++◌, ◌&&◌, ◌||◌, ◌==◌, ℕ, suc, zero, Bool, true, false, cond, List, [], ◌∷◌, All, Contains, length, map, filter, get_or, position, Option, None, Some, refl, sym, ap, subst, ◌∙◌, arith, eq-eqb, true≢false, inl, inr}
+use Rattle.std.specs.List.{list_any, enumerate_from, filter_map, cons_option, IsDistinct, AllByRecursion, position_from}
 use Rattle.std.specs.List.Sorted.{IsStrictlyIncreasing}
 use Rattle.std.specs.Str.{bytes_eq}
 use Rattle.std.proofs.lemmas.Bool.{cases_eq, cases_lt, eqb-true}
 use Rattle.std.proofs.lemmas.Bool.Decides.{nat_tests}
-use Rattle.std.proofs.lemmas.List.Elements.{All-cons, All-nil, Contains-get_or, Contains-append_right}
+use Rattle.std.proofs.lemmas.List.Elements.{All-cons, All-nil, Contains-append_right}
 use Rattle.std.proofs.lemmas.Iterator.Adapters.{position_from-zero}
 use Rattle.std.proofs.lemmas.Map.Keys.{IsDistinct-head, IsDistinct-tail}
 use Rattle.faults.specs.Bytes.{Text, is_among}
 use Rattle.listing.specs.Listing.{positions_of}
-use Rattle.listing.proofs.Settings.{eq_flip, same_text}
+use Rattle.listing.proofs.Settings.{same_text}
 
 abbrev pub has : ℕ → List ℕ → Bool
 has p xs = list_any (λ q. q == p) xs

@@ -1,9 +1,9 @@
 -- The numbers of dependencies.
-use Rattle.std.proofs.Common.{◌≡◌, ◌<◌, ◌≤◌, ◌+◌, ◌++◌, ◌⊎◌, ℕ, suc, zero, Bool, true, false, not, cond, nat_lt, nat_le, List, [], ◌∷◌, All, length, map, take, drop, get_or, position, is_some, is_err, option_map, Option, None, Some, Ok, Err, Bor, refl, sym, ap, subst, ◌∙◌, arith, inl, inr, zero-add}
+use Rattle.std.proofs.Common.{◌≡◌, ◌<◌, ◌≤◌, ◌+◌, ◌++◌, ◌⊎◌, ℕ, Bool, true, false, not, ◌&&◌, cond, nat_lt, nat_le, List, [], ◌∷◌, All, length, map, take, get_or, position, is_some, is_err, is_ok, Option, None, Some, Ok, Bor, refl, sym, ap, subst, ◌∙◌, arith, inl, inr, zero-add}
 use Rattle.std.specs.List.{list_all, enumerate_from, position_or_len, prefix_len}
 use Rattle.std.specs.Map.{keys_of}
 use Rattle.std.specs.Str.{bytes_eq}
-use Rattle.std.proofs.lemmas.Bool.{ltb-false, lt-ltb}
+use Rattle.std.proofs.lemmas.Bool.{ltb-false}
 use Rattle.std.proofs.lemmas.Bool.Decides.{nat_tests}
 use Rattle.std.proofs.lemmas.List.{get_or-map, get_or_append_left, get_or_push, length_push, length-map, length-append, map_push, append_assoc, take_more, take_all, append-nil}
 use Rattle.std.proofs.lemmas.List.Elements.{All-get_or, All-head, All-push, All-tail, All-weaker, All-nil}
@@ -13,31 +13,57 @@ use Rattle.std.proofs.lemmas.Slice.Eq.{bytes_eq-Decides}
 use Rattle.faults.specs.Answers.{first_given, first_that_applies, option_or}
 use Rattle.faults.specs.Bytes.{Text}
 use Rattle.pkgpath.specs.PkgPath.{path_of}
+use Rattle.pkgspec.specs.Matching.{matches}
+use Rattle.pkgspec.specs.Spec.{Alternative, spec_of}
 use Rattle.listing.specs.Dependencies.{dependency_path_text, is_shaped, specs_of, words_of}
-use Rattle.listing.specs.Entries.{Entry, IsReadEntry, words_of_entries}
+use Rattle.listing.specs.Entries.{Entry, IsRead, IsReadEntry, words_of_entries}
 use Rattle.listing.specs.Listing.{dependencies_fault, dependency_fault, dependency_path, path_or_empty, word_fault}
-use Rattle.listing.specs.Parts.{AreNumbersOf, Grows, IsNumberOf, position_of_word}
-use Rattle.listing.specs.Rules.{words_as_names}
+use Rattle.listing.specs.Nodes.{all_match, resolution_at, resolution_of, resolution_of_word, word_matches}
+use Rattle.listing.specs.Parts.{AreFieldsOf, AreNumbersOf, Grows, IsNumberOf, specs_from}
+use Rattle.listing.specs.Rules.{names_and_specs, read_spec_matches}
 use Rattle.listing.specs.declared.ListingFault.{ListingFault}
 use Rattle.listing.specs.declared.ListingFault.TheVariants.{BadLine, BadPath, Memory, TooMany}
+use Rattle.listing.specs.declared.dependency.Dependency.{Dependency}
+use Rattle.listing.specs.declared.dependency.Fields.{Fields}
+use Rattle.listing.specs.declared.table.Row.{Row}
 use Rattle.listing.proofs.First.{given_at, none_given_at_all, none_given_more}
 use Rattle.listing.proofs.Places.{from_none}
 
 -- ---- the fault of a dependency
 
-pub all_pass : {X : Type 0} (xs : List X) → list_all (λ (x : X). true) xs ≡ true
-all_pass [] = refl
-all_pass (x ∷ xs) = all_pass xs
+-- texts that spell specs are specs
+all_specs : (ts : List Text) (ss : List (List Alternative)) → map spec_of ts ≡ map Ok ss → list_all names_and_specs.is_spec ts ≡ true
+all_specs [] ss e = refl
+all_specs (t ∷ ts) [] e = cc
+all_specs (t ∷ ts) (s ∷ ss) e =
+    let head : spec_of t ≡ Ok s = cc in
+    let rest : map spec_of ts ≡ map Ok ss = cc in
+    let tail = all_specs ts ss rest in
+    λ i. is_ok (head i) && tail i
 
-pub no_word_fault : (n : ℕ) (w : Text) → is_shaped w ≡ true → is_err (path_of (dependency_path_text w)) ≡ false → word_fault words_as_names n w ≡ None
-no_word_fault n w shaped spelled =
-    let passes = all_pass (specs_of w) in
-    λ i. first_that_applies ((not (shaped i), BadLine n) ∷ (not (passes i), BadLine n) ∷ (spelled i, BadPath n) ∷ [])
+word_fault_by : (n : ℕ) (w : Text) (a b c : Bool) → is_shaped w ≡ a → list_all names_and_specs.is_spec (specs_of w) ≡ b → is_err (path_of (dependency_path_text w)) ≡ c
+    → word_fault names_and_specs n w ≡ first_that_applies ((not a, BadLine n) ∷ (not b, BadLine n) ∷ (c, BadPath n) ∷ [])
+word_fault_by n w a b c shaped specs path = λ i. first_that_applies ((not (shaped i), BadLine n) ∷ (not (specs i), BadLine n) ∷ (path i, BadPath n) ∷ [])
 
-pub bad_path : (n : ℕ) (w : Text) → is_shaped w ≡ true → is_err (path_of (dependency_path_text w)) ≡ true → word_fault words_as_names n w ≡ Some (BadPath n)
-bad_path n w shaped spelled =
-    let passes = all_pass (specs_of w) in
-    λ i. first_that_applies ((not (shaped i), BadLine n) ∷ (not (passes i), BadLine n) ∷ (spelled i, BadPath n) ∷ [])
+pub no_word_fault : (n : ℕ) (w : Text) (d : Dependency) → IsRead w d → word_fault names_and_specs n w ≡ None
+no_word_fault n w d h = word_fault_by n w true true false h.shaped (all_specs (specs_of w) d.specs.items h.specs) (ap is_err h.spelled)
+
+-- the fault of a dependency whose specs are refused
+pub specs_fault : (line : ℕ) (word : Text) (fields : Fields) (e : ListingFault) → AreFieldsOf word fields
+    → (e ≡ Memory) ⊎ ((list_all names_and_specs.is_spec (specs_from fields.spec.now fields.bounds.now) ≡ false) × (e ≡ BadLine line))
+    → (e ≡ Memory) ⊎ (word_fault names_and_specs line word ≡ Some e)
+specs_fault line word fields e h (inl m) = inl m
+specs_fault line word fields e h (inr bad) =
+    inr (word_fault_by line word true false (is_err (path_of (dependency_path_text word))) h.shaped (ap (list_all names_and_specs.is_spec) h.specs ∙ bad.0) refl ∙ ap Some (sym bad.1))
+
+-- the fault of a dependency whose path is refused
+pub path_fault : (line : ℕ) (word : Text) (fields : Fields) (specs : List (List Alternative)) (e : ListingFault) → AreFieldsOf word fields
+    → map spec_of (specs_from fields.spec.now fields.bounds.now) ≡ map Ok specs
+    → (e ≡ Memory) ⊎ ((is_err (path_of fields.path.now) ≡ true) × (e ≡ BadPath line)) → (e ≡ Memory) ⊎ (word_fault names_and_specs line word ≡ Some e)
+path_fault line word fields specs e h spelled (inl m) = inl m
+path_fault line word fields specs e h spelled (inr bad) =
+    inr (word_fault_by line word true true true h.shaped (all_specs (specs_of word) specs (ap (map spec_of) h.specs ∙ spelled))
+    (ap (λ t. is_err (path_of t)) (sym h.path) ∙ bad.0) ∙ ap Some (sym bad.1))
 
 pub none_from_is_some : {X : Type 0} (o : Option X) → false ≡ is_some o → o ≡ None
 none_from_is_some None e = refl
@@ -55,12 +81,12 @@ entry_at es word n d e =
 
 pub number_there : (line : ℕ) (es : List Entry) (word : Text) (n : ℕ) → All IsReadEntry es
     → position (λ (k : Bor Text). bytes_eq word k.now) (keys_of es) ≡ Some n
-    → (word_fault words_as_names line word ≡ None) × IsNumberOf (words_of_entries es) n word
+    → (word_fault names_and_specs line word ≡ None) × IsNumberOf (words_of_entries es) n word
 number_there line [] word n good e = cc
 number_there line (x ∷ xs) word n good e =
     let h = entry_at (x ∷ xs) word n x e in
     let entry = All-get_or IsReadEntry (x ∷ xs) n x h.0 good in (
-      no_word_fault line word (ap is_shaped h.1 ∙ entry.shaped) (ap (λ w. is_err (path_of (dependency_path_text w))) h.1 ∙ ap is_err entry.spelled),
+      no_word_fault line word (get_or (x ∷ xs) n x).1 (subst (λ w. IsRead w (get_or (x ∷ xs) n x).1) (sym h.1) entry),
       (omega (arith, h.0, length-map (x ∷ xs) (λ (y : Entry). y.0.now)), get_or-map (λ (y : Entry). y.0.now) (x ∷ xs) n x [] h.0 ∙ sym h.1),
     )
 
@@ -95,10 +121,8 @@ number_of_new es new n e is place =
       ap (λ ws. get_or ws n []) words ∙ get_or_push (words_of_entries es) e.0.now [] n (length-map es (λ (x : Entry). x.0.now) ∙ sym place),
     )
 
-pub entries_good : (es new : List Entry) (e : Entry) → new ≡ es ++ e ∷ [] → All IsReadEntry es → is_shaped e.0.now ≡ true
-    → path_of (dependency_path_text e.0.now) ≡ Ok e.1 → All IsReadEntry new
-entries_good es new e is good shaped spelled =
-    subst (All IsReadEntry) (sym is) (All-push IsReadEntry es e good (record { shaped = shaped; spelled = spelled }))
+pub entries_good : (es new : List Entry) (e : Entry) → new ≡ es ++ e ∷ [] → All IsReadEntry es → IsRead e.0.now e.1 → All IsReadEntry new
+entries_good es new e is good read = subst (All IsReadEntry) (sym is) (All-push IsReadEntry es e good read)
 
 -- ---- the numbers of a value's dependencies
 
@@ -141,7 +165,7 @@ numbers_push words ns these n word h here = record {
 -- ---- a value, read from the left
 
 pub record ReadSoFar (line : ℕ) (value : Text) (old new : List Text) (ns : List ℕ) (k : ℕ) : Type 0 where
-  pub faultless : first_given (dependency_fault words_as_names line) (take k (enumerate_from 0 (words_of value))) ≡ None
+  pub faultless : first_given (dependency_fault names_and_specs line) (take k (enumerate_from 0 (words_of value))) ≡ None
   pub are : AreNumbersOf new ns (take k (words_of value))
   pub grows : Grows old new
 
@@ -161,18 +185,18 @@ word_at value k n w within here =
     (l, ap (λ (p : ℕ × Text). p.0) e ∙ zero-add k, ap (λ (p : ℕ × Text). p.1) e)
 
 fault_at_place : (line : ℕ) (value : Text) (k : ℕ) (w : Text) → k < length (words_of value) → w ≡ get_or (words_of value) k w
-    → dependency_fault words_as_names line (get_or (enumerate_from 0 (words_of value)) k (k, w))
-    ≡ option_or (first_that_applies ((nat_le 512 k, TooMany line) ∷ [])) (word_fault words_as_names line w)
+    → dependency_fault names_and_specs line (get_or (enumerate_from 0 (words_of value)) k (k, w))
+    ≡ option_or (first_that_applies ((nat_le 512 k, TooMany line) ∷ [])) (word_fault names_and_specs line w)
 fault_at_place line value k w within here =
     let place : get_or (enumerate_from 0 (words_of value)) k (k, w) ≡ (k, w) =
     get_or-enumerate_from 0 (words_of value) k (k, w) within ∙ (λ i. (zero-add k i, sym here i)) in
-    ap (dependency_fault words_as_names line) place
+    ap (dependency_fault names_and_specs line) place
 
 pub read_more : (line : ℕ) (value : Text) (old new newer : List Text) (numbers : List ℕ) (k n : ℕ) (w : Text) → ReadSoFar line value old new numbers k
-    → k < length (words_of value) → w ≡ get_or (words_of value) k w → k < 512 → word_fault words_as_names line w ≡ None → IsNumberOf newer n w → Grows new newer
+    → k < length (words_of value) → w ≡ get_or (words_of value) k w → k < 512 → word_fault names_and_specs line w ≡ None → IsNumberOf newer n w → Grows new newer
     → ReadSoFar line value old newer (numbers ++ n ∷ []) (k + 1)
 read_more line value old new newer numbers k n w so_far within here few good number grows = record {
-  faultless = none_given_more (dependency_fault words_as_names line) (enumerate_from 0 (words_of value)) k (k, w)
+  faultless = none_given_more (dependency_fault names_and_specs line) (enumerate_from 0 (words_of value)) k (k, w)
       (omega (arith, within, length-enumerate_from 0 (words_of value))) so_far.faultless
       (let below : nat_le 512 k ≡ false = grind (arith, nat_tests) in
       fault_at_place line value k w within here
@@ -184,55 +208,63 @@ read_more line value old new newer numbers k n w so_far within here few good num
 }
 
 pub too_many : (line : ℕ) (value : Text) (old new : List Text) (numbers : List ℕ) (k : ℕ) (w : Text) → ReadSoFar line value old new numbers k
-    → k < length (words_of value) → w ≡ get_or (words_of value) k w → 512 ≤ k → dependencies_fault words_as_names line value ≡ Some (TooMany line)
+    → k < length (words_of value) → w ≡ get_or (words_of value) k w → 512 ≤ k → dependencies_fault names_and_specs line value ≡ Some (TooMany line)
 too_many line value old new numbers k w so_far within here many =
-    given_at (dependency_fault words_as_names line) (enumerate_from 0 (words_of value)) k (k, w) (TooMany line)
+    given_at (dependency_fault names_and_specs line) (enumerate_from 0 (words_of value)) k (k, w) (TooMany line)
     (omega (arith, within, length-enumerate_from 0 (words_of value))) so_far.faultless
     (let over : nat_le 512 k ≡ true = grind (arith, nat_tests) in
     fault_at_place line value k w within here
-    ∙ ap (λ b. option_or (first_that_applies ((b, TooMany line) ∷ [])) (word_fault words_as_names line w)) over)
+    ∙ ap (λ b. option_or (first_that_applies ((b, TooMany line) ∷ [])) (word_fault names_and_specs line w)) over)
 
 pub faulty_word : (line : ℕ) (value : Text) (old new : List Text) (numbers : List ℕ) (k : ℕ) (w : Text) (e : ListingFault) → ReadSoFar line value old new numbers k
-    → k < length (words_of value) → w ≡ get_or (words_of value) k w → k < 512 → word_fault words_as_names line w ≡ Some e
-    → dependencies_fault words_as_names line value ≡ Some e
+    → k < length (words_of value) → w ≡ get_or (words_of value) k w → k < 512 → word_fault names_and_specs line w ≡ Some e
+    → dependencies_fault names_and_specs line value ≡ Some e
 faulty_word line value old new numbers k w e so_far within here few bad =
-    given_at (dependency_fault words_as_names line) (enumerate_from 0 (words_of value)) k (k, w) e
+    given_at (dependency_fault names_and_specs line) (enumerate_from 0 (words_of value)) k (k, w) e
     (omega (arith, within, length-enumerate_from 0 (words_of value))) so_far.faultless
     (let below : nat_le 512 k ≡ false = grind (arith, nat_tests) in
     fault_at_place line value k w within here
     ∙ (λ i. option_or (first_that_applies ((below i, TooMany line) ∷ [])) (bad i)))
 
 pub all_read : (line : ℕ) (value : Text) (old new : List Text) (numbers : List ℕ) (k : ℕ) → ReadSoFar line value old new numbers k
-    → length (enumerate_from 0 (words_of value)) ≤ k → (dependencies_fault words_as_names line value ≡ None) × AreNumbersOf new numbers (words_of value)
+    → length (enumerate_from 0 (words_of value)) ≤ k → (dependencies_fault names_and_specs line value ≡ None) × AreNumbersOf new numbers (words_of value)
 all_read line value old new numbers k so_far all = (
-  none_given_at_all (dependency_fault words_as_names line) (enumerate_from 0 (words_of value)) k all so_far.faultless,
+  none_given_at_all (dependency_fault names_and_specs line) (enumerate_from 0 (words_of value)) k all so_far.faultless,
   subst (AreNumbersOf new numbers) (take_all k (words_of value) (omega (arith, all, length-enumerate_from 0 (words_of value)))) so_far.are,
 )
 
--- ---- the positions of what was read
+-- ---- what becomes of what was read
 
-pub positions_are : (listed : List Text) (es : List Entry) → All IsReadEntry es
-    → map (λ (e : Entry). position (bytes_eq e.1) listed) es ≡ map (position_of_word listed) (words_of_entries es)
-positions_are listed [] good = refl
-positions_are listed (e ∷ es) good =
-    let head : e.1 ≡ dependency_path e.0.now = sym (ap path_or_empty (All-head IsReadEntry e es good).spelled) in
-    let tail = positions_are listed es (All-tail IsReadEntry e es good) in
-    λ i. position (bytes_eq (head i)) listed ∷ tail i
+-- the specs that were read match what the texts of specs match
+same_matches : (ts : List Text) (ss : List (List Alternative)) (name : Text) → map spec_of ts ≡ map Ok ss
+    → list_all (λ s. matches s name) ss ≡ list_all (λ t. names_and_specs.matches t name) ts
+same_matches [] [] name e = refl
+same_matches [] (s ∷ ss) name e = cc
+same_matches (t ∷ ts) [] name e = cc
+same_matches (t ∷ ts) (s ∷ ss) name e =
+    let head : spec_of t ≡ Ok s = cc in
+    let rest : map spec_of ts ≡ map Ok ss = cc in
+    let tail = same_matches ts ss name rest in
+    λ i. read_spec_matches (sym head i) name && tail i
 
--- the fault of a dependency whose path is refused
-pub path_fault : (line : ℕ) (word text : Text) (e : ListingFault) → (is_shaped word ≡ true) × (text ≡ dependency_path_text word)
-    → (e ≡ Memory) ⊎ ((is_err (path_of text) ≡ true) × (e ≡ BadPath line)) → (e ≡ Memory) ⊎ (word_fault words_as_names line word ≡ Some e)
-path_fault line word text e shaped (inl m) = inl m
-path_fault line word text e shaped (inr bad) =
-    inr (bad_path line word shaped.0 (ap (λ t. is_err (path_of t)) (sym shaped.1) ∙ bad.0) ∙ ap Some (sym bad.1))
+resolution_is : (listed : List Text) (rows : List Row) (word : Text) (d : Dependency) → IsRead word d → resolution_of listed rows d ≡ resolution_of_word listed rows word
+resolution_is listed rows word d h =
+    let path : d.path ≡ dependency_path word = sym (ap path_or_empty h.spelled) in
+    let will_do : (name : Text) → all_match d.specs.items name ≡ word_matches word name = λ name. same_matches (specs_of word) d.specs.items name h.specs in
+    λ i. resolution_at rows (λ name. will_do name i) (position (bytes_eq (path i)) listed)
 
-pub spelled_by : (word text path : Text) → text ≡ dependency_path_text word → path_of text ≡ Ok path → path_of (dependency_path_text word) ≡ Ok path
-spelled_by word text path same spelled = ap path_of (sym same) ∙ spelled
+pub resolutions_are : (listed : List Text) (rows : List Row) (es : List Entry) → All IsReadEntry es
+    → map (λ (e : Entry). resolution_of listed rows e.1) es ≡ map (resolution_of_word listed rows) (words_of_entries es)
+resolutions_are listed rows [] good = refl
+resolutions_are listed rows (e ∷ es) good =
+    let head = resolution_is listed rows e.0.now e.1 (All-head IsReadEntry e es good) in
+    let tail = resolutions_are listed rows es (All-tail IsReadEntry e es good) in
+    λ i. head i ∷ tail i
 
-pub map_deref : {Y : Type 0} (f : Text → Y) (xs : List (Bor Text)) → map (λ (p : Bor Text). f p.now) xs ≡ map f (map (λ (p : Bor Text). p.now) xs)
+pub map_deref : {X Y : Type 0} (f : X → Y) (xs : List (Bor X)) → map (λ (p : Bor X). f p.now) xs ≡ map f (map (λ (p : Bor X). p.now) xs)
 map_deref f [] = refl
 map_deref f (x ∷ xs) = ap (λ ys. f x.now ∷ ys) (map_deref f xs)
 
-pub map_values : {Y : Type 0} (f : Text → Y) (es : List Entry) → map f (map (λ (e : Entry). e.1) es) ≡ map (λ (e : Entry). f e.1) es
+pub map_values : {Y : Type 0} (f : Dependency → Y) (es : List Entry) → map f (map (λ (e : Entry). e.1) es) ≡ map (λ (e : Entry). f e.1) es
 map_values f [] = refl
 map_values f (e ∷ es) = ap (λ ys. f e.1 ∷ ys) (map_values f es)

@@ -1,15 +1,15 @@
 -- A listing, line by line.
-use Rattle.std.proofs.Common.{◌≡◌, ◌<◌, ◌≤◌, ◌+◌, ◌++◌, ◌==◌, ◌⊎◌, ℕ, List, [], ◌∷◌, length, take, get_or, slice_get, option_to_list, option_and_then, Option, None, Some, Ok, Err, Result, MatchResult, refl, sym, ap, subst, ◌∙◌, arith, inl, inr, zero-add, add_comm}
-use Rattle.std.specs.List.{enumerate_from, filter_map, cons_option, range_with_len, slice_split}
+use Rattle.std.proofs.Common.{◌≡◌, ◌<◌, ◌+◌, ◌++◌, ◌==◌, ◌⊎◌, ℕ, List, [], ◌∷◌, length, take, get_or, option_to_list, option_and_then, Option, None, Some, Ok, Err, Result, MatchResult, refl, sym, ap, subst, ◌∙◌, arith, inl, inr, zero-add}
+use Rattle.std.specs.List.{cons_option, range_with_len, slice_split}
 use Rattle.std.proofs.lemmas.List.{take_more, take_all}
 use Rattle.std.proofs.lemmas.List.Elements.{filter_map-append}
 use Rattle.std.proofs.lemmas.List.FromFn.{get_or-enumerate_from, length-enumerate_from, get_or-range_with_len, length-range_with_len}
 use Rattle.std.proofs.lemmas.Option.{slice_get-get_or}
 use Rattle.faults.specs.Answers.{IsRightUnless, first_given, option_or, unless_fault}
 use Rattle.faults.specs.Bytes.{Text, line_feed}
-use Rattle.listing.specs.Lines.{Line, Setting, lines_of, setting_of, settings_of}
+use Rattle.listing.specs.Lines.{Setting, lines_of, setting_of, settings_of}
 use Rattle.listing.specs.Listing.{fault_at, fault_of, line_fault, nameless_fault, tree_of, tree_of_settings}
-use Rattle.listing.specs.Rules.{words_as_names}
+use Rattle.listing.specs.Rules.{names_and_specs}
 use Rattle.listing.specs.Table.{Stands}
 use Rattle.listing.specs.Tree.{Tree}
 use Rattle.listing.specs.declared.ListingFault.{ListingFault}
@@ -45,9 +45,9 @@ settings_more text k n line within here same =
 
 -- the fault of the k-th line
 fault_here : (text : Text) (k n : ℕ) (line : Text) → k < length (pieces text) → line ≡ get_or (pieces text) k line → n ≡ k
-    → fault_at words_as_names (lines_of text) k ≡ line_fault words_as_names (settings_of (take k (lines_of text))) (n + 1, line)
+    → fault_at names_and_specs (lines_of text) k ≡ line_fault names_and_specs (settings_of (take k (lines_of text))) (n + 1, line)
 fault_here text k n line within here same =
-    ap (option_and_then (line_fault words_as_names (settings_of (take k (lines_of text)))))
+    ap (option_and_then (line_fault names_and_specs (settings_of (take k (lines_of text)))))
     (slice_get-get_or (lines_of text) k (n + 1, line) (omega (arith, within, lines_size text)) ∙ ap Some (line_at text k n line within here same))
 
 abbrev pub numbers : Text → List ℕ
@@ -62,7 +62,7 @@ numbers_size text = length-range_with_len 0 (length (lines_of text)) ∙ lines_s
 
 -- the first lines have no fault, and the table stands for what they set
 pub record ParsedSoFar (text : Text) (table : Table) (k : ℕ) : Type 0 where
-  pub faultless : first_given (fault_at words_as_names (lines_of text)) (take k (numbers text)) ≡ None
+  pub faultless : first_given (fault_at names_and_specs (lines_of text)) (take k (numbers text)) ≡ None
   pub stands : Stands table (settings_of (take k (lines_of text)))
 
 pub parsed_nothing : (text : Text) (table : Table) → Stands table [] → ParsedSoFar text table 0
@@ -70,40 +70,37 @@ parsed_nothing text table h = record { faultless = refl; stands = h }
 
 pub parsed_more : (text : Text) (table now : Table) (k n : ℕ) (line : Text) → k < length (pieces text) → line ≡ get_or (pieces text) k line → n ≡ k
     → ParsedSoFar text table k
-    → (line_fault words_as_names (settings_of (take k (lines_of text))) (n + 1, line) ≡ None)
+    → (line_fault names_and_specs (settings_of (take k (lines_of text))) (n + 1, line) ≡ None)
     × Stands now (settings_of (take k (lines_of text)) ++ option_to_list (setting_of (n + 1, line)))
     → ParsedSoFar text now (k + 1)
 parsed_more text table now k n line within here same so_far h = record {
-  faultless = none_given_more (fault_at words_as_names (lines_of text)) (numbers text) k 0 (omega (arith, within, numbers_size text)) so_far.faultless
-      (ap (fault_at words_as_names (lines_of text)) (number_at text k within) ∙ fault_here text k n line within here same ∙ h.0);
+  faultless = none_given_more (fault_at names_and_specs (lines_of text)) (numbers text) k 0 (omega (arith, within, numbers_size text)) so_far.faultless
+      (ap (fault_at names_and_specs (lines_of text)) (number_at text k within) ∙ fault_here text k n line within here same ∙ h.0);
   stands = subst (Stands now) (sym (settings_more text k n line within here same)) h.1;
 }
 
 -- a faulty line
 pub parse_fault : (text : Text) (table : Table) (k n : ℕ) (line : Text) (e : ListingFault) → k < length (pieces text) → line ≡ get_or (pieces text) k line → n ≡ k
-    → ParsedSoFar text table k → line_fault words_as_names (settings_of (take k (lines_of text))) (n + 1, line) ≡ Some e
-    → tree_of words_as_names text ≡ Err e
+    → ParsedSoFar text table k → line_fault names_and_specs (settings_of (take k (lines_of text))) (n + 1, line) ≡ Some e
+    → tree_of names_and_specs text ≡ Err e
 parse_fault text table k n line e within here same so_far bad =
-    let first = given_at (fault_at words_as_names (lines_of text)) (numbers text) k 0 e (omega (arith, within, numbers_size text)) so_far.faultless
-    (ap (fault_at words_as_names (lines_of text)) (number_at text k within) ∙ fault_here text k n line within here same ∙ bad) in
-    ap (λ o. unless_fault (option_or o (nameless_fault (settings_of (lines_of text)))) (tree_of_settings words_as_names (settings_of (lines_of text)))) first
+    let first = given_at (fault_at names_and_specs (lines_of text)) (numbers text) k 0 e (omega (arith, within, numbers_size text)) so_far.faultless
+    (ap (fault_at names_and_specs (lines_of text)) (number_at text k within) ∙ fault_here text k n line within here same ∙ bad) in
+    ap (λ o. unless_fault (option_or o (nameless_fault (settings_of (lines_of text)))) (tree_of_settings names_and_specs (settings_of (lines_of text)))) first
 
 -- no faulty line
 pub parsed_all : (text : Text) (table : Table) (k : ℕ) → k ≡ length (pieces text) → ParsedSoFar text table k
-    → Stands table (settings_of (lines_of text)) × (fault_of words_as_names text ≡ nameless_fault (settings_of (lines_of text)))
+    → Stands table (settings_of (lines_of text)) × (fault_of names_and_specs text ≡ nameless_fault (settings_of (lines_of text)))
 parsed_all text table k all so_far = (
   subst (λ ls. Stands table (settings_of ls)) (take_all k (lines_of text) (omega (arith, all, lines_size text))) so_far.stands,
   ap (λ o. option_or o (nameless_fault (settings_of (lines_of text))))
-      (none_given_at_all (fault_at words_as_names (lines_of text)) (numbers text) k (omega (arith, all, numbers_size text)) so_far.faultless),
+      (none_given_at_all (fault_at names_and_specs (lines_of text)) (numbers text) k (omega (arith, all, numbers_size text)) so_far.faultless),
 )
 
-pub nameless_refusal : (text : Text) (e : ListingFault) → fault_of words_as_names text ≡ nameless_fault (settings_of (lines_of text))
-    → nameless_fault (settings_of (lines_of text)) ≡ Some e → tree_of words_as_names text ≡ Err e
-nameless_refusal text e same bad = ap (λ o. unless_fault o (tree_of_settings words_as_names (settings_of (lines_of text)))) (same ∙ bad)
-
-pub right_tree : (text : Text) (r : Result Tree ListingFault) → fault_of words_as_names text ≡ nameless_fault (settings_of (lines_of text))
-    → nameless_fault (settings_of (lines_of text)) ≡ None
-    → MatchResult r (λ t. t ≡ tree_of_settings words_as_names (settings_of (lines_of text))) (λ e. e ≡ Memory)
-    → IsRightUnless Memory r (tree_of words_as_names text)
-right_tree text (Ok t) same good h = ap (λ o. unless_fault o (tree_of_settings words_as_names (settings_of (lines_of text)))) (same ∙ good) ∙ ap Ok (sym h)
-right_tree text (Err e) same good h = inl h
+pub right_tree : (text : Text) (r : Result Tree ListingFault) → fault_of names_and_specs text ≡ nameless_fault (settings_of (lines_of text))
+    → MatchResult r (λ t. (nameless_fault (settings_of (lines_of text)) ≡ None) × (t ≡ tree_of_settings names_and_specs (settings_of (lines_of text))))
+    (λ e. (e ≡ Memory) ⊎ (nameless_fault (settings_of (lines_of text)) ≡ Some e))
+    → IsRightUnless Memory r (tree_of names_and_specs text)
+right_tree text (Ok t) same h = ap (λ o. unless_fault o (tree_of_settings names_and_specs (settings_of (lines_of text)))) (same ∙ h.0) ∙ ap Ok (sym h.1)
+right_tree text (Err e) same (inl m) = inl m
+right_tree text (Err e) same (inr bad) = inr (ap (λ o. unless_fault o (tree_of_settings names_and_specs (settings_of (lines_of text)))) (same ∙ bad))

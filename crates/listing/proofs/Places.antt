@@ -1,9 +1,9 @@
 -- Where in a text a test first or last passes.
-use Rattle.std.proofs.Common.{◌≡◌, ◌<◌, ◌≤◌, ◌+◌, ◌-◌, ◌==◌, ℕ, suc, zero, Bool, true, false, not, cond, ◌||◌, nat_lt, List, [], ◌∷◌, ◌++◌, length, take, drop, reverse, position, get_or, Option, None, Some, refl, sym, ap, subst, ◌∙◌, arith}
-use Rattle.std.specs.List.{prefix_len, suffix_len, position_or_len, slice_split, onto_first, before_first, after_first, list_any}
+use Rattle.std.proofs.Common.{◌≡◌, ◌<◌, ◌≤◌, ◌+◌, ◌-◌, ℕ, suc, zero, Bool, true, false, not, cond, ◌||◌, nat_lt, List, [], ◌∷◌, length, take, drop, reverse, position, get_or, None, Some, refl, sym, ap, ◌∙◌, arith}
+use Rattle.std.specs.List.{prefix_len, suffix_len, position_or_len, slice_split, onto_first, before_first, list_any}
 use Rattle.std.proofs.lemmas.List.Quantifiers.{position-Some}
 use Rattle.std.proofs.lemmas.Bool.{ltb-true, ltb-false}
-use Rattle.std.proofs.lemmas.List.{get_or-reverse, length-reverse, take_all}
+use Rattle.std.proofs.lemmas.List.{drop_all, get_or-reverse, length-reverse, take_all, take_rest}
 use Rattle.std.proofs.lemmas.List.Splits.{slice_split_first}
 
 -- the first n pass, and the next, if there is one, does not
@@ -70,6 +70,13 @@ before_first_at p xs i e = ap (λ n. take n xs) (place_is p xs i e).0
 
 pub before_first_none : (p : ℕ → Bool) (xs : List ℕ) → position p xs ≡ None → before_first p xs ≡ xs
 before_first_none p xs e = take_all (position_or_len p xs) xs (ltb-false _ _ (from_none (nat_lt (position_or_len p xs) (length xs)) (position_or_len p xs) e))
+
+-- what stands from the first that passes on
+pub from_place : (p : ℕ → Bool) (xs : List ℕ) (i : ℕ) → position p xs ≡ Some i → take (length xs - i) (drop i xs) ≡ drop (position_or_len p xs) xs
+from_place p xs i e = take_rest xs i ∙ ap (λ n. drop n xs) (sym (place_is p xs i e).0)
+
+pub nothing_from : (p : ℕ → Bool) (xs : List ℕ) → position p xs ≡ None → [] ≡ drop (position_or_len p xs) xs
+nothing_from p xs e = sym (drop_all (position_or_len p xs) xs (ltb-false _ _ (from_none (nat_lt (position_or_len p xs) (length xs)) (position_or_len p xs) e)))
 
 -- ---- whether some byte passes
 

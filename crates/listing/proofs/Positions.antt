@@ -1,6 +1,6 @@
 -- What a tree says of its packages by position.
-use Rattle.std.proofs.Common.{◌≡◌, ◌<◌, ◌≤◌, ℕ, suc, zero, Bool, true, false, not, cond, List, [], ◌∷◌, length, map, position, nat_lt, Some, None, ◌+◌, slice_index_or, get_or, subst, sym, ap, refl, ◌∙◌, arith}
-use Rattle.std.specs.List.{zip, prefix_len, position_or_len}
+use Rattle.std.proofs.Common.{◌≡◌, ◌<◌, ℕ, suc, zero, not, cond, List, [], ◌∷◌, length, position, nat_lt, Some, None, ◌+◌, get_or, subst, sym, ap, refl, ◌∙◌, arith}
+use Rattle.std.specs.List.{prefix_len}
 use Rattle.std.specs.Str.{bytes_eq}
 use Rattle.std.specs.Cmp.Lexicographic.{nat_list_eq_equiv}
 use Rattle.std.proofs.lemmas.List.Elements.{All-get_or}

@@ -1,12 +1,12 @@
 -- What a line sets, and its fault.
-use Rattle.std.proofs.Common.{◌≡◌, ◌++◌, ◌&&◌, ◌⊎◌, ℕ, Bool, true, false, not, List, [], ◌∷◌, option_to_list, Option, None, Some, Ok, Err, Result, is_err, is_none, is_some, MatchResult, refl, sym, ap, subst, ◌∙◌, if◌then◌else◌, inl, inr}
+use Rattle.std.proofs.Common.{◌≡◌, ◌&&◌, ◌⊎◌, ℕ, true, false, not, List, [], ◌∷◌, option_to_list, Option, None, Some, Ok, Err, Result, is_err, is_none, is_some, refl, sym, ap, ◌∙◌, if◌then◌else◌, inl, inr}
 use Rattle.faults.specs.Bytes.{Text, is_among}
 use Rattle.pkgpath.specs.PkgPath.{path_of}
 use Rattle.pkgpath.specs.declared.PathFault.{PathFault}
 use Rattle.listing.specs.Lines.{Setting, is_cut, is_read, is_skipped, path_text, setting_from, setting_of, value_text, variable_text, variables}
 use Rattle.listing.specs.Listing.{line_fault, path_line_fault, setting_fault}
 use Rattle.listing.specs.Parts.{name_of_variable}
-use Rattle.listing.specs.Rules.{words_as_names}
+use Rattle.listing.specs.Rules.{names_and_specs}
 use Rattle.listing.specs.Table.{setting}
 use Rattle.listing.specs.declared.ListingFault.{ListingFault}
 use Rattle.listing.specs.declared.ListingFault.TheVariants.{BadLine, BadPath, Memory}
@@ -22,18 +22,18 @@ among_variables Ignore = refl
 
 -- a line that sets a variable has the fault of its path and what comes after
 cut_line_fault : (earlier : List Setting) (n : ℕ) (line : Text) (v : Variable) → is_skipped line ≡ false → is_cut line ≡ true → variable_text line ≡ name_of_variable v
-    → line_fault words_as_names earlier (n, line) ≡ path_line_fault words_as_names earlier (n, line) (path_of (path_text line))
+    → line_fault names_and_specs earlier (n, line) ≡ path_line_fault names_and_specs earlier (n, line) (path_of (path_text line))
 cut_line_fault earlier n line v skipped cut named =
     let among : is_among variables (variable_text line) ≡ true = ap (is_among variables) named ∙ among_variables v in
-    λ i. if skipped i then None else (if not (cut i) then Some (BadLine n) else (if not (among i) then None else path_line_fault words_as_names earlier (n, line) (path_of (path_text line))))
+    λ i. if skipped i then None else (if not (cut i) then Some (BadLine n) else (if not (among i) then None else path_line_fault names_and_specs earlier (n, line) (path_of (path_text line))))
 
-refused : (earlier : List Setting) (line : ℕ × Text) (r : Result Text PathFault) → is_err r ≡ true → path_line_fault words_as_names earlier line r ≡ Some (BadPath line.0)
+refused : (earlier : List Setting) (line : ℕ × Text) (r : Result Text PathFault) → is_err r ≡ true → path_line_fault names_and_specs earlier line r ≡ Some (BadPath line.0)
 refused earlier line (Ok p) e = cc
 refused earlier line (Err f) e = refl
 
 pub refused_path : (earlier : List Setting) (n : ℕ) (line text : Text) (v : Variable) (e : ListingFault) → is_skipped line ≡ false → is_cut line ≡ true
     → variable_text line ≡ name_of_variable v → text ≡ path_text line → (e ≡ Memory) ⊎ ((is_err (path_of text) ≡ true) × (e ≡ BadPath n))
-    → (e ≡ Memory) ⊎ (line_fault words_as_names earlier (n, line) ≡ Some e)
+    → (e ≡ Memory) ⊎ (line_fault names_and_specs earlier (n, line) ≡ Some e)
 refused_path earlier n line text v e skipped cut named same (inl m) = inl m
 refused_path earlier n line text v e skipped cut named same (inr bad) =
     inr (cut_line_fault earlier n line v skipped cut named
@@ -42,11 +42,11 @@ refused_path earlier n line text v e skipped cut named same (inr bad) =
 -- a line that sets a variable of a path
 pub accepted_fault : (earlier : List Setting) (n : ℕ) (line text p value : Text) (v : Variable) → is_skipped line ≡ false → is_cut line ≡ true
     → variable_text line ≡ name_of_variable v → text ≡ path_text line → path_of text ≡ Ok p → value ≡ value_text line
-    → line_fault words_as_names earlier (n, line) ≡ setting_fault words_as_names earlier (setting n p v value)
+    → line_fault names_and_specs earlier (n, line) ≡ setting_fault names_and_specs earlier (setting n p v value)
 accepted_fault earlier n line text p value v skipped cut named same spelled valued =
     cut_line_fault earlier n line v skipped cut named
-    ∙ ap (path_line_fault words_as_names earlier (n, line)) (ap path_of (sym same) ∙ spelled)
-    ∙ (λ i. setting_fault words_as_names earlier (record { line = n; path = p; variable = named i; value = sym valued i }))
+    ∙ ap (path_line_fault names_and_specs earlier (n, line)) (ap path_of (sym same) ∙ spelled)
+    ∙ (λ i. setting_fault names_and_specs earlier (record { line = n; path = p; variable = named i; value = sym valued i }))
 
 pub accepted_setting : (n : ℕ) (line text p value : Text) (v : Variable) → is_skipped line ≡ false → is_cut line ≡ true
     → variable_text line ≡ name_of_variable v → text ≡ path_text line → path_of text ≡ Ok p → value ≡ value_text line

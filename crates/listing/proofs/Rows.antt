@@ -1,11 +1,11 @@
 -- Rows that stand for what lines set, and one more setting.
-use Rattle.std.proofs.Common.{◌≡◌, ◌<◌, ◌≤◌, ◌+◌, ◌++◌, ◌&&◌, ◌||◌, ◌⊎◌, ℕ, suc, zero, Bool, true, false, not, cond, nat_le, List, [], ◌∷◌, All, length, map, set, position, option_map, option_to_list, Option, None, Some, IfSome, Ok, Err, Result, is_err, is_some, MatchResult, ◌≢◌, refl, sym, ap, subst, ◌∙◌, arith, if◌then◌else◌, get_or, inl, inr}
+use Rattle.std.proofs.Common.{◌≡◌, ◌<◌, ◌≤◌, ◌+◌, ◌++◌, ◌&&◌, ◌||◌, ◌⊎◌, ℕ, suc, zero, Bool, true, false, not, nat_le, List, [], ◌∷◌, length, set, position, option_and_then, option_map, Option, None, Some, IfSome, is_some, ◌≢◌, refl, sym, ap, subst, ◌∙◌, arith, if◌then◌else◌, get_or, inl, inr}
 use Rattle.std.specs.List.{list_any, IsDistinct}
 use Rattle.std.specs.Str.{bytes_eq}
 use Rattle.std.specs.Cmp.Lexicographic.{nat_list_eq_equiv}
 use Rattle.std.proofs.lemmas.Bool.{cases_eq, cases_lt}
 use Rattle.std.proofs.lemmas.Bool.Decides.{nat_tests}
-use Rattle.std.proofs.lemmas.List.{get_or_default, get_or-set_same, get_or-set_other, get_or_append_left, get_or_push, length-set, length_push, length-append}
+use Rattle.std.proofs.lemmas.List.{get_or_default, get_or-set_same, get_or-set_other, get_or_append_left, get_or_push, length-set, length_push}
 use Rattle.std.proofs.lemmas.List.Elements.{All-push}
 use Rattle.std.proofs.lemmas.List.Quantifiers.{position-Some}
 use Rattle.std.proofs.lemmas.Map.Keys.{apart_from_distinct, IsDistinct-push}
@@ -16,13 +16,15 @@ use Rattle.pkgpath.specs.PkgPath.{IsPath}
 use Rattle.listing.specs.Dependencies.{words_of}
 use Rattle.listing.specs.Lines.{Setting, full_name}
 use Rattle.listing.specs.Listing.{is_another, is_one_too_many, is_set_anew, nameless_fault, paths_of, setting_fault, value_fault, value_of}
-use Rattle.listing.specs.Parts.{AreNumbersOf, Grows, has_dependencies, name_of_variable}
-use Rattle.listing.specs.Rules.{words_as_names}
-use Rattle.listing.specs.Table.{AreRowsOf, IsRowOf, new_row, row_fault, setting, text_in, value_in, with_value}
+use Rattle.listing.specs.Parts.{Grows, IsReadAs, name_of_variable}
+use Rattle.listing.specs.Rules.{names_and_specs}
+use Rattle.listing.specs.Table.{AreRowsOf, IsRowOf, name_in, name_read, new_row, row_fault, setting, text_in, value_in, with_value}
 use Rattle.listing.specs.declared.ListingFault.{ListingFault}
-use Rattle.listing.specs.declared.ListingFault.TheVariants.{Memory, NoName, TooMany, TwiceSet}
+use Rattle.listing.specs.declared.ListingFault.TheVariants.{NoName, TooMany, TwiceSet}
 use Rattle.listing.specs.declared.line.Variable.{Variable}
 use Rattle.listing.specs.declared.line.Variable.TheVariants.{FullName, BuildDepends, LibDepends, RunDepends, Ignore}
+use Rattle.listing.specs.declared.table.Reading.{Reading}
+use Rattle.listing.specs.declared.table.Reading.TheVariants.{Name, Numbers, Unread}
 use Rattle.listing.specs.declared.table.Row.{Row}
 use Rattle.listing.specs.declared.table.Value.{Value}
 use Rattle.listing.proofs.First.{or_none}
@@ -57,14 +59,14 @@ value_in-with_value RunDepends RunDepends row x = refl
 value_in-with_value Ignore Ignore row x = refl
 value_in-with_value v w row x = sym (or_none (value_in w row))
 
--- variables of one name have dependencies or have none
-same_dependencies : (v w : Variable) → bytes_eq (name_of_variable v) (name_of_variable w) ≡ true → has_dependencies v ≡ has_dependencies w
-same_dependencies FullName FullName e = refl
-same_dependencies BuildDepends BuildDepends e = refl
-same_dependencies LibDepends LibDepends e = refl
-same_dependencies RunDepends RunDepends e = refl
-same_dependencies Ignore Ignore e = refl
-same_dependencies v w e = cc
+-- variables of one name are the same
+same_variable : (v w : Variable) → bytes_eq (name_of_variable v) (name_of_variable w) ≡ true → v ≡ w
+same_variable FullName FullName e = refl
+same_variable BuildDepends BuildDepends e = refl
+same_variable LibDepends LibDepends e = refl
+same_variable RunDepends RunDepends e = refl
+same_variable Ignore Ignore e = refl
+same_variable v w e = cc
 
 values_set : (ss : List Setting) (line : ℕ) (p path : Text) (v : Variable) (x : Value) (row : Row) → bytes_eq p path ≡ true
     → ((w : Variable) → value_of ss path (name_of_variable w) ≡ text_in w row)
@@ -81,25 +83,30 @@ if_some_or P None true x before new = new refl
 if_some_or P None false x before new = tt
 if_some_or P (Some y) b x before new = before
 
-numbers_set : (words : List Text) (v : Variable) (x : Value) (row : Row)
-    → ((w : Variable) → has_dependencies w ≡ true → IfSome (value_in w row) (λ y. AreNumbersOf words y.dependencies.items (words_of y.text.now)))
-    → (has_dependencies v ≡ true → AreNumbersOf words x.dependencies.items (words_of x.text.now))
-    → (w : Variable) → has_dependencies w ≡ true → IfSome (value_in w (with_value row v x)) (λ y. AreNumbersOf words y.dependencies.items (words_of y.text.now))
-numbers_set words v x row before new w has =
-    let P : Value → Type 0 = λ y. AreNumbersOf words y.dependencies.items (words_of y.text.now) in
-    subst (λ o. IfSome o P) (sym (value_in-with_value v w row x))
-    (if_some_or P (value_in w row) (bytes_eq (name_of_variable v) (name_of_variable w)) x (before w has) (λ e. new (same_dependencies v w e ∙ has)))
+-- the value of the variable was read as it has to be
+abbrev pub IsReadValue : List Text → Variable → Value → Type 0
+IsReadValue words v x = IsReadAs words v x.text.now x.reading
+
+reads_set : (words : List Text) (v : Variable) (x : Value) (row : Row) → ((w : Variable) → IfSome (value_in w row) (IsReadValue words w)) → IsReadValue words v x
+    → (w : Variable) → IfSome (value_in w (with_value row v x)) (IsReadValue words w)
+reads_set words v x row before new w =
+    subst (λ o. IfSome o (IsReadValue words w)) (sym (value_in-with_value v w row x))
+    (if_some_or (IsReadValue words w) (value_in w row) (bytes_eq (name_of_variable v) (name_of_variable w)) x (before w)
+    (λ e. subst (λ u. IsReadValue words u x) (same_variable v w e) new))
 
 if_some_weaker : (P Q : Value → Type 0) (o : Option Value) → ((x : Value) → P x → Q x) → IfSome o P → IfSome o Q
 if_some_weaker P Q None f h = tt
 if_some_weaker P Q (Some x) f h = f x h
 
-numbers_kept : (words more : List Text) (row : Row) → Grows words more
-    → ((w : Variable) → has_dependencies w ≡ true → IfSome (value_in w row) (λ y. AreNumbersOf words y.dependencies.items (words_of y.text.now)))
-    → (w : Variable) → has_dependencies w ≡ true → IfSome (value_in w row) (λ y. AreNumbersOf more y.dependencies.items (words_of y.text.now))
-numbers_kept words more row grows before w has =
-    if_some_weaker (λ y. AreNumbersOf words y.dependencies.items (words_of y.text.now)) (λ y. AreNumbersOf more y.dependencies.items (words_of y.text.now))
-    (value_in w row) (λ y h. numbers_stay words more y.dependencies.items (words_of y.text.now) grows h) (before w has)
+reading_stays : (words more : List Text) (v : Variable) (text : Text) (r : Reading) → Grows words more → IsReadAs words v text r → IsReadAs more v text r
+reading_stays words more v text (Name name) grows h = h
+reading_stays words more v text (Numbers numbers) grows h = (h.0, numbers_stay words more numbers.items (words_of text) grows h.1)
+reading_stays words more v text Unread grows h = h
+
+reads_kept : (words more : List Text) (row : Row) → Grows words more → ((w : Variable) → IfSome (value_in w row) (IsReadValue words w))
+    → (w : Variable) → IfSome (value_in w row) (IsReadValue more w)
+reads_kept words more row grows before w =
+    if_some_weaker (IsReadValue words w) (IsReadValue more w) (value_in w row) (λ y h. reading_stays words more w y.text.now y.reading grows h) (before w)
 
 line_kept : (o : Option ℕ) (n : ℕ) (more : Option ℕ) → o ≡ Some n → option_or o more ≡ Some n
 line_kept o n more e = ap (λ x. option_or x more) e
@@ -112,7 +119,7 @@ row_kept ss words more s path row other grows h = record {
   values = λ w. value_of-push ss s path (name_of_variable w)
       ∙ ap (λ b. option_or (value_of ss path (name_of_variable w)) (if (b && bytes_eq s.variable (name_of_variable w)) then Some s.value else None)) other
       ∙ or_none (value_of ss path (name_of_variable w)) ∙ h.values w;
-  numbers = numbers_kept words more row grows h.numbers;
+  reads = reads_kept words more row grows h.reads;
 }
 
 line-with_value : (row : Row) (v : Variable) (x : Value) → (with_value row v x).line ≡ row.line
@@ -124,12 +131,12 @@ line-with_value row Ignore x = refl
 
 -- the row of the path takes the value
 row_set : (ss : List Setting) (words more : List Text) (line : ℕ) (p path : Text) (v : Variable) (x : Value) (row : Row) → bytes_eq p path ≡ true → Grows words more
-    → (has_dependencies v ≡ true → AreNumbersOf more x.dependencies.items (words_of x.text.now))
+    → IsReadValue more v x
     → IsRowOf ss words path row → IsRowOf (ss ++ setting line p v x.text.now ∷ []) more path (with_value row v x)
 row_set ss words more line p path v x row same grows new h = record {
   line = line_of-push ss (setting line p v x.text.now) path ∙ line_kept (line_of ss path) row.line _ h.line ∙ ap Some (sym (line-with_value row v x));
   values = values_set ss line p path v x row same h.values;
-  numbers = numbers_set more v x row (numbers_kept words more row grows h.numbers) new;
+  reads = reads_set more v x row (reads_kept words more row grows h.reads) new;
 }
 
 nothing_in_new : (w : Variable) (line : ℕ) → value_in w (new_row line) ≡ None
@@ -141,16 +148,15 @@ nothing_in_new Ignore line = refl
 
 -- the first row of a path
 row_first : (ss : List Setting) (more : List Text) (line : ℕ) (p : Text) (v : Variable) (x : Value) → list_any (bytes_eq p) (paths_of ss) ≡ false
-    → (has_dependencies v ≡ true → AreNumbersOf more x.dependencies.items (words_of x.text.now))
+    → IsReadValue more v x
     → IsRowOf (ss ++ setting line p v x.text.now ∷ []) more p (with_value (new_row line) v x)
-row_first ss more line p v x new numbers = record {
+row_first ss more line p v x new read = record {
   line = line_of-push ss (setting line p v x.text.now) p
       ∙ ap (λ o. option_or o (if bytes_eq p p then Some line else None)) (no_line ss p new)
       ∙ ap (λ b. if b then Some line else None) (eq_self p) ∙ ap Some (sym (line-with_value (new_row line) v x));
   values = values_set ss line p p v x (new_row line) (eq_self p)
       (λ w. no_value ss p (name_of_variable w) new ∙ sym (ap (option_map (λ (y : Value). y.text.now)) (nothing_in_new w line)));
-  numbers = numbers_set more v x (new_row line)
-      (λ w has. subst (λ o. IfSome o (λ y. AreNumbersOf more y.dependencies.items (words_of y.text.now))) (sym (nothing_in_new w line)) tt) numbers;
+  reads = reads_set more v x (new_row line) (λ w. subst (λ o. IfSome o (IsReadValue more w)) (sym (nothing_in_new w line)) tt) read;
 }
 
 -- ---- all rows
@@ -168,9 +174,9 @@ other_path ps q j k once inj e ink apart =
 -- the row of a path that is there takes a value
 pub rows_set : (ss : List Setting) (words more : List Text) (paths : List Text) (rows : List Row) (line : ℕ) (p : Text) (v : Variable) (x : Value) (i : ℕ) (d : Row)
     → AreRowsOf ss words paths rows → position (bytes_eq p) paths ≡ Some i → list_any (bytes_eq p) paths ≡ true → Grows words more
-    → (has_dependencies v ≡ true → AreNumbersOf more x.dependencies.items (words_of x.text.now))
+    → IsReadValue more v x
     → AreRowsOf (ss ++ setting line p v x.text.now ∷ []) more paths (set rows i (with_value (get_or rows i d) v x))
-rows_set ss words more paths rows line p v x i d h at there grows numbers =
+rows_set ss words more paths rows line p v x i d h at there grows read =
     let s : Setting = setting line p v x.text.now in
     let place = position-Some (bytes_eq p) paths i [] at in
     let row : Row = with_value (get_or rows i d) v x in
@@ -181,7 +187,7 @@ rows_set ss words more paths rows line p v x i d h at there grows numbers =
         | inl same ↦
             subst (λ n. IsRowOf (ss ++ s ∷ []) more (get_or paths n []) (get_or (set rows i row) n e)) (sym same)
             (subst (IsRowOf (ss ++ s ∷ []) more (get_or paths i [])) (sym (get_or-set_same rows i row e (omega (arith, place.0, h.lengths))))
-            (row_set ss words more line p (get_or paths i []) v x (get_or rows i d) place.1 grows numbers (h.each i d place.0)))
+            (row_set ss words more line p (get_or paths i []) v x (get_or rows i d) place.1 grows read (h.each i d place.0)))
         | inr other ↦
             subst (IsRowOf (ss ++ s ∷ []) more (get_or paths k [])) (sym (get_or-set_other rows i k row e other))
             (row_kept ss words more s (get_or paths k []) (get_or rows k e) (other_path paths p i k h.once place.0 place.1 within other) grows (h.each k e within))
@@ -194,9 +200,9 @@ rows_set ss words more paths rows line p v x i d h at there grows numbers =
 -- a new path gets a row of its own
 pub rows_push : (ss : List Setting) (words more : List Text) (paths : List Text) (rows : List Row) (line : ℕ) (p : Text) (v : Variable) (x : Value)
     → AreRowsOf ss words paths rows → list_any (bytes_eq p) paths ≡ false → length paths < 16384 → IsPath p → Grows words more
-    → (has_dependencies v ≡ true → AreNumbersOf more x.dependencies.items (words_of x.text.now))
+    → IsReadValue more v x
     → AreRowsOf (ss ++ setting line p v x.text.now ∷ []) more (paths ++ p ∷ []) (rows ++ with_value (new_row line) v x ∷ [])
-rows_push ss words more paths rows line p v x h new few spelled grows numbers =
+rows_push ss words more paths rows line p v x h new few spelled grows read =
     let s : Setting = setting line p v x.text.now in
     let row : Row = with_value (new_row line) v x in
     let fresh : list_any (bytes_eq p) (paths_of ss) ≡ false = ap (list_any (bytes_eq p)) (sym h.all) ∙ new in
@@ -213,7 +219,7 @@ rows_push ss words more paths rows line p v x h new few spelled grows numbers =
             let here : length paths ≡ k = omega (arith, within, size, last) in
             subst (λ q. IsRowOf (ss ++ s ∷ []) more q (get_or (rows ++ row ∷ []) k e)) (sym (get_or_push paths p [] k here))
             (subst (IsRowOf (ss ++ s ∷ []) more p) (sym (get_or_push rows row e k (h.lengths ∙ here)))
-            (row_first ss more line p v x fresh numbers))
+            (row_first ss more line p v x fresh read))
       ];
       once = IsDistinct-push nat_list_eq_equiv paths p h.once new;
       few = omega (arith, size, few);
@@ -222,29 +228,29 @@ rows_push ss words more paths rows line p v x h new few spelled grows numbers =
 
 -- ---- the fault of a setting
 
-pub fault_many : (earlier : List Setting) (s : Setting) → is_one_too_many earlier s ≡ true → setting_fault words_as_names earlier s ≡ Some (TooMany s.line)
+pub fault_many : (earlier : List Setting) (s : Setting) → is_one_too_many earlier s ≡ true → setting_fault names_and_specs earlier s ≡ Some (TooMany s.line)
 fault_many earlier s e =
     ap (λ b. option_or (first_that_applies ((b, TooMany s.line) ∷ []))
-    (option_or (value_fault words_as_names s.line s.variable s.value) (first_that_applies ((is_set_anew earlier s, TwiceSet s.line) ∷ [])))) e
+    (option_or (value_fault names_and_specs s.line s.variable s.value) (first_that_applies ((is_set_anew earlier s, TwiceSet s.line) ∷ [])))) e
 
 fault_few : (earlier : List Setting) (s : Setting) → is_one_too_many earlier s ≡ false
-    → setting_fault words_as_names earlier s ≡ option_or (value_fault words_as_names s.line s.variable s.value) (first_that_applies ((is_set_anew earlier s, TwiceSet s.line) ∷ []))
+    → setting_fault names_and_specs earlier s ≡ option_or (value_fault names_and_specs s.line s.variable s.value) (first_that_applies ((is_set_anew earlier s, TwiceSet s.line) ∷ []))
 fault_few earlier s e =
     ap (λ b. option_or (first_that_applies ((b, TooMany s.line) ∷ []))
-    (option_or (value_fault words_as_names s.line s.variable s.value) (first_that_applies ((is_set_anew earlier s, TwiceSet s.line) ∷ [])))) e
+    (option_or (value_fault names_and_specs s.line s.variable s.value) (first_that_applies ((is_set_anew earlier s, TwiceSet s.line) ∷ [])))) e
 
 pub fault_value : (earlier : List Setting) (s : Setting) (e : ListingFault) → is_one_too_many earlier s ≡ false
-    → value_fault words_as_names s.line s.variable s.value ≡ Some e → setting_fault words_as_names earlier s ≡ Some e
+    → value_fault names_and_specs s.line s.variable s.value ≡ Some e → setting_fault names_and_specs earlier s ≡ Some e
 fault_value earlier s e few bad =
     fault_few earlier s few ∙ ap (λ o. option_or o (first_that_applies ((is_set_anew earlier s, TwiceSet s.line) ∷ []))) bad
 
 pub fault_anew : (earlier : List Setting) (s : Setting) → is_one_too_many earlier s ≡ false
-    → value_fault words_as_names s.line s.variable s.value ≡ None → is_set_anew earlier s ≡ true → setting_fault words_as_names earlier s ≡ Some (TwiceSet s.line)
+    → value_fault names_and_specs s.line s.variable s.value ≡ None → is_set_anew earlier s ≡ true → setting_fault names_and_specs earlier s ≡ Some (TwiceSet s.line)
 fault_anew earlier s few good anew =
     fault_few earlier s few ∙ (λ i. option_or (good i) (first_that_applies ((anew i, TwiceSet s.line) ∷ [])))
 
 pub no_fault : (earlier : List Setting) (s : Setting) → is_one_too_many earlier s ≡ false
-    → value_fault words_as_names s.line s.variable s.value ≡ None → is_set_anew earlier s ≡ false → setting_fault words_as_names earlier s ≡ None
+    → value_fault names_and_specs s.line s.variable s.value ≡ None → is_set_anew earlier s ≡ false → setting_fault names_and_specs earlier s ≡ None
 no_fault earlier s few good anew =
     fault_few earlier s few ∙ (λ i. option_or (good i) (first_that_applies ((anew i, TwiceSet s.line) ∷ [])))
 
@@ -278,9 +284,16 @@ first_given-same f g (x ∷ xs) (y ∷ ys) same h =
     let tail = first_given-same f g xs ys (omega arith) (λ k d e l. h (suc k) d e (omega arith)) in
     λ i. option_or (head i) (tail i)
 
-is_some-map : {X Y : Type 0} (f : X → Y) (o : Option X) → is_some (option_map f o) ≡ is_some o
-is_some-map f None = refl
-is_some-map f (Some x) = refl
+-- a name that is set was read as one
+read_as_name : (words : List Text) (text : Text) (r : Reading) → IsReadAs words FullName text r → true ≡ is_some (name_read r)
+read_as_name words text (Name name) h = refl
+read_as_name words text (Numbers numbers) h = sym h.0
+read_as_name words text Unread h = cc
+
+named_where_set : (words : List Text) (o : Option Value) → IfSome o (IsReadValue words FullName)
+    → is_some (option_map (λ (y : Value). y.text.now) o) ≡ is_some (option_and_then (λ (y : Value). name_read y.reading) o)
+named_where_set words None h = refl
+named_where_set words (Some x) h = read_as_name words x.text.now x.reading h
 
 pub nameless_by_rows : (ss : List Setting) (words paths : List Text) (rows : List Row) → AreRowsOf ss words paths rows
     → first_given row_fault rows ≡ nameless_fault ss
@@ -290,7 +303,8 @@ nameless_by_rows ss words paths rows h =
     (λ k d e l.
     let row = h.each k d (omega (arith, l, h.lengths)) in
     let same : get_or paths k [] ≡ get_or paths k e = get_or_default paths k [] e (omega (arith, l, h.lengths)) in
-    let has : is_some (value_of ss (get_or paths k []) full_name) ≡ is_some (get_or rows k d).name = ap is_some (row.values FullName) ∙ is_some-map (λ (y : Value). y.text.now) (get_or rows k d).name in
+    let has : is_some (value_of ss (get_or paths k []) full_name) ≡ is_some (name_in (get_or rows k d)) =
+    ap is_some (row.values FullName) ∙ named_where_set words (get_or rows k d).name (row.reads FullName) in
     let line = row.line in
     sym (λ i. if has i then None else option_map NoName (line i)) ∙ ap (path_fault named ss) same)
     ∙ ap (first_given (path_fault named ss)) h.all ∙ sym (nameless_by_paths ss)

@@ -1,18 +1,19 @@
 -- How the rows of a table stand for what lines set.
-use Rattle.std.specs.Prelude.{◌≡◌, ◌<◌, ◌≤◌, ◌++◌, ℕ, Bool, true, false, not, List, [], ◌∷◌, All, length, map, find, position, option_map, Option, None, Some, IfSome, MatchOption, is_some, if◌then◌else◌}
+use Rattle.std.specs.Prelude.{◌≡◌, ◌<◌, ◌≤◌, ℕ, List, [], All, length, find, option_and_then, option_map, Option, None, Some, IfSome, is_some, if◌then◌else◌}
 use Rattle.std.specs.List.{slice_index_or, IsDistinct}
 use Rattle.std.specs.Str.{bytes_eq}
 use Rattle.faults.specs.Answers.{option_or}
 use Rattle.faults.specs.Bytes.{Text}
 use Rattle.pkgpath.specs.PkgPath.{IsPath}
-use Rattle.listing.specs.Dependencies.{words_of}
 use Rattle.listing.specs.Lines.{Setting}
 use Rattle.listing.specs.Listing.{paths_of, value_of}
-use Rattle.listing.specs.Parts.{AreNumbersOf, has_dependencies, name_of_variable}
+use Rattle.listing.specs.Parts.{IsReadAs, name_of_variable}
 use Rattle.listing.specs.declared.ListingFault.{ListingFault}
 use Rattle.listing.specs.declared.ListingFault.TheVariants.{NoName}
 use Rattle.listing.specs.declared.line.Variable.{Variable}
 use Rattle.listing.specs.declared.line.Variable.TheVariants.{FullName, BuildDepends, LibDepends, RunDepends, Ignore}
+use Rattle.listing.specs.declared.table.Reading.{Reading}
+use Rattle.listing.specs.declared.table.Reading.TheVariants.{Name, Numbers, Unread}
 use Rattle.listing.specs.declared.table.Row.{Row}
 use Rattle.listing.specs.declared.table.Table.{Table}
 use Rattle.listing.specs.declared.table.Value.{Value}
@@ -41,15 +42,24 @@ text_in v row = option_map (λ x. x.text.now) (value_in v row)
 abbrev pub setting : ℕ → Text → Variable → Text → Setting
 setting line path variable value = record { line = line; path = path; variable = name_of_variable variable; value = value }
 
+-- the name, where the value was read as one
+abbrev pub name_read : Reading → Option Text
+name_read (Name name) = Some name
+name_read (Numbers numbers) = None
+name_read Unread = None
+
+abbrev pub name_in : Row → Option Text
+name_in row = option_and_then (λ x. name_read x.reading) row.name
+
 -- the fault of a row without a name
 abbrev pub row_fault : Row → Option ListingFault
-row_fault row = if is_some row.name then None else Some (NoName row.line)
+row_fault row = if is_some (name_in row) then None else Some (NoName row.line)
 
 -- the row holds what the lines set for the path
 pub record IsRowOf (settings : List Setting) (words : List Text) (path : Text) (row : Row) : Type 0 where
   pub line : option_map (λ s. s.line) (find (λ s. bytes_eq s.path path) settings) ≡ Some row.line
   pub values : (v : Variable) → value_of settings path (name_of_variable v) ≡ text_in v row
-  pub numbers : (v : Variable) → has_dependencies v ≡ true → IfSome (value_in v row) (λ x. AreNumbersOf words x.dependencies.items (words_of x.text.now))
+  pub reads : (v : Variable) → IfSome (value_in v row) (λ x. IsReadAs words v x.text.now x.reading)
 
 -- a row in which nothing is set
 abbrev pub new_row : ℕ → Row

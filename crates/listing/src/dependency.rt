@@ -1,18 +1,26 @@
 //! Dependencies: `[pkgspec:]pkgpath[bounds][:target]`.
-ghost use Rattle.std.specs.Prelude.{◌≡◌, ◌⊎◌, true, false, Some, None, Ok, Err, List, [], ◌∷◌, map, option_map, MatchOption, MatchResult, IfOk, ◌≤◌, is_err};
-ghost use Rattle.std.specs.List.{before_first};
+ghost use Rattle.std.specs.Prelude.{◌≡◌, ◌⊎◌, ◌++◌, codes, drop, true, false, Some, None, Ok, Err, List, [], ◌∷◌, length, map, option_map, MatchOption, MatchResult, ◌≤◌, is_err, is_ok};
+ghost use Rattle.std.specs.List.{before_first, list_all, position_or_len};
+ghost use Rattle.std.specs.Option.{option_map_or};
 ghost use Rattle.faults.specs.Bytes.{has_byte, slash};
 ghost use Rattle.indexmap.specs.IndexSet.{index_set_len};
 ghost use Rattle.pkgpath.specs.PkgPath.{path_of};
-ghost use Rattle.listing.specs.Dependencies.{dependency_path_text, is_operator_byte, is_shaped, words_of};
+ghost use Rattle.pkgspec.specs.Spec.{spec_of};
+ghost use Rattle.listing.specs.Dependencies.{is_operator_byte, is_shaped, words_of};
+ghost use Rattle.listing.specs.Entries.{IsRead};
 ghost use Rattle.listing.specs.Listing.{dependencies_fault, word_fault};
-ghost use Rattle.listing.specs.Parts.{AreNumbersOf, Grows, IsFirstField, IsNumberOf, IsPathField, position_of_word};
-ghost use Rattle.listing.specs.Rules.{words_as_names};
+ghost use Rattle.listing.specs.Nodes.{all_match, resolution_of, resolution_of_word};
+ghost use Rattle.listing.specs.Parts.{AreFieldsOf, AreNumbersOf, Grows, IsFirstField, IsNumberOf, IsPathField, specs_from};
+ghost use Rattle.listing.specs.Rules.{names_and_specs};
+ghost use Rattle.listing.specs.Table.{name_in};
 
 use crate::ListingFault;
 use crate::line::{first_place, is_blank};
+use crate::table::Row;
 use indexmap::{IndexMap, IndexSet};
+use pkgname::PkgName;
 use pkgpath::{PathFault, PkgPath};
+use pkgspec::{Spec, SpecFault};
 use std::alloc::Global;
 use std::marker::Model;
 
@@ -36,19 +44,24 @@ fn has_slash(text: &[u8]) -> bool
     text.iter().any(|byte| *byte == b'/')
 }
 
-/// The field with the path: one field has a slash, and at most one stands before it and one behind it.
-fn path_field(word: &[u8]) -> Option<&[u8]>
-    ensures { IsPathField word.now (option_map (λ f. f.now) result) }
+/// The field before the path, which is empty where none stands there, and the field with the path: one field
+/// has a slash, and at most one stands before it and one behind it.
+fn path_field(word: &[u8]) -> Option<(&[u8], &[u8])>
+    ensures { IsPathField word.now (option_map (λ f. (f.0.now, f.1.now)) result) }
 {
     let (first, rest) = first_field(word);
     let Some(rest) = rest else {
-        return if has_slash(first) { Some(first) } else { None };
+        return if has_slash(first) {
+            Some((b"".as_slice(), first))
+        } else {
+            None
+        };
     };
     let (second, rest) = first_field(rest);
     let Some(rest) = rest else {
         return match (has_slash(first), has_slash(second)) {
-            (true, false) => Some(first),
-            (false, true) => Some(second),
+            (true, false) => Some((b"".as_slice(), first)),
+            (false, true) => Some((first, second)),
             _ => None,
         };
     };
@@ -57,27 +70,37 @@ fn path_field(word: &[u8]) -> Option<&[u8]>
         return None;
     }
     match (has_slash(first), has_slash(second), has_slash(third)) {
-        (false, true, false) => Some(second),
+        (false, true, false) => Some((first, second)),
         _ => None,
     }
 }
 
-/// The text of the path in a dependency, if the dependency has the shape of one.
-fn path_text(word: &[u8]) -> Option<&[u8]>
-    ensures { MatchOption result (is_shaped word.now ≡ false)
-        (λ t. (is_shaped word.now ≡ true) × (t.now ≡ dependency_path_text word.now)) }
-{
-    let field = path_field(word)?;
-    Some(before_bounds(field))
+/// What a dependency says of the name and the path that it asks for. Where a spec or bounds don't stand, they
+/// are the empty text.
+#[derive(Clone, Copy)]
+pub struct Fields<'a> {
+    pub spec: &'a [u8],
+    pub path: &'a [u8],
+    pub bounds: &'a [u8],
 }
 
-/// What stands before the bounds, which begin at the first `<`, `>` or `=`.
-fn before_bounds(field: &[u8]) -> &[u8]
-    ensures { result.now ≡ before_first is_operator_byte field.now }
+/// The fields of a dependency, if the word has the shape of one.
+fn fields_of(word: &[u8]) -> Option<Fields<'_>>
+    ensures { MatchOption result (is_shaped word.now ≡ false) (AreFieldsOf word.now) }
+{
+    let (spec, field) = path_field(word)?;
+    let (path, bounds) = before_bounds(field);
+    Some(Fields { spec, path, bounds })
+}
+
+/// What stands before the bounds, which begin at the first `<`, `>` or `=`, and the bounds.
+fn before_bounds(field: &[u8]) -> (&[u8], &[u8])
+    ensures path { result.0.now ≡ before_first is_operator_byte field.now }
+    ensures bounds { result.1.now ≡ drop (position_or_len is_operator_byte field.now) field.now }
 {
     match field.iter().position(|byte| is_operator(*byte)) {
-        Some(at) => &field[..at],
-        None => field,
+        Some(at) => (&field[..at], &field[at..]),
+        None => (field, b"".as_slice()),
     }
 }
 
@@ -87,10 +110,117 @@ fn is_operator(byte: u8) -> bool
     byte == b'<' || byte == b'>' || byte == b'='
 }
 
-/// The different dependencies that were read, in the order in which they first came, each with its path.
+/// The spec that a text in a line spells.
+fn read_spec(alloc: Global, line: u64, text: &[u8]) -> Result<Spec, ListingFault>
+    ensures { MatchResult result (λ s. spec_of text.now ≡ Ok s)
+        (λ e. (e ≡ ListingFault.Memory) ⊎ (is_ok (spec_of text.now) ≡ false) × (e ≡ ListingFault.BadLine line)) }
+{
+    match Spec::parse(alloc, text) {
+        Ok(spec) => Ok(spec),
+        Err(SpecFault::Memory) => Err(ListingFault::Memory),
+        Err(_) => Err(ListingFault::BadLine(line)),
+    }
+}
+
+/// The spec that bounds behind a path mean: a name of any stem within them.
+fn read_bounds(alloc: Global, line: u64, bounds: &[u8]) -> Result<Spec, ListingFault>
+    ensures { MatchResult result (λ s. spec_of (codes "STEM-" ++ bounds.now) ≡ Ok s)
+        (λ e. (e ≡ ListingFault.Memory) ⊎ (is_ok (spec_of (codes "STEM-" ++ bounds.now)) ≡ false) × (e ≡ ListingFault.BadLine line)) }
+{
+    let mut text = Vec::from_slice(alloc, b"STEM-")?;
+    text.extend_from_slice(bounds)?;
+    read_spec(alloc, line, text.as_slice())
+}
+
+/// The specs that a dependency has before its path and behind it.
+fn read_specs(
+    alloc: Global,
+    line: u64,
+    before: &[u8],
+    bounds: &[u8],
+) -> Result<Vec<Spec>, ListingFault>
+    ensures { MatchResult result (λ v. map spec_of (specs_from before.now bounds.now) ≡ map Ok v.items)
+        (λ e. (e ≡ ListingFault.Memory) ⊎ (list_all names_and_specs.is_spec (specs_from before.now bounds.now) ≡ false) × (e ≡ ListingFault.BadLine line)) }
+{
+    let mut specs = Vec::new(alloc);
+    if !before.is_empty() {
+        specs.push(read_spec(alloc, line, before)?)?;
+    }
+    if !bounds.is_empty() {
+        specs.push(read_bounds(alloc, line, bounds)?)?;
+    }
+    Ok(specs)
+}
+
+/// What a dependency asks for: a path, and a name there that all specs match.
+#[derive(Drop)]
+pub struct Dependency {
+    pub path: PkgPath,
+    pub specs: Vec<Spec>,
+}
+
+/// What has become of a dependency: the position of its path, if that is listed, and whether the name there is
+/// one that all its specs match.
+#[derive(Clone, Copy)]
+pub struct Resolution {
+    pub position: Option<u32>,
+    pub is_met: bool,
+}
+
+/// Whether all specs match the name.
+fn all_match(specs: &[Spec], name: &PkgName) -> bool
+    ensures { result ≡ all_match specs.now name.now }
+{
+    specs.iter().all(|spec| spec.matches(name))
+}
+
+impl Dependency {
+    /// The dependency that a word spells.
+    fn read(alloc: Global, line: u64, word: &[u8]) -> Result<Dependency, ListingFault>
+        ensures { MatchResult result (IsRead word.now)
+            (λ e. (e ≡ ListingFault.Memory) ⊎ (word_fault names_and_specs line word.now ≡ Some e)) }
+    {
+        let Some(fields) = fields_of(word) else {
+            return Err(ListingFault::BadLine(line));
+        };
+        let specs = read_specs(alloc, line, fields.spec, fields.bounds)?;
+        let path = read_path(alloc, line, fields.path)?;
+        Ok(Dependency { path, specs })
+    }
+
+    /// Whether the row has a name that all the specs match.
+    fn is_met_by(&self, row: &Row<'_>) -> bool
+        ensures { result ≡ option_map_or (all_match self.now.specs.items) (name_in row.now) false }
+    {
+        match row.name() {
+            Some(name) => all_match(self.specs.as_slice(), name),
+            None => false,
+        }
+    }
+
+    /// What becomes of the dependency where these paths are listed, each with its row.
+    fn resolve(&self, listed: &IndexSet<PkgPath>, rows: &[Row<'_>]) -> Resolution
+        requires few { index_set_len listed.now ≤ 16384 }
+        requires rows { length rows.now ≡ length listed.now.keys }
+        ensures { result ≡ resolution_of listed.now.keys rows.now self.now }
+    {
+        match listed.get_index_of(&self.path) {
+            Some(at) => Resolution {
+                position: Some(at as u32),
+                is_met: self.is_met_by(&rows[at]),
+            },
+            None => Resolution {
+                position: None,
+                is_met: false,
+            },
+        }
+    }
+}
+
+/// The different dependencies that were read, in the order in which they first came.
 #[derive(Drop)]
 pub struct Dependencies<'a> {
-    paths: IndexMap<&'a [u8], PkgPath>,
+    read: IndexMap<&'a [u8], Dependency>,
 }
 
 impl<'a> Model for Dependencies<'a> {
@@ -99,9 +229,9 @@ impl<'a> Model for Dependencies<'a> {
 
     ghost Value = { List (List ℕ) };
 
-    ghost view = { λ d. words_of_entries d.paths.entries };
+    ghost view = { λ d. words_of_entries d.read.entries };
 
-    ghost invariant = { λ d. All IsReadEntry d.paths.entries };
+    ghost invariant = { λ d. All IsReadEntry d.read.entries };
 }
 
 impl<'a> Dependencies<'a> {
@@ -110,7 +240,7 @@ impl<'a> Dependencies<'a> {
         ensures { result ≡ [] }
     {
         Dependencies {
-            paths: IndexMap::new(alloc),
+            read: IndexMap::new(alloc),
         }
     }
 
@@ -122,8 +252,8 @@ impl<'a> Dependencies<'a> {
         value: &'a [u8],
     ) -> Result<Vec<usize>, ListingFault>
         ensures answer { MatchResult result
-            (λ ns. (dependencies_fault words_as_names line value.now ≡ None) × AreNumbersOf self.new ns.items (words_of value.now))
-            (λ e. (e ≡ ListingFault.Memory) ⊎ (dependencies_fault words_as_names line value.now ≡ Some e)) }
+            (λ ns. (dependencies_fault names_and_specs line value.now ≡ None) × AreNumbersOf self.new ns.items (words_of value.now))
+            (λ e. (e ≡ ListingFault.Memory) ⊎ (dependencies_fault names_and_specs line value.now ≡ Some e)) }
         ensures grows { Grows self.old self.new }
     {
         let mut numbers = Vec::new(alloc);
@@ -140,41 +270,39 @@ impl<'a> Dependencies<'a> {
         Ok(numbers)
     }
 
-    /// The number of a dependency, which is tested where it first comes.
+    /// The number of a dependency, which is read where it first comes.
     fn number(&mut self, alloc: Global, line: u64, word: &'a [u8]) -> Result<usize, ListingFault>
         ensures answer { MatchResult result
-            (λ n. (word_fault words_as_names line word.now ≡ None) × IsNumberOf self.new n word.now)
-            (λ e. (e ≡ ListingFault.Memory) ⊎ (word_fault words_as_names line word.now ≡ Some e)) }
+            (λ n. (word_fault names_and_specs line word.now ≡ None) × IsNumberOf self.new n word.now)
+            (λ e. (e ≡ ListingFault.Memory) ⊎ (word_fault names_and_specs line word.now ≡ Some e)) }
         ensures grows { Grows self.old self.new }
     {
-        match self.paths.get_index_of(word) {
+        match self.read.get_index_of(word) {
             Some(number) => Ok(number),
             None => {
-                let Some(text) = path_text(word) else {
-                    return Err(ListingFault::BadLine(line));
-                };
-                let path = read_path(alloc, line, text)?;
-                let (number, _) = self.paths.insert_full(word, path)?;
+                let dependency = Dependency::read(alloc, line, word)?;
+                let (number, _) = self.read.insert_full(word, dependency)?;
                 Ok(number)
             }
         }
     }
 
-    /// Of each dependency by its number: the position of its path, if that is listed.
-    pub fn positions(
+    /// What becomes of each dependency, by its number, where these paths are listed, each with its row.
+    pub fn resolve(
         &self,
         alloc: Global,
         listed: &IndexSet<PkgPath>,
-    ) -> Result<Vec<Option<u32>>, ListingFault>
-        requires { index_set_len listed.now ≤ 16384 }
-        ensures { MatchResult result (λ v. v.items ≡ map (position_of_word listed.now.keys) self.now) (λ e. e ≡ ListingFault.Memory) }
+        rows: &[Row<'_>],
+    ) -> Result<Vec<Resolution>, ListingFault>
+        requires few { index_set_len listed.now ≤ 16384 }
+        requires rows { length rows.now ≡ length listed.now.keys }
+        ensures { MatchResult result (λ v. v.items ≡ map (resolution_of_word listed.now.keys rows.now) self.now) (λ e. e ≡ ListingFault.Memory) }
     {
-        let mut positions = Vec::with_capacity(alloc, self.paths.len())?;
-        for path in self.paths.values() {
-            let position = listed.get_index_of(path);
-            positions.push(position.map(|at| at as u32))?;
+        let mut resolutions = Vec::with_capacity(alloc, self.read.len())?;
+        for dependency in self.read.values() {
+            resolutions.push(dependency.resolve(listed, rows))?;
         }
-        Ok(positions)
+        Ok(resolutions)
     }
 }
 

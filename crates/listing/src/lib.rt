@@ -5,7 +5,7 @@ ghost use Rattle.std.specs.Prelude.{◌≡◌};
 ghost use Rattle.listing.specs.declared.ListingFault.TheVariants.{Memory};
 ghost use Rattle.listing.specs.Refusals.{number_of, place_of};
 
-use faults::Fault;
+use faults::{Fault, Memory as OutOfMemory};
 use std::alloc::{AllocError, AllocFailed};
 use thiserror::Error;
 
@@ -59,6 +59,14 @@ impl Fault for ListingFault {
             ListingFault::TooMany(n) => Some(*n),
             ListingFault::NoName(n) => Some(*n),
         }
+    }
+}
+
+impl From<OutOfMemory> for ListingFault {
+    ghost from_gives = { λ _ e. e ≡ Memory };
+
+    fn from(_error: OutOfMemory) -> ListingFault {
+        ListingFault::Memory
     }
 }
 

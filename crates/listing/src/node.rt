@@ -1,45 +1,62 @@
 //! A package of a tree, without its path.
-ghost use Rattle.std.specs.Prelude.{◌≡◌, ◌<◌, ◌++◌, ℕ, List, All, length, MatchResult};
-ghost use Rattle.listing.specs.Nodes.{IsNodeOf, IsSetOf, are_listed, listed_positions, numbers_of_value, text_of_value};
+ghost use Rattle.std.specs.Prelude.{◌≡◌, ◌⊎◌, ◌<◌, ◌++◌, All, Some, length, MatchResult};
+ghost use Rattle.listing.specs.Nodes.{IsNodeOf, IsSetOf, are_met, is_marked_by, listed_positions, numbers_of_value, text_of_value};
+ghost use Rattle.listing.specs.Table.{row_fault};
 
 use crate::ListingFault;
-use crate::table::{Row, Value};
+use crate::dependency::Resolution;
+use crate::table::{Reading, Row, Value};
+use pkgname::PkgName;
 use std::alloc::Global;
 
 /// A package by its positions in a tree.
 #[derive(Drop)]
 pub struct Node {
-    pub name: Vec<u8>,
+    pub name: PkgName,
     pub build: Vec<u32>,
     pub run: Vec<u32>,
     pub is_marked: bool,
 }
 
 impl Node {
-    /// The package of a row. Each dependency by its number has a position, if it is listed.
+    /// The package of a row, by what has become of each dependency, by its number.
     pub fn of_row(
         alloc: Global,
         row: &Row<'_>,
-        positions: &[Option<u32>],
+        resolutions: &[Resolution],
     ) -> Result<Node, ListingFault>
-        requires build { All (λ n. n < length positions.now) (numbers_of_value row.now.build) }
-        requires lib { All (λ n. n < length positions.now) (numbers_of_value row.now.lib) }
-        requires run { All (λ n. n < length positions.now) (numbers_of_value row.now.run) }
-        ensures { MatchResult result (IsNodeOf positions.now row.now) (λ e. e ≡ ListingFault.Memory) }
+        requires build { All (λ n. n < length resolutions.now) (numbers_of_value row.now.build) }
+        requires lib { All (λ n. n < length resolutions.now) (numbers_of_value row.now.lib) }
+        requires run { All (λ n. n < length resolutions.now) (numbers_of_value row.now.run) }
+        ensures { MatchResult result (IsNodeOf resolutions.now row.now)
+            (λ e. (e ≡ ListingFault.Memory) ⊎ (row_fault row.now ≡ Some e)) }
     {
+        let Some(name) = row.name() else {
+            return Err(ListingFault::NoName(row.line));
+        };
         let build = numbers_of(&row.build);
         let lib = numbers_of(&row.lib);
         let run = numbers_of(&row.run);
-        let is_complete = are_listed(build, positions)
-            && are_listed(lib, positions)
-            && are_listed(run, positions);
         Ok(Node {
-            name: Vec::from_slice(alloc, text_of(&row.name))?,
-            build: positions_of(alloc, build, lib, positions)?,
-            run: positions_of(alloc, lib, run, positions)?,
-            is_marked: !text_of(&row.ignore).is_empty() || !is_complete,
+            name: name.copy()?,
+            build: positions_of(alloc, build, lib, resolutions)?,
+            run: positions_of(alloc, lib, run, resolutions)?,
+            is_marked: is_marked(row, resolutions),
         })
     }
+}
+
+/// Whether the row's package is to be left out, or a dependency of it isn't met.
+fn is_marked(row: &Row<'_>, resolutions: &[Resolution]) -> bool
+    requires build { All (λ n. n < length resolutions.now) (numbers_of_value row.now.build) }
+    requires lib { All (λ n. n < length resolutions.now) (numbers_of_value row.now.lib) }
+    requires run { All (λ n. n < length resolutions.now) (numbers_of_value row.now.run) }
+    ensures { result ≡ is_marked_by resolutions.now row.now }
+{
+    let is_complete = are_met(numbers_of(&row.build), resolutions)
+        && are_met(numbers_of(&row.lib), resolutions)
+        && are_met(numbers_of(&row.run), resolutions);
+    !text_of(&row.ignore).is_empty() || !is_complete
 }
 
 /// What a variable is set to, or the empty text where it isn't set.
@@ -52,22 +69,27 @@ fn text_of<'a>(value: &Option<Value<'a>>) -> &'a [u8]
     }
 }
 
-/// The numbers of the dependencies, or none where nothing is set.
+/// The numbers of the dependencies that the value was read as, or none.
 fn numbers_of<'v>(value: &'v Option<Value<'_>>) -> &'v [usize]
     ensures { result.now ≡ numbers_of_value value.entry.now }
 {
     match value {
-        Some(value) => value.dependencies.as_slice(),
-        None => &[],
+        Some(
+            Value {
+                reading: Reading::Numbers(numbers),
+                ..
+            },
+        ) => numbers.as_slice(),
+        _ => &[],
     }
 }
 
-/// Whether each has a position.
-fn are_listed(numbers: &[usize], positions: &[Option<u32>]) -> bool
-    requires { All (λ n. n < length positions.now) numbers.now }
-    ensures { result ≡ are_listed positions.now numbers.now }
+/// Whether each is met.
+fn are_met(numbers: &[usize], resolutions: &[Resolution]) -> bool
+    requires { All (λ n. n < length resolutions.now) numbers.now }
+    ensures { result ≡ are_met resolutions.now numbers.now }
 {
-    numbers.iter().all(|number| positions[*number].is_some())
+    numbers.iter().all(|number| resolutions[*number].is_met)
 }
 
 /// The positions that these have, ascending, each once.
@@ -75,17 +97,17 @@ fn positions_of(
     alloc: Global,
     first: &[usize],
     second: &[usize],
-    positions: &[Option<u32>],
+    resolutions: &[Resolution],
 ) -> Result<Vec<u32>, ListingFault>
-    requires first { All (λ n. n < length positions.now) first.now }
-    requires second { All (λ n. n < length positions.now) second.now }
+    requires first { All (λ n. n < length resolutions.now) first.now }
+    requires second { All (λ n. n < length resolutions.now) second.now }
     ensures { MatchResult result
-        (λ v. IsSetOf v.items (listed_positions positions.now first.now ++ listed_positions positions.now second.now))
+        (λ v. IsSetOf v.items (listed_positions resolutions.now first.now ++ listed_positions resolutions.now second.now))
         (λ e. e ≡ ListingFault.Memory) }
 {
     let mut found = Vec::new(alloc);
-    add_positions(&mut found, first, positions)?;
-    add_positions(&mut found, second, positions)?;
+    add_positions(&mut found, first, resolutions)?;
+    add_positions(&mut found, second, resolutions)?;
     found.sort_unstable();
     found.dedup();
     Ok(found)
@@ -95,15 +117,15 @@ fn positions_of(
 fn add_positions(
     found: &mut Vec<u32>,
     numbers: &[usize],
-    positions: &[Option<u32>],
+    resolutions: &[Resolution],
 ) -> Result<(), ListingFault>
-    requires { All (λ n. n < length positions.now) numbers.now }
+    requires { All (λ n. n < length resolutions.now) numbers.now }
     ensures { MatchResult result
-        (λ _. found.new.items ≡ found.old.items ++ listed_positions positions.now numbers.now)
+        (λ _. found.new.items ≡ found.old.items ++ listed_positions resolutions.now numbers.now)
         (λ e. e ≡ ListingFault.Memory) }
 {
     for number in numbers {
-        if let Some(position) = positions[*number] {
+        if let Some(position) = resolutions[*number].position {
             found.push(position)?;
         }
     }

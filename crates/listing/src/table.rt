@@ -1,32 +1,39 @@
 //! What the lines of a listing set, filled line by line.
-ghost use Rattle.std.specs.Prelude.{◌≡◌, ◌⊎◌, ◌≢◌, ℕ, ◌≤◌, ◌&&◌, ◌++◌, ◌∷◌, [], List, None, Some, Ok, Err, false, true, length, map, nat_le, not, slice_index_or, slice_set, ◌<◌, option_map, option_to_list, MatchResult, IfOk, OnOk, IsSome};
-ghost use Rattle.std.specs.List.{list_all};
+ghost use Rattle.std.specs.Prelude.{◌≡◌, ◌⊎◌, ◌++◌, ◌∷◌, [], List, None, Some, Ok, Err, false, true, is_ok, length, slice_index_or, slice_set, ◌<◌, option_map, option_to_list, MatchResult};
 ghost use Rattle.std.specs.Str.{bytes_eq};
 ghost use Rattle.indexmap.specs.IndexSet.{insert_key};
-ghost use Rattle.faults.specs.Answers.{first_given, option_or};
-ghost use Rattle.faults.specs.Bytes.{is_word_byte};
-ghost use Rattle.listing.specs.Dependencies.{words_of};
+ghost use Rattle.faults.specs.Answers.{option_or};
+ghost use Rattle.pkgname.specs.PkgName.{name_of};
 ghost use Rattle.listing.specs.Lines.{Setting, setting_of};
 ghost use Rattle.listing.specs.Listing.{is_another, line_fault, setting_fault, value_fault};
-ghost use Rattle.listing.specs.Parts.{AreNumbersOf, Grows, has_dependencies, name_of_variable};
-ghost use Rattle.listing.specs.Rules.{words_as_names};
-ghost use Rattle.listing.specs.Table.{Stands, new_row, row_fault, setting, text_in, with_value};
+ghost use Rattle.listing.specs.Parts.{Grows, IsReadAs, name_of_variable};
+ghost use Rattle.listing.specs.Rules.{names_and_specs};
+ghost use Rattle.listing.specs.Table.{Stands, name_in, new_row, setting, text_in, with_value};
 
 use crate::ListingFault;
 use crate::dependency::{Dependencies, read_path};
 use crate::line::{Variable, is_skipped, parts_of};
 use indexmap::IndexSet;
+use pkgname::{NameFault, PkgName};
 use pkgpath::PkgPath;
 use std::alloc::Global;
 
 /// The most paths in a listing.
 const MOST: usize = 16_384;
 
-/// What a variable is set to, with the numbers of the dependencies in it.
+/// What a value was read as: a name, the numbers of dependencies, or a text that is not read.
+#[derive(Drop)]
+pub enum Reading {
+    Name(PkgName),
+    Numbers(Vec<usize>),
+    Unread,
+}
+
+/// What a variable is set to, and what that was read as.
 #[derive(Drop)]
 pub struct Value<'a> {
     pub text: &'a [u8],
-    pub dependencies: Vec<usize>,
+    pub reading: Reading,
 }
 
 /// What the variables of a path are set to, and the line where the path first stands.
@@ -49,17 +56,54 @@ pub struct Table<'a> {
 }
 
 impl<'a> Row<'a> {
-    /// A row in which nothing is set.
-    fn new(line: u64) -> Row<'a>
-        ensures { result ≡ new_row line }
+    /// A row in which one variable is set.
+    fn of(line: u64, variable: Variable, value: Value<'a>) -> Row<'a>
+        ensures { result ≡ with_value (new_row line) variable value.entry }
     {
-        Row {
+        let empty = Row {
             line,
             name: None,
             build: None,
             lib: None,
             run: None,
             ignore: None,
+        };
+        match variable {
+            Variable::FullName => Row {
+                name: Some(value),
+                ..empty
+            },
+            Variable::BuildDepends => Row {
+                build: Some(value),
+                ..empty
+            },
+            Variable::LibDepends => Row {
+                lib: Some(value),
+                ..empty
+            },
+            Variable::RunDepends => Row {
+                run: Some(value),
+                ..empty
+            },
+            Variable::Ignore => Row {
+                ignore: Some(value),
+                ..empty
+            },
+        }
+    }
+
+    /// The name, if it is set.
+    pub fn name(&self) -> Option<&PkgName>
+        ensures { option_map (λ n. n.now) result ≡ name_in self.now }
+    {
+        match &self.name {
+            Some(
+                Value {
+                    reading: Reading::Name(name),
+                    ..
+                },
+            ) => Some(name),
+            _ => None,
         }
     }
 
@@ -112,18 +156,16 @@ fn set_in<'a>(
     rows[position].set(line, variable, value)
 }
 
-/// Whether the text is 1 to 255 printable bytes without blanks.
-fn is_name(text: &[u8]) -> bool
-    ensures { result ≡ words_as_names.is_name text.now }
+/// The name that the value in a line is.
+fn read_name(alloc: Global, line: u64, text: &[u8]) -> Result<PkgName, ListingFault>
+    ensures { MatchResult result (λ n. name_of text.now ≡ Ok n)
+        (λ e. (e ≡ ListingFault.Memory) ⊎ (is_ok (name_of text.now) ≡ false) × (e ≡ ListingFault.BadLine line)) }
 {
-    !text.is_empty() && text.len() <= 255 && is_word(text)
-}
-
-/// Whether all bytes are printable and none is a blank.
-fn is_word(text: &[u8]) -> bool
-    ensures { result ≡ list_all is_word_byte text.now }
-{
-    text.iter().all(|byte| 0x21 <= *byte && *byte <= 0x7e)
+    match PkgName::parse(alloc, text) {
+        Ok(name) => Ok(name),
+        Err(NameFault::Memory) => Err(ListingFault::Memory),
+        Err(_) => Err(ListingFault::BadLine(line)),
+    }
 }
 
 impl<'a> Table<'a> {
@@ -142,8 +184,8 @@ impl<'a> Table<'a> {
     pub fn read(&mut self, alloc: Global, number: u64, line: &'a [u8]) -> Result<(), ListingFault>
         requires { length self.old.rows.items ≡ length self.old.paths.keys }
         ensures { (earlier : List Setting) → Stands self.old earlier → MatchResult result
-            (λ _. (line_fault words_as_names earlier (number, line.now) ≡ None) × Stands self.new (earlier ++ option_to_list (setting_of (number, line.now))))
-            (λ e. (e ≡ ListingFault.Memory) ⊎ (line_fault words_as_names earlier (number, line.now) ≡ Some e)) }
+            (λ _. (line_fault names_and_specs earlier (number, line.now) ≡ None) × Stands self.new (earlier ++ option_to_list (setting_of (number, line.now))))
+            (λ e. (e ≡ ListingFault.Memory) ⊎ (line_fault names_and_specs earlier (number, line.now) ≡ Some e)) }
     {
         if is_skipped(line) {
             return Ok(());
@@ -169,16 +211,16 @@ impl<'a> Table<'a> {
     ) -> Result<(), ListingFault>
         requires { length self.old.rows.items ≡ length self.old.paths.keys }
         ensures { (earlier : List Setting) → Stands self.old earlier → MatchResult result
-            (λ _. (setting_fault words_as_names earlier (setting line path variable text.now) ≡ None)
+            (λ _. (setting_fault names_and_specs earlier (setting line path variable text.now) ≡ None)
             × Stands self.new (earlier ++ setting line path variable text.now ∷ []))
-            (λ e. (e ≡ ListingFault.Memory) ⊎ (setting_fault words_as_names earlier (setting line path variable text.now) ≡ Some e)) }
+            (λ e. (e ≡ ListingFault.Memory) ⊎ (setting_fault names_and_specs earlier (setting line path variable text.now) ≡ Some e)) }
     {
         let known = self.paths.get_index_of(&path);
         if known.is_none() && self.paths.len() >= MOST {
             return Err(ListingFault::TooMany(line));
         }
-        let dependencies = self.read_value(alloc, line, variable, text)?;
-        let value = Value { text, dependencies };
+        let reading = self.read_value(alloc, line, variable, text)?;
+        let value = Value { text, reading };
         match known {
             Some(position) => set_in(&mut self.rows, position, line, variable, value),
             None => self.add(line, path, variable, value),
@@ -199,53 +241,33 @@ impl<'a> Table<'a> {
             × (self.new.dependencies ≡ self.old.dependencies))
             (λ e. e ≡ ListingFault.Memory) }
     {
-        let mut row = Row::new(line);
-        row.set(line, variable, value)?;
         self.paths.insert(path)?;
-        self.rows.push(row)?;
+        self.rows.push(Row::of(line, variable, value))?;
         Ok(())
     }
 
-    /// Tests a value, and answers the numbers of its dependencies, if its variable has any.
+    /// Reads the value of a variable.
     fn read_value(
         &mut self,
         alloc: Global,
         line: u64,
         variable: Variable,
         text: &'a [u8],
-    ) -> Result<Vec<usize>, ListingFault>
+    ) -> Result<Reading, ListingFault>
         ensures answer { MatchResult result
-            (λ ns. (value_fault words_as_names line (name_of_variable variable) text.now ≡ None)
-            × (has_dependencies variable ≡ true → AreNumbersOf self.new.dependencies ns.items (words_of text.now)))
-            (λ e. (e ≡ ListingFault.Memory) ⊎ (value_fault words_as_names line (name_of_variable variable) text.now ≡ Some e)) }
+            (λ r. (value_fault names_and_specs line (name_of_variable variable) text.now ≡ None)
+            × IsReadAs self.new.dependencies variable text.now r)
+            (λ e. (e ≡ ListingFault.Memory) ⊎ (value_fault names_and_specs line (name_of_variable variable) text.now ≡ Some e)) }
         ensures paths { self.new.paths ≡ self.old.paths }
         ensures rows { self.new.rows ≡ self.old.rows }
         ensures grows { Grows self.old.dependencies self.new.dependencies }
     {
         match variable {
-            Variable::FullName => {
-                if is_name(text) {
-                    Ok(Vec::new(alloc))
-                } else {
-                    Err(ListingFault::BadLine(line))
-                }
-            }
-            Variable::Ignore => Ok(Vec::new(alloc)),
+            Variable::FullName => Ok(Reading::Name(read_name(alloc, line, text)?)),
+            Variable::Ignore => Ok(Reading::Unread),
             Variable::BuildDepends | Variable::LibDepends | Variable::RunDepends => {
-                self.dependencies.read(alloc, line, text)
+                Ok(Reading::Numbers(self.dependencies.read(alloc, line, text)?))
             }
         }
-    }
-
-    /// Refuses the first path without a name.
-    pub fn check_names(&self) -> Result<(), ListingFault>
-        ensures { MatchResult result (λ _. first_given row_fault self.now.rows.items ≡ None) (λ e. first_given row_fault self.now.rows.items ≡ Some e) }
-    {
-        for row in &self.rows {
-            if row.name.is_none() {
-                return Err(ListingFault::NoName(row.line));
-            }
-        }
-        Ok(())
     }
 }

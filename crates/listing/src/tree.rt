@@ -1,10 +1,10 @@
 //! A tree, which contracts see as the list of its packages.
-ghost use Rattle.std.specs.Prelude.{◌≡◌, ◌<◌, ◌≤◌, List, length, map, position, MatchResult};
+ghost use Rattle.std.specs.Prelude.{◌≡◌, ◌⊎◌, ◌<◌, List, None, Some, length, position, MatchResult};
 ghost use Rattle.std.specs.Str.{bytes_eq};
 ghost use Rattle.faults.specs.Answers.{IsRightUnless};
 ghost use Rattle.listing.specs.Lines.{Setting};
-ghost use Rattle.listing.specs.Listing.{tree_of, tree_of_settings};
-ghost use Rattle.listing.specs.Rules.{words_as_names};
+ghost use Rattle.listing.specs.Listing.{nameless_fault, tree_of, tree_of_settings};
+ghost use Rattle.listing.specs.Rules.{names_and_specs};
 ghost use Rattle.listing.specs.Table.{Stands};
 ghost use Rattle.listing.specs.Tree.{ArePositions, IsTree, build_at, is_marked_at, name_at, path_at, run_at};
 
@@ -12,6 +12,7 @@ use crate::ListingFault;
 use crate::node::Node;
 use crate::table::Table;
 use indexmap::IndexSet;
+use pkgname::PkgName;
 use pkgpath::PkgPath;
 use std::alloc::Global;
 use std::marker::Model;
@@ -39,7 +40,7 @@ impl Model for Tree {
 impl Tree {
     /// The tree that the listing describes.
     pub fn parse(alloc: Global, text: &[u8]) -> Result<Tree, ListingFault>
-        ensures { IsRightUnless ListingFault.Memory result (tree_of words_as_names text.now) }
+        ensures { IsRightUnless ListingFault.Memory result (tree_of names_and_specs text.now) }
     {
         let mut table = Table::new(alloc);
         let mut number = 0;
@@ -47,25 +48,25 @@ impl Tree {
             number += 1;
             table.read(alloc, number, line)?;
         }
-        table.check_names()?;
         Tree::of_table(alloc, table)
     }
 
-    /// The tree of all that the lines set.
+    /// The tree of all that the lines set, unless a path has no name.
     fn of_table(alloc: Global, table: Table<'_>) -> Result<Tree, ListingFault>
         requires { (settings : List Setting) × Stands table settings }
         ensures { (settings : List Setting) → Stands table.entry settings
-            → MatchResult result (λ t. t ≡ tree_of_settings words_as_names settings) (λ e. e ≡ ListingFault.Memory) }
+            → MatchResult result (λ t. (nameless_fault settings ≡ None) × (t ≡ tree_of_settings names_and_specs settings))
+            (λ e. (e ≡ ListingFault.Memory) ⊎ (nameless_fault settings ≡ Some e)) }
     {
         let Table {
             paths,
             rows,
             dependencies,
         } = table;
-        let positions = dependencies.positions(alloc, &paths)?;
+        let resolutions = dependencies.resolve(alloc, &paths, rows.as_slice())?;
         let mut nodes = Vec::with_capacity(alloc, rows.len())?;
         for row in &rows {
-            nodes.push(Node::of_row(alloc, row, positions.as_slice())?)?;
+            nodes.push(Node::of_row(alloc, row, resolutions.as_slice())?)?;
         }
         Ok(Tree { paths, nodes })
     }
@@ -93,11 +94,11 @@ impl Tree {
         &self.paths.as_slice()[position as usize]
     }
 
-    pub fn name(&self, position: u32) -> &[u8]
+    pub fn name(&self, position: u32) -> &PkgName
         requires { position < length self.now }
         ensures { result.now ≡ name_at self.now position }
     {
-        self.nodes[position as usize].name.as_slice()
+        &self.nodes[position as usize].name
     }
 
     /// The positions of what a build needs, ascending.
@@ -141,7 +142,7 @@ mod tests {
         for position in 0..tree.len() {
             out.write_all(tree.path(position).as_bytes())?;
             out.write_all(b" ")?;
-            out.write_all(tree.name(position))?;
+            out.write_all(tree.name(position).as_bytes())?;
             for dependency in tree.build_deps(position) {
                 write!(out, " b{dependency}")?;
             }
@@ -169,8 +170,24 @@ mod tests {
                 "a/x x-1 r1\na/y y-1 r0\n",
             ),
             (
-                "a/p.FULLPKGNAME= p-1\t\na/p.BUILD_DEPENDS=q->=2:a/q:patch a/q>1 a/p\na/q.FULLPKGNAME=q-1\na/p.FULLPKGNAME=p-1\n",
-                "a/p p-1 b0 b1\na/q q-1\n",
+                "a/p.FULLPKGNAME= p-1\t\na/p.BUILD_DEPENDS=q->=2:a/q:patch a/q>1 a/p\na/q.FULLPKGNAME=q-2\na/p.FULLPKGNAME=p-1\n",
+                "a/p p-1 b0 b1\na/q q-2\n",
+            ),
+            (
+                "a/p.FULLPKGNAME=p-1\na/p.BUILD_DEPENDS=q->=2:a/q:patch\na/q.FULLPKGNAME=q-1\n",
+                "a/p p-1 b1 !\na/q q-1\n",
+            ),
+            (
+                "a/p.FULLPKGNAME=p-1\na/p.BUILD_DEPENDS=a/q>=2\na/q.FULLPKGNAME=q-1\n",
+                "a/p p-1 b1 !\na/q q-1\n",
+            ),
+            (
+                "a/p.FULLPKGNAME=p-1\na/p.BUILD_DEPENDS=a/q>=2\na/q.FULLPKGNAME=q-2\n",
+                "a/p p-1 b1\na/q q-2\n",
+            ),
+            (
+                "a/p.FULLPKGNAME=p-1\na/p.BUILD_DEPENDS=r-*:a/q>=2\na/q.FULLPKGNAME=q-2\n",
+                "a/p p-1 b1 !\na/q q-2\n",
             ),
             (
                 "a/p,f,e.LIB_DEPENDS=a/r a/q\na/q.FULLPKGNAME=q-1\na/p,e,f.FULLPKGNAME=p-1\na/q.IGNORE=broken\n",
@@ -196,10 +213,15 @@ mod tests {
             ("a/p", 401, 1),
             ("\n \n", 401, 2),
             ("a/p.FULLPKGNAME=x y", 401, 1),
+            ("a/p.FULLPKGNAME=vim", 401, 1),
+            ("a/p.BUILD_DEPENDS=q->=:a//q", 401, 1),
+            ("a/p.BUILD_DEPENDS=q-1|:a/q", 401, 1),
+            ("a/p.BUILD_DEPENDS=a/q>=", 401, 1),
             ("a/p.RUN_DEPENDS=a:b", 401, 1),
             ("a/p.RUN_DEPENDS=\na/p.RUN_DEPENDS=a/b:c/d", 401, 2),
             ("vim.FULLPKGNAME=vim-9", 402, 1),
-            ("a/p.LIB_DEPENDS=a>=2/3", 402, 1),
+            ("a/p.LIB_DEPENDS=a>=2/3", 401, 1),
+            ("a/p.LIB_DEPENDS=q-2:a//q>=2", 402, 1),
             ("a/p.FULLPKGNAME=p-1\na/p.FULLPKGNAME=p-2", 403, 2),
             ("a/p.IGNORE=\na/p.IGNORE=x", 403, 2),
             ("\na/p.RUN_DEPENDS=", 405, 2),

@@ -1,5 +1,4 @@
-use Rattle.std.proofs.Common.{◌≡◌, ◌<◌, false, length, slice_index, arith, rules}
-use Rattle.listing.specs.Lines.{is_blank}
+use Rattle.std.proofs.Common.{arith, rules}
 use Rattle.listing.proofs.LineLemmas.{trimmed_is}
 use Rattle.listing.proofs.line.trimmed.Goals as goal
 use Rattle.listing.proofs.line.trimmed.Goals.{then-loop-start-test+else-is_blank, else-loop-start-test, then-loop-end-test+else-is_blank-2, else-loop-end-test}

@@ -3,4 +3,4 @@ use Rattle.listing.specs.Nodes.{listed_positions}
 use Rattle.listing.proofs.node.add_positions.Given as goal
 
 abbrev pub invariant-loop-number : goal.invariant-loop-number
-invariant-loop-number l = l.found.items ≡ l.fn.found.items ++ listed_positions l.positions (take l.number-index l.numbers)
+invariant-loop-number l = l.found.items ≡ l.fn.found.items ++ listed_positions l.resolutions (take l.number-index l.numbers)

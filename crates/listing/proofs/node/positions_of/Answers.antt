@@ -1,4 +1,4 @@
-use Rattle.std.proofs.Common.{◌≡◌, ◌++◌, [], Contains, nat_eq, ap, sym, subst, ◌∙◌}
+use Rattle.std.proofs.Common.{◌++◌, nat_eq, ap, sym, subst, ◌∙◌}
 use Rattle.std.specs.List.Sorted.{IsStrictlyIncreasing}
 use Rattle.std.specs.List.{dedup}
 use Rattle.std.proofs.lemmas.List.Filters.{dedup_is}
@@ -14,8 +14,8 @@ returns c =
     let unsorted = c.add_positions-2.new.found.items in
     let sorted = c.sort_unstable.new.self.items in
     let once = dedup_is _ sorted c.dedup.new.self.items c.dedup.ensures.filtered in
-    let front = c.in_ok-add_positions.ensures ∙ ap (λ xs. xs ++ listed_positions c.args.positions.now c.args.first.now) c.new-found.ensures.items in
-    let whole = c.in_ok-add_positions-2.ensures ∙ ap (λ xs. xs ++ listed_positions c.args.positions.now c.args.second.now) front in
+    let front = c.in_ok-add_positions.ensures ∙ ap (λ xs. xs ++ listed_positions c.args.resolutions.now c.args.first.now) c.new-found.ensures.items in
+    let whole = c.in_ok-add_positions-2.ensures ∙ ap (λ xs. xs ++ listed_positions c.args.resolutions.now c.args.second.now) front in
     record {
       rising = subst IsStrictlyIncreasing (sym once) (IsStrictlyIncreasing-dedup sorted c.sort_unstable.ensures.sorted);
       members = λ p.

@@ -1,6 +1,3 @@
-use Rattle.std.proofs.Common.{◌≡◌, false, arith}
-use Rattle.std.specs.Str.{bytes_eq}
-use Rattle.listing.specs.Lines.{build_depends, full_name, ignore, lib_depends, run_depends}
 use Rattle.listing.proofs.LineLemmas.{is_no_variable}
 use Rattle.listing.proofs.line.Variable.named.Goals as goal
 

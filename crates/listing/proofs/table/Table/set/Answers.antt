@@ -1,4 +1,4 @@
-use Rattle.std.proofs.Common.{◌≡◌, ◌<◌, ◌≤◌, ◌++◌, ◌∷◌, ◌⊎◌, [], Bool, true, false, not, is_some, true≢false, refl, Some, MatchResult, ap, sym, subst, ◌∙◌, inl, inr, arith, length, set, get_or, position, if◌then◌else◌}
+use Rattle.std.proofs.Common.{◌≡◌, ◌<◌, ◌++◌, ◌∷◌, ◌⊎◌, [], true, false, not, is_some, true≢false, refl, Some, ap, sym, subst, ◌∙◌, inl, inr, arith, length, position}
 use Rattle.std.specs.List.{list_any}
 use Rattle.std.specs.Str.{bytes_eq}
 use Rattle.std.proofs.lemmas.Result.{MatchResult-weaker, err_from_is_err_and}
@@ -18,8 +18,8 @@ returns-then-len-ge-MOST c = λ earlier h.
     inr (fault_many earlier s (one_too_many earlier c.args.self.now.dependencies c.args.self.now.paths.keys c.args.self.now.rows.items s h new
     (omega (arith, c.len.ensures.len, c.if-len-ge-MOST.true))))
 
-pub returns-in_err-dependencies : goal.returns-in_err-dependencies
-returns-in_err-dependencies c = λ earlier h.
+pub returns-in_err-reading : goal.returns-in_err-reading
+returns-in_err-reading c = λ earlier h.
     let room : (list_any (bytes_eq c.args.path) c.args.self.now.paths.keys ≡ true) ⊎ (length c.args.self.now.paths.keys < 16384) =
     elim c.else-is_none.branch [
       | else-is_none-via-then-is_none+else-len-ge-MOST w ↦ inr (omega (arith, w.len.ensures.len, w.if-len-ge-MOST.false))
@@ -28,7 +28,7 @@ returns-in_err-dependencies c = λ earlier h.
     let s = setting c.args.line c.args.path c.args.variable c.args.text.now in
     let few = not_too_many earlier c.args.self.now.dependencies c.args.self.now.paths.keys c.args.self.now.rows.items s h room in
     let p = err_from_is_err_and c.from_residual.result c.from_residual.ensures.1 in
-    rw (p.1, p.2) (elim c.in_err-dependencies.ensures.answer [ inl m ↦ inl m | inr bad ↦ inr (fault_value earlier s c.in_err-dependencies.field-0.0 few bad) ])
+    rw (p.1, p.2) (elim c.in_err-reading.ensures.answer [ inl m ↦ inl m | inr bad ↦ inr (fault_value earlier s c.in_err-reading.field-0.0 few bad) ])
 
 pub returns-in-Some : goal.returns-in-Some
 returns-in-Some c = λ earlier h.
@@ -43,9 +43,9 @@ returns-in-Some c = λ earlier h.
     let there : list_any (bytes_eq c.args.path) keys ≡ true =
     ap (list_any (bytes_eq c.args.path)) same ∙ sym c.get_index_of-known.ensures.found ∙ ap is_some c.in-Some.is in
     let few = not_too_many earlier words keys rows s here (inl there) in
-    let x : Value = record { text = c.args.text; dependencies = c.in_ok-dependencies.dependencies } in
+    let x : Value = record { text = c.args.text; reading = c.in_ok-reading.reading } in
     let d : Row = new_row 0 in
-    let good = c.in_ok-dependencies.ensures.answer in
+    let good = c.in_ok-reading.ensures.answer in
     MatchResult-weaker c.set_in.result (c.set_in.ensures d)
     (λ _ ok. (
       no_fault earlier s few good.0 (anew_there earlier words keys rows c.args.path c.in-Some.position c.args.line c.args.variable c.args.text.now d false here at ok.1),
@@ -73,8 +73,8 @@ returns-in-None c = λ earlier h.
       | else-is_none-via-else-is_none w ↦ absurd (true≢false (sym (c.is_none.ensures ∙ ap not w.if-is_none.false) ∙ absent))
     ] in
     let few = not_too_many earlier words keys rows s here (inr room) in
-    let x : Value = record { text = c.args.text; dependencies = c.in_ok-dependencies.dependencies } in
-    let good = c.in_ok-dependencies.ensures.answer in
+    let x : Value = record { text = c.args.text; reading = c.in_ok-reading.reading } in
+    let good = c.in_ok-reading.ensures.answer in
     MatchResult-weaker c.add.result c.add.ensures
     (λ _ ok. (
       no_fault earlier s few good.0 (anew_first earlier words keys rows c.args.path c.args.line c.args.variable c.args.text.now here new),

@@ -1,4 +1,4 @@
-use Rattle.std.proofs.Common.{◌≡◌, length, arith, ap, ◌∙◌, sym}
+use Rattle.std.proofs.Common.{length, arith, ap}
 use Rattle.listing.proofs.Positions.{length-packages_of}
 use Rattle.listing.proofs.tree.Tree.len.Goals as goal
 

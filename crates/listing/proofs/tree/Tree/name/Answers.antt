@@ -1,4 +1,4 @@
-use Rattle.std.proofs.Common.{arith, ap, ◌∙◌}
+use Rattle.std.proofs.Common.{arith, ap}
 use Rattle.listing.proofs.Positions.{node_at, within_nodes}
 use Rattle.listing.proofs.tree.Tree.name.Goals as goal
 
@@ -13,6 +13,5 @@ index-requires c =
 
 pub returns : goal.returns
 returns c =
-    c.as_slice.ensures.value
-    ∙ ap (λ x. x.name) (node_at c.args.self.now c.self.inside.paths.keys c.self.inside.nodes.items c.args.position c.index.result.now
+    ap (λ x. x.name) (node_at c.args.self.now c.self.inside.paths.keys c.self.inside.nodes.items c.args.position c.index.result.now
     c.self.view_is c.self.invariant.0 c.requires c.index.ensures)

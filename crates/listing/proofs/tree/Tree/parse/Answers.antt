@@ -1,12 +1,11 @@
-use Rattle.std.proofs.Common.{◌≡◌, ◌<◌, ◌+◌, ◌==◌, length, map, get_or, take, sym, subst, ◌∙◌, rules, tests, inl, inr, arith}
+use Rattle.std.proofs.Common.{◌≡◌, ◌<◌, ◌==◌, length, map, get_or, take, sym, subst, rules, tests, inl, inr, arith}
 use Rattle.std.proofs.lemmas.Iterator.Consumers.{YieldsList-at, YieldsList-end, YieldsList-turn}
 use Rattle.std.proofs.lemmas.Iterator.Splits.{YieldsList-from_slice_split}
 use Rattle.std.proofs.lemmas.List.{length_push}
 use Rattle.std.proofs.lemmas.Result.{err_from_is_err_and}
 use Rattle.faults.specs.Bytes.{line_feed}
 use Rattle.listing.specs.Lines.{lines_of, settings_of}
-use Rattle.listing.proofs.Parsing.{ParsedSoFar, nameless_refusal, parse_fault, parsed_all, parsed_more, pieces, right_tree}
-use Rattle.listing.proofs.Rows.{nameless_by_rows}
+use Rattle.listing.proofs.Parsing.{ParsedSoFar, parse_fault, parsed_all, parsed_more, pieces, right_tree}
 use Rattle.listing.proofs.tree.Tree.parse.Goals as goal
 
 pub loop-line-preserved : goal.loop-line-preserved
@@ -45,21 +44,6 @@ returns-in_err-read c =
       | inr bad ↦ inr (parse_fault text c.loop-line.table k c.loop-line.number c.in-Some.line.now c.in_err-read.field-0.0 t.0 t.1 c.loop-line.invariant.2 so_far bad)
     ])
 
-pub returns-in_err-check_names : goal.returns-in_err-check_names
-returns-in_err-check_names c =
-    let text = c.args.text.now in
-    let k = length c.loop-line.yielded in
-    let whole : (map (λ p. p.now) c.loop-line.yielded ≡ pieces text) × (k ≡ length (pieces text)) =
-    YieldsList-end (YieldsList-at {t = c.split-line-items.result} (cc)
-    (YieldsList-from_slice_split _ (λ b. b == line_feed) text c.split-line-items.ensures.rest c.split-line-items.ensures.done c.split-line-items.ensures.closure
-    (λ x b q h. search (rules, tests))))
-    c.loop-line.yielded _ c.loop-line.yielded_by _ _ c.in-None.is c.next.ensures.steps in
-    let parsed = parsed_all text c.loop-line.table k whole.1 c.loop-line.invariant.3 in
-    let settings = settings_of (lines_of text) in
-    let rows = nameless_by_rows settings c.loop-line.table.dependencies c.loop-line.table.paths.keys c.loop-line.table.rows.items parsed.0 in
-    let p = err_from_is_err_and c.from_residual-in_err-check_names.result c.from_residual-in_err-check_names.ensures.1 in
-    rw (p.1, p.2) (inr (nameless_refusal text c.in_err-check_names.field-0.0 parsed.1 (sym rows ∙ c.in_err-check_names.ensures)))
-
 pub returns : goal.returns
 returns c =
     let text = c.args.text.now in
@@ -70,6 +54,4 @@ returns c =
     (λ x b q h. search (rules, tests))))
     c.loop-line.yielded _ c.loop-line.yielded_by _ _ c.in-None.is c.next.ensures.steps in
     let parsed = parsed_all text c.loop-line.table k whole.1 c.loop-line.invariant.3 in
-    let settings = settings_of (lines_of text) in
-    let rows = nameless_by_rows settings c.loop-line.table.dependencies c.loop-line.table.paths.keys c.loop-line.table.rows.items parsed.0 in
-    right_tree text c.of_table.result parsed.1 (sym rows ∙ c.in_ok-check_names.ensures) (c.of_table.ensures settings parsed.0)
+    right_tree text c.of_table.result parsed.1 (c.of_table.ensures (settings_of (lines_of text)) parsed.0)

@@ -1,4 +1,4 @@
-use Rattle.std.proofs.Common.{◌≡◌, ◌<◌, length, get_or, arith, ap, subst, sym}
+use Rattle.std.proofs.Common.{◌≡◌, length, get_or, arith, ap, subst}
 use Rattle.listing.proofs.Positions.{path_there, within_paths}
 use Rattle.listing.proofs.tree.Tree.path.Goals as goal
 
