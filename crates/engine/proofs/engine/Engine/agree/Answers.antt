@@ -1,7 +1,7 @@
 use Rattle.std.proofs.Common.{◌∙◌, true, length, drop, ap, arith}
 use Rattle.std.proofs.lemmas.Bool.{iff_false}
 use Rattle.std.proofs.lemmas.List.{length-set, take_at}
-use Rattle.engine.proofs.Reading.{AreInstallable-same, AreMarks-held, held_read, state_of-again, state_of-held}
+use Rattle.engine.proofs.Reading.{AreInstallable-same, AreKnown-held, AreMarks-held, held_read, state_of-again, state_of-held}
 use Rattle.engine.proofs.engine.Engine.agree.Goals as goal
 
 pub returns-then-index : goal.returns-then-index
@@ -31,3 +31,8 @@ returns-then-are_all_marked c = state_of-held c.self.invariant c.self.view_is c.
 
 pub returns-else-are_all_marked : goal.returns-else-are_all_marked
 returns-else-are_all_marked c = state_of-held c.self.invariant c.self.view_is c.args.position c.requires.listed
+
+pub keep_installable-requires-clause-known : goal.keep_installable-requires-clause-known
+keep_installable-requires-clause-known c =
+    let held_now = c.copy_from_slice.ensures.items ∙ c.as_slice-then-are_all_marked.ensures.value in
+    rw (c.as_slice-then-are_all_marked-2.ensures.value, c.as_mut_slice.ensures.value, held_now) (AreKnown-held c.self.invariant c.args.position)
