@@ -1,6 +1,6 @@
 -- Verdicts on lists of packages of a small tree: the first package is built on the second, which runs on the third; the
 -- last is left out.
-use Rattle.std.proofs.Common.{◌≡◌, ◌≢◌, ◌<◌, ◌≤◌, ◌∙◌, ℕ, zero, suc, Bool, codes, length, refl, sym, ap, subst, replicate, List, [], ◌∷◌, true, false, arith}
+use Rattle.std.proofs.Common.{◌≡◌, ◌≢◌, ◌<◌, ◌≤◌, ◌∙◌, ℕ, zero, suc, codes, length, refl, sym, ap, subst, replicate, List, [], ◌∷◌, true, false, arith}
 use Rattle.std.specs.Prelude.{AllPairs, Any, Contains}
 use Rattle.std.specs.Str.{bytes_eq}
 use Rattle.std.proofs.lemmas.Bool.{false≢true, true≢false}

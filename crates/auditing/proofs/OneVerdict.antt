@@ -1,12 +1,12 @@
 -- A list has one verdict.
-use Rattle.std.proofs.Common.{rules, ◌≡◌, ◌≢◌, ◌<◌, ◌≤◌, ◌+◌, ◌-◌, ◌⊎◌, inl, inr, ℕ, List, [], ◌∷◌, ◌++◌, length, take, get_or, Option, None, Some, refl, sym, ap, subst, ◌∙◌, arith}
+use Rattle.std.proofs.Common.{rules, ◌≡◌, ◌≢◌, ◌<◌, ◌-◌, ◌⊎◌, inl, inr, ℕ, List, length, take, Some, refl, sym, subst, ◌∙◌, arith}
 use Rattle.std.specs.Prelude.{slice_get}
 use Rattle.std.proofs.lemmas.Bool.{cases_order}
 use Rattle.std.proofs.lemmas.List.{take-take, get_or-take, length-take-le}
 use Rattle.std.proofs.lemmas.Option.{get_or_from_slice_get, none-some, same_Some, slice_get-get_or, slice_get_within}
 use Rattle.engine.specs.Letters.{IsIgnored}
 use Rattle.listing.specs.Tree.{Tree, name_at}
-use Rattle.auditing.specs.Allowed.{AreItsDependencies, IsAllowed, IsNew, MayFollow, StoodEarlier, position_of}
+use Rattle.auditing.specs.Allowed.{AreItsDependencies, IsAllowed, MayFollow, position_of}
 use Rattle.auditing.specs.Verdicts.{IsFirstBad, IsFirstReason, IsReasonAt, IsVerdict}
 use Rattle.auditing.specs.declared.entry.Entry.{Entry}
 use Rattle.auditing.specs.declared.verdict.Reason.{Reason}

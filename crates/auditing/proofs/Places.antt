@@ -1,11 +1,11 @@
 -- Where the paths of a tree stand in a list.
-use Rattle.std.proofs.Common.{◌≡◌, ◌≢◌, ◌<◌, ◌≤◌, ◌+◌, ◌⊎◌, inl, inr, ℕ, Bool, true, false, List, [], ◌∷◌, ◌++◌, length, set, position, get_or, Option, None, Some, refl, sym, ap, subst, ◌∙◌, arith}
+use Rattle.std.proofs.Common.{◌≡◌, ◌<◌, inl, inr, ℕ, true, false, List, [], ◌∷◌, ◌++◌, length, set, position, get_or, Option, None, Some, sym, ap, ◌∙◌, arith}
 use Rattle.std.proofs.lemmas.Bool.{cases_eq}
-use Rattle.std.proofs.lemmas.List.{get_or_default, get_or-set_other, get_or-set_same, length-set}
+use Rattle.std.proofs.lemmas.List.{get_or_default, get_or-set_other, get_or-set_same}
 use Rattle.std.proofs.lemmas.List.Quantifiers.{position-Some}
 use Rattle.faults.specs.Bytes.{Text}
 use Rattle.listing.specs.Tree.{IsTree, Tree, path_at}
-use Rattle.auditing.specs.Allowed.{IsAllowed, IsNew, MayFollow, position_of}
+use Rattle.auditing.specs.Allowed.{IsAllowed, IsNew, position_of}
 use Rattle.auditing.specs.Standing.{HasRead, IsOnlyOneWith, has_path}
 use Rattle.auditing.specs.declared.entry.Entry.{Entry}
 use Rattle.auditing.specs.declared.standing.Standing.{Standing}

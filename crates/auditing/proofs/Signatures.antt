@@ -1,5 +1,5 @@
 -- The signature of an entry that is the only one with its path.
-use Rattle.std.proofs.Common.{◌≡◌, Bool, true, false, List, Option, None, Some, subst}
+use Rattle.std.proofs.Common.{◌≡◌, false, List, Option, None, Some, subst}
 use Rattle.std.specs.Prelude.{Any, MatchOption, is_some}
 use Rattle.std.proofs.lemmas.Bool.{true≢false}
 use Rattle.claims.specs.declared.deps.Dep.{Dep}

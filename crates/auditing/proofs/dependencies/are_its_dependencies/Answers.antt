@@ -1,4 +1,4 @@
-use Rattle.std.proofs.Common.{◌≡◌, ◌∙◌, true, sym}
+use Rattle.std.proofs.Common.{◌∙◌, sym}
 use Rattle.std.proofs.lemmas.Bool.{false≢true}
 use Rattle.std.proofs.lemmas.Option.{MatchOption-at_none, MatchOption-at_some}
 use Rattle.auditing.proofs.Built.{are_from_same, needed_positions, not_unlisted, same_from_are}

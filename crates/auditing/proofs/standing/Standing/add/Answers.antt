@@ -1,4 +1,4 @@
-use Rattle.std.proofs.Common.{◌≡◌, ◌∙◌, length, Option, Some}
+use Rattle.std.proofs.Common.{◌∙◌, length, Some}
 use Rattle.std.proofs.lemmas.List.{length-set}
 use Rattle.auditing.proofs.Allowing.{extended}
 use Rattle.auditing.proofs.Places.{read_more}

@@ -1,6 +1,5 @@
-use Rattle.std.proofs.Common.{rules, ◌≡◌, ◌<◌, ◌∙◌, length, sym, arith, subst, position, Option, Some, None, MatchOption}
-use Rattle.auditing.specs.Allowed.{IsNew}
-use Rattle.auditing.specs.Standing.{IsOnlyOneWith, has_path}
+use Rattle.std.proofs.Common.{rules, ◌<◌, ◌∙◌, length, sym}
+use Rattle.auditing.specs.Standing.{has_path}
 use Rattle.auditing.proofs.Places.{kept_read, new_if_nowhere, only_one_at}
 use Rattle.auditing.proofs.Positions.{within_place}
 use Rattle.auditing.proofs.Allowing.{new_if_unlisted}

@@ -1,4 +1,4 @@
-use Rattle.std.proofs.Common.{◌≡◌, sym, subst}
+use Rattle.std.proofs.Common.{sym, subst}
 use Rattle.std.proofs.lemmas.Bool.{iff_false}
 use Rattle.listing.specs.Tree.{name_at}
 use Rattle.auditing.specs.Allowed.{AreItsDependencies, StoodEarlier}

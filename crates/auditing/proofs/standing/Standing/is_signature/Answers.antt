@@ -1,4 +1,4 @@
-use Rattle.std.proofs.Common.{◌≡◌, ◌∙◌, sym}
+use Rattle.std.proofs.Common.{◌∙◌, sym}
 use Rattle.std.proofs.lemmas.Bool.{false≢true}
 use Rattle.auditing.proofs.Positions.{equal_bytes, same_bytes}
 use Rattle.auditing.proofs.Signatures.{one_of_signature, signature_of_one}
