@@ -1,7 +1,6 @@
 -- What ballots are in the theory of the agreement.
 use Rattle.std.specs.Prelude.{◌≡◌, ℕ, List, [], true, false, if◌then◌else◌, Option, None, Some, option_map, unwrap_or}
 use Rattle.agreement.specs.declared.claim.Claim.{Claim}
-use Rattle.agreement.specs.Claims.{AtMost}
 use Rattle.agreement.specs.Votes.{Ballot, ballot, kept_report, report_of}
 use Rattle.agreement.specs.Messages as messages
 use Rattle.agreement.specs.Member as members
@@ -38,17 +37,18 @@ note_of (Promised c) = members.Promised c
 note_of (Voted c v) = members.Voted (ballot c v)
 note_of (Held v) = members.Held v
 
--- The last vote is at or below what is promised.
-abbrev pub IsVotedBelow : {V : Type 0} → Option Claim → Option (Ballot V) → Type 0
-IsVotedBelow p None = Unit {0}
-IsVotedBelow None (Some b) = ⊥
-IsVotedBelow (Some p) (Some b) = AtMost b.claim p
+-- Who voted has promised a claim.
+abbrev pub HasPromised : {V : Type 0} → Option Claim → Option (Ballot V) → Type 0
+HasPromised p None = Unit {0}
+HasPromised None (Some b) = ⊥
+HasPromised (Some p) (Some b) = Unit {0}
 
--- The member promised and voted for what the voter did.
+-- The member promised and voted for what the voter did. Each vote that is noted raises what is promised, so who voted has
+-- promised.
 pub record IsVoter (V : Type 0) (v : Voter V) (x : members.Member V) : Type 0 where
   pub promised : x.promised ≡ v.promised
   pub voted : x.voted ≡ report_of v.voted
-  pub below : IsVotedBelow x.promised x.voted
+  pub bound : HasPromised x.promised x.voted
 
 -- the value of the vote that is noted
 abbrev pub kept_of : {V : Type 0} → Option (Fact V) → Option V

@@ -17,13 +17,15 @@ ghost use Rattle.ballots.specs.InTheAgreement.{
   voting_step,
 };
 
+use crate::value::copy_of_vote;
 use crate::{Tally, Value};
 use agreement::keep;
 use claims::Claim;
 use faults::Memory;
+use package_record::Record;
 
 #[derive(Drop)]
-pub enum Claimer<V> {
+pub enum Claimer<V = Record> {
     /// Promises come in. Of what they report, that under the greatest claim is kept.
     Gathering {
         claim: Claim,
@@ -44,7 +46,7 @@ pub enum Claimer<V> {
 
 /// What a step changes. It holds all that the change needs, so that taking it needs no memory.
 #[derive(Drop)]
-pub enum ClaimerStep<V> {
+pub enum ClaimerStep<V = Record> {
     Nothing,
     /// A member joined, and its report, if there is one, takes the place of the one kept so far.
     Joins {
@@ -68,7 +70,7 @@ pub enum ClaimerStep<V> {
 
 /// What follows a step.
 #[derive(Drop)]
-pub enum Next<V> {
+pub enum Next<V = Record> {
     Nothing,
     /// A value is to be built.
     Build,
@@ -91,11 +93,11 @@ impl<V: Value> Claimer<V> {
     {
         match self {
             Claimer::Gathering {
-                claim: own,
+                claim: offered,
                 promised,
                 report: kept,
             } => {
-                if claim != *own {
+                if claim != *offered {
                     return Ok(ClaimerStep::Nothing);
                 }
                 let tally = promised.with(from)?;
@@ -113,11 +115,11 @@ impl<V: Value> Claimer<V> {
     {
         match self {
             Claimer::Voting {
-                claim: own,
+                claim: proposed,
                 value,
                 voted,
             } => {
-                if claim != *own {
+                if claim != *proposed {
                     return Ok(ClaimerStep::Nothing);
                 }
                 let tally = voted.with(from)?;
@@ -207,7 +209,7 @@ fn gathering<V: Value>(
     ensures { IfOk result (IsGatheringStep tally (option_copied kept.entry) (option_copied report.entry)) }
 {
     if !tally.is_majority() {
-        let report = copy_of(newer(kept, report))?;
+        let report = copy_of_vote(newer(kept, report))?;
         return Ok(ClaimerStep::Joins { tally, report });
     }
     match keep(kept, report) {
@@ -248,17 +250,5 @@ fn newer<'a, V>(kept: Option<&(Claim, V)>, report: Option<&'a (Claim, V)>) -> Op
         },
         (None, second) => second,
         (Some(_), None) => None,
-    }
-}
-
-fn copy_of<V: Value>(report: Option<&(Claim, V)>) -> Result<Option<(Claim, V)>, Memory>
-    ensures { IfOk result (λ copy. copy ≡ option_copied report.entry) }
-{
-    match report {
-        Some((claim, value)) => {
-            let value = value.copy()?;
-            Ok(Some((*claim, value)))
-        }
-        None => Ok(None),
     }
 }

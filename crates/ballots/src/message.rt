@@ -1,9 +1,16 @@
 //! What members send each other about a path, and what they note.
+ghost use Rattle.std.specs.Prelude.{◌≡◌, IfOk};
+
+use crate::Value;
+use crate::value::copy_of_vote;
 use claims::Claim;
+use faults::Memory;
+use package_record::Record;
+use pkgpath::PkgPath;
 
 /// What a message says of its path.
 #[derive(Drop)]
-pub enum Body<V> {
+pub enum Body<V = Record> {
     Offer(Claim),
     /// The claim, and the sender's last vote.
     Promise(Claim, Option<(Claim, V)>),
@@ -15,11 +22,98 @@ pub enum Body<V> {
     Nay(Claim, Claim),
 }
 
+/// What a member tells another about a path.
+#[derive(Drop)]
+pub struct Message<V = Record> {
+    /// The number of the member that sends it.
+    pub sender: u8,
+    /// The digest of the sender's tree.
+    pub tree: [u8; 32],
+    pub path: PkgPath,
+    pub body: Body<V>,
+}
+
 /// What a member has to know of a path after a stop.
 #[derive(Drop)]
-pub enum Fact<V> {
+pub enum Fact<V = Record> {
     Opened(u64),
     Promised(Claim),
     Voted(Claim, V),
     Held(V),
+}
+
+/// What a member writes down of a path before it answers.
+#[derive(Drop)]
+pub struct Note<V = Record> {
+    pub path: PkgPath,
+    pub fact: Fact<V>,
+}
+
+impl<V: Value> Body<V> {
+    pub fn copy(&self) -> Result<Body<V>, Memory>
+        ensures { IfOk result (λ body. body ≡ self.now) }
+    {
+        match self {
+            Body::Offer(claim) => Ok(Body::Offer(*claim)),
+            Body::Promise(claim, vote) => {
+                let vote = copy_of_vote(vote.as_ref())?;
+                Ok(Body::Promise(*claim, vote))
+            }
+            Body::Propose(claim, value) => {
+                let value = value.copy()?;
+                Ok(Body::Propose(*claim, value))
+            }
+            Body::Vote(claim) => Ok(Body::Vote(*claim)),
+            Body::Agreed(value) => {
+                let value = value.copy()?;
+                Ok(Body::Agreed(value))
+            }
+            Body::Ask => Ok(Body::Ask),
+            Body::Nay(claim, promised) => Ok(Body::Nay(*claim, *promised)),
+        }
+    }
+}
+
+impl<V: Value> Message<V> {
+    pub fn copy(&self) -> Result<Message<V>, Memory>
+        ensures { IfOk result (λ message. message ≡ self.now) }
+    {
+        let path = self.path.copy()?;
+        let body = self.body.copy()?;
+        Ok(Message {
+            sender: self.sender,
+            tree: self.tree,
+            path,
+            body,
+        })
+    }
+}
+
+impl<V: Value> Fact<V> {
+    pub fn copy(&self) -> Result<Fact<V>, Memory>
+        ensures { IfOk result (λ fact. fact ≡ self.now) }
+    {
+        match self {
+            Fact::Opened(round) => Ok(Fact::Opened(*round)),
+            Fact::Promised(claim) => Ok(Fact::Promised(*claim)),
+            Fact::Voted(claim, value) => {
+                let value = value.copy()?;
+                Ok(Fact::Voted(*claim, value))
+            }
+            Fact::Held(value) => {
+                let value = value.copy()?;
+                Ok(Fact::Held(value))
+            }
+        }
+    }
+}
+
+impl<V: Value> Note<V> {
+    pub fn copy(&self) -> Result<Note<V>, Memory>
+        ensures { IfOk result (λ note. note ≡ self.now) }
+    {
+        let path = self.path.copy()?;
+        let fact = self.fact.copy()?;
+        Ok(Note { path, fact })
+    }
 }

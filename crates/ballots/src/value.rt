@@ -1,10 +1,33 @@
 //! What is agreed on.
 ghost use Rattle.std.specs.Prelude.{◌≡◌, IfOk};
+ghost use Rattle.std.specs.Option.{option_copied};
 
+use claims::Claim;
 use faults::Memory;
+use package_record::Record;
 
 /// A value that can be copied, where memory allows it.
 pub trait Value: Drop {
     fn copy(&self) -> Result<Self, Memory>
         ensures { IfOk result (λ copy. copy ≡ self.now) };
+}
+
+/// Hosts agree on records of built packages.
+impl Value for Record {
+    fn copy(&self) -> Result<Record, Memory> {
+        Record::copy(self)
+    }
+}
+
+/// A copy of a vote, if one was cast.
+pub fn copy_of_vote<V: Value>(vote: Option<&(Claim, V)>) -> Result<Option<(Claim, V)>, Memory>
+    ensures { IfOk result (λ copy. copy ≡ option_copied vote.entry) }
+{
+    match vote {
+        Some((claim, value)) => {
+            let value = value.copy()?;
+            Ok(Some((*claim, value)))
+        }
+        None => Ok(None),
+    }
 }

@@ -5,14 +5,16 @@ ghost use Rattle.agreement.specs.Step.{on_offer, on_propose};
 ghost use Rattle.agreement.specs.Votes.{ballot, is_voted, report_of};
 ghost use Rattle.ballots.specs.InTheAgreement.{IsStepOf, kept_of, promised_then, refusal_of, voted_then};
 
+use crate::value::copy_of_vote;
 use crate::{Body, Fact, Value};
 use agreement::{is_above, is_below, is_promised};
 use claims::Claim;
 use faults::Memory;
+use package_record::Record;
 
 /// What a member promised, and its last vote, for one path.
 #[derive(Drop)]
-pub struct Voter<V> {
+pub struct Voter<V = Record> {
     pub promised: Option<Claim>,
     pub voted: Option<(Claim, V)>,
 }
@@ -20,7 +22,7 @@ pub struct Voter<V> {
 /// What a voter is to note first, and then what it answers to the claim's member. It holds all that was grown for the step:
 /// `kept` is the value that the voter keeps where it votes.
 #[derive(Drop)]
-pub struct VoterStep<V> {
+pub struct VoterStep<V = Record> {
     pub note: Option<Fact<V>>,
     pub answer: Body<V>,
     pub kept: Option<V>,
@@ -32,7 +34,7 @@ impl<V: Value> Voter<V> {
         ensures { IfOk result (λ step. IsStepOf V self.now (λ i x. on_offer i x claim) step) }
     {
         if is_above(claim, self.promised) {
-            let voted = self.copy_of_vote()?;
+            let voted = copy_of_vote(self.voted.as_ref())?;
             return Ok(VoterStep {
                 note: Some(Fact::Promised(claim)),
                 answer: Body::Promise(claim, voted),
@@ -40,7 +42,7 @@ impl<V: Value> Voter<V> {
             });
         }
         if is_promised(claim, self.promised) && !self.has_voted(claim) {
-            let voted = self.copy_of_vote()?;
+            let voted = copy_of_vote(self.voted.as_ref())?;
             return Ok(VoterStep {
                 note: None,
                 answer: Body::Promise(claim, voted),
@@ -93,18 +95,6 @@ impl<V: Value> Voter<V> {
             _ => {}
         }
         (note, answer)
-    }
-
-    fn copy_of_vote(&self) -> Result<Option<(Claim, V)>, Memory>
-        ensures { IfOk result (λ vote. vote ≡ self.now.voted) }
-    {
-        match &self.voted {
-            Some((claim, value)) => {
-                let value = value.copy()?;
-                Ok(Some((*claim, value)))
-            }
-            None => Ok(None),
-        }
     }
 
     fn has_voted(&self, claim: Claim) -> bool

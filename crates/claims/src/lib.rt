@@ -1,4 +1,5 @@
-//! Claims, how they compare, the rounds that are left for them, and the dependencies that a build under a claim stood on.
+//! Claims, how they compare, the rounds that are left for them, and the jobs that they lead to, with the dependencies that
+//! a build stands on.
 #![tactic(auto)]
 
 ghost use Rattle.std.specs.Prelude.{◌≡◌, ◌+◌, ◌≤◌, ◌↔◌, None, Option, Some, IfOk, IsErr};
@@ -8,8 +9,10 @@ ghost use Rattle.agreement.specs.Claims.{claim_below, claim_same, is_above, is_b
 ghost use Rattle.claims.specs.Claim.{claim_cmp, promised_cmp};
 
 mod deps;
+mod job;
 
 pub use crate::deps::{Dep, Deps};
+pub use crate::job::Job;
 pub use agreement::Claim;
 use faults::Fault;
 use thiserror::Error;

@@ -1,0 +1,236 @@
+//! Ballots on records whose outcomes are known. The records differ in their hosts.
+ghost use Rattle.std.specs.Prelude.{◌<◌};
+ghost use Rattle.claims.specs.declared.TheConstants.{MEMBERS};
+
+use crate::{Body, Claimer, Fact, Message, Next, Note, Tally, Voter};
+use arrayvec::ArrayVec;
+use claims::{Claim, Deps, Job};
+use faults::Memory;
+use package_record::{Record, make};
+use pkgname::PkgName;
+use pkgpath::PkgPath;
+use std::alloc::Global;
+use std::process::Abort;
+use std::test::Fail;
+
+const FIRST: Claim = Claim {
+    round: 1,
+    member: 0,
+};
+
+fn claim(round: u64, member: u8) -> Claim {
+    Claim { round, member }
+}
+
+fn path(alloc: Global) -> Result<PkgPath, Fail> {
+    Ok(PkgPath::parse(alloc, b"a/b")?)
+}
+
+fn record(alloc: Global, host: u16) -> Result<Record, Fail> {
+    let name = PkgName::parse(alloc, b"b-1")?;
+    let none = Deps::new(Vec::new(alloc));
+    Ok(make(
+        alloc,
+        path(alloc)?,
+        name,
+        host,
+        FIRST,
+        none,
+        Vec::new(alloc),
+        Vec::new(alloc),
+    )?)
+}
+
+fn nobody_of(members: u8) -> Tally {
+    let mut weights = ArrayVec::new();
+    for _ in 0..members {
+        let _ = weights.try_push(1);
+    }
+    Tally::new(weights)
+}
+
+/// What a body says, the claim that it names last, and the host of its record.
+type Said = (&'static str, Option<Claim>, Option<u16>);
+
+fn said(body: &Body) -> Said {
+    match body {
+        Body::Offer(claim) => ("offer", Some(*claim), None),
+        Body::Promise(claim, None) => ("promise", Some(*claim), None),
+        Body::Promise(_, Some((voted, record))) => ("report", Some(*voted), Some(record.host())),
+        Body::Propose(claim, record) => ("propose", Some(*claim), Some(record.host())),
+        Body::Vote(claim) => ("vote", Some(*claim), None),
+        Body::Agreed(record) => ("agreed", None, Some(record.host())),
+        Body::Ask => ("ask", None, None),
+        Body::Nay(_, promised) => ("nay", Some(*promised), None),
+    }
+}
+
+fn offered(voter: &mut Voter, claim: Claim) -> Result<Said, Memory> {
+    let step = voter.offer(claim)?;
+    let (_note, answer) = voter.apply(step);
+    Ok(said(&answer))
+}
+
+fn proposed(voter: &mut Voter, claim: Claim, record: &Record) -> Result<Said, Memory> {
+    let step = voter.propose(claim, record)?;
+    let (_note, answer) = voter.apply(step);
+    Ok(said(&answer))
+}
+
+fn ballots(rt: &impl Abort, voter: &mut Voter, record: &Record) -> Result<(), Memory> {
+    let promise = offered(voter, claim(2, 1))?;
+    assert_eq!(rt; promise, ("promise", Some(claim(2, 1)), None));
+    let below = proposed(voter, claim(2, 0), record)?;
+    assert_eq!(rt; below, ("nay", Some(claim(2, 1)), None));
+    let vote = proposed(voter, claim(2, 1), record)?;
+    assert_eq!(rt; vote, ("vote", Some(claim(2, 1)), None));
+    let again = offered(voter, claim(2, 1))?;
+    assert_eq!(rt; again, ("nay", Some(claim(2, 1)), None));
+    let report = offered(voter, claim(3, 0))?;
+    assert_eq!(rt; report, ("report", Some(claim(2, 1)), Some(7)));
+    Ok(())
+}
+
+#[test]
+fn promises_and_votes(rt: HostRuntime) -> Result<(), Fail> {
+    let record = record(rt.alloc(), 7)?;
+    let mut voter = Voter {
+        promised: None,
+        voted: None,
+    };
+    ballots(&rt, &mut voter, &record)?;
+    Ok(())
+}
+
+/// The claimer once the member voted, if one is left.
+fn voted(open: Option<Claimer>, from: u8) -> Result<Option<Claimer>, Memory>
+    requires { from < MEMBERS }
+{
+    let claimer = open.ok_or(Memory)?;
+    let step = claimer.vote(from, FIRST)?;
+    let (left, _next) = claimer.apply(step);
+    Ok(left)
+}
+
+#[test]
+fn counts_a_member_once(rt: HostRuntime) -> Result<(), Fail> {
+    let open = Claimer::Voting {
+        claim: FIRST,
+        value: record(rt.alloc(), 7)?,
+        voted: nobody_of(3),
+    };
+    let open = voted(Some(open), 2)?;
+    let open = voted(open, 2)?;
+    assert!(rt; open.is_some());
+    let open = voted(open, 1)?;
+    assert!(rt; open.is_none());
+    Ok(())
+}
+
+fn gathering(members: u8) -> Option<Claimer> {
+    Some(Claimer::Gathering {
+        claim: claim(3, 0),
+        promised: nobody_of(members),
+        report: None,
+    })
+}
+
+/// The claimer once the member promised and reported this, and the host of the record that it proposes then.
+fn promised(
+    open: Option<Claimer>,
+    from: u8,
+    report: Option<&(Claim, Record)>,
+) -> Result<(Option<Claimer>, Option<u16>), Memory>
+    requires { from < MEMBERS }
+{
+    let claimer = open.ok_or(Memory)?;
+    let step = claimer.promise(from, claim(3, 0), report)?;
+    let (left, next) = claimer.apply(step);
+    Ok((left, proposes(&next)))
+}
+
+fn proposes(next: &Next) -> Option<u16> {
+    match next {
+        Next::Propose(_, record) => Some(record.host()),
+        _ => None,
+    }
+}
+
+/// The host of the record that is proposed after three of the five reports, and after two of three.
+fn kept(
+    first: &(Claim, Record),
+    equal: &(Claim, Record),
+    greatest: &(Claim, Record),
+) -> Result<[Option<u16>; 2], Memory> {
+    let (open, _) = promised(gathering(5), 1, Some(first))?;
+    let (open, _) = promised(open, 2, Some(equal))?;
+    let (_, of_five) = promised(open, 3, Some(greatest))?;
+    let (open, _) = promised(gathering(3), 1, Some(first))?;
+    let (_, of_three) = promised(open, 2, Some(equal))?;
+    Ok([of_five, of_three])
+}
+
+#[test]
+fn proposes_what_was_reported(rt: HostRuntime) -> Result<(), Fail> {
+    let first = (claim(1, 2), record(rt.alloc(), 1)?);
+    let equal = (claim(1, 2), record(rt.alloc(), 2)?);
+    let greatest = (claim(2, 0), record(rt.alloc(), 3)?);
+    let hosts = kept(&first, &equal, &greatest)?;
+    assert_eq!(rt; hosts, [Some(3), Some(1)]);
+    Ok(())
+}
+
+/// What a copy of a message with the body says.
+fn copied(alloc: Global, body: Body) -> Result<Said, Fail> {
+    let message = Message {
+        sender: 1,
+        tree: [2; 32],
+        path: path(alloc)?,
+        body,
+    };
+    let copy = message.copy()?;
+    Ok(said(&copy.body))
+}
+
+#[test]
+fn copies_messages(rt: HostRuntime) -> Result<(), Fail> {
+    let alloc = rt.alloc();
+    let nay = copied(alloc, Body::Nay(FIRST, claim(2, 1)))?;
+    assert_eq!(rt; nay, ("nay", Some(claim(2, 1)), None));
+    let ask = copied(alloc, Body::Ask)?;
+    assert_eq!(rt; ask, ("ask", None, None));
+    let agreed = copied(alloc, Body::Agreed(record(alloc, 5)?))?;
+    assert_eq!(rt; agreed, ("agreed", None, Some(5)));
+    let voted = Some((claim(2, 1), record(alloc, 3)?));
+    let report = copied(alloc, Body::Promise(FIRST, voted))?;
+    assert_eq!(rt; report, ("report", Some(claim(2, 1)), Some(3)));
+    Ok(())
+}
+
+/// The host in a copy of a note.
+fn noted(alloc: Global, host: u16) -> Result<Option<u16>, Fail> {
+    let note = Note {
+        path: path(alloc)?,
+        fact: Fact::Voted(FIRST, record(alloc, host)?),
+    };
+    let copy = note.copy()?;
+    match &copy.fact {
+        Fact::Voted(_, record) => Ok(Some(record.host())),
+        _ => Ok(None),
+    }
+}
+
+#[test]
+fn copies_notes_and_jobs(rt: HostRuntime) -> Result<(), Fail> {
+    let alloc = rt.alloc();
+    assert_eq!(rt; noted(alloc, 4)?, Some(4));
+    let job = Job {
+        path: path(alloc)?,
+        claim: FIRST,
+        host: 7,
+        deps: Deps::new(Vec::new(alloc)),
+    };
+    let copy = job.copy()?;
+    assert_eq!(rt; (copy.claim, copy.host), (FIRST, 7));
+    Ok(())
+}
