@@ -64,7 +64,7 @@ fn letters_follow_what_is_agreed(rt: HostRuntime) -> Result<(), Fail> {
 }
 
 #[test]
-fn held_paths_and_words_are_read(rt: HostRuntime) -> Result<(), Fail> {
+fn held_paths_are_read(rt: HostRuntime) -> Result<(), Fail> {
     let alloc = rt.alloc();
     let tree = Tree::parse(alloc, CHAIN)?;
     assert!(rt; tree.len() == 4);
@@ -77,26 +77,23 @@ fn held_paths_and_words_are_read(rt: HostRuntime) -> Result<(), Fail> {
     );
     let refused = status(alloc, &tree, b"a/p\na/s\n");
     assert!(rt; matches!(&refused, Err(HeldFault::Ignored(2))));
-    let call = dpbr_words(alloc, &["dpbr", "status", "t", "h"])?;
-    assert!(rt;
-        matches!(
-            &call,
-            Call::Status {
-                listing: "t",
-                held: "h"
-            }
-        )
-    );
-    let call = dpbr_words(alloc, &["dpbr", "audit", "t", "l"])?;
-    assert!(rt;
-        matches!(
-            &call,
-            Call::Audit {
-                listing: "t",
-                list: "l"
-            }
-        )
-    );
+    Ok(())
+}
+
+#[test]
+fn words_make_calls(rt: HostRuntime) -> Result<(), Fail> {
+    let words = ["dpbr", "status", "t", "h"];
+    let call = dpbr_words(rt.alloc(), &words)?;
+    assert!(rt; matches!(&call, Call::Status { .. }));
+    if let Call::Status { listing, held } = call {
+        assert!(rt; listing == "t" && held == "h");
+    }
+    let words = ["dpbr", "audit", "t", "l"];
+    let call = dpbr_words(rt.alloc(), &words)?;
+    assert!(rt; matches!(&call, Call::Audit { .. }));
+    if let Call::Audit { listing, list } = call {
+        assert!(rt; listing == "t" && list == "l");
+    }
     Ok(())
 }
 
