@@ -149,7 +149,7 @@ all_built_read n ds ls deps order next =
     let enough : length ds < length (flat_map line ds ++ ls) = omega (arith, length-append (flat_map line ds) ls, ap length single, length-map ds built_line) in (
       m,
       ap (λ (xs : List Text). all_at built_at (at n (xs ++ ls))) (sym single)
-      ∙ many_read built_at line BuiltFits built_read (length (flat_map line ds ++ ls)) [] ds n ls (at m ls) enough (built_fits n [] ds deps order) some stops,
+          ∙ many_read built_at line BuiltFits built_read (length (flat_map line ds ++ ls)) [] ds n ls (at m ls) enough (built_fits n [] ds deps order) some stops,
     )
 
 -- ---- paths that it runs with
@@ -185,7 +185,7 @@ all_run_read n paths ls good order next =
     let enough : length paths < length (flat_map line paths ++ ls) = omega (arith, length-append (flat_map line paths) ls, ap length single, length-map paths run_line) in (
       m,
       ap (λ (xs : List Text). all_at run_at (at n (xs ++ ls))) (sym single)
-      ∙ many_read run_at line RunFits run_read (length (flat_map line paths ++ ls)) [] paths n ls (at m ls) enough (run_fits n [] paths good order) some stops,
+          ∙ many_read run_at line RunFits run_read (length (flat_map line paths ++ ls)) [] paths n ls (at m ls) enough (run_fits n [] paths good order) some stops,
     )
 
 -- ---- files
@@ -279,5 +279,5 @@ all_files_read n fs ls names total some =
     let enough : length hs < length (flat_map head_lines hs ++ ([] ∷ ls)) = omega (arith, length-append (flat_map head_lines hs) ([] ∷ ls), heads_short hs) in (
       m + 1,
       ap (λ (xs : List Text). all_at file_at (at n (xs ++ ([] ∷ ls)))) (heads_lines n fs)
-      ∙ many_read file_at head_lines HeadFits file_read (length (flat_map head_lines hs ++ ([] ∷ ls))) [] hs n ([] ∷ ls) (at (m + 1) ls) enough (files_fit n [] fs names (omega (arith, total))) (omega arith) (files_stop hs m ls some),
+          ∙ many_read file_at head_lines HeadFits file_read (length (flat_map head_lines hs ++ ([] ∷ ls))) [] hs n ([] ∷ ls) (at (m + 1) ls) enough (files_fit n [] fs names (omega (arith, total))) (omega arith) (files_stop hs m ls some),
     )

@@ -22,6 +22,8 @@ mod number;
 mod package;
 mod parsing;
 mod reading;
+#[cfg(test)]
+mod tests;
 mod writing;
 
 pub use crate::file::File;
