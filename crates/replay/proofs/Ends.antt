@@ -1,5 +1,5 @@
 -- A list of texts whose last one may be empty.
-use Rattle.std.proofs.Common.{◌≡◌, ◌-◌, ◌∙◌, ◌==◌, ℕ, suc, true, false, Bor, List, [], ◌∷◌, length, map, take, Option, Some, arith, ap, sym, refl, subst}
+use Rattle.std.proofs.Common.{◌≡◌, ◌-◌, ◌∙◌, ◌==◌, ℕ, suc, true, false, Bor, List, [], ◌∷◌, length, map, take, Some, arith, ap, sym, refl, subst}
 use Rattle.std.proofs.lemmas.Bool.{ne_eqb}
 use Rattle.std.proofs.lemmas.List.{take-map}
 use Rattle.std.specs.List.{slice_get}

@@ -1,5 +1,5 @@
 -- Lists of packages that are known.
-use Rattle.std.proofs.Common.{◌≡◌, ◌++◌, codes, refl, List, [], ◌∷◌}
+use Rattle.std.proofs.Common.{◌≡◌, ◌++◌, codes, refl, [], ◌∷◌}
 use Rattle.std.specs.Fmt.{decimal}
 use Rattle.hex.proofs.OnLiterals.{hex_on_literals}
 use Rattle.auditing.specs.declared.entry.Entry.{Entry}
@@ -71,12 +71,12 @@ p_spelled = record { path_is = refl; name_is = refl; digest_is = refl; lower = r
 example_list : AreEntries (q_line ++ line_feed ∷ [] ++ p_line ++ line_feed ∷ [] ++ built_line) (q_entry ∷ p_entry ∷ [])
 unfolding lines_in
 example_list = (
-    record { path = codes "a/q"; name = codes "q-1"; digest = digest_text; fields = refl; spelled = q_spelled },
-    (
-        record { path = codes "a/p"; name = codes "p-1"; digest = digest_text; fields = refl; spelled = p_spelled },
-        (record { path = codes "a/q"; name = codes "q-1"; digest = digest_text; fields = refl; spelled = q_spelled }, tt),
-    ),
-  )
+  record { path = codes "a/q"; name = codes "q-1"; digest = digest_text; fields = refl; spelled = q_spelled },
+  (
+    record { path = codes "a/p"; name = codes "p-1"; digest = digest_text; fields = refl; spelled = p_spelled },
+    (record { path = codes "a/q"; name = codes "q-1"; digest = digest_text; fields = refl; spelled = q_spelled }, tt),
+  ),
+)
 
 example_yes : verdict_line Yes ≡ codes "yes" ++ line_feed ∷ []
 example_yes = refl

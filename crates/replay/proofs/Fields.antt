@@ -1,5 +1,5 @@
 -- A line with four fields.
-use Rattle.std.proofs.Common.{◌≡◌, ◌≢◌, ◌∙◌, Bor, List, [], ◌∷◌, length, map, get_or, codes, arith, ap, sym, refl, subst}
+use Rattle.std.proofs.Common.{◌≡◌, ◌≢◌, ◌∙◌, Bor, List, [], ◌∷◌, length, map, get_or, arith, ap, sym, refl, subst}
 use Rattle.claims.specs.declared.deps.Dep.{Dep}
 use Rattle.faults.specs.Bytes.{Text, blank}
 use Rattle.faults.specs.Pieces.{pieces_at}

@@ -4,6 +4,7 @@ pub mod Fields
 pub mod Holding
 pub mod Lines
 pub mod NumberedLines
+pub mod OneList
 pub mod PackageLines
 pub mod Positions
 pub mod Saying

@@ -1,5 +1,5 @@
 -- The lines of a text with their numbers, beside those that code goes over.
-use Rattle.std.proofs.Common.{◌≡◌, ◌+◌, ◌<◌, ◌≤◌, ◌∙◌, ◌++◌, ◌==◌, ℕ, zero, suc, true, Bor, List, [], ◌∷◌, length, map, take, get_or, Some, arith, ap, sym, refl}
+use Rattle.std.proofs.Common.{◌≡◌, ◌+◌, ◌<◌, ◌≤◌, ◌∙◌, ◌++◌, ◌==◌, ℕ, true, Bor, List, [], ◌∷◌, length, map, take, get_or, Some, arith, ap, sym, refl}
 use Rattle.std.proofs.lemmas.Bool.Decides.{Decides-eqb}
 use Rattle.std.proofs.lemmas.List.{take_more}
 use Rattle.std.proofs.lemmas.List.FromFn.{get_or-enumerate_from, length-enumerate_from}

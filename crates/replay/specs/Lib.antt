@@ -1,6 +1,7 @@
 pub mod Audit
 pub mod Held
 pub mod List
+pub mod ListLaws
 pub mod ListRefusals
 pub mod Listed
 pub mod Printed

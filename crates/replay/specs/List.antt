@@ -1,5 +1,5 @@
 -- What a list of packages says, line by line.
-use Rattle.std.specs.Prelude.{◌≡◌, ◌<◌, ◌+◌, ℕ, Bool, false, List, [], ◌∷◌, codes, length, map, take, Ok, if◌then◌else◌}
+use Rattle.std.specs.Prelude.{◌≡◌, ◌<◌, ◌+◌, ℕ, List, [], ◌∷◌, codes, length, map, take, Ok, if◌then◌else◌}
 use Rattle.std.specs.List.{AllZip, flat_map}
 use Rattle.hex.specs.Hex.{decode_sized, encode_lower}
 use Rattle.faults.specs.Bytes.{Text, blank, is_empty, line_feed}

@@ -2,6 +2,7 @@
 #![tactic(auto)]
 
 mod held;
+mod laws;
 mod list;
 mod list_line;
 mod pieces;
@@ -11,6 +12,7 @@ mod report;
 mod verdict;
 
 pub use crate::held::{HeldFault, held_engine};
+pub use crate::laws::lists_and_faults;
 pub use crate::list::{ListFault, read_list};
 pub use crate::program::dpbr_main;
 pub use crate::report::status;

@@ -1,4 +1,4 @@
-use Rattle.std.proofs.Common.{◌≡◌, ◌∙◌, List, Bor, length, ap, map, subst, sym, true, false}
+use Rattle.std.proofs.Common.{◌≡◌, ◌∙◌, List, Bor, length, ap, map, sym}
 use Rattle.faults.specs.Bytes.{Text}
 use Rattle.replay.specs.List.{lines_in}
 use Rattle.replay.specs.Listed.{has_empty_end}

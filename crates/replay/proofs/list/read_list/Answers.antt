@@ -1,4 +1,4 @@
-use Rattle.std.proofs.Common.{◌+◌, Bor, [], Some, inl, inr, refl, subst, sym}
+use Rattle.std.proofs.Common.{Bor, [], inl, inr, refl, subst, sym}
 use Rattle.std.proofs.lemmas.Result.{err_from_is_err_and}
 use Rattle.faults.specs.Bytes.{Text}
 use Rattle.replay.specs.List.{IsFirstBadLine, lines_in}

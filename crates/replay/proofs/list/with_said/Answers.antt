@@ -1,5 +1,5 @@
 use Rattle.replay.specs.Listed.{entries_in}
-use Rattle.replay.proofs.Saying.{built_said, package_said}
+use Rattle.replay.proofs.Saying.{package_said}
 use Rattle.replay.proofs.list.with_said.Goals as goal
 
 pub returns-in_ok-earlier-in-Package-clause-some : goal.returns-in_ok-earlier-in-Package-clause-some
