@@ -1,5 +1,5 @@
 -- The first name that may not stand where it does.
-use Rattle.std.proofs.Common.{◌≡◌, ℕ, zero, suc, ◌+◌, ◌<◌, ◌≤◌, Bool, true, false, List, [], ◌∷◌, ◌++◌, length, get_or, take, map, Option, None, Some, refl, sym, ap, ◌∙◌, arith, inl, inr, cond}
+use Rattle.std.proofs.Common.{◌≡◌, ℕ, zero, suc, ◌+◌, ◌<◌, ◌≤◌, Bool, true, false, List, [], ◌∷◌, ◌++◌, length, get_or, take, map, Option, None, Some, refl, sym, ap, ◌∙◌, arith, inl, inr}
 use Rattle.std.specs.List.{range_with_len}
 use Rattle.std.proofs.lemmas.Bool.{cases_lt, lt-ltb}
 use Rattle.std.proofs.lemmas.List.{take_more, length-map}
@@ -9,7 +9,6 @@ use Rattle.package_record.specs.Content.{AreFileNames, is_next_name, names_of}
 use Rattle.package_record.specs.Inside.{file_view}
 use Rattle.package_record.specs.Making.{names_fault, too_large}
 use Rattle.package_record.specs.declared.file.File.{File}
-use Rattle.package_record.specs.declared.RecordFault.{RecordFault}
 use Rattle.package_record.specs.declared.RecordFault.TheVariants.{BadFileName, TooLarge}
 
 -- nothing is given where f gives nothing at any number

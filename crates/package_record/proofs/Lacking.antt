@@ -1,21 +1,19 @@
 -- Bytes that stand nowhere in a text.
-use Rattle.std.proofs.Common.{◌≡◌, ℕ, zero, suc, ◌<◌, ◌^◌, ◌/◌, ◌%◌, Bool, true, false, not, ◌&&◌, ◌||◌, cond, eqb, List, [], ◌∷◌, ◌++◌, get_or, Option, Some, None, Result, Ok, Err, refl, sym, ap, ◌∙◌, inl, inr, codes, decimal, slice_index}
-use Rattle.std.specs.Char.{is_ascii_digit}
-use Rattle.std.specs.List.{All, list_all, list_any, onto_first}
+use Rattle.std.proofs.Common.{◌≡◌, ℕ, zero, suc, ◌/◌, ◌%◌, Bool, true, false, not, ◌||◌, cond, eqb, List, [], ◌∷◌, ◌++◌, get_or, Option, Some, None, Ok, refl, sym, ap, ◌∙◌, inl, inr}
+use Rattle.std.specs.List.{All, list_all, onto_first}
 use Rattle.std.proofs.lemmas.Bool.{and_from, and_parts, cases_Bool, eqb-true, not-true, or_parts}
 use Rattle.std.proofs.lemmas.List.Elements.{All-cons, All-nil}
 use Rattle.std.proofs.lemmas.List.Folds.{list_any-append}
 use Rattle.std.proofs.lemmas.List.Splits.{slice_split-cons_no, slice_split-cons_yes}
 use Rattle.hex.specs.Hex.{encode_lower, encode_with, lower_digits}
 use Rattle.faults.specs.Answers.{unless_fault}
-use Rattle.faults.specs.Bytes.{Text, begins_with, comma, has_byte, is_empty, slash}
+use Rattle.faults.specs.Bytes.{Text, comma, has_byte, slash}
 use Rattle.faults.specs.Pieces.{pieces_at}
 use Rattle.pkgname.specs.PkgName.{IsName, fault_of as name_fault_of, has_empty_flavor, is_name_byte}
 use Rattle.pkgname.specs.declared.NameFault.TheVariants as name_faults
 use Rattle.pkgpath.specs.PkgPath.{IsPath, directory_of, fault_of as path_fault_of, is_component, is_part, is_path_byte, parts_of}
 use Rattle.pkgpath.proofs.FirstFault.{faultless}
 use Rattle.pkgpath.proofs.Pieces.{lacks, pieces-split}
-use Rattle.package_record.specs.Content.{is_file_component, is_file_name, is_printable}
 
 -- ---- texts
 

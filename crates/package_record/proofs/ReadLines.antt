@@ -1,8 +1,8 @@
 -- Lines that are spelled so are read.
-use Rattle.std.proofs.Common.{◌≡◌, ℕ, zero, suc, ◌+◌, ◌<◌, ◌≤◌, Bool, true, false, cond, not, ◌&&◌, List, [], ◌∷◌, ◌++◌, length, get_or, take, drop, map, option_map, Option, Some, None, Result, Ok, Err, refl, sym, ap, subst, ◌∙◌, append_assoc, arith, codes, decimal}
+use Rattle.std.proofs.Common.{◌≡◌, ℕ, zero, suc, ◌+◌, ◌<◌, ◌≤◌, true, false, not, List, [], ◌∷◌, ◌++◌, length, take, drop, map, option_map, Option, Some, None, Result, Ok, refl, sym, ap, subst, ◌∙◌, append_assoc, arith, codes, decimal}
 use Rattle.std.specs.List.{All, flat_map, list_all, sum_by}
-use Rattle.std.proofs.lemmas.Bool.{and_from, and_parts, not-true}
-use Rattle.std.proofs.lemmas.List.{append-nil, length-append, length-map, map-append, take_at}
+use Rattle.std.proofs.lemmas.Bool.{and_parts, not-true}
+use Rattle.std.proofs.lemmas.List.{append-nil, length-append, length-map, map-append}
 use Rattle.std.proofs.lemmas.List.Concat.{flat_map_single}
 use Rattle.std.proofs.lemmas.List.Sums.{sum_by-append, sum_by-cons}
 use Rattle.std.proofs.Math.Seq.{get_or-append_seam, take-append_seam}
@@ -22,7 +22,7 @@ use Rattle.package_record.specs.Reading.{Front, Head, Place, ◌>>=◌, all_at, 
 use Rattle.package_record.specs.declared.RecordFault.{RecordFault}
 use Rattle.package_record.proofs.Ascending.{ascending_above, last_mapped}
 use Rattle.package_record.proofs.Digests.{sha256_bytes}
-use Rattle.package_record.proofs.ReadFields.{at, claim_read, dependency_read, digest_read, field_read, line_read, name_read, number_read, path_read, size_read, where_false, where_true}
+use Rattle.package_record.proofs.ReadFields.{at, claim_read, dependency_read, digest_read, field_read, line_read, name_read, number_read, path_read, size_read}
 use Rattle.package_record.proofs.Taken.{head_lines}
 
 -- ---- the first five lines

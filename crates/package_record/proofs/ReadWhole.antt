@@ -1,30 +1,28 @@
 -- A record that is spelled so is read.
-use Rattle.std.proofs.Common.{◌≡◌, ℕ, zero, suc, ◌+◌, ◌-◌, ◌<◌, ◌≤◌, ◌^◌, Bool, true, false, cond, not, ◌&&◌, eqb, ltb, List, [], ◌∷◌, ◌++◌, length, get_or, take, drop, map, inl, inr, Result, Ok, Err, refl, sym, ap, subst, ◌∙◌, append_assoc, arith, codes, decimal}
+use Rattle.std.proofs.Common.{◌≡◌, ℕ, zero, suc, ◌+◌, ◌-◌, ◌<◌, ◌≤◌, ◌^◌, true, false, not, eqb, ltb, List, [], ◌∷◌, ◌++◌, length, get_or, take, drop, map, inl, inr, Ok, refl, sym, ap, ◌∙◌, append_assoc, arith, codes, decimal}
 use Rattle.std.specs.Char.{is_ascii_digit}
-use Rattle.std.specs.List.{All, flat_map, join_with_byte, list_all, sum_by}
+use Rattle.std.specs.List.{All, flat_map, list_all, sum_by}
 use Rattle.std.specs.Str.{bytes_eq}
 use Rattle.std.proofs.lemmas.Bool.{and_from, and_parts, cases_Bool, le-ltb, not-true}
 use Rattle.std.proofs.lemmas.List.{append-nil, length-append}
-use Rattle.std.proofs.lemmas.List.Folds.{list_all-append, list_all-map}
+use Rattle.std.proofs.lemmas.List.Folds.{list_all-append}
 use Rattle.std.proofs.lemmas.List.Splits.{join_with_byte-slice_split, slice_split_at}
 use Rattle.std.proofs.lemmas.List.Sums.{sum_by-cons}
 use Rattle.std.proofs.Math.Seq.{drop-append_seam, take-append_seam}
 use Rattle.hex.specs.Hex.{encode_lower}
 use Rattle.sha2.specs.Sha256.{sha256}
-use Rattle.faults.specs.Bytes.{Text, begins_with, has_byte, is_among, is_empty}
+use Rattle.faults.specs.Bytes.{Text, begins_with, has_byte, is_among}
 use Rattle.faults.specs.Pieces.{pieces_at}
 use Rattle.pkgpath.specs.PkgPath.{IsPath}
 use Rattle.pkgpath.proofs.Pieces.{lacks}
 use Rattle.claims.specs.Claim.{IsClaim}
 use Rattle.agreement.specs.declared.claim.Claim.{Claim}
 use Rattle.claims.specs.declared.deps.Dep.{Dep}
-use Rattle.package_record.specs.Content.{AreFileNames, Content, IsDep, IsRecord, NamedFile, built_line, claim_line, ended, file_lines, front_lines, header_lines, is_file_name, is_next_name, is_printable, names_of, record_text, run_line}
-use Rattle.package_record.specs.Reading.{Front, Head, Header, Place, ◌>>=◌, all_at, built_at, content_of_parts, file_at, files_in, first_of, front_at, header_of, run_at, total_of, whole_of}
-use Rattle.package_record.specs.declared.RecordFault.{RecordFault}
-use Rattle.package_record.specs.declared.RecordFault.TheVariants.{DigestDiffers, TooLarge, Trailing, Truncated}
+use Rattle.package_record.specs.Content.{AreFileNames, Content, IsDep, IsRecord, NamedFile, built_line, claim_line, ended, file_lines, front_lines, header_lines, is_file_name, is_printable, names_of, record_text, run_line}
+use Rattle.package_record.specs.Reading.{Header, content_of_parts, files_in, first_of, header_of, total_of, whole_of}
 use Rattle.package_record.proofs.Cuts.{some_line}
-use Rattle.package_record.proofs.Lacking.{all_weaker, hex_lacks, lacks-append, lacks_all, lacks_failing, name_lacks, path_lacks}
-use Rattle.package_record.proofs.ReadFields.{at, decimal_digits, same_text, where_false, where_true}
+use Rattle.package_record.proofs.Lacking.{hex_lacks, lacks-append, lacks_all, lacks_failing, name_lacks, path_lacks}
+use Rattle.package_record.proofs.ReadFields.{decimal_digits, same_text, where_false, where_true}
 use Rattle.package_record.proofs.ReadLines.{Next, all_built_read, all_files_read, all_run_read, front_of, front_read, head_from, heads_from, name_parts}
 use Rattle.package_record.proofs.Steps.{ok_is}
 

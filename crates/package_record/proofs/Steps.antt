@@ -1,5 +1,5 @@
 -- Steps that may fail.
-use Rattle.std.proofs.Common.{◌≡◌, Bool, true, false, cond, List, Option, Some, None, Result, Ok, Err, ◌⊎◌, refl, inl, inr}
+use Rattle.std.proofs.Common.{◌≡◌, Bool, true, false, cond, Some, None, Result, Ok, Err, ◌⊎◌, refl, inl, inr}
 use Rattle.package_record.specs.Reading.{◌>>=◌}
 use Rattle.package_record.specs.declared.RecordFault.{RecordFault}
 

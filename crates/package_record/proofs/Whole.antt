@@ -1,5 +1,5 @@
 -- What is read is spelled so.
-use Rattle.std.proofs.Common.{◌≡◌, ℕ, zero, suc, ◌+◌, ◌-◌, ◌*◌, ◌<◌, ◌≤◌, ◌^◌, Bool, true, false, cond, ltb, leb, List, [], ◌∷◌, ◌++◌, ◌&&◌, ◌⊎◌, inl, inr, length, get_or, take, drop, map, Option, Some, None, Result, Ok, Err, refl, sym, ap, subst, ◌∙◌, append_assoc, arith, codes, decimal}
+use Rattle.std.proofs.Common.{◌≡◌, ℕ, zero, suc, ◌+◌, ◌-◌, ◌<◌, ◌≤◌, ◌^◌, true, cond, ltb, leb, List, [], ◌∷◌, ◌++◌, ◌&&◌, ◌⊎◌, inl, inr, length, take, drop, map, Option, Some, Result, Ok, Err, refl, sym, ap, subst, ◌∙◌, append_assoc, arith, codes, decimal}
 use Rattle.std.specs.List.{All, flat_map, join_with_byte, sum_by}
 use Rattle.std.specs.Str.{bytes_eq}
 use Rattle.std.specs.Str.Parse.{digits_value}
@@ -12,7 +12,7 @@ use Rattle.std.proofs.lemmas.List.Elements.{All-append, All-nil}
 use Rattle.std.proofs.lemmas.List.Sums.{sum_by-cons}
 use Rattle.std.proofs.lemmas.List.Splits.{join_with_byte-slice_split}
 use Rattle.std.proofs.lemmas.Slice.Eq.{bytes_eq-Decides}
-use Rattle.hex.specs.Hex.{decode_sized, encode_lower, lower_digits}
+use Rattle.hex.specs.Hex.{encode_lower, lower_digits}
 use Rattle.hex.proofs.HexLemmas.{decode_of-ok, decode_sized-ok, decode_sized-twice, length-encode_with}
 use Rattle.sha2.specs.Sha256.{sha256}
 use Rattle.faults.specs.Bytes.{Text, is_empty}
@@ -32,8 +32,8 @@ use Rattle.package_record.specs.declared.fault.ReadError.{ReadError}
 use Rattle.package_record.specs.declared.fault.ReadError.TheVariants as errors
 use Rattle.package_record.proofs.Ascending.{ascending_more, last_mapped}
 use Rattle.package_record.proofs.Many.{many_taken}
-use Rattle.package_record.proofs.Steps.{bind_ok, ok_is, refusal_ok, test_ok, ways}
-use Rattle.package_record.proofs.Taken.{IsHead, IsRead, built_stops, built_taken, cut_taken, entry_stops, entry_taken, field_taken, head_lines, line_taken, name_taken, number_text, path_taken, run_stops, run_taken}
+use Rattle.package_record.proofs.Steps.{bind_ok, ok_is, refusal_ok, test_ok}
+use Rattle.package_record.proofs.Taken.{IsRead, built_stops, built_taken, cut_taken, entry_stops, entry_taken, field_taken, head_lines, line_taken, name_taken, number_text, path_taken, run_stops, run_taken}
 
 -- the refusal of a reader that failed
 pub failed : {Y : Type 0} (e : ReadError) (f : RecordFault) (read : Result Y RecordFault) → f ≡ refusal_of e → Fails e read → (f ≡ Memory) ⊎ (read ≡ Err f)

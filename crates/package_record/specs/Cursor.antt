@@ -1,8 +1,7 @@
 -- The place at which a cursor is.
-use Rattle.std.specs.Prelude.{ℕ}
 use Rattle.faults.specs.Bytes.{line_feed}
 use Rattle.faults.specs.Pieces.{pieces_at}
-use Rattle.package_record.specs.Reading.{Head, Place}
+use Rattle.package_record.specs.Reading.{Place}
 use Rattle.package_record.specs.declared.cursor.Cursor.{Cursor}
 
 abbrev pub place_of : Cursor → Place

@@ -1,6 +1,6 @@
 -- What a contract sees of a record's fields.
 use Rattle.std.specs.Prelude.{map}
-use Rattle.package_record.specs.Content.{Content, IsRecord, NamedFile}
+use Rattle.package_record.specs.Content.{Content, NamedFile}
 use Rattle.package_record.specs.declared.fields.Fields.{Fields}
 use Rattle.package_record.specs.declared.file.File.{File}
 

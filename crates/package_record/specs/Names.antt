@@ -1,5 +1,5 @@
 -- The texts of a set of slices, in the order in which they were entered.
-use Rattle.std.specs.Prelude.{ℕ, List, map}
+use Rattle.std.specs.Prelude.{List, map}
 use Rattle.std.specs.Borrow.{Bor}
 use Rattle.indexmap.specs.IndexSet.{IndexSet}
 use Rattle.faults.specs.Bytes.{Text}

@@ -1,5 +1,4 @@
-use Rattle.std.proofs.Common.{◌≡◌, ◌<◌, ◌≤◌, ◌+◌, ◌∷◌, [], ◌++◌, ℕ, Some, Ok, ap, ◌∙◌, length, map, arith}
-use Rattle.std.specs.List.{sum_by}
+use Rattle.std.proofs.Common.{◌≡◌, ◌∷◌, [], ◌++◌, ap, length, map, arith}
 use Rattle.std.proofs.lemmas.List.{map_push}
 use Rattle.std.proofs.lemmas.List.Sums.{sum_by-append}
 use Rattle.std.proofs.lemmas.Result.{err_from_is_err_and}
@@ -7,7 +6,7 @@ use Rattle.package_record.specs.Cursor.{place_of}
 use Rattle.package_record.specs.Heads.{head_of}
 use Rattle.package_record.specs.Reading.{all_at, file_at}
 use Rattle.package_record.proofs.Cuts.{some_line}
-use Rattle.package_record.proofs.Many.{fueled_end, fueled_fails, fueled_more, fueled_start}
+use Rattle.package_record.proofs.Many.{fueled_end, fueled_fails, fueled_more}
 use Rattle.package_record.proofs.Taken.{entry_taken}
 use Rattle.package_record.proofs.header.file_lines.Goals as goal
 

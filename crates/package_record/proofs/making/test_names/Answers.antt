@@ -1,6 +1,4 @@
-use Rattle.std.proofs.Common.{inr, arith, below_more, ◌∙◌, ◌<◌, length}
-use Rattle.package_record.specs.Content.{names_of}
-use Rattle.package_record.specs.Inside.{file_view}
+use Rattle.std.proofs.Common.{inr, arith, below_more, ◌∙◌}
 use Rattle.package_record.proofs.FirstBad.{count_names, first_bad_name, names_more, no_bad_name, said_of_name}
 use Rattle.package_record.proofs.making.test_names.Goals as goal
 

@@ -1,4 +1,4 @@
-use Rattle.std.proofs.Common.{◌≡◌, ◌≤◌, length, arith}
+use Rattle.std.proofs.Common.{arith}
 use Rattle.package_record.proofs.FirstBad.{within}
 use Rattle.package_record.proofs.package.make.Goals as goal
 

@@ -1,12 +1,10 @@
-use Rattle.std.proofs.Common.{◌≡◌, ◌≤◌, ◌+◌, [], ◌∷◌, ◌++◌, false, true, length, get_or, take, drop, map, sym, ap, ◌∙◌, arith}
-use Rattle.std.specs.List.{sum_by}
+use Rattle.std.proofs.Common.{◌≡◌, ◌+◌, [], false, true, get_or, take, drop, map, sym, ◌∙◌, arith}
 use Rattle.std.specs.Str.{bytes_eq}
 use Rattle.std.proofs.lemmas.List.{drop_all, length-map, map_push}
 use Rattle.std.proofs.lemmas.List.Sums.{sum_by-cons}
 use Rattle.sha2.specs.Sha256.{sha256}
 use Rattle.package_record.specs.Heads.{head_of}
 use Rattle.package_record.specs.Inside.{file_view}
-use Rattle.package_record.specs.Reading.{files_in}
 use Rattle.package_record.specs.declared.header.Head.{Head}
 use Rattle.package_record.proofs.Files.{drop_next, file_differs, file_read, no_file, not_false, not_true}
 use Rattle.package_record.proofs.parsing.files.Goals as goal

@@ -1,4 +1,3 @@
-use Rattle.std.proofs.Common.{refl}
 use Rattle.std.proofs.lemmas.Result.{on_ok_weaker}
 use Rattle.package_record.specs.Content.{IsDep}
 use Rattle.package_record.proofs.writing.put_built.Goals as goal

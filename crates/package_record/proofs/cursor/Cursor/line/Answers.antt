@@ -1,4 +1,3 @@
-use Rattle.std.proofs.Common.{◌∙◌}
 use Rattle.package_record.proofs.Cuts.{line_found, no_line}
 use Rattle.package_record.proofs.cursor.Cursor.line.Goals as goal
 
