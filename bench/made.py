@@ -44,11 +44,10 @@ def listing(paths, some_ignored=True):
     numbers = Numbers(paths)
     names = [path_of(numbers, n) for n in range(paths)]
     lines, packages = [], []
-    least = 0 if some_ignored else 5
     for n, path in enumerate(names):
         layer = n * LAYERS // paths
         lines.append(f"===> {path}")
-        name = f"port{n}-{least + numbers.below(20)}.{numbers.below(20)}p{numbers.below(4)}"
+        name = f"port{n}-{numbers.below(20)}.{numbers.below(20)}p{numbers.below(4)}"
         lines.append(f"{path}.FULLPKGNAME={name}")
         lines.append(f"{path}.COMMENT=port number {n} of a tree that nobody has")
         lines.append(f"{path}.HOMEPAGE=https://ports.example/port{n}/?a=b")
@@ -58,7 +57,7 @@ def listing(paths, some_ignored=True):
             continue
         count = 60 if numbers.below(100) == 0 else 1 + numbers.below(24)
         found = [numbers.below(min(HUBS, start)) if numbers.below(3) else numbers.below(start) for _ in range(count)]
-        specs = [f"STEM->=0.0,<{20 + numbers.below(5)}:{names[it]}" if numbers.below(8) == 0 else names[it] for it in found]
+        specs = [f"STEM->=0.0,<{30 + numbers.below(5)}:{names[it]}" if numbers.below(8) == 0 else names[it] for it in found]
         cuts = sorted((numbers.below(count + 1), numbers.below(count + 1)))
         for variable, words in zip(("BUILD_DEPENDS", "LIB_DEPENDS", "RUN_DEPENDS"), (specs[: cuts[0]], specs[cuts[0] : cuts[1]], specs[cuts[1] :])):
             if words:
