@@ -2,7 +2,6 @@ use Rattle.std.proofs.Common.{◌≡◌, ◌<◌, List, ℕ, true, false, sym, �
 use Rattle.std.specs.List.{IsDistinct}
 use Rattle.agreement.specs.Quorums.{named_in}
 use Rattle.claims.specs.declared.TheConstants.{MEMBERS}
-use Rattle.ballots.specs.Inside.{HoldsMembersOnce}
 use Rattle.ballots.proofs.Once.{once_more, room, within_more}
 use Rattle.ballots.proofs.tally.Tally.join.Goals as goal
 

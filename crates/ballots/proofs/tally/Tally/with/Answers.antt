@@ -1,4 +1,4 @@
-use Rattle.std.proofs.Common.{◌≡◌, List, ℕ, ap, sym, ◌∙◌}
+use Rattle.std.proofs.Common.{◌≡◌, List, ℕ, ap, ◌∙◌}
 use Rattle.agreement.specs.Quorums.{named_in, with_member}
 use Rattle.ballots.proofs.Once.{copied}
 use Rattle.ballots.proofs.tally.Tally.with.Goals as goal
