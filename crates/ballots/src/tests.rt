@@ -4,7 +4,7 @@ ghost use Rattle.claims.specs.declared.TheConstants.{MEMBERS};
 
 use crate::{Body, Claimer, Fact, Message, Next, Note, Tally, Voter};
 use arrayvec::ArrayVec;
-use claims::{Claim, Deps, Job};
+use claims::{Claim, Deps, Job, next_round};
 use faults::Memory;
 use package_record::{Record, make};
 use pkgname::PkgName;
@@ -207,23 +207,52 @@ fn copies_messages(rt: HostRuntime) -> Result<(), Fail> {
     Ok(())
 }
 
-/// The host in a copy of a note.
-fn noted(alloc: Global, host: u16) -> Result<Option<u16>, Fail> {
+#[test]
+fn copies_messages_of_claims(rt: HostRuntime) -> Result<(), Fail> {
+    let alloc = rt.alloc();
+    let offer = copied(alloc, Body::Offer(FIRST))?;
+    assert_eq!(rt; offer, ("offer", Some(FIRST), None));
+    let promise = copied(alloc, Body::Promise(FIRST, None))?;
+    assert_eq!(rt; promise, ("promise", Some(FIRST), None));
+    let propose = copied(alloc, Body::Propose(FIRST, record(alloc, 6)?))?;
+    assert_eq!(rt; propose, ("propose", Some(FIRST), Some(6)));
+    let vote = copied(alloc, Body::Vote(FIRST))?;
+    assert_eq!(rt; vote, ("vote", Some(FIRST), None));
+    Ok(())
+}
+
+/// What a copy of a note of the fact says.
+fn noted(alloc: Global, fact: Fact) -> Result<Said, Fail> {
     let note = Note {
         path: path(alloc)?,
-        fact: Fact::Voted(FIRST, record(alloc, host)?),
+        fact,
     };
     let copy = note.copy()?;
     match &copy.fact {
-        Fact::Voted(_, record) => Ok(Some(record.host())),
-        _ => Ok(None),
+        Fact::Opened(round) => Ok(("opened", Some(claim(*round, 0)), None)),
+        Fact::Promised(claim) => Ok(("promised", Some(*claim), None)),
+        Fact::Voted(claim, record) => Ok(("voted", Some(*claim), Some(record.host()))),
+        Fact::Held(record) => Ok(("held", None, Some(record.host()))),
     }
 }
 
 #[test]
-fn copies_notes_and_jobs(rt: HostRuntime) -> Result<(), Fail> {
+fn copies_notes(rt: HostRuntime) -> Result<(), Fail> {
     let alloc = rt.alloc();
-    assert_eq!(rt; noted(alloc, 4)?, Some(4));
+    let opened = noted(alloc, Fact::Opened(9))?;
+    assert_eq!(rt; opened, ("opened", Some(claim(9, 0)), None));
+    let promised = noted(alloc, Fact::Promised(FIRST))?;
+    assert_eq!(rt; promised, ("promised", Some(FIRST), None));
+    let voted = noted(alloc, Fact::Voted(FIRST, record(alloc, 4)?))?;
+    assert_eq!(rt; voted, ("voted", Some(FIRST), Some(4)));
+    let held = noted(alloc, Fact::Held(record(alloc, 5)?))?;
+    assert_eq!(rt; held, ("held", None, Some(5)));
+    Ok(())
+}
+
+#[test]
+fn copies_jobs(rt: HostRuntime) -> Result<(), Fail> {
+    let alloc = rt.alloc();
     let job = Job {
         path: path(alloc)?,
         claim: FIRST,
@@ -232,5 +261,7 @@ fn copies_notes_and_jobs(rt: HostRuntime) -> Result<(), Fail> {
     };
     let copy = job.copy()?;
     assert_eq!(rt; (copy.claim, copy.host), (FIRST, 7));
+    assert!(rt; copy.deps().as_slice().is_empty());
+    assert!(rt; next_round(copy.claim.round) == Ok(2) && next_round(u64::MAX).is_err());
     Ok(())
 }
