@@ -119,7 +119,7 @@ is_another value set = list_any (λ v. not (bytes_eq v value)) (option_to_list s
 abbrev pub is_set_anew : List Setting → Setting → Bool
 is_set_anew earlier s = is_another s.value (value_of earlier s.path s.variable)
 
--- the first fault of a setting behind earlier ones: its path is one too many, its value is bad, or it is set anew
+-- the first fault of a setting after earlier ones: its path is one too many, its value is bad, or it is set anew
 abbrev pub setting_fault : Rules → List Setting → Setting → Option ListingFault
 setting_fault rules earlier s =
     option_or (first_that_applies ((is_one_too_many earlier s, TooMany s.line) ∷ []))
@@ -136,7 +136,7 @@ path_line_fault rules earlier line (Ok path) = setting_fault rules earlier (reco
   value = value_text line.1;
 })
 
--- the fault of a line behind earlier settings; a line that is skipped or sets another variable has none
+-- the fault of a line after earlier settings; none where it is skipped, or sets a variable that is not read
 abbrev pub line_fault : Rules → List Setting → Line → Option ListingFault
 line_fault rules earlier line =
     if is_skipped line.1 then None
