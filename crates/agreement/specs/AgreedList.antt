@@ -14,6 +14,7 @@ pub record Entry (V : Type 0) : Type 0 where
   pub path : ℕ
   pub value : V
 
+-- all that the members do for all paths, and the list of what is agreed
 pub record Cluster (V : Type 0) : Type 0 where
   -- the agreement of each path
   pub at : ℕ → World V

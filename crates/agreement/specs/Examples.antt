@@ -86,6 +86,7 @@ too_early =
 abbrev pub one_and_zero : List (Entry ℕ)
 one_and_zero = record { path = 1; value = 8 } ∷ record { path = 0; value = 7 } ∷ []
 
+-- the claim of this round by this member
 abbrev pub claim : ℕ → ℕ → Claim
 claim round member = record { round = round; member = member }
 

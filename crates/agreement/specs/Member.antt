@@ -4,6 +4,7 @@ use Rattle.agreement.specs.Quorums.{Members}
 use Rattle.agreement.specs.Votes.{Ballot}
 use Rattle.std.specs.Prelude.{ℕ, Bool, max, List, [], ◌∷◌, Option, None, Some, if◌then◌else◌}
 
+-- what a member knows for one path, also after a stop
 pub record Facts (V : Type 0) : Type 0 where
   -- the greatest round that it opened, or 0
   pub opened : ℕ

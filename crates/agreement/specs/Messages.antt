@@ -3,6 +3,7 @@ use Rattle.std.specs.Prelude.{ℕ, Option}
 use Rattle.agreement.specs.Claims.{Claim}
 use Rattle.agreement.specs.Votes.{Ballot, PromiseOf}
 
+-- what a member says to the others
 pub data Message (V : Type 0) : Type 0 where
   -- A member asks for promises of its claim.
   Offer : Claim → Message V

@@ -13,15 +13,18 @@ pub record OpenClaim (V : Type 0) : Type 0 where
   pub path : ℕ
   pub stage : Stage V
 
+-- a member with its facts for each path, whether it is up, and its one open claim
 pub record Node (V : Type 0) : Type 0 where
   pub facts : ℕ → Facts V
   pub up : Bool
   pub claim : Option (OpenClaim V)
 
+-- a message, and the path that it is about
 pub record Datagram (V : Type 0) : Type 0 where
   pub path : ℕ
   pub message : Message V
 
+-- all nodes, what they sent, and the list of what is agreed
 pub record Net (V : Type 0) : Type 0 where
   pub nodes : List (Node V)
   -- all that was ever sent, the last datagram first
@@ -34,6 +37,7 @@ pub data Asked (V : Type 0) : Type 0 where
   Local : ℕ → Input V → Asked V
   Comes : ℕ → Asked V
 
+-- what may happen to a node
 pub data Happening (V : Type 0) : Type 0 where
   Does : ℕ → Asked V → Happening V
   Halts : ℕ → Happening V

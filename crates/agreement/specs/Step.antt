@@ -13,6 +13,7 @@ pub record Outcome (V : Type 0) : Type 0 where
   pub note : Option (Note V)
   pub send : Option (Message V)
 
+-- what a member may be asked for one path
 pub data Input (V : Type 0) : Type 0 where
   -- Open a claim with a round above this one.
   Start : ℕ → Input V

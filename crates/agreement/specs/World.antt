@@ -6,6 +6,7 @@ use Rattle.agreement.specs.Member.{Member, Note, Voted, Closed}
 use Rattle.agreement.specs.Step.{Input, Outcome, answer, still}
 use Rattle.std.specs.Prelude.{ℕ, Bool, true, false, not, ◌==◌, List, [], ◌∷◌, Option, Some, None, if◌then◌else◌, option_map}
 
+-- all members for one path, with what they noted and sent
 pub record World (V : Type 0) : Type 0 where
   pub members : ℕ → Member V
   -- each member's log: all that it noted, the last note first
@@ -13,6 +14,7 @@ pub record World (V : Type 0) : Type 0 where
   -- all that was ever sent, the last message first
   pub sent : List (Message V)
 
+-- what may happen to a member
 pub data Event (V : Type 0) : Type 0 where
   -- A member takes an input: its note stays, and its message is sent.
   Take : ℕ → Input V → Event V

@@ -15,6 +15,7 @@ position_of tree path = position (λ x. bytes_eq x.path path) tree
 abbrev pub IsNew : List Entry → Text → Type 0
 IsNew earlier path = All (λ e. e.path ≢ path) earlier
 
+-- the paths of these dependencies
 abbrev pub paths_of : List Dep → List Text
 paths_of = map (λ d. d.path)
 

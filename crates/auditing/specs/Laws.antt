@@ -15,5 +15,6 @@ abbrev pub ExtendedIsAllowed : Type 0
 ExtendedIsAllowed =
     (tree : Tree) (list : List Entry) (entry : Entry) → IsAllowed tree (list ++ entry ∷ []) ↔ (IsAllowed tree list × MayFollow tree list entry)
 
+-- no list has two verdicts
 abbrev pub OnlyOneVerdict : Type 0
 OnlyOneVerdict = (tree : Tree) (list : List Entry) (u v : Verdict) → IsVerdict tree list u → IsVerdict tree list v → u ≡ v

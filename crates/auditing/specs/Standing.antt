@@ -9,6 +9,7 @@ use Rattle.auditing.specs.Allowed.{IsAllowed}
 use Rattle.auditing.specs.declared.entry.Entry.{Entry}
 use Rattle.auditing.specs.declared.standing.Standing.{Standing}
 
+-- the entry has this path
 abbrev pub has_path : Text → Entry → Bool
 has_path path entry = bytes_eq entry.path path
 

@@ -80,6 +80,7 @@ refusal_of v c = record { note = None; answer = Nay c (unwrap_or v.promised c); 
 abbrev pub promised_then : {V : Type 0} → Voter V → Option (Fact V) → Option Claim
 promised_then v note = (facts_then v note).promised
 
+-- what was voted for last, with one more note
 abbrev pub voted_then : {V : Type 0} → Voter V → Option (Fact V) → Option (Ballot V)
 voted_then v note = (facts_then v note).voted
 
@@ -104,6 +105,7 @@ stage_joined (Gathering c s k) t report = members.Gathering c (set_of t) (instea
 stage_joined (Building c) t report = members.Building c
 stage_joined (Voting c v s) t report = members.Voting (ballot c v) (set_of t)
 
+-- the claim that is open
 abbrev pub claim_of : {V : Type 0} → Claimer V → Claim
 claim_of (Gathering c s k) = c
 claim_of (Building c) = c

@@ -6,6 +6,7 @@ use Rattle.claims.specs.declared.TheConstants.{MEMBERS}
 use Rattle.ballots.specs.Support.{Support}
 use Rattle.ballots.specs.declared.tally.Tally.TheInside.{Inside}
 
+-- who joined, and what each member weighs
 abbrev pub support_of : Inside → Support
 support_of t = record { weights = t.weights.items; joined = t.joined.items }
 

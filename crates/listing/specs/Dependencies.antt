@@ -9,6 +9,7 @@ use Rattle.listing.specs.Lines.{is_blank}
 abbrev pub words_of : Text → List Text
 words_of value = filter (λ w. not (is_empty w)) (slice_split is_blank value)
 
+-- the fields of a dependency, with colons between them
 abbrev pub fields_of : Text → List Text
 fields_of word = pieces_at colon word
 
@@ -22,6 +23,7 @@ are_shaped fields =
     (count_by (has_byte slash) fields == 1) && nat_le (fields_before_path fields) 1
     && nat_le (length fields) (fields_before_path fields + 2)
 
+-- the word has the shape of a dependency
 abbrev pub is_shaped : Text → Bool
 is_shaped word = are_shaped (fields_of word)
 
@@ -29,12 +31,15 @@ is_shaped word = are_shaped (fields_of word)
 abbrev pub path_field : Text → Text
 path_field word = unwrap_or (find (has_byte slash) (fields_of word)) []
 
+-- a byte with which bounds begin
 abbrev pub is_operator_byte : ℕ → Bool
 is_operator_byte b = is_one_of (codes "<>=") b
 
+-- the text of the dependency's path, without bounds
 abbrev pub dependency_path_text : Text → Text
 dependency_path_text word = before_first is_operator_byte (path_field word)
 
+-- the bounds behind the path, or the empty text
 abbrev pub bounds_text : Text → Text
 bounds_text word = drop (position_or_len is_operator_byte (path_field word)) (path_field word)
 

@@ -11,6 +11,7 @@ use denote.Ref.{Bor}
 abbrev pub Entry : Type 0
 Entry = Bor Text × Dependency
 
+-- the dependencies as they stand in the listing
 abbrev pub words_of_entries : List Entry → List Text
 words_of_entries entries = map (λ e. e.0.now) entries
 
@@ -20,5 +21,6 @@ pub record IsRead (word : Text) (d : Dependency) : Type 0 where
   pub specs : map spec_of (specs_of word) ≡ map Ok d.specs.items
   pub spelled : path_of (dependency_path_text word) ≡ Ok d.path
 
+-- the entry's word was read as its dependency
 abbrev pub IsReadEntry : Entry → Type 0
 IsReadEntry e = IsRead e.0.now e.1

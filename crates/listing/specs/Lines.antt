@@ -13,6 +13,7 @@ Line = ℕ × Text
 abbrev pub lines_of : Text → List Line
 lines_of text = enumerate_from 1 (pieces_at line_feed text)
 
+-- the line is empty or begins with `===>`, and says nothing
 abbrev pub is_skipped : Text → Bool
 is_skipped line = is_empty line || begins_with (codes "===>") line
 
@@ -28,9 +29,11 @@ is_cut line = has_byte equals_sign line && has_byte dot (key_of line)
 abbrev pub path_text : Text → Text
 path_text line = before_last (λ b. b == dot) (key_of line)
 
+-- the variable behind the key's last dot
 abbrev pub variable_text : Text → Text
 variable_text line = after_last (λ b. b == dot) (key_of line)
 
+-- a blank or a tab
 abbrev pub is_blank : ℕ → Bool
 is_blank b = is_one_of (blank ∷ tab ∷ []) b
 
@@ -40,21 +43,27 @@ trimmed text =
     let rest = drop (prefix_len is_blank text) text in
     take (length rest - suffix_len is_blank rest) rest
 
+-- what stands behind the first `=`, without the blanks at its ends
 abbrev pub value_text : Text → Text
 value_text line = trimmed (after_first (λ b. b == equals_sign) line)
 
+-- the variable that gives a package's name
 abbrev pub full_name : Text
 full_name = codes "FULLPKGNAME"
 
+-- the variable that gives what a package's build needs
 abbrev pub build_depends : Text
 build_depends = codes "BUILD_DEPENDS"
 
+-- the variable that gives what both the build and the installed package need
 abbrev pub lib_depends : Text
 lib_depends = codes "LIB_DEPENDS"
 
+-- the variable that gives what the installed package needs
 abbrev pub run_depends : Text
 run_depends = codes "RUN_DEPENDS"
 
+-- the variable that says, where it isn't empty, that a package is to be left out
 abbrev pub ignore : Text
 ignore = codes "IGNORE"
 
@@ -73,6 +82,7 @@ pub record Setting : Type 0 where
   pub variable : Text
   pub value : Text
 
+-- what the line sets, where its path could be read
 abbrev pub setting_from : {F : Type 0} → Line → Result Text F → Option Setting
 setting_from line (Ok path) = Some (record { line = line.0; path = path; variable = variable_text line.1; value = value_text line.1 })
 setting_from line (Err e) = None

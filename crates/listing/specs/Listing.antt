@@ -14,6 +14,7 @@ use Rattle.listing.specs.Tree.{Package, Tree}
 use Rattle.listing.specs.declared.ListingFault.{ListingFault}
 use Rattle.listing.specs.declared.ListingFault.TheVariants.{BadLine, BadPath, TwiceSet, TooMany, NoName}
 
+-- which texts are names, which are specs, and which names a spec matches
 pub record Rules : Type 0 where
   pub is_name : Text → Bool
   pub is_spec : Text → Bool
@@ -26,6 +27,7 @@ pub record Rules : Type 0 where
 abbrev pub paths_of : List Setting → List Text
 paths_of settings = in_order_of_appearance (map (λ s. s.path) settings)
 
+-- the setting is of this path and this variable
 abbrev pub sets : Text → Text → Setting → Bool
 sets path variable s = bytes_eq s.path path && bytes_eq s.variable variable
 
@@ -33,6 +35,7 @@ sets path variable s = bytes_eq s.path path && bytes_eq s.variable variable
 abbrev pub value_of : List Setting → Text → Text → Option Text
 value_of settings path variable = option_map (λ s. s.value) (find (sets path variable) settings)
 
+-- the name that is set for a path, or the empty text
 abbrev pub name_of : List Setting → Text → Text
 name_of settings path = unwrap_or (value_of settings path full_name) []
 
@@ -41,6 +44,7 @@ abbrev pub path_or_empty : Result Text PathFault → Text
 path_or_empty (Ok path) = path
 path_or_empty (Err e) = []
 
+-- the path that a dependency spells, or the empty text
 abbrev pub dependency_path : Text → Text
 dependency_path word = path_or_empty (path_of (dependency_path_text word))
 
@@ -63,6 +67,7 @@ abbrev pub dependency_positions : List Setting → Text → List Text → List �
 dependency_positions settings path variables =
     positions_of (paths_of settings) (map dependency_path (dependencies_of settings path variables))
 
+-- the package that the settings describe for a path
 abbrev pub package_of : Rules → List Setting → Text → Package
 package_of rules settings path = record {
   path = path;
@@ -73,6 +78,7 @@ package_of rules settings path = record {
       || not (list_all (is_met rules settings) (dependencies_of settings path (build_depends ∷ lib_depends ∷ run_depends ∷ [])));
 }
 
+-- the package of each path that is set, in the order of the paths' first lines
 abbrev pub tree_of_settings : Rules → List Setting → Tree
 tree_of_settings rules settings = map (package_of rules settings) (paths_of settings)
 
@@ -113,6 +119,7 @@ is_another value set = list_any (λ v. not (bytes_eq v value)) (option_to_list s
 abbrev pub is_set_anew : List Setting → Setting → Bool
 is_set_anew earlier s = is_another s.value (value_of earlier s.path s.variable)
 
+-- the first fault of a setting after earlier ones: its path is one too many, its value is bad, or it is set anew
 abbrev pub setting_fault : Rules → List Setting → Setting → Option ListingFault
 setting_fault rules earlier s =
     option_or (first_that_applies ((is_one_too_many earlier s, TooMany s.line) ∷ []))
@@ -129,6 +136,7 @@ path_line_fault rules earlier line (Ok path) = setting_fault rules earlier (reco
   value = value_text line.1;
 })
 
+-- the fault of a line after earlier settings; none where it is skipped, or sets a variable that is not read
 abbrev pub line_fault : Rules → List Setting → Line → Option ListingFault
 line_fault rules earlier line =
     if is_skipped line.1 then None

@@ -20,6 +20,7 @@ use Rattle.listing.specs.declared.table.Reading.TheVariants.{Name, Numbers, Unre
 use Rattle.listing.specs.declared.table.Row.{Row}
 use Rattle.listing.specs.declared.table.Value.{Value}
 
+-- the package that the node of a path stands for
 abbrev pub package_of_node : Text → Node → Package
 package_of_node path n = record {
   path = path;
@@ -66,9 +67,11 @@ all_match specs name = list_all (λ spec. matches spec name) specs
 abbrev pub word_matches : Text → Text → Bool
 word_matches word name = list_all (λ spec. names_and_specs.matches spec name) (specs_of word)
 
+-- what becomes of a dependency that was read, where these paths with their rows are listed
 abbrev pub resolution_of : List Text → List Row → Dependency → Resolution
 resolution_of listed rows d = resolution_at rows (all_match d.specs.items) (position (bytes_eq d.path) listed)
 
+-- what becomes of a dependency as it is written, where these paths with their rows are listed
 abbrev pub resolution_of_word : List Text → List Row → Text → Resolution
 resolution_of_word listed rows word = resolution_at rows (word_matches word) (position_of_word listed word)
 
@@ -76,6 +79,7 @@ resolution_of_word listed rows word = resolution_at rows (word_matches word) (po
 abbrev pub listed_positions : List Resolution → List ℕ → List ℕ
 listed_positions resolutions numbers = filter_map (λ n. (slice_index_or resolutions n unlisted).position) numbers
 
+-- all dependencies with these numbers are met
 abbrev pub are_met : List Resolution → List ℕ → Bool
 are_met resolutions numbers = list_all (λ n. (slice_index_or resolutions n unlisted).is_met) numbers
 

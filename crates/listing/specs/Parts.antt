@@ -14,6 +14,7 @@ use Rattle.listing.specs.declared.line.Variable.TheVariants.{FullName, BuildDepe
 use Rattle.listing.specs.declared.table.Reading.{Reading}
 use Rattle.listing.specs.declared.table.Reading.TheVariants.{Name, Numbers, Unread}
 
+-- how the variable is written in a listing
 abbrev pub name_of_variable : Variable → Text
 name_of_variable FullName = full_name
 name_of_variable BuildDepends = build_depends

@@ -48,6 +48,7 @@ name_read (Name name) = Some name
 name_read (Numbers numbers) = None
 name_read Unread = None
 
+-- the package's name in a row, if one was set
 abbrev pub name_in : Row → Option Text
 name_in row = option_and_then (λ x. name_read x.reading) row.name
 

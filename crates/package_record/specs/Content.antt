@@ -13,10 +13,12 @@ use Rattle.agreement.specs.declared.claim.Claim.{Claim}
 use Rattle.claims.specs.declared.deps.Dep.{Dep}
 use Rattle.package_record.specs.declared.TheConstants.{LIMIT}
 
+-- a file that a record carries
 pub record NamedFile : Type 0 where
   pub name : Text
   pub bytes : List ℕ
 
+-- what a record says: the package, who built it under which claim, what on, what it needs to run, and its files
 pub record Content : Type 0 where
   pub path : Text
   pub name : Text
@@ -28,12 +30,15 @@ pub record Content : Type 0 where
 
 -- ---- the text
 
+-- the line of a dependency that the package was built on
 abbrev pub built_line : Dep → Text
 built_line d = codes "@built " ++ d.path ++ codes " " ++ d.name ++ codes " " ++ encode_lower d.digest
 
+-- the line of a path that the package needs once it is installed
 abbrev pub run_line : Text → Text
 run_line path = codes "@run " ++ path
 
+-- the lines of a file: its name, the SHA-256 of its bytes, and how many they are
 abbrev pub file_lines : NamedFile → List Text
 file_lines f =
     f.name
@@ -41,9 +46,11 @@ file_lines f =
     ∷ (codes "@size " ++ decimal (length f.bytes))
     ∷ []
 
+-- the line of the claim under which the package was built
 abbrev pub claim_line : Claim → Text
 claim_line claim = codes "@claim " ++ decimal claim.round ++ codes "." ++ decimal claim.member
 
+-- the lines with the format's version, the package's name and its path
 abbrev pub name_lines : Content → List Text
 name_lines c = codes "@dpb 1" ∷ (codes "@name " ++ c.name) ∷ (codes "@comment pkgpath=" ++ c.path) ∷ []
 
@@ -51,6 +58,7 @@ name_lines c = codes "@dpb 1" ∷ (codes "@name " ++ c.name) ∷ (codes "@commen
 abbrev pub front_lines : Content → List Text
 front_lines c = name_lines c ++ (codes "@host " ++ decimal c.host) ∷ claim_line c.claim ∷ []
 
+-- all lines before the empty one that ends the header
 abbrev pub header_lines : Content → List Text
 header_lines c = front_lines c ++ map built_line c.built ++ map run_line c.run ++ flat_map file_lines c.files
 
@@ -64,9 +72,11 @@ record_text c = ended (header_lines c) ++ line_feed ∷ [] ++ flat_map (λ f. f.
 
 -- ---- what has a text
 
+-- a component of a file's name is not empty, and neither `.` nor `..`
 abbrev pub is_file_component : Text → Bool
 is_file_component c = not (is_among ([] ∷ codes "." ∷ codes ".." ∷ []) c)
 
+-- a printable byte of ASCII, or a blank
 abbrev pub is_printable : ℕ → Bool
 is_printable b = nat_le 0x20 b && nat_le b 0x7e
 
@@ -76,6 +86,7 @@ is_file_name name =
     nat_le (length name) 255 && list_all is_printable name && not (begins_with (codes "@") name)
     && list_all is_file_component (pieces_at slash name)
 
+-- the names of these files
 abbrev pub names_of : List NamedFile → List Text
 names_of files = map (λ f. f.name) files
 
@@ -87,6 +98,7 @@ is_next_name earlier name = is_file_name name && not (is_among earlier name)
 abbrev pub AreFileNames : List Text → Type 0
 AreFileNames names = (k : ℕ) → k < length names → is_next_name (take k names) (slice_index_or names k []) ≡ true
 
+-- a dependency has a package path, a package name, and a digest of 32 bytes
 pub record IsDep (d : Dep) : Type 0 where
   pub path : IsPath d.path
   pub name : IsName d.name

@@ -4,5 +4,6 @@ use Rattle.faults.specs.Pieces.{pieces_at}
 use Rattle.package_record.specs.Reading.{Place}
 use Rattle.package_record.specs.declared.cursor.Cursor.{Cursor}
 
+-- how many lines the cursor has passed, and those from there on
 abbrev pub place_of : Cursor → Place
 place_of c = record { passed = c.passed; lines = pieces_at line_feed c.rest.now }

@@ -5,6 +5,7 @@ use Rattle.package_record.specs.declared.RecordFault.TheVariants.{Memory}
 use Rattle.package_record.specs.declared.fault.ReadError.{ReadError}
 use Rattle.package_record.specs.declared.fault.ReadError.TheVariants as errors
 
+-- reading gives this fault, unless memory ran out
 abbrev pub Fails : {Y : Type 0} → ReadError → Result Y RecordFault → Type 0
 Fails errors.Memory read = Unit {0}
 Fails (errors.Fault f) read = read ≡ Err f

@@ -4,9 +4,11 @@ use Rattle.package_record.specs.Content.{Content, NamedFile}
 use Rattle.package_record.specs.declared.fields.Fields.{Fields}
 use Rattle.package_record.specs.declared.file.File.{File}
 
+-- the file's name and its bytes
 abbrev pub file_view : File → NamedFile
 file_view f = record { name = f.name.items; bytes = f.bytes.items }
 
+-- what the record with these fields says
 abbrev pub content_of : Fields → Content
 content_of r = record {
   path = r.path;

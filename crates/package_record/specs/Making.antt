@@ -14,6 +14,7 @@ names_fault names = first_given
     (λ k. if is_next_name (take k names) (slice_index_or names k []) then None else Some (BadFileName (k + 1)))
     (range_with_len 0 (length names))
 
+-- the fault of a text with so many bytes, if a record may not be so long
 abbrev pub too_large : ℕ → Option RecordFault
 too_large n = first_that_applies ((nat_lt LIMIT n, TooLarge) ∷ [])
 

@@ -20,6 +20,7 @@ use Rattle.package_record.specs.declared.RecordFault.TheVariants.{BadLine, Trunc
 use Rattle.package_record.specs.declared.TheConstants.{LIMIT}
 
 infixl 10 ◌>>=◌
+-- a fault ends the reading; else it goes on with what was read
 abbrev pub ◌>>=◌ : {A B : Type 0} → Result A RecordFault → (A → Result B RecordFault) → Result B RecordFault
 (Ok x) >>= f = f x
 (Err e) >>= f = Err e
@@ -31,6 +32,7 @@ pub record Place : Type 0 where
   pub passed : ℕ
   pub lines : List Text
 
+-- the first of these lines, behind n others, and the place after it; a line without its LF is cut off
 abbrev pub line_in : ℕ → List Text → Result (Text × Place) RecordFault
 line_in n [] = Err Truncated
 line_in n (l ∷ []) = Err Truncated
@@ -60,9 +62,11 @@ abbrev pub is_itself : {F : Type 0} → Result Text F → Text → Bool
 is_itself (Ok t) text = bytes_eq t text
 is_itself (Err e) text = false
 
+-- the package path that the text is, in its canonical form
 unfoldable pub path_in : ℕ → Text → Result Text RecordFault
 path_in n text = if is_itself (path_of text) text then Ok text else Err (BadLine n)
 
+-- the package name that the text is
 unfoldable pub name_in : ℕ → Text → Result Text RecordFault
 name_in n text = if is_itself (name_of text) text then Ok text else Err (BadLine n)
 
@@ -71,12 +75,14 @@ abbrev pub is_number : Text → Bool
 is_number text =
     list_all is_ascii_digit text && not (is_empty text) && (length text == 1 || not (begins_with (codes "0") text))
 
+-- the number from the least to the greatest that the text is
 unfoldable pub number_in : ℕ → ℕ → ℕ → Text → Result ℕ RecordFault
 number_in least greatest n text =
     if is_number text && nat_le least (digits_value 10 text) && nat_le (digits_value 10 text) greatest
     then Ok (digits_value 10 text)
     else Err (BadLine n)
 
+-- the digest that was decoded, where the text is how it is written in lower case
 abbrev pub if_lower : {F : Type 0} → ℕ → Text → Result (List ℕ) F → Result (List ℕ) RecordFault
 if_lower n text (Ok digest) = if bytes_eq (encode_lower digest) text then Ok digest else Err (BadLine n)
 if_lower n text (Err e) = Err (BadLine n)
@@ -87,29 +93,34 @@ digest_in n text = if_lower n text (decode_sized text 32)
 
 -- ---- the first five lines
 
+-- the place behind the line of the format's version
 unfoldable pub version_at : Place → Result Place RecordFault
 version_at p = do
   line ← line_at p
   if bytes_eq line.0 (codes "@dpb 1") then Ok line.1 else Err (BadLine line.1.passed)
 
+-- the package's name, and the place behind its line
 unfoldable pub name_at : Place → Result (Text × Place) RecordFault
 name_at p = do
   field ← field_at (codes "@name ") p
   name ← name_in field.1.passed field.0
   Ok (name, field.1)
 
+-- the package's path, and the place behind its line
 unfoldable pub path_at : Place → Result (Text × Place) RecordFault
 path_at p = do
   field ← field_at (codes "@comment pkgpath=") p
   path ← path_in field.1.passed field.0
   Ok (path, field.1)
 
+-- the host that built the package, and the place behind its line
 unfoldable pub host_at : Place → Result (ℕ × Place) RecordFault
 host_at p = do
   field ← field_at (codes "@host ") p
   host ← number_in 0 65535 field.1.passed field.0
   Ok (host, field.1)
 
+-- the claim that the text is: its round, a dot, and its member
 unfoldable pub claim_in : ℕ → Text → Result Claim RecordFault
 claim_in n text = do
   parts ← cut_in dot n text
@@ -117,6 +128,7 @@ claim_in n text = do
   member ← number_in 0 8 n parts.1
   Ok (record { round = round; member = member })
 
+-- the claim of the build, and the place behind its line
 unfoldable pub claim_at : Place → Result (Claim × Place) RecordFault
 claim_at p = do
   field ← field_at (codes "@claim ") p
@@ -130,6 +142,7 @@ pub record Front : Type 0 where
   pub host : ℕ
   pub claim : Claim
 
+-- what the first five lines say, and the place behind them
 unfoldable pub front_at : Place → Result (Front × Place) RecordFault
 front_at p = do
   names ← version_at p
@@ -141,6 +154,7 @@ front_at p = do
 
 -- ---- the lines that may stand any number of times
 
+-- one more was read, behind which reading goes on; or there was none, and it ends
 abbrev pub go_on : {X : Type 0} → (List X → Place → Result (List X × Place) RecordFault) → List X → Option X × Place → Result (List X × Place) RecordFault
 go_on more front (None, p) = Ok (front, p)
 go_on more front (Some x, p) = more (front ++ x ∷ []) p
@@ -159,9 +173,11 @@ abbrev pub is_above : Option Text → Text → Bool
 is_above None path = true
 is_above (Some before) path = is_lt (text_cmp before path)
 
+-- the last one, if there is any
 abbrev pub last_of : {X : Type 0} → List X → Option X
 last_of xs = slice_get xs (length xs - 1)
 
+-- the dependency that the text is: its path, name and digest, with one blank between two of them
 unfoldable pub dependency_in : ℕ → Text → Result Dep RecordFault
 dependency_in n text = do
   path ← cut_in blank n text
@@ -204,6 +220,7 @@ size_in total n text =
     else if nat_lt LIMIT (total + digits_value 10 text) then Err TooLarge
     else Ok (digits_value 10 text)
 
+-- the digest and the size of the file with this name, behind files of this total
 unfoldable pub head_at : ℕ → Text → Place → Result (Option Head × Place) RecordFault
 head_at total name p = do
   sha ← field_at (codes "@sha ") p
@@ -221,6 +238,7 @@ entry_at names total p = do
       else if is_next_name names line.0 then head_at total line.0 line.1
       else Err (BadFileName line.1.passed)
 
+-- the lines of one more file behind these, or the empty line that ends the header
 abbrev pub file_at : List Head → Place → Result (Option Head × Place) RecordFault
 file_at heads p = entry_at (map (λ h. h.name) heads) (sum_by (λ h. h.size) heads) p
 
@@ -250,6 +268,7 @@ files_in front (h ∷ hs) bytes =
     then files_in (front ++ record { name = h.name; bytes = take h.size bytes } ∷ []) hs (drop h.size bytes)
     else Err (DigestDiffers h.line)
 
+-- how many bytes the files have in all, by the header
 abbrev pub total_of : Header → ℕ
 total_of h = sum_by (λ head. head.size) h.heads
 

@@ -3,6 +3,7 @@ use Rattle.std.specs.Prelude.{◌≡◌, ◌≤◌, Some, List, ℕ, length, map
 use Rattle.pkgname.specs.PkgName.{IsName, parts_of}
 use Rattle.pkgname.specs.declared.name.PkgName.TheInside.{Inside}
 
+-- the text of a name
 abbrev pub text_of : Inside → List ℕ
 text_of n = n.text.items
 

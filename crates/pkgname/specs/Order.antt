@@ -19,5 +19,6 @@ body_cmp = then_cmp (on (λ x. x.components) (slice_cmp component_cmp)) (on (λ 
 abbrev pub parts_cmp : Parts → Parts → Ordering
 parts_cmp = then_cmp (on (λ x. x.v) (option_cmp nat_cmp)) body_cmp
 
+-- how two versions compare, by what they say
 abbrev pub version_cmp : Text → Text → Ordering
 version_cmp = on parts_of parts_cmp

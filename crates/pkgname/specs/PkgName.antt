@@ -9,6 +9,7 @@ use Rattle.faults.specs.Pieces.{pieces_at}
 use Rattle.pkgname.specs.declared.NameFault.{NameFault}
 use Rattle.pkgname.specs.declared.NameFault.TheVariants.{TooLong, BadByte, NoVersion}
 
+-- a byte that may stand in a name: printable, no blank, and without a meaning in paths, specs and lists
 abbrev pub is_name_byte : ℕ → Bool
 is_name_byte b = is_word_byte b && not (is_one_of (codes "/:|,!*<>=") b)
 
@@ -28,6 +29,7 @@ pub record Parts : Type 0 where
   pub version : Text
   pub flavors : List Text
 
+-- the parts of a text whose version begins behind the dash at this place
 abbrev pub parts_round : Text → ℕ → Parts
 parts_round text place =
     let pieces = pieces_at dash (drop (place + 1) text) in
@@ -43,9 +45,11 @@ parts_by begins text = option_map (parts_round text) (version_dash begins text)
 
 -- ---- names
 
+-- the parts of a text as those of a name, whose version begins with a digit
 abbrev pub parts_of : Text → Option Parts
 parts_of text = parts_by is_ascii_digit text
 
+-- one of the flavors is empty
 abbrev pub has_empty_flavor : Text → Bool
 has_empty_flavor text = option_map_or (λ p. list_any is_empty p.flavors) (parts_of text) false
 
@@ -61,14 +65,18 @@ fault_of text = first_that_applies (
 abbrev pub name_of : Text → Result Text NameFault
 name_of text = unless_fault (fault_of text) text
 
+-- the text is a package name
 abbrev pub IsName : Text → Type 0
 IsName text = name_of text ≡ Ok text
 
+-- the stem of a name
 abbrev pub stem_of : Text → Text
 stem_of name = option_map_or (λ p. p.stem) (parts_of name) []
 
+-- the version of a name
 abbrev pub version_of : Text → Text
 version_of name = option_map_or (λ p. p.version) (parts_of name) []
 
+-- the flavors of a name, in their order
 abbrev pub flavors_of : Text → List Text
 flavors_of name = option_map_or (λ p. p.flavors) (parts_of name) []

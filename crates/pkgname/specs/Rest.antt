@@ -36,6 +36,7 @@ abbrev pub by_word : Rank → Option ℕ → Rest → Rest
 by_word rank None other = other
 by_word rank (Some number) other = record { rank = rank; number = number; text = [] }
 
+-- a rest that is no such word with a number: the release itself if it is empty, and another one if not
 abbrev pub without_word : Text → Rest
 without_word text = record { rank = if is_empty text then Release else Other; number = 0; text = text }
 

@@ -12,6 +12,7 @@ use Rattle.pkgname.specs.PkgName.{is_name_byte}
 abbrev pub is_version : Text → Bool
 is_version text = option_map_or is_ascii_digit (slice_get text 0) false && list_all is_name_byte text && not (has_byte dash text)
 
+-- the text is that of a version
 abbrev pub IsVersion : Text → Type 0
 IsVersion text = is_version text ≡ true
 
@@ -21,9 +22,11 @@ number_of digits = digits_value 10 digits
 
 -- ---- the markers at the end
 
+-- the digits with which the text ends
 abbrev pub digits_at_end : Text → Text
 digits_at_end text = drop (length text - suffix_len is_ascii_digit text) text
 
+-- what stands before the digits with which the text ends
 abbrev pub before_digits_at_end : Text → Text
 before_digits_at_end text = take (length text - suffix_len is_ascii_digit text) text
 
@@ -31,20 +34,24 @@ before_digits_at_end text = take (length text - suffix_len is_ascii_digit text) 
 abbrev pub has_marker : ℕ → Text → Bool
 has_marker letter text = not (is_empty (digits_at_end text)) && ends_with nat_eq (before_digits_at_end text) (letter ∷ [])
 
+-- the number of the marker with this letter, if the text ends with one
 abbrev pub marker : ℕ → Text → Option ℕ
 marker letter text = if has_marker letter text then Some (number_of (digits_at_end text)) else None
 
+-- the text without the marker with this letter, if it ends with one
 abbrev pub without_marker : ℕ → Text → Text
 without_marker letter text = if has_marker letter text then take (length (before_digits_at_end text) - 1) text else text
 
 -- ---- the components of the body
 
+-- what stands between dots in the body of a version
 pub record Component : Type 0 where
   -- what the digits at its front write
   pub number : ℕ
   -- what stands behind them
   pub rest : Text
 
+-- what a piece of a body says as a component
 abbrev pub component_of : Text → Component
 component_of piece = record {
   number = number_of (take_while is_ascii_digit piece);

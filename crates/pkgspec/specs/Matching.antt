@@ -11,6 +11,7 @@ use Rattle.pkgspec.specs.Spec.{Alternative, Bound, Demand}
 use Rattle.pkgspec.specs.declared.bound.Relation.{Relation}
 use Rattle.pkgspec.specs.declared.bound.Relation.TheVariants.{AtLeast, Above, AtMost, Below, Equal}
 
+-- a version that compares so with the bound's own is as the relation wants it
 abbrev pub allows : Relation → Ordering → Bool
 allows AtLeast o = is_ge o
 allows Above o = is_gt o
@@ -30,6 +31,7 @@ is_met_by flavors demand = if demand.is_present then is_among flavors demand.fla
 abbrev pub is_stem_of : Text → Text → Bool
 is_stem_of stem name = bytes_eq stem (codes "STEM") || bytes_eq stem (stem_of name)
 
+-- the name has the alternative's stem, a version that all bounds want, and flavors that meet all demands
 abbrev pub alternative_matches : Text → Alternative → Bool
 alternative_matches name a =
     is_stem_of a.stem name && list_all (holds (version_of name)) a.bounds && list_all (is_met_by (flavors_of name)) a.demands

@@ -25,6 +25,7 @@ pub record Demand : Type 0 where
   pub flavor : Text
   pub is_present : Bool
 
+-- what an alternative wants of a name: its stem, bounds of its version, and demands on its flavors
 pub record Alternative : Type 0 where
   pub stem : Text
   pub bounds : List Bound
@@ -40,12 +41,15 @@ begins_bounds b = is_one_of (codes "*<>=") b || is_ascii_digit b
 abbrev pub parts_of : Text → Option name.Parts
 parts_of text = parts_by begins_bounds text
 
+-- the stem of an alternative, which is all of it where it has no bounds
 abbrev pub stem_of : Text → Text
 stem_of text = option_map_or (λ p. p.stem) (parts_of text) text
 
+-- the texts of an alternative's bounds, with commas between them
 abbrev pub bound_texts : Text → List Text
 bound_texts text = option_map_or (λ p. pieces_at comma p.version) (parts_of text) []
 
+-- the texts of an alternative's demands on flavors
 abbrev pub demand_texts : Text → List Text
 demand_texts text = option_map_or (λ p. p.flavors) (parts_of text) []
 
@@ -66,6 +70,7 @@ abbrev pub bound_of : Text → Option Bound
 bound_of text =
     if is_version (relation_of text).1 then Some (record { relation = (relation_of text).0; version = (relation_of text).1 }) else None
 
+-- the text is a star, which wants nothing of a version
 abbrev pub is_star : Text → Bool
 is_star text = bytes_eq text (codes "*")
 
@@ -77,9 +82,11 @@ is_bound text = is_star text || is_some (bound_of text)
 abbrev pub is_denied : Text → Bool
 is_denied text = begins_with (codes "!") text
 
+-- the flavor that a text is about, and whether it has to be there
 abbrev pub demand_of : Text → Demand
 demand_of text = record { flavor = if is_denied text then drop 1 text else text; is_present = not (is_denied text) }
 
+-- the text is about a flavor that a name may have
 abbrev pub is_demand : Text → Bool
 is_demand text = not (is_empty (demand_of text).flavor) && list_all is_name_byte (demand_of text).flavor
 
@@ -94,6 +101,7 @@ alternative_fault text = first_that_applies (
     ∷ (not (list_all is_demand (demand_texts text)), BadByte)
     ∷ [])
 
+-- the alternative that a text spells
 abbrev pub alternative_of : Text → Alternative
 alternative_of text = record {
   stem = stem_of text;

@@ -12,6 +12,7 @@ use Rattle.listing.specs.Listing.{Rules, tree_of}
 use Rattle.listing.specs.Tree.{Tree}
 use Rattle.replay.specs.List.{AreEntries}
 
+-- the words for why a package is not allowed
 abbrev pub reason_text : Reason → Text
 reason_text Unlisted = codes "unlisted"
 reason_text Ignored = codes "ignored"
@@ -20,6 +21,7 @@ reason_text PathTwice = codes "path twice"
 reason_text OtherDependencies = codes "other dependencies"
 reason_text DependencyNotEarlier = codes "dependency not earlier"
 
+-- the line which says that the package with this number is not allowed, and why
 abbrev pub no_line : ℕ → Text → Text
 no_line number reason = codes "no: package " ++ decimal number ++ codes ": " ++ reason ++ line_feed ∷ []
 

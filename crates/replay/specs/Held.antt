@@ -26,6 +26,7 @@ IsFaultOf tree line (BadList n) = (n ≡ line.0) × (is_empty line.1 ≡ false) 
 IsFaultOf tree line (Unlisted n) = (n ≡ line.0) × (path : Text) × (path_of line.1 ≡ Ok path) × ¬ IsListed tree path
 IsFaultOf tree line (Ignored n) = (n ≡ line.0) × (p : ℕ) × Names tree line.1 p × IsIgnored tree p
 
+-- the line has no fault
 abbrev pub IsFaultless : Tree → Line → Type 0
 IsFaultless tree line = (e : HeldFault) → ¬ IsFaultOf tree line e
 

@@ -40,6 +40,7 @@ pub record Names (word line : Text) (d : Dep) : Type 0 where
   pub fields : pieces_at blank line ≡ word ∷ path ∷ name ∷ digest ∷ []
   pub spelled : Spells path name digest d
 
+-- the line says this of a package, or of one that it was built on
 abbrev pub Says : Text → ListLine → Type 0
 Says line (Package d) = Names (codes "package") line d
 Says line (Built d) = Names (codes "built") line d

@@ -3,10 +3,12 @@ use Rattle.std.specs.Prelude.{ℕ, Option, None, Some}
 use Rattle.replay.specs.declared.list.ListFault.{ListFault}
 use Rattle.replay.specs.declared.list.ListFault.TheVariants.{Memory, BadList}
 
+-- the number by which each refusal is told
 abbrev pub number_of : ListFault → ℕ
 number_of Memory = 1
 number_of (BadList line) = 1308
 
+-- the line that the refusal names, counted from 1, if it names one
 abbrev pub place_of : ListFault → Option ℕ
 place_of Memory = None
 place_of (BadList line) = Some line

@@ -8,14 +8,17 @@ use Rattle.replay.specs.declared.list.Packages.{Packages}
 use Rattle.replay.specs.declared.list_line.ListLine.{ListLine}
 use Rattle.replay.specs.declared.list_line.ListLine.TheVariants.{Package, Built}
 
+-- the last of the texts is empty
 abbrev pub has_empty_end : List Text → Bool
 has_empty_end [] = false
 has_empty_end (t ∷ []) = is_empty t
 has_empty_end (t ∷ u ∷ ts) = has_empty_end (u ∷ ts)
 
+-- the package that was read last, with what it was built on so far
 abbrev pub last_entry : Packages → Entry
 last_entry p = record { path = p.last.path; name = p.last.name; digest = p.last.digest; built = p.built.items }
 
+-- the packages that were read, in their order
 abbrev pub entries_in : Option Packages → List Entry
 entries_in None = []
 entries_in (Some p) = p.earlier.items ++ last_entry p ∷ []
@@ -24,6 +27,7 @@ entries_in (Some p) = p.earlier.items ++ last_entry p ∷ []
 abbrev pub said_in : Option Packages → List ListLine
 said_in packages = flat_map said_of (entries_in packages)
 
+-- the line is about one that a package was built on
 abbrev pub IsBuilt : ListLine → Type 0
 IsBuilt (Package d) = ⊥
 IsBuilt (Built d) = Unit {0}

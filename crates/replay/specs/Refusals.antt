@@ -3,12 +3,14 @@ use Rattle.std.specs.Prelude.{ℕ, Option, None, Some}
 use Rattle.replay.specs.declared.held.HeldFault.{HeldFault}
 use Rattle.replay.specs.declared.held.HeldFault.TheVariants.{Memory, BadList, Unlisted, Ignored}
 
+-- the number by which each refusal is told
 abbrev pub number_of : HeldFault → ℕ
 number_of Memory = 1
 number_of (BadList line) = 1308
 number_of (Unlisted line) = 901
 number_of (Ignored line) = 902
 
+-- the line that the refusal names, counted from 1, if it names one
 abbrev pub place_of : HeldFault → Option ℕ
 place_of Memory = None
 place_of (BadList line) = Some line

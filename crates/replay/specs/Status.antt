@@ -11,6 +11,7 @@ use Rattle.listing.specs.Listing.{Rules, tree_of}
 use Rattle.listing.specs.Tree.{Package, Tree}
 use Rattle.replay.specs.Held.{AreHeld}
 
+-- the letter as it is printed
 abbrev pub letter_text : Letter → Text
 letter_text I = codes "I"
 letter_text B = codes "B"
@@ -26,6 +27,7 @@ package_line letter path name = letter_text letter ++ codes " " ++ path ++ codes
 abbrev pub package_lines : List Package → List Letter → Text
 package_lines packages letters = flat_map (λ (x : Package × Letter). package_line x.1 x.0.path x.0.name) (zip packages letters)
 
+-- the line that says how many packages have each letter
 abbrev pub counts_line : Counts → Text
 counts_line c =
     codes "I=" ++ decimal c.i ++ codes " B=" ++ decimal c.b ++ codes " Q=" ++ decimal c.q

@@ -16,9 +16,11 @@ use Rattle.stable_record.specs.Crash.{AllAlong, MayLeave}
 abbrev pub shortest : Identity → ℕ
 shortest i = 2 + length (header i)
 
+-- behind its first byte the file has what a log is known by
 abbrev pub HasMagic : Identity → List ℕ → Type 0
 HasMagic i file = take 8 (drop 1 file) ≡ magic i
 
+-- behind its first byte the file has the header of this owner
 abbrev pub IsAsOwner : Identity → List ℕ → Type 0
 IsAsOwner i file = take (length (header i)) (drop 1 file) ≡ header i
 

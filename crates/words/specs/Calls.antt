@@ -14,9 +14,11 @@ word id = record (new_rule id) { required = true }
 abbrev pub command : Text → List Rule → Shape
 command name rules = (fold with_rule (new_app name) rules).top
 
+-- `dpbr status`, which takes a listing and a list of held paths
 abbrev pub status_command : Shape
 status_command = command (codes "status") (word (codes "LISTING") ∷ word (codes "HELD") ∷ [])
 
+-- `dpbr audit`, which takes a listing and a list of packages
 abbrev pub audit_command : Shape
 audit_command = command (codes "audit") (word (codes "LISTING") ∷ word (codes "LIST") ∷ [])
 
