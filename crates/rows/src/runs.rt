@@ -100,11 +100,7 @@ fn status_prints_letters_and_counts(rt: HostRuntime) -> Result<(), Fail> {
 fn status_names_the_first_fault(rt: HostRuntime) -> Result<(), Fail> {
     for (listing, held, want) in [
         ("a/p\n", "", "dpbr: fault 401 at 1\n"),
-        (
-            "a/p.FULLPKGNAME=vim",
-            "",
-            "dpbr: fault 401 at 1\n",
-        ),
+        ("a/p.FULLPKGNAME=vim", "", "dpbr: fault 401 at 1\n"),
         ("vim.FULLPKGNAME=vim-9\n", "", "dpbr: fault 402 at 1\n"),
         (
             "a/p.FULLPKGNAME=p-1\na/p.FULLPKGNAME=p-2\n",

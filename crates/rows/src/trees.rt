@@ -100,8 +100,7 @@ fn words_make_calls(rt: HostRuntime) -> Result<(), Fail> {
 static SPEC_BEFORE: &[u8] =
     b"a/p.FULLPKGNAME=p-1\na/p.BUILD_DEPENDS=q->=2:a/q:patch\na/q.FULLPKGNAME=q-";
 
-static BOUNDS_BEHIND: &[u8] =
-    b"a/p.FULLPKGNAME=p-1\na/p.BUILD_DEPENDS=a/q>=2\na/q.FULLPKGNAME=q-";
+static BOUNDS_BEHIND: &[u8] = b"a/p.FULLPKGNAME=p-1\na/p.BUILD_DEPENDS=a/q>=2\na/q.FULLPKGNAME=q-";
 
 #[test]
 fn a_spec_that_the_name_does_not_match_marks(rt: HostRuntime) -> Result<(), Fail> {
