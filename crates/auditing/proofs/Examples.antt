@@ -9,7 +9,9 @@ use Rattle.engine.specs.Letters.{HoldsTheMarked, IsIgnored}
 use Rattle.faults.specs.Bytes.{Text}
 use Rattle.claims.specs.declared.deps.Dep.{Dep}
 use Rattle.listing.specs.Tree.{Tree, build_at, is_marked_at, run_at}
+use Rattle.package_record.specs.Content.{Content}
 use Rattle.auditing.specs.Allowed.{AreItsDependencies, IsAllowed, IsNew, IsSignatureOf, MayFollow, StoodEarlier}
+use Rattle.auditing.specs.Fits.{Fits}
 use Rattle.auditing.specs.Verdicts.{IsVerdict}
 use Rattle.auditing.specs.declared.entry.Entry.{Entry}
 use Rattle.auditing.specs.declared.verdict.Reason.TheVariants.{Unlisted, Ignored, OtherName, PathTwice, OtherDependencies, DependencyNotEarlier}
@@ -52,6 +54,22 @@ free p e ignored =
 
 left_out : IsIgnored tree 3
 left_out S holds = holds.marked 3 (omega arith) refl
+
+-- ---- a record of the tree
+
+abbrev q_content : Content
+q_content = record {
+  path = codes "a/q";
+  name = codes "q-1";
+  host = 3;
+  claim = record { round = 1; member = 0 };
+  built = [];
+  run = codes "a/r" ∷ [];
+  files = [];
+}
+
+q_fits : Fits tree q_content
+q_fits = record { position = 1; listed = refl; not_ignored = free 1 refl; name = refl; built = refl; run = refl }
 
 -- ---- entries
 

@@ -1,4 +1,5 @@
 pub mod Allowed
+pub mod Fits
 pub mod Laws
 pub mod Standing
 pub mod Verdicts
