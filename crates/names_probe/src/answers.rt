@@ -1,6 +1,7 @@
 // The answer to a line.
 use faults::Fault;
 use pkgname::{PkgName, Version, first_piece, is_version};
+use pkgpath::PkgPath;
 use pkgspec::Spec;
 use std::alloc::{AllocError, Global};
 use std::cmp::Ordering;
@@ -14,6 +15,7 @@ pub fn answer(alloc: Global, line: &[u8]) -> Result<String, AllocError> {
         b"name" => name(alloc, first.as_slice()),
         b"compare" => compare(alloc, first.as_slice(), second.as_slice()),
         b"spec" => spec(alloc, first.as_slice(), second.as_slice()),
+        b"path" => path(alloc, first.as_slice()),
         _ => String::from_str(alloc, "no question"),
     }
 }
@@ -71,4 +73,15 @@ fn spec(alloc: Global, text: &[u8], name: &[u8]) -> Result<String, AllocError> {
         return String::from_str(alloc, "no name");
     };
     String::from_str(alloc, if spec.matches(&name) { "yes" } else { "no" })
+}
+
+fn path(alloc: Global, text: &[u8]) -> Result<String, AllocError> {
+    let path = match PkgPath::parse(alloc, text) {
+        Ok(path) => path,
+        Err(fault) => return format!(in alloc; "{}", fault.number()),
+    };
+    match path.copy() {
+        Ok(path) => hex::encode(alloc, path.as_bytes()),
+        Err(_) => String::from_str(alloc, "no memory"),
+    }
 }
