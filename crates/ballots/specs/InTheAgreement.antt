@@ -1,5 +1,6 @@
 -- What ballots are in the theory of the agreement.
 use Rattle.std.specs.Prelude.{◌≡◌, ℕ, List, [], true, false, if◌then◌else◌, Option, None, Some, option_map, unwrap_or}
+use Rattle.std.specs.Option.{option_or}
 use Rattle.agreement.specs.declared.claim.Claim.{Claim}
 use Rattle.agreement.specs.Votes.{Ballot, ballot, kept_report, report_of}
 use Rattle.agreement.specs.Messages as messages
@@ -196,3 +197,17 @@ next_of o (step.Joins t report) = next.Nothing
 next_of o step.Builds = next.Build
 next_of o (step.Proposes v t sent) = next.Propose (claim_of o) sent
 next_of o (step.Holds noted sent) = next.Hold noted sent
+
+-- what is left of the claimer once a member joined: it counts by this tally, and keeps the report that comes, if one does
+abbrev pub claimer_joined : {V : Type 0} → Claimer V → Support → Option (Claim × V) → Claimer V
+claimer_joined (Gathering c s k) t report = Gathering c t (option_or report k)
+claimer_joined (Building c) t report = Building c
+claimer_joined (Voting c v s) t report = Voting c v t
+
+-- The claimer after the step, None where its claim is done with. Its tally weighs members as the step's does.
+abbrev pub claimer_then : {V : Type 0} → Claimer V → ClaimerStep V → Option (Claimer V)
+claimer_then o step.Nothing = Some o
+claimer_then o (step.Joins t report) = Some (claimer_joined o t report)
+claimer_then o step.Builds = Some (Building (claim_of o))
+claimer_then o (step.Proposes v t sent) = Some (Voting (claim_of o) v t)
+claimer_then o (step.Holds noted sent) = None
