@@ -1,4 +1,3 @@
 pub mod Support
 pub mod Inside
-pub mod Pledge
 pub mod InTheAgreement
