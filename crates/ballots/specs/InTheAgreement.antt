@@ -1,11 +1,13 @@
 -- What ballots are in the theory of the agreement.
 use Rattle.std.specs.Prelude.{◌≡◌, ℕ, List, [], true, false, if◌then◌else◌, Option, None, Some, option_map, unwrap_or}
+use Rattle.std.specs.Option.{option_or}
 use Rattle.agreement.specs.declared.claim.Claim.{Claim}
 use Rattle.agreement.specs.Votes.{Ballot, ballot, kept_report, report_of}
 use Rattle.agreement.specs.Messages as messages
 use Rattle.agreement.specs.Member as members
 use Rattle.agreement.specs.Step.{Outcome, on_promise, on_vote}
 use Rattle.agreement.specs.Quorums.{Members, is_majority, named_in}
+use Rattle.ballots.specs.Pledge.{Pledge}
 use Rattle.ballots.specs.Support.{Support}
 use Rattle.ballots.specs.declared.claimer.Claimer.{Claimer}
 use Rattle.ballots.specs.declared.claimer.Claimer.TheVariants.{Gathering, Building, Voting}
@@ -17,7 +19,6 @@ use Rattle.ballots.specs.declared.message.Body.{Body}
 use Rattle.ballots.specs.declared.message.Body.TheVariants.{Offer, Promise, Propose, Vote, Agreed, Ask, Nay}
 use Rattle.ballots.specs.declared.message.Fact.{Fact}
 use Rattle.ballots.specs.declared.message.Fact.TheVariants.{Opened, Promised, Voted, Held}
-use Rattle.ballots.specs.declared.voter.Voter.{Voter}
 use Rattle.ballots.specs.declared.voter.VoterStep.{VoterStep}
 
 -- what member m says
@@ -37,18 +38,10 @@ note_of (Promised c) = members.Promised c
 note_of (Voted c v) = members.Voted (ballot c v)
 note_of (Held v) = members.Held v
 
--- Who voted has promised a claim.
-abbrev pub HasPromised : {V : Type 0} → Option Claim → Option (Ballot V) → Type 0
-HasPromised p None = Unit {0}
-HasPromised None (Some b) = ⊥
-HasPromised (Some p) (Some b) = Unit {0}
-
--- The member promised and voted for what the voter did. Each vote that is noted raises what is promised, so who voted has
--- promised.
-pub record IsVoter (V : Type 0) (v : Voter V) (x : members.Member V) : Type 0 where
+-- The member promised and voted for what the voter did.
+pub record IsVoter (V : Type 0) (v : Pledge V) (x : members.Member V) : Type 0 where
   pub promised : x.promised ≡ v.promised
   pub voted : x.voted ≡ report_of v.voted
-  pub bound : HasPromised x.promised x.voted
 
 -- the value of the vote that is noted
 abbrev pub kept_of : {V : Type 0} → Option (Fact V) → Option V
@@ -59,29 +52,29 @@ kept_of (Some (Voted c v)) = Some v
 kept_of (Some (Held v)) = None
 
 -- The step is the one that each such member takes: it notes the same, and then says the same.
-pub record IsStepOf (V : Type 0) (v : Voter V) (outcome : ℕ → members.Member V → Outcome V) (step : VoterStep V) : Type 0 where
+pub record IsStepOf (V : Type 0) (v : Pledge V) (outcome : ℕ → members.Member V → Outcome V) (step : VoterStep V) : Type 0 where
   pub note : (i : ℕ) (x : members.Member V) → IsVoter V v x → (outcome i x).note ≡ option_map note_of step.note
   pub said : (i : ℕ) (x : members.Member V) → IsVoter V v x → (outcome i x).send ≡ Some (said i step.answer)
   pub kept : kept_of step.note ≡ step.kept
 
 -- the voter's facts, those of a member that opened and holds nothing
-abbrev pub facts_of_voter : {V : Type 0} → Voter V → members.Facts V
+abbrev pub facts_of_voter : {V : Type 0} → Pledge V → members.Facts V
 facts_of_voter v = record { opened = 0; promised = v.promised; voted = report_of v.voted; held = None }
 
 -- the facts with one more note, if there is one
-abbrev pub facts_then : {V : Type 0} → Voter V → Option (Fact V) → members.Facts V
+abbrev pub facts_then : {V : Type 0} → Pledge V → Option (Fact V) → members.Facts V
 facts_then v note = members.noted_any (facts_of_voter v) (option_map note_of note)
 
 -- the claim is turned down for the one that is promised
-abbrev pub refusal_of : {V : Type 0} → Voter V → Claim → VoterStep V
+abbrev pub refusal_of : {V : Type 0} → Pledge V → Claim → VoterStep V
 refusal_of v c = record { note = None; answer = Nay c (unwrap_or v.promised c); kept = None }
 
 -- what is promised, and what was voted for, with one more note
-abbrev pub promised_then : {V : Type 0} → Voter V → Option (Fact V) → Option Claim
+abbrev pub promised_then : {V : Type 0} → Pledge V → Option (Fact V) → Option Claim
 promised_then v note = (facts_then v note).promised
 
 -- what was voted for last, with one more note
-abbrev pub voted_then : {V : Type 0} → Voter V → Option (Fact V) → Option (Ballot V)
+abbrev pub voted_then : {V : Type 0} → Pledge V → Option (Fact V) → Option (Ballot V)
 voted_then v note = (facts_then v note).voted
 
 -- the members that joined
@@ -196,3 +189,17 @@ next_of o (step.Joins t report) = next.Nothing
 next_of o step.Builds = next.Build
 next_of o (step.Proposes v t sent) = next.Propose (claim_of o) sent
 next_of o (step.Holds noted sent) = next.Hold noted sent
+
+-- what is left of the claimer once a member joined: it counts by this tally, and keeps the report that comes, if one does
+abbrev pub claimer_joined : {V : Type 0} → Claimer V → Support → Option (Claim × V) → Claimer V
+claimer_joined (Gathering c s k) t report = Gathering c t (option_or report k)
+claimer_joined (Building c) t report = Building c
+claimer_joined (Voting c v s) t report = Voting c v t
+
+-- The claimer after the step, None where its claim is done with. Its tally weighs members as the step's does.
+abbrev pub claimer_then : {V : Type 0} → Claimer V → ClaimerStep V → Option (Claimer V)
+claimer_then o step.Nothing = Some o
+claimer_then o (step.Joins t report) = Some (claimer_joined o t report)
+claimer_then o step.Builds = Some (Building (claim_of o))
+claimer_then o (step.Proposes v t sent) = Some (Voting (claim_of o) v t)
+claimer_then o (step.Holds noted sent) = None

@@ -1,3 +1,4 @@
 pub mod Support
 pub mod Inside
+pub mod Pledge
 pub mod InTheAgreement

@@ -8,6 +8,8 @@ ghost use Rattle.ballots.specs.InTheAgreement.{
   IsStepOnPromise,
   IsStepOnVote,
   claim_of,
+  claimer_joined,
+  claimer_then,
   instead,
   next_of,
   stage_joined,
@@ -135,6 +137,7 @@ impl<V: Value> Claimer<V> {
     /// Takes the step, and gives what follows it. It moves what the step holds, and takes no memory. Where no claimer is
     /// left, the claim is done with.
     pub fn apply(self, step: ClaimerStep<V>) -> (Option<Claimer<V>>, Next<V>)
+        ensures claimer { result.0 ≡ claimer_then self step }
         ensures stage { stage_left result.0 ≡ stage_then self step }
         ensures next { result.1 ≡ next_of self step }
     {
@@ -172,7 +175,8 @@ impl<V: Value> Claimer<V> {
     }
 
     fn joined(self, tally: Tally, report: Option<(Claim, V)>) -> Claimer<V>
-        ensures { stage_of result ≡ stage_joined self tally report }
+        ensures claimer { result ≡ claimer_joined self tally report }
+        ensures stage { stage_of result ≡ stage_joined self tally report }
     {
         match self {
             Claimer::Gathering {

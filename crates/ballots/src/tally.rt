@@ -69,13 +69,6 @@ impl Tally {
         Ok(Tally::new(weights))
     }
 
-    /// Whether the member joined.
-    pub fn has_joined(&self, member: u8) -> bool
-        ensures { result ≡ named_in self.now.joined member }
-    {
-        self.joined.contains(&member)
-    }
-
     /// Whether those that joined are a majority.
     pub fn is_majority(&self) -> bool
         ensures { result ≡ is_majority self.now.weights (named_in self.now.joined) }

@@ -4,7 +4,7 @@ ghost use Rattle.claims.specs.declared.TheConstants.{MEMBERS};
 
 use crate::{Body, Claimer, Fact, Message, Next, Note, Tally, Voter};
 use arrayvec::ArrayVec;
-use claims::{Claim, Deps, Job, next_round};
+use claims::{Claim, Dep, Deps, Job, next_round};
 use faults::Memory;
 use package_record::{Record, make};
 use pkgname::PkgName;
@@ -102,14 +102,28 @@ fn promises_and_votes(rt: HostRuntime) -> Result<(), Fail> {
     Ok(())
 }
 
-/// The claimer once the member voted, if one is left.
-fn voted(open: Option<Claimer>, from: u8) -> Result<Option<Claimer>, Memory>
+/// The claimer once the member voted, if one is left, and what follows.
+fn voted(open: Option<Claimer>, from: u8) -> Result<(Option<Claimer>, Follows), Memory>
     requires { from < MEMBERS }
 {
     let claimer = open.ok_or(Memory)?;
     let step = claimer.vote(from, FIRST)?;
-    let (left, _next) = claimer.apply(step);
-    Ok(left)
+    let (left, next) = claimer.apply(step);
+    Ok((left, follows(&next)))
+}
+
+/// What follows a step, and the hosts of its records.
+type Follows = (&'static str, Option<u16>, Option<u16>);
+
+const NOTHING: Follows = ("nothing", None, None);
+
+fn follows(next: &Next) -> Follows {
+    match next {
+        Next::Nothing => NOTHING,
+        Next::Build => ("build", None, None),
+        Next::Propose(_, record) => ("propose", Some(record.host()), None),
+        Next::Hold { noted, sent } => ("hold", Some(noted.host()), Some(sent.host())),
+    }
 }
 
 #[test]
@@ -119,11 +133,11 @@ fn counts_a_member_once(rt: HostRuntime) -> Result<(), Fail> {
         value: record(rt.alloc(), 7)?,
         voted: nobody_of(3),
     };
-    let open = voted(Some(open), 2)?;
-    let open = voted(open, 2)?;
-    assert!(rt; open.is_some());
-    let open = voted(open, 1)?;
-    assert!(rt; open.is_none());
+    let (open, _) = voted(Some(open), 2)?;
+    let (open, again) = voted(open, 2)?;
+    assert!(rt; open.is_some() && again == NOTHING);
+    let (open, majority) = voted(open, 1)?;
+    assert!(rt; open.is_none() && majority == ("hold", Some(7), Some(7)));
     Ok(())
 }
 
@@ -135,39 +149,32 @@ fn gathering(members: u8) -> Option<Claimer> {
     })
 }
 
-/// The claimer once the member promised and reported this, and the host of the record that it proposes then.
+/// The claimer once the member promised and reported this, and what follows.
 fn promised(
     open: Option<Claimer>,
     from: u8,
     report: Option<&(Claim, Record)>,
-) -> Result<(Option<Claimer>, Option<u16>), Memory>
+) -> Result<(Option<Claimer>, Follows), Memory>
     requires { from < MEMBERS }
 {
     let claimer = open.ok_or(Memory)?;
     let step = claimer.promise(from, claim(3, 0), report)?;
     let (left, next) = claimer.apply(step);
-    Ok((left, proposes(&next)))
+    Ok((left, follows(&next)))
 }
 
-fn proposes(next: &Next) -> Option<u16> {
-    match next {
-        Next::Propose(_, record) => Some(record.host()),
-        _ => None,
-    }
-}
-
-/// The host of the record that is proposed after three of the five reports, and after two of three.
+/// What follows three of the five reports, and two of three.
 fn kept(
     first: &(Claim, Record),
     equal: &(Claim, Record),
     greatest: &(Claim, Record),
-) -> Result<[Option<u16>; 2], Memory> {
+) -> Result<(Follows, Follows), Memory> {
     let (open, _) = promised(gathering(5), 1, Some(first))?;
     let (open, _) = promised(open, 2, Some(equal))?;
     let (_, of_five) = promised(open, 3, Some(greatest))?;
     let (open, _) = promised(gathering(3), 1, Some(first))?;
     let (_, of_three) = promised(open, 2, Some(equal))?;
-    Ok([of_five, of_three])
+    Ok((of_five, of_three))
 }
 
 #[test]
@@ -175,21 +182,46 @@ fn proposes_what_was_reported(rt: HostRuntime) -> Result<(), Fail> {
     let first = (claim(1, 2), record(rt.alloc(), 1)?);
     let equal = (claim(1, 2), record(rt.alloc(), 2)?);
     let greatest = (claim(2, 0), record(rt.alloc(), 3)?);
-    let hosts = kept(&first, &equal, &greatest)?;
-    assert_eq!(rt; hosts, [Some(3), Some(1)]);
+    let (of_five, of_three) = kept(&first, &equal, &greatest)?;
+    assert_eq!(rt; of_five, ("propose", Some(3), None));
+    assert_eq!(rt; of_three, ("propose", Some(1), None));
     Ok(())
 }
 
-/// What a copy of a message with the body says.
-fn copied(alloc: Global, body: Body) -> Result<Said, Fail> {
+#[test]
+fn builds_what_nobody_reported(rt: HostRuntime) -> Result<(), Fail> {
+    let (open, first) = promised(gathering(3), 2, None)?;
+    assert_eq!(rt; first, NOTHING);
+    let (open, majority) = promised(open, 1, None)?;
+    assert_eq!(rt; majority, ("build", None, None));
+    assert!(rt; open.is_some_and(|claimer| claimer.claim() == claim(3, 0)));
+    Ok(())
+}
+
+/// A copy of a message with the body.
+fn copy_of(alloc: Global, body: Body) -> Result<Message, Fail> {
     let message = Message {
         sender: 1,
         tree: [2; 32],
         path: path(alloc)?,
         body,
     };
-    let copy = message.copy()?;
+    Ok(message.copy()?)
+}
+
+/// What a copy of a message with the body says.
+fn copied(alloc: Global, body: Body) -> Result<Said, Fail> {
+    let copy = copy_of(alloc, body)?;
     Ok(said(&copy.body))
+}
+
+#[test]
+fn copies_where_messages_are_from(rt: HostRuntime) -> Result<(), Fail> {
+    let copy = copy_of(rt.alloc(), Body::Ask)?;
+    assert!(rt;
+        copy.sender == 1 && copy.tree == [2; 32] && copy.path.as_bytes() == b"a/b".as_slice()
+    );
+    Ok(())
 }
 
 #[test]
@@ -253,15 +285,26 @@ fn copies_notes(rt: HostRuntime) -> Result<(), Fail> {
 #[test]
 fn copies_jobs(rt: HostRuntime) -> Result<(), Fail> {
     let alloc = rt.alloc();
+    let dep = Dep {
+        path: path(alloc)?,
+        name: PkgName::parse(alloc, b"b-1")?,
+        digest: [3; 32],
+    };
     let job = Job {
         path: path(alloc)?,
         claim: FIRST,
         host: 7,
-        deps: Deps::new(Vec::new(alloc)),
+        deps: Deps::new(vec![in alloc; dep]?),
     };
     let copy = job.copy()?;
     assert_eq!(rt; (copy.claim, copy.host), (FIRST, 7));
-    assert!(rt; copy.deps().as_slice().is_empty());
+    let [dep] = copy.deps().as_slice() else {
+        return Err(Fail::new("not one dependency"));
+    };
+    assert!(rt;
+        dep.path.as_bytes() == b"a/b".as_slice() && dep.name.as_bytes() == b"b-1".as_slice()
+    );
+    assert_eq!(rt; dep.digest, [3; 32]);
     assert!(rt; next_round(copy.claim.round) == Ok(2) && next_round(u64::MAX).is_err());
     Ok(())
 }

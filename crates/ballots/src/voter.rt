@@ -11,12 +11,24 @@ use agreement::{is_above, is_below, is_promised};
 use claims::Claim;
 use faults::Memory;
 use package_record::Record;
+use std::marker::Model;
 
-/// What a member promised, and its last vote, for one path.
+/// What a member promised, and its last vote, for one path. Each vote raises what is promised, so who voted has promised;
+/// whoever makes a voter proves that.
 #[derive(Drop)]
 pub struct Voter<V = Record> {
     pub promised: Option<Claim>,
     pub voted: Option<(Claim, V)>,
+}
+
+impl<V> Model for Voter<V> {
+    ghost use Rattle.ballots.specs.Pledge.{HasPromised, Pledge};
+
+    ghost Value = { Pledge V };
+
+    ghost view = { λ voter. record { promised = voter.promised; voted = voter.voted } };
+
+    ghost invariant = { λ voter. HasPromised voter.promised voter.voted };
 }
 
 /// What a voter is to note first, and then what it answers to the claim's member. It holds all that was grown for the step:

@@ -1,9 +1,45 @@
 // The answer to a line.
+use claims::{Claim, Deps};
 use faults::Fault;
-use package_record::{Record, RecordFault};
+use package_record::{File, Record, RecordFault, make};
+use pkgname::PkgName;
+use pkgpath::PkgPath;
 use std::alloc::{AllocError, Global};
 
 pub fn answer(alloc: Global, line: &[u8]) -> Result<String, AllocError> {
+    match line {
+        b"make 59856" => made(alloc, 59_856),
+        b"make 59857" => made(alloc, 59_857),
+        _ => read(alloc, line),
+    }
+}
+
+// What is made of one file of so many bytes.
+fn made(alloc: Global, bytes: usize) -> Result<String, AllocError> {
+    let file = File {
+        name: Vec::from_slice(alloc, b"x")?,
+        bytes: vec![in alloc; b'a'; bytes]?,
+    };
+    let mut files = Vec::new(alloc);
+    files.push(file)?;
+    let (Ok(path), Ok(name)) = (
+        PkgPath::parse(alloc, b"a/b"),
+        PkgName::parse(alloc, b"b-1.0"),
+    ) else {
+        return String::from_str(alloc, "no memory");
+    };
+    let claim = Claim {
+        round: 1,
+        member: 0,
+    };
+    let none = Deps::new(Vec::new(alloc));
+    match make(alloc, path, name, 3, claim, none, Vec::new(alloc), files) {
+        Ok(record) => said(alloc, &record, bytes),
+        Err(fault) => refused(alloc, &fault),
+    }
+}
+
+fn read(alloc: Global, line: &[u8]) -> Result<String, AllocError> {
     let text = match hex::decode(alloc, line) {
         Ok(text) => text,
         Err(_) => Vec::new(alloc),

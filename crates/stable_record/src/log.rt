@@ -4,7 +4,7 @@ ghost use Rattle.std.specs.Prelude.{◌≡◌, ◌<◌, ◌≤◌, ◌+◌, ◌�
 ghost use Rattle.stable_record.specs.Crash.{AllAlong};
 ghost use Rattle.stable_record.specs.Faults.{HasRisen, UsesRoomFor};
 ghost use Rattle.stable_record.specs.History.{History, seen};
-ghost use Rattle.stable_record.specs.Log.{Holds, HasBeforeOrAfter, IsSettled, Note, staged};
+ghost use Rattle.stable_record.specs.Log.{Holds, HasBeforeOrAfter, IsSettled, Note, most_bytes, staged};
 
 use crate::down::write_down;
 use crate::{Disk, DiskFault, Identity, LogFault};
@@ -35,10 +35,10 @@ impl<D: Disk> Log<D> {
         ensures any_moment { D.is_kept self.new.disk → (notes : List Note) → Holds D.history self.old notes
             → AllAlong (HasBeforeOrAfter self.old.identity notes note.now) (D.history self.old.disk) (D.history self.new.disk) }
 
-        // It doesn't give up by itself.
+        // Each refusal has its cause.
         ensures device { IsErrOf result LogFault.Device → HasRisen (D.failures_of self.old.disk) (D.failures_of self.new.disk) }
-        ensures full { IsErrOf result LogFault.Full → MAX_LEN < self.old.end + 6 + length note.now }
-        ensures within { OnOk result (self.old.end + 6 + length note.now ≤ MAX_LEN) }
+        ensures full { IsErrOf result LogFault.Full → most_bytes < self.old.end + 6 + length note.now }
+        ensures within { OnOk result (self.old.end + 6 + length note.now ≤ most_bytes) }
         ensures stopped { IsErrOf result LogFault.MustReopen → self.old.stopped ≡ true }
         ensures no_opening { IsErrOf result LogFault.NotALog ⊎ IsErrOf result LogFault.OtherCluster → ⊥ }
 

@@ -37,7 +37,7 @@ impl<D: Disk> Log<D> {
         ensures refused { IfErr result (λ e. D.is_kept e.1 → e.0 ≡ LogFault.NotALog ⊎ (e.0 ≡ LogFault.OtherCluster)
             → Opens identity (seen (D.history disk)) (Err e.0) × OnlySyncs (D.history disk) (D.history e.1)) }
 
-        // It doesn't give up by itself.
+        // Each refusal has its cause.
         ensures device { IfErr result (λ e. e.0 ≡ LogFault.Device → HasRisen (D.failures_of disk) (D.failures_of e.1)) }
         ensures no_append { IfErr result (λ e. e.0 ≢ LogFault.Full × (e.0 ≢ LogFault.MustReopen)) }
     {
