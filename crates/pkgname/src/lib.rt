@@ -22,7 +22,7 @@ mod tests;
 mod version;
 
 pub use crate::bytes::{dash_before_version, has_name_bytes};
-pub use crate::laws::version_order_is_total;
+pub use crate::laws::version_order_is_total_preorder;
 pub use crate::name::PkgName;
 pub use crate::pieces::first_piece;
 pub use crate::version::{Version, is_version};
