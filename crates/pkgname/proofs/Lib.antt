@@ -3,4 +3,5 @@ pub mod Copies
 pub mod Cutting
 pub mod Digits
 pub mod Fronts
+pub mod Preorder
 pub mod Splitting

@@ -7,18 +7,18 @@ use Rattle.faults.specs.Bytes.{Text}
 use Rattle.pkgname.specs.Rest.{rest_cmp, rest_of}
 use Rattle.pkgname.specs.Version.{Component, Parts, parts_of}
 
--- by number, and then by rest
+-- components compare by number, and then by rest
 abbrev pub component_cmp : Component → Component → Ordering
 component_cmp = then_cmp (on (λ c. c.number) nat_cmp) (on (λ c. rest_of c.rest) rest_cmp)
 
--- the components from the left, a version that ends first being below; then the marker p, none being below any
+-- by the components from the left, a body that ends first being below; then by the marker p, none being below any
 abbrev pub body_cmp : Parts → Parts → Ordering
 body_cmp = then_cmp (on (λ x. x.components) (slice_cmp component_cmp)) (on (λ x. x.p) (option_cmp nat_cmp))
 
--- the marker v first, none being below any
+-- by the marker v, none being below any; then by components and the marker p
 abbrev pub parts_cmp : Parts → Parts → Ordering
 parts_cmp = then_cmp (on (λ x. x.v) (option_cmp nat_cmp)) body_cmp
 
--- how two versions compare, by what they say
+-- how two versions compare: by what their texts say
 abbrev pub version_cmp : Text → Text → Ordering
 version_cmp = on parts_of parts_cmp

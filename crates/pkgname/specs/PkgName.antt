@@ -9,27 +9,28 @@ use Rattle.faults.specs.Pieces.{pieces_at}
 use Rattle.pkgname.specs.declared.NameFault.{NameFault}
 use Rattle.pkgname.specs.declared.NameFault.TheVariants.{TooLong, BadByte, NoVersion}
 
--- a byte that may stand in a name: printable, no blank, and without a meaning in paths, specs and lists
+-- a byte that may stand in a name: a word byte other than these nine
 abbrev pub is_name_byte : ℕ → Bool
 is_name_byte b = is_word_byte b && not (is_one_of (codes "/:|,!*<>=") b)
 
 -- ---- where a version begins
 
--- a dash stands there, and behind it a byte that begins a version
+-- at the place stands a dash, and behind it a byte that begins a version
 abbrev pub is_dash_before : (ℕ → Bool) → Text → ℕ → Bool
 is_dash_before begins text i = slice_index text i == dash && option_map_or begins (slice_get text (i + 1)) false
 
--- the first such place other than the text's first byte
+-- the first such place other than the text's first byte, if there is one
 abbrev pub version_dash : (ℕ → Bool) → Text → Option ℕ
 version_dash begins text = find (is_dash_before begins text) (range_with_len 1 (length text - 1))
 
--- what stands before the dash, from there to the next dash, and behind that, between dashes
+-- the parts of a text: a stem, a version, and flavors in their order
 pub record Parts : Type 0 where
   pub stem : Text
   pub version : Text
   pub flavors : List Text
 
--- the parts of a text whose version begins behind the dash at this place
+-- the parts of a text by the dash at this place: the stem before it, the version behind it up to the next dash or the
+-- end, and behind the version the flavors between dashes
 abbrev pub parts_round : Text → ℕ → Parts
 parts_round text place =
     let pieces = pieces_at dash (drop (place + 1) text) in
@@ -39,21 +40,22 @@ parts_round text place =
       flavors = drop 1 pieces;
     }
 
--- the parts of a text in which such a place is
+-- the parts of a text by the first such dash, if there is one
 abbrev pub parts_by : (ℕ → Bool) → Text → Option Parts
 parts_by begins text = option_map (parts_round text) (version_dash begins text)
 
 -- ---- names
 
--- the parts of a text as those of a name, whose version begins with a digit
+-- the parts of a text as those of a name, whose version begins with a digit, if it has one
 abbrev pub parts_of : Text → Option Parts
 parts_of text = parts_by is_ascii_digit text
 
--- one of the flavors is empty
+-- the text has a version, and a flavor behind it is empty
 abbrev pub has_empty_flavor : Text → Bool
 has_empty_flavor text = option_map_or (λ p. list_any is_empty p.flavors) (parts_of text) false
 
--- the fault of a text that is no name: the first of these that applies
+-- the fault of a text that is no name, the first that applies: it has more than 255 bytes; a byte may not stand in a
+-- name, or a flavor is empty; it has no version
 abbrev pub fault_of : Text → Option NameFault
 fault_of text = first_that_applies (
     (nat_lt 255 (length text), TooLong)
@@ -61,7 +63,7 @@ fault_of text = first_that_applies (
     ∷ (not (is_some (parts_of text)), NoVersion)
     ∷ [])
 
--- A name stands as its text.
+-- the text, which is a name, or its fault
 abbrev pub name_of : Text → Result Text NameFault
 name_of text = unless_fault (fault_of text) text
 

@@ -10,7 +10,7 @@ use Rattle.pkgname.specs.Version.{number_of}
 use Rattle.pkgname.specs.declared.rest.Rank.{Rank}
 use Rattle.pkgname.specs.declared.rest.Rank.TheVariants.{Alpha, Beta, Pre, Candidate, Release, PatchLevel, Other}
 
--- the ranks from the lowest
+-- the place of a rank, counted from the lowest, which has 0
 abbrev pub place_of : Rank → ℕ
 place_of Alpha = 0
 place_of Beta = 1
@@ -36,11 +36,12 @@ abbrev pub by_word : Rank → Option ℕ → Rest → Rest
 by_word rank None other = other
 by_word rank (Some number) other = record { rank = rank; number = number; text = [] }
 
--- a rest that is no such word with a number: the release itself if it is empty, and another one if not
+-- a rest that is no such word: that of the release itself if it is empty, and else another, told by its bytes
 abbrev pub without_word : Text → Rest
 without_word text = record { rank = if is_empty text then Release else Other; number = 0; text = text }
 
--- the first of these that applies
+-- what a text says as a rest, the first that applies: one of these words with digits alone, or nothing, behind it; else
+-- a rest without a word
 abbrev pub rest_of : Text → Rest
 rest_of text =
     by_word Alpha (number_behind (codes "alpha") text)
@@ -50,10 +51,10 @@ rest_of text =
     (by_word PatchLevel (number_behind (codes "pl") text)
     (without_word text)))))
 
--- by number, and then by bytes
+-- rests of one rank compare by number, and then by bytes
 abbrev pub within_rank_cmp : Rest → Rest → Ordering
 within_rank_cmp = then_cmp (on (λ r. r.number) nat_cmp) (on (λ r. r.text) text_cmp)
 
--- by rank, and then within it
+-- rests compare by rank, and then within it
 abbrev pub rest_cmp : Rest → Rest → Ordering
 rest_cmp = then_cmp (on (λ r. place_of r.rank) nat_cmp) within_rank_cmp

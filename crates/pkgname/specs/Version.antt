@@ -8,7 +8,7 @@ use Rattle.faults.specs.Bytes.{Text, dash, dot, has_byte, is_empty, letter_p, le
 use Rattle.faults.specs.Pieces.{pieces_at}
 use Rattle.pkgname.specs.PkgName.{is_name_byte}
 
--- the text of a version: it begins with a digit, and has the bytes of a name without a dash
+-- the text is a version: it begins with a digit, and each byte is one of a name other than the dash
 abbrev pub is_version : Text → Bool
 is_version text = option_map_or is_ascii_digit (slice_get text 0) false && list_all is_name_byte text && not (has_byte dash text)
 
@@ -16,7 +16,7 @@ is_version text = option_map_or is_ascii_digit (slice_get text 0) false && list_
 abbrev pub IsVersion : Text → Type 0
 IsVersion text = is_version text ≡ true
 
--- the number that digits write; none write 0
+-- the number that digits write in base ten; none write 0
 abbrev pub number_of : Text → ℕ
 number_of digits = digits_value 10 digits
 
@@ -51,24 +51,26 @@ pub record Component : Type 0 where
   -- what stands behind them
   pub rest : Text
 
--- what a piece of a body says as a component
+-- the component that a piece of a body is: the number of its leading digits, and what stands behind them
 abbrev pub component_of : Text → Component
 component_of piece = record {
   number = number_of (take_while is_ascii_digit piece);
   rest = drop (prefix_len is_ascii_digit piece) piece;
 }
 
--- the components between the dots
+-- the components of a body: those of its pieces between dots, from the left
 abbrev pub components_of : Text → List Component
 components_of body = map component_of (pieces_at dot body)
 
--- what a version says
+-- what a version says: the number of its marker v, if it has one, its components, and the number of its marker p, if it
+-- has one
 pub record Parts : Type 0 where
   pub v : Option ℕ
   pub components : List Component
   pub p : Option ℕ
 
--- the marker v is the last, the marker p stands before it, and the body before that
+-- what the text of a version says: the marker v is the one at its end, the marker p the one at the end of what is left,
+-- and what is then left is the body
 abbrev pub parts_of : Text → Parts
 parts_of text =
     let without_v = without_marker letter_v text in

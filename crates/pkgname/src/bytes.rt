@@ -5,7 +5,8 @@ ghost use Rattle.std.specs.List.{list_all};
 ghost use Rattle.faults.specs.Bytes.{is_one_of};
 ghost use Rattle.pkgname.specs.PkgName.{is_dash_before, is_name_byte, version_dash};
 
-/// Whether each byte may stand in a name: printable, and with no meaning in paths, specs and lists.
+/// Whether each byte may stand in a name: one of 0x21 to 0x7e other than `/`, `:`, `|`, `,`, `!`,
+/// `*`, `<`, `>` and `=`. Which bytes these are is this project's own choice.
 pub fn has_name_bytes(text: &[u8]) -> bool
     ensures { result ≡ list_all is_name_byte text.now }
 {
@@ -22,8 +23,8 @@ fn is_name_byte(byte: u8) -> bool
         )
 }
 
-/// Where the dash before a version stands: the first, other than at the front, that a digit or one
-/// of the bytes `also` follows.
+/// The index of the dash before a version or bounds: the first, other than the first byte, that a
+/// digit or one of the bytes `also` follows, if there is one.
 pub fn dash_before_version(text: &[u8], also: &[u8]) -> Option<usize>
     ensures place { result ≡ version_dash (λ b. is_one_of also.now b || is_ascii_digit b) text.now }
     ensures within { IfSome result (λ at. at + 1 < length text.now) }

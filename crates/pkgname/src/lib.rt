@@ -1,4 +1,4 @@
-//! Package names, and the order of versions.
+//! Package names in the form of packages-specs(7), and this project's order of versions.
 #![tactic(auto)]
 
 ghost use Rattle.std.specs.Prelude.{◌≡◌, None};
@@ -22,20 +22,27 @@ mod tests;
 mod version;
 
 pub use crate::bytes::{dash_before_version, has_name_bytes};
-pub use crate::laws::version_order_is_total;
+pub use crate::laws::version_order_is_total_preorder;
 pub use crate::name::PkgName;
 pub use crate::pieces::first_piece;
 pub use crate::version::{Version, is_version};
 
-/// Why a text is no package name. Of several reasons the first below `Memory` is the one.
+/// Why a text is no package name. These are tested in this order, and the first that applies is
+/// the answer: `TooLong`, `BadByte`, `NoVersion`. `Memory` may stand in place of any answer. No
+/// fault has a place. The numbers, the limit and the order of the tests are this project's own.
 #[derive(Clone, Copy, Debug, PartialEq, Eq, Error)]
 pub enum NameFault {
+    /// Number 1: a growth was refused. It says nothing of the text.
     #[error("out of memory")]
     Memory,
+    /// Number 203: the text has more than 255 bytes.
     #[error("the name has more than 255 bytes")]
     TooLong,
+    /// Number 202: the text has a byte that may not stand in a name, or behind its version a
+    /// flavor is empty.
     #[error("the name has a byte that may not stand there, or an empty flavor")]
     BadByte,
+    /// Number 201: no dash, other than the first byte, has a digit behind it. So of no bytes.
     #[error("the name has no version")]
     NoVersion,
 }

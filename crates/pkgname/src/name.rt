@@ -24,7 +24,8 @@ use std::marker::Model;
 /// The most bytes that a name may have.
 const LONGEST: usize = 255;
 
-/// A name: its stem, its version, and its flavors, as packages-specs(7) has them.
+/// A package name of packages-specs(7), `stem-version[-flavors]`, of at most 255 bytes. Names are
+/// equal, ordered and hashed by the bytes of their texts, so `q-1` and `q-1.0` are two names.
 #[derive(Drop)]
 pub struct PkgName {
     text: Vec<u8>,
@@ -47,7 +48,11 @@ impl Model for PkgName {
 }
 
 impl PkgName {
-    /// The name that the text is.
+    /// Reads the whole text as a name, or answers its first fault. By packages-specs(7) the version
+    /// begins behind the first dash that a digit follows, and goes to the next dash or the end; what
+    /// stands before that first dash is the stem, and what follows the version are flavors between
+    /// dashes. By this project's own rule that dash is not the first byte, no flavor is empty, and
+    /// only the bytes of `has_name_bytes` may stand there.
     pub fn parse(alloc: Global, text: &[u8]) -> Result<PkgName, NameFault>
         ensures { IsRightUnless NameFault.Memory result (name_of text.now) }
     {
@@ -72,7 +77,7 @@ impl PkgName {
         })
     }
 
-    /// Appends the text.
+    /// Appends the text to `out`, or answers `Memory` and leaves its bytes as they were.
     pub fn write_to(&self, out: &mut Vec<u8>) -> Result<(), Memory>
         ensures ok { OnOk result (out.new.items ≡ out.old.items ++ self.now) }
         ensures err { OnErr result (out.new.items ≡ out.old.items) }
@@ -81,7 +86,7 @@ impl PkgName {
         Ok(())
     }
 
-    /// The text, which is that of a name.
+    /// The bytes of the text that was read: 3 to 255.
     pub fn as_bytes(&self) -> &[u8]
         ensures text { result.now ≡ self.now }
         ensures name { IsName self.now }
@@ -89,24 +94,28 @@ impl PkgName {
         self.text.as_slice()
     }
 
+    /// The bytes before the version and its dash: at least one, and maybe dashes among them.
     pub fn stem(&self) -> &[u8]
         ensures { result.now ≡ stem_of self.now }
     {
         &self.text[..self.stem_length]
     }
 
+    /// The version, which begins with a digit and has no dash.
     pub fn version(&self) -> &Version
         ensures { result.now ≡ version_of self.now }
     {
         &self.version
     }
 
+    /// The flavors in the order of the text, none empty. One that stands there twice is here twice.
     pub fn flavors(&self) -> &[Vec<u8>]
         ensures { map vec_items result.now ≡ flavors_of self.now }
     {
         self.flavors.as_slice()
     }
 
+    /// An equal name, or `Memory`.
     pub fn copy(&self) -> Result<PkgName, Memory>
         ensures { IfOk result (λ name. name ≡ self.now) }
     {

@@ -4,7 +4,8 @@ ghost use Rattle.std.specs.List.{position};
 ghost use Rattle.faults.specs.Pieces.{pieces_at};
 ghost use Rattle.pkgname.specs.Pieces.{pieces_behind};
 
-/// The first piece, and what stands behind its separator, where there is one.
+/// The bytes before the first separator, and those behind it. Without a separator the piece is the
+/// whole text, and nothing is behind it.
 pub fn first_piece(text: &[u8], separator: u8) -> (&[u8], Option<&[u8]>)
     ensures pieces { pieces_at separator text.now ≡ result.0.now ∷ pieces_behind separator (option_copied result.1) }
     ensures shorter { IfSome result.1 (λ behind. length behind.now < length text.now) }

@@ -10,6 +10,8 @@ use std::alloc::Global;
 use std::cmp::Ordering;
 use std::marker::Model;
 
+/// The version of a name or of a bound: a digit first, and then any number of the bytes of a name
+/// other than the dash. It has no `==`, since versions whose texts differ may tie.
 #[derive(Drop)]
 pub struct Version {
     text: Vec<u8>,
@@ -27,6 +29,7 @@ impl Model for Version {
 }
 
 impl Version {
+    /// The version with this text, which has to be a version's (`is_version`), or `Memory`.
     pub fn new(alloc: Global, text: &[u8]) -> Result<Version, Memory>
         requires { IsVersion text.now }
         ensures { IfOk result (λ version. version ≡ text.now) }
@@ -35,6 +38,7 @@ impl Version {
         Ok(Version { text })
     }
 
+    /// The bytes of the version's text.
     pub fn as_bytes(&self) -> &[u8]
         ensures text { result.now ≡ self.now }
         ensures version { IsVersion self.now }
@@ -42,7 +46,20 @@ impl Version {
         self.text.as_slice()
     }
 
-    /// Where this version stands to the other. Versions that tie need not be the same, as 1.02 and 1.2.
+    /// Where this version stands to the other. A version is a body, then `p` and digits if it has
+    /// that marker of packages-specs(7), then `v` and digits if it has that one. How they compare
+    /// is this project's own order, a total preorder (`version_order_is_total_preorder`):
+    ///
+    /// - by the number of `v`, none being below `v0`;
+    /// - then by the components between the body's dots, from the left, a body that ends first
+    ///   being below; a component by the number of its leading digits, 0 without any, and then by
+    ///   its rest;
+    /// - then by the number of `p`, none being below `p0`.
+    ///
+    /// Rests from the lowest are `alpha`, `beta`, `pre`, `rc`, nothing, `pl`, and any other, where a
+    /// word may have digits behind it and nothing else; the same word compares by the number of
+    /// these, 0 without any, and other rests by their bytes. Numbers have any number of digits.
+    /// Versions that tie need not be equal, as 1.02 and 1.2. It takes no memory.
     pub fn compare(&self, other: &Version) -> Ordering
         ensures { result ≡ version_cmp self.now other.now }
     {
@@ -51,6 +68,7 @@ impl Version {
         own.compare(&others)
     }
 
+    /// A version with the same text, or `Memory`.
     pub fn copy(&self) -> Result<Version, Memory>
         ensures { IfOk result (λ version. version ≡ self.now) }
     {
@@ -59,7 +77,7 @@ impl Version {
     }
 }
 
-/// Whether the text is that of a version.
+/// Whether the text is a version's: a digit first, and each byte one of a name other than the dash.
 pub fn is_version(text: &[u8]) -> bool
     ensures { result ≡ is_version text.now }
 {

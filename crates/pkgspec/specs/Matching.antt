@@ -11,7 +11,7 @@ use Rattle.pkgspec.specs.Spec.{Alternative, Bound, Demand}
 use Rattle.pkgspec.specs.declared.bound.Relation.{Relation}
 use Rattle.pkgspec.specs.declared.bound.Relation.TheVariants.{AtLeast, Above, AtMost, Below, Equal}
 
--- a version that compares so with the bound's own is as the relation wants it
+-- the relation allows a version that compares so with the bound's own
 abbrev pub allows : Relation → Ordering → Bool
 allows AtLeast o = is_ge o
 allows Above o = is_gt o
@@ -19,7 +19,7 @@ allows AtMost o = is_le o
 allows Below o = is_lt o
 allows Equal o = is_eq o
 
--- the version stands to the bound's own as the bound wants it, in the order of versions
+-- the version stands to the bound's own, in the order of versions, as the bound's relation allows
 abbrev pub holds : Text → Bound → Bool
 holds version bound = allows bound.relation (version_cmp version bound.version)
 
@@ -27,11 +27,11 @@ holds version bound = allows bound.relation (version_cmp version bound.version)
 abbrev pub is_met_by : List Text → Demand → Bool
 is_met_by flavors demand = if demand.is_present then is_among flavors demand.flavor else not (is_among flavors demand.flavor)
 
--- `STEM` stands for each stem
+-- the stem is that of the name, or `STEM`, which stands for each
 abbrev pub is_stem_of : Text → Text → Bool
 is_stem_of stem name = bytes_eq stem (codes "STEM") || bytes_eq stem (stem_of name)
 
--- the name has the alternative's stem, a version that all bounds want, and flavors that meet all demands
+-- the alternative's stem is that of the name, all bounds hold of the name's version, and its flavors meet all demands
 abbrev pub alternative_matches : Text → Alternative → Bool
 alternative_matches name a =
     is_stem_of a.stem name && list_all (holds (version_of name)) a.bounds && list_all (is_met_by (flavors_of name)) a.demands

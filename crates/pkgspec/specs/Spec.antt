@@ -33,11 +33,11 @@ pub record Alternative : Type 0 where
 
 -- ---- the parts of an alternative
 
--- what may stand first in the bounds
+-- a byte with which bounds begin: a digit or one of these four
 abbrev pub begins_bounds : ℕ → Bool
 begins_bounds b = is_one_of (codes "*<>=") b || is_ascii_digit b
 
--- the stem, the bounds and the flavors of an alternative that has bounds
+-- the stem, the bounds in the place of a version, and the flavors of an alternative, if it has bounds
 abbrev pub parts_of : Text → Option name.Parts
 parts_of text = parts_by begins_bounds text
 
@@ -45,11 +45,11 @@ parts_of text = parts_by begins_bounds text
 abbrev pub stem_of : Text → Text
 stem_of text = option_map_or (λ p. p.stem) (parts_of text) text
 
--- the texts of an alternative's bounds, with commas between them
+-- the texts of an alternative's bounds, which stand between commas; none where it has no bounds
 abbrev pub bound_texts : Text → List Text
 bound_texts text = option_map_or (λ p. pieces_at comma p.version) (parts_of text) []
 
--- the texts of an alternative's demands on flavors
+-- the texts of an alternative's demands on flavors, which stand between dashes behind the bounds, if there are any
 abbrev pub demand_texts : Text → List Text
 demand_texts text = option_map_or (λ p. p.flavors) (parts_of text) []
 
@@ -65,7 +65,7 @@ relation_of text =
     else if begins_with (codes "=") text then (Equal, drop 1 text)
     else (Equal, text)
 
--- what a text says as a bound, if it does
+-- the bound that a text is, if it is a version, alone or behind an operator
 abbrev pub bound_of : Text → Option Bound
 bound_of text =
     if is_version (relation_of text).1 then Some (record { relation = (relation_of text).0; version = (relation_of text).1 }) else None
@@ -74,11 +74,11 @@ bound_of text =
 abbrev pub is_star : Text → Bool
 is_star text = bytes_eq text (codes "*")
 
--- a star always holds, so it adds no bound
+-- the text may stand among bounds: it is a star, or a bound
 abbrev pub is_bound : Text → Bool
 is_bound text = is_star text || is_some (bound_of text)
 
--- a mark before a flavor says that it must not be there
+-- a mark stands before the flavor, which says that it must not be there
 abbrev pub is_denied : Text → Bool
 is_denied text = begins_with (codes "!") text
 
@@ -86,13 +86,14 @@ is_denied text = begins_with (codes "!") text
 abbrev pub demand_of : Text → Demand
 demand_of text = record { flavor = if is_denied text then drop 1 text else text; is_present = not (is_denied text) }
 
--- the text is about a flavor that a name may have
+-- the flavor that the text is about is not empty and has bytes of a name alone
 abbrev pub is_demand : Text → Bool
 is_demand text = not (is_empty (demand_of text).flavor) && list_all is_name_byte (demand_of text).flavor
 
 -- ---- what a text spells
 
--- the fault of an alternative: the first of these that applies
+-- the fault of an alternative, the first that applies: it is empty; its stem has a byte that no name has; a bound is
+-- none; a flavor is empty or has a byte that no name has
 abbrev pub alternative_fault : Text → Option SpecFault
 alternative_fault text = first_that_applies (
     (is_empty text, Empty)
@@ -101,7 +102,7 @@ alternative_fault text = first_that_applies (
     ∷ (not (list_all is_demand (demand_texts text)), BadByte)
     ∷ [])
 
--- the alternative that a text spells
+-- the alternative that a text spells, where it has no fault; a star wants nothing, and is left out
 abbrev pub alternative_of : Text → Alternative
 alternative_of text = record {
   stem = stem_of text;
@@ -109,12 +110,13 @@ alternative_of text = record {
   demands = map demand_of (demand_texts text);
 }
 
--- the fault of a text that is no spec: its own, and else that of the first alternative that has one
+-- the fault of a text that is no spec, the first that applies: it is empty; it has more than 1,024 bytes; that of the
+-- first alternative from the left that has one
 abbrev pub fault_of : Text → Option SpecFault
 fault_of text =
     option_or (first_that_applies ((is_empty text, Empty) ∷ (nat_lt 1024 (length text), TooLong) ∷ []))
     (first_given alternative_fault (pieces_at bar text))
 
--- the alternatives that a text spells, or its fault
+-- the alternatives that a text spells, which stand between bars, or its fault
 abbrev pub spec_of : Text → Result (List Alternative) SpecFault
 spec_of text = unless_fault (fault_of text) (map alternative_of (pieces_at bar text))

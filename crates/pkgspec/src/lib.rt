@@ -1,4 +1,4 @@
-//! Specs of packages, and the names that they match.
+//! Specs of packages in the form of packages-specs(7), and the names that they match.
 #![tactic(auto)]
 
 ghost use Rattle.std.specs.Prelude.{◌≡◌, None};
@@ -18,18 +18,27 @@ mod tests;
 
 pub use crate::spec::Spec;
 
-/// Why a text is no spec: the first fault from the left.
+/// Why a text is no spec. The whole text is tested first, for `Empty` and then for `TooLong`. Then
+/// the alternatives are read from the left, and in each these are tested in this order: that it is
+/// empty (`Empty`), its stem (`BadByte`), its bounds (`BadBound`), its flavors (`BadByte`). The
+/// first fault is the answer, and `Memory` may stand in place of any answer. No fault has a place.
+/// The numbers, the limit and the order of the tests are this project's own.
 #[derive(Clone, Copy, Debug, PartialEq, Eq, Error)]
 pub enum SpecFault {
+    /// Number 1: a growth was refused. It says nothing of the text.
     #[error("out of memory")]
     Memory,
+    /// Number 301: the text is empty, or one of its alternatives is.
     #[error("the spec or an alternative is empty")]
     Empty,
+    /// Number 304: the text has more than 1,024 bytes.
     #[error("the spec has more than 1024 bytes")]
     TooLong,
-    #[error("the spec has a byte that may not stand there, or an empty flavor")]
+    /// Number 303: a stem or a flavor has a byte that no name has, or a flavor is empty.
+    #[error("a stem or a flavor has a byte that may not stand there, or a flavor is empty")]
     BadByte,
-    #[error("the spec has a bound that says nothing")]
+    /// Number 302: a bound is neither `*` nor a version, alone or behind one operator.
+    #[error("a bound is neither a star nor a version, alone or behind one operator")]
     BadBound,
 }
 

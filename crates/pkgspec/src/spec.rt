@@ -17,7 +17,7 @@ use std::marker::Model;
 /// The most bytes that a spec may have.
 const LONGEST: usize = 1024;
 
-/// Which names will do: a name has to match one of the alternatives.
+/// Which names will do: one or more alternatives, of which a name has to match one.
 #[derive(Drop)]
 pub struct Spec {
     alternatives: Vec<Alternative>,
@@ -33,7 +33,16 @@ impl Model for Spec {
 }
 
 impl Spec {
-    /// The spec that the text spells, as packages-specs(7) has it.
+    /// Reads the whole text, of 1 to 1,024 bytes, as a spec, or answers its first fault. The form
+    /// is that of packages-specs(7): alternatives joined by `|`, each `stem[-bounds[-flavors]]`.
+    ///
+    /// - The bounds begin behind the first dash, other than the first byte, that a digit or one of
+    ///   `*`, `<`, `>` and `=` follows, and go to the next dash or the end. Without such a dash the
+    ///   whole alternative is the stem, and wants nothing else.
+    /// - The bounds are joined by `,`. Each is `*`, which always holds, or a version behind `>=`,
+    ///   `>`, `<=`, `<` or `=`, or a version alone, which means `=`.
+    /// - The flavors are joined by `-`. A `!` before one says that it has to be absent, and one
+    ///   without has to be present.
     pub fn parse(alloc: Global, text: &[u8]) -> Result<Spec, SpecFault>
         ensures { IsRightUnless SpecFault.Memory result (spec_of text.now) }
     {
@@ -47,7 +56,11 @@ impl Spec {
         Ok(Spec { alternatives })
     }
 
-    /// Whether an alternative matches the name.
+    /// Whether some alternative matches the name. By packages-specs(7) an alternative does where its
+    /// stem is the name's, all its bounds hold of the name's version, and each flavor that it names
+    /// is present or absent as it says. Three points are this project's own: the stem `STEM` is that
+    /// of each name; bounds go by the order of `Version::compare`, so that `q-=1.2` matches
+    /// `q-1.02`; and a `*` is never a wild character of a stem. It takes no memory.
     pub fn matches(&self, name: &PkgName) -> bool
         ensures { result ≡ matches self.now name.now }
     {
@@ -56,6 +69,7 @@ impl Spec {
             .any(|alternative| alternative.matches(name))
     }
 
+    /// An equal spec, with the alternatives in the same order, or `Memory`.
     pub fn copy(&self) -> Result<Spec, Memory>
         ensures { IfOk result (λ spec. spec ≡ self.now) }
     {
