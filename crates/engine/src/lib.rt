@@ -14,22 +14,23 @@ pub use crate::laws::{
     run_closure_is_held, same_held_same_letters, stays_installable,
 };
 
-/// How far a package is, in the letters of dpb(1)'s status line.
+/// How far a package is, in the letters of dpb(1)'s status line. One letter applies, and only one.
 #[derive(Clone, Copy, Debug, PartialEq, Eq, Hash)]
 pub enum Letter {
-    /// To build: not held, and something that its build needs is not installable.
+    /// To build: neither held nor ignored, and not all its build dependencies are installable.
     T,
-    /// In the queue: not held, and can be built.
+    /// In the queue, to be built now: neither held nor ignored, and all its build dependencies are installable.
     Q,
-    /// Built: held, and its run closure is not.
+    /// Built: held, but not installable.
     B,
-    /// Installable: held, and so is its run closure.
+    /// Installable: some held packages contain it and, with each member, all its run dependencies.
     I,
-    /// Left out, or depends on what is left out.
+    /// Ignored and not held: in the least set that has each marked package, and each with a build or run dependency in
+    /// it. A dependency that isn't listed marks its package (`Tree::marked`).
     Ignored,
 }
 
-/// How many packages have each letter.
+/// How many packages have each letter. Each package of the tree is counted once.
 #[derive(Clone, Copy, Debug, PartialEq, Eq)]
 pub struct Counts {
     pub i: u32,

@@ -17,7 +17,7 @@ use Rattle.pkgspec.specs.Matching.{matches}
 use Rattle.pkgspec.specs.Spec.{Alternative, spec_of}
 use Rattle.listing.specs.Dependencies.{dependency_path_text, is_shaped, specs_of, words_of}
 use Rattle.listing.specs.Entries.{Entry, IsRead, IsReadEntry, words_of_entries}
-use Rattle.listing.specs.Listing.{dependencies_fault, dependency_fault, dependency_path, path_or_empty, word_fault}
+use Rattle.listing.specs.Listing.{dependencies_fault, dependency_fault, dependency_path, most_dependencies, path_or_empty, word_fault}
 use Rattle.listing.specs.Nodes.{all_match, resolution_at, resolution_of, resolution_of_word, word_matches}
 use Rattle.listing.specs.Parts.{AreFieldsOf, AreNumbersOf, Grows, IsNumberOf, specs_from}
 use Rattle.listing.specs.Rules.{names_and_specs, read_spec_matches}
@@ -186,19 +186,19 @@ word_at value k n w within here =
 
 fault_at_place : (line : ℕ) (value : Text) (k : ℕ) (w : Text) → k < length (words_of value) → w ≡ get_or (words_of value) k w
     → dependency_fault names_and_specs line (get_or (enumerate_from 0 (words_of value)) k (k, w))
-    ≡ option_or (first_that_applies ((nat_le 512 k, TooMany line) ∷ [])) (word_fault names_and_specs line w)
+    ≡ option_or (first_that_applies ((nat_le most_dependencies k, TooMany line) ∷ [])) (word_fault names_and_specs line w)
 fault_at_place line value k w within here =
     let place : get_or (enumerate_from 0 (words_of value)) k (k, w) ≡ (k, w) =
     get_or-enumerate_from 0 (words_of value) k (k, w) within ∙ (λ i. (zero-add k i, sym here i)) in
     ap (dependency_fault names_and_specs line) place
 
 pub read_more : (line : ℕ) (value : Text) (old new newer : List Text) (numbers : List ℕ) (k n : ℕ) (w : Text) → ReadSoFar line value old new numbers k
-    → k < length (words_of value) → w ≡ get_or (words_of value) k w → k < 512 → word_fault names_and_specs line w ≡ None → IsNumberOf newer n w → Grows new newer
+    → k < length (words_of value) → w ≡ get_or (words_of value) k w → k < most_dependencies → word_fault names_and_specs line w ≡ None → IsNumberOf newer n w → Grows new newer
     → ReadSoFar line value old newer (numbers ++ n ∷ []) (k + 1)
 read_more line value old new newer numbers k n w so_far within here few good number grows = record {
   faultless = none_given_more (dependency_fault names_and_specs line) (enumerate_from 0 (words_of value)) k (k, w)
       (omega (arith, within, length-enumerate_from 0 (words_of value))) so_far.faultless
-      (let below : nat_le 512 k ≡ false = grind (arith, nat_tests) in
+      (let below : nat_le most_dependencies k ≡ false = grind (arith, nat_tests) in
       fault_at_place line value k w within here
       ∙ (λ i. option_or (first_that_applies ((below i, TooMany line) ∷ [])) (good i)));
   are = subst (AreNumbersOf newer (numbers ++ n ∷ []))
@@ -208,21 +208,21 @@ read_more line value old new newer numbers k n w so_far within here few good num
 }
 
 pub too_many : (line : ℕ) (value : Text) (old new : List Text) (numbers : List ℕ) (k : ℕ) (w : Text) → ReadSoFar line value old new numbers k
-    → k < length (words_of value) → w ≡ get_or (words_of value) k w → 512 ≤ k → dependencies_fault names_and_specs line value ≡ Some (TooMany line)
+    → k < length (words_of value) → w ≡ get_or (words_of value) k w → most_dependencies ≤ k → dependencies_fault names_and_specs line value ≡ Some (TooMany line)
 too_many line value old new numbers k w so_far within here many =
     given_at (dependency_fault names_and_specs line) (enumerate_from 0 (words_of value)) k (k, w) (TooMany line)
     (omega (arith, within, length-enumerate_from 0 (words_of value))) so_far.faultless
-    (let over : nat_le 512 k ≡ true = grind (arith, nat_tests) in
+    (let over : nat_le most_dependencies k ≡ true = grind (arith, nat_tests) in
     fault_at_place line value k w within here
     ∙ ap (λ b. option_or (first_that_applies ((b, TooMany line) ∷ [])) (word_fault names_and_specs line w)) over)
 
 pub faulty_word : (line : ℕ) (value : Text) (old new : List Text) (numbers : List ℕ) (k : ℕ) (w : Text) (e : ListingFault) → ReadSoFar line value old new numbers k
-    → k < length (words_of value) → w ≡ get_or (words_of value) k w → k < 512 → word_fault names_and_specs line w ≡ Some e
+    → k < length (words_of value) → w ≡ get_or (words_of value) k w → k < most_dependencies → word_fault names_and_specs line w ≡ Some e
     → dependencies_fault names_and_specs line value ≡ Some e
 faulty_word line value old new numbers k w e so_far within here few bad =
     given_at (dependency_fault names_and_specs line) (enumerate_from 0 (words_of value)) k (k, w) e
     (omega (arith, within, length-enumerate_from 0 (words_of value))) so_far.faultless
-    (let below : nat_le 512 k ≡ false = grind (arith, nat_tests) in
+    (let below : nat_le most_dependencies k ≡ false = grind (arith, nat_tests) in
     fault_at_place line value k w within here
     ∙ (λ i. option_or (first_that_applies ((below i, TooMany line) ∷ [])) (bad i)))
 

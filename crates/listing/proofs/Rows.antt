@@ -19,6 +19,7 @@ use Rattle.listing.specs.Listing.{is_another, is_one_too_many, is_set_anew, name
 use Rattle.listing.specs.Parts.{Grows, IsReadAs, name_of_variable}
 use Rattle.listing.specs.Rules.{names_and_specs}
 use Rattle.listing.specs.Table.{AreRowsOf, IsRowOf, name_in, name_read, new_row, row_fault, setting, text_in, value_in, with_value}
+use Rattle.listing.specs.Tree.{most_paths}
 use Rattle.listing.specs.declared.ListingFault.{ListingFault}
 use Rattle.listing.specs.declared.ListingFault.TheVariants.{NoName, TooMany, TwiceSet}
 use Rattle.listing.specs.declared.line.Variable.{Variable}
@@ -199,7 +200,7 @@ rows_set ss words more paths rows line p v x i d h at there grows read =
 
 -- a new path gets a row of its own
 pub rows_push : (ss : List Setting) (words more : List Text) (paths : List Text) (rows : List Row) (line : ℕ) (p : Text) (v : Variable) (x : Value)
-    → AreRowsOf ss words paths rows → list_any (bytes_eq p) paths ≡ false → length paths < 16384 → IsPath p → Grows words more
+    → AreRowsOf ss words paths rows → list_any (bytes_eq p) paths ≡ false → length paths < most_paths → IsPath p → Grows words more
     → IsReadValue more v x
     → AreRowsOf (ss ++ setting line p v x.text.now ∷ []) more (paths ++ p ∷ []) (rows ++ with_value (new_row line) v x ∷ [])
 rows_push ss words more paths rows line p v x h new few spelled grows read =
@@ -257,19 +258,19 @@ no_fault earlier s few good anew =
 -- ---- whether there is one path too many
 
 pub one_too_many : (ss : List Setting) (words paths : List Text) (rows : List Row) (s : Setting) → AreRowsOf ss words paths rows
-    → list_any (bytes_eq s.path) paths ≡ false → 16384 ≤ length paths → is_one_too_many ss s ≡ true
+    → list_any (bytes_eq s.path) paths ≡ false → most_paths ≤ length paths → is_one_too_many ss s ≡ true
 one_too_many ss words paths rows s h new many =
     let absent : is_among (paths_of ss) s.path ≡ false = among_flip (paths_of ss) s.path ∙ ap (list_any (bytes_eq s.path)) (sym h.all) ∙ new in
-    let full : nat_le 16384 (length (paths_of ss)) ≡ true = ap (λ ps. nat_le 16384 (length ps)) (sym h.all) ∙ grind (arith, nat_tests) in
+    let full : nat_le most_paths (length (paths_of ss)) ≡ true = ap (λ ps. nat_le most_paths (length ps)) (sym h.all) ∙ grind (arith, nat_tests) in
     λ i. not (absent i) && full i
 
 pub not_too_many : (ss : List Setting) (words paths : List Text) (rows : List Row) (s : Setting) → AreRowsOf ss words paths rows
-    → (list_any (bytes_eq s.path) paths ≡ true) ⊎ (length paths < 16384) → is_one_too_many ss s ≡ false
+    → (list_any (bytes_eq s.path) paths ≡ true) ⊎ (length paths < most_paths) → is_one_too_many ss s ≡ false
 not_too_many ss words paths rows s h (inl there) =
     let present : is_among (paths_of ss) s.path ≡ true = among_flip (paths_of ss) s.path ∙ ap (list_any (bytes_eq s.path)) (sym h.all) ∙ there in
-    ap (λ b. not b && nat_le 16384 (length (paths_of ss))) present
+    ap (λ b. not b && nat_le most_paths (length (paths_of ss))) present
 not_too_many ss words paths rows s h (inr few) =
-    let room : nat_le 16384 (length (paths_of ss)) ≡ false = ap (λ ps. nat_le 16384 (length ps)) (sym h.all) ∙ grind (arith, nat_tests) in
+    let room : nat_le most_paths (length (paths_of ss)) ≡ false = ap (λ ps. nat_le most_paths (length ps)) (sym h.all) ∙ grind (arith, nat_tests) in
     ap (λ b. not (is_among (paths_of ss) s.path) && b) room ∙ and_false (not (is_among (paths_of ss) s.path))
 
 -- ---- the first row without a name

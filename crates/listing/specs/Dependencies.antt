@@ -5,7 +5,7 @@ use Rattle.faults.specs.Bytes.{Text, colon, has_byte, is_empty, is_one_of, slash
 use Rattle.faults.specs.Pieces.{pieces_at}
 use Rattle.listing.specs.Lines.{is_blank}
 
--- the words between blanks
+-- the words between spaces and tabs
 abbrev pub words_of : Text → List Text
 words_of value = filter (λ w. not (is_empty w)) (slice_split is_blank value)
 

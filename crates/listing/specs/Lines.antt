@@ -9,7 +9,7 @@ use Rattle.pkgpath.specs.PkgPath.{path_of}
 abbrev pub Line : Type 0
 Line = ℕ × Text
 
--- the lines, each ended by LF; the last may lack it, and what stands behind the last LF is then an empty line
+-- the pieces between LFs, numbered; where a text ends with LF the last piece is an empty line, which is skipped
 abbrev pub lines_of : Text → List Line
 lines_of text = enumerate_from 1 (pieces_at line_feed text)
 
@@ -17,7 +17,7 @@ lines_of text = enumerate_from 1 (pieces_at line_feed text)
 abbrev pub is_skipped : Text → Bool
 is_skipped line = is_empty line || begins_with (codes "===>") line
 
--- what stands before the first `=`
+-- what stands before the first `=`, or all where there is none
 abbrev pub key_of : Text → Text
 key_of line = before_first (λ b. b == equals_sign) line
 
@@ -25,7 +25,7 @@ key_of line = before_first (λ b. b == equals_sign) line
 abbrev pub is_cut : Text → Bool
 is_cut line = has_byte equals_sign line && has_byte dot (key_of line)
 
--- before the key's last dot stands a path, and behind it a variable
+-- the path before the key's last dot
 abbrev pub path_text : Text → Text
 path_text line = before_last (λ b. b == dot) (key_of line)
 
@@ -33,17 +33,17 @@ path_text line = before_last (λ b. b == dot) (key_of line)
 abbrev pub variable_text : Text → Text
 variable_text line = after_last (λ b. b == dot) (key_of line)
 
--- a blank or a tab
+-- a space or a tab
 abbrev pub is_blank : ℕ → Bool
 is_blank b = is_one_of (blank ∷ tab ∷ []) b
 
--- without the blanks at both ends
+-- the text without the spaces and tabs at both ends
 abbrev pub trimmed : Text → Text
 trimmed text =
     let rest = drop (prefix_len is_blank text) text in
     take (length rest - suffix_len is_blank rest) rest
 
--- what stands behind the first `=`, without the blanks at its ends
+-- what stands behind the first `=`, without the spaces and tabs at its ends
 abbrev pub value_text : Text → Text
 value_text line = trimmed (after_first (λ b. b == equals_sign) line)
 
@@ -63,7 +63,7 @@ lib_depends = codes "LIB_DEPENDS"
 abbrev pub run_depends : Text
 run_depends = codes "RUN_DEPENDS"
 
--- the variable that says, where it isn't empty, that a package is to be left out
+-- the variable that marks a package where it isn't empty
 abbrev pub ignore : Text
 ignore = codes "IGNORE"
 

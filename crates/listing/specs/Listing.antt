@@ -10,7 +10,7 @@ use Rattle.pkgpath.specs.PkgPath.{path_of}
 use Rattle.pkgpath.specs.declared.PathFault.{PathFault}
 use Rattle.listing.specs.Dependencies.{dependency_path_text, is_shaped, specs_of, words_of}
 use Rattle.listing.specs.Lines.{Line, Setting, build_depends, full_name, ignore, is_cut, is_skipped, lib_depends, lines_of, path_text, run_depends, settings_of, value_text, variable_text, variables}
-use Rattle.listing.specs.Tree.{Package, Tree}
+use Rattle.listing.specs.Tree.{Package, Tree, most_paths}
 use Rattle.listing.specs.declared.ListingFault.{ListingFault}
 use Rattle.listing.specs.declared.ListingFault.TheVariants.{BadLine, BadPath, TwiceSet, TooMany, NoName}
 
@@ -84,6 +84,10 @@ tree_of_settings rules settings = map (package_of rules settings) (paths_of sett
 
 -- ---- the first fault
 
+-- the most dependencies that one value may have
+abbrev pub most_dependencies : ℕ
+most_dependencies = 512
+
 -- the fault of a dependency
 abbrev pub word_fault : Rules → ℕ → Text → Option ListingFault
 word_fault rules n word = first_that_applies (
@@ -94,7 +98,7 @@ word_fault rules n word = first_that_applies (
 
 -- the fault of the k-th dependency of a value, counted from 0
 abbrev pub dependency_fault : Rules → ℕ → ℕ × Text → Option ListingFault
-dependency_fault rules n d = option_or (first_that_applies ((nat_le 512 d.0, TooMany n) ∷ [])) (word_fault rules n d.1)
+dependency_fault rules n d = option_or (first_that_applies ((nat_le most_dependencies d.0, TooMany n) ∷ [])) (word_fault rules n d.1)
 
 -- the first fault of a value's dependencies, from the left
 abbrev pub dependencies_fault : Rules → ℕ → Text → Option ListingFault
@@ -109,7 +113,7 @@ value_fault rules n variable value =
 
 -- the setting's path would be one more than may stand in a tree
 abbrev pub is_one_too_many : List Setting → Setting → Bool
-is_one_too_many earlier s = not (is_among (paths_of earlier) s.path) && nat_le 16384 (length (paths_of earlier))
+is_one_too_many earlier s = not (is_among (paths_of earlier) s.path) && nat_le most_paths (length (paths_of earlier))
 
 -- there is a value, and it is another than this one
 abbrev pub is_another : Text → Option Text → Bool

@@ -88,7 +88,7 @@ pub record IsSetOf (ps xs : List ℕ) : Type 0 where
   pub rising : IsStrictlyIncreasing ps
   pub members : (p : ℕ) → list_any (λ q. q == p) ps ≡ list_any (λ q. q == p) xs
 
--- the row's package is to be left out, or a dependency of it isn't met
+-- IGNORE isn't empty in the row, or a dependency in it isn't met
 abbrev pub is_marked_by : List Resolution → Row → Bool
 is_marked_by resolutions row = not (is_empty (text_of_value row.ignore))
     || not (are_met resolutions (numbers_of_value row.build) && are_met resolutions (numbers_of_value row.lib) && are_met resolutions (numbers_of_value row.run))

@@ -8,6 +8,7 @@ use Rattle.pkgpath.specs.PkgPath.{IsPath}
 use Rattle.listing.specs.Lines.{Setting}
 use Rattle.listing.specs.Listing.{paths_of, value_of}
 use Rattle.listing.specs.Parts.{IsReadAs, name_of_variable}
+use Rattle.listing.specs.Tree.{most_paths}
 use Rattle.listing.specs.declared.ListingFault.{ListingFault}
 use Rattle.listing.specs.declared.ListingFault.TheVariants.{NoName}
 use Rattle.listing.specs.declared.line.Variable.{Variable}
@@ -72,7 +73,7 @@ pub record AreRowsOf (settings : List Setting) (words : List Text) (paths : List
   pub lengths : length rows ≡ length paths
   pub each : (k : ℕ) (d : Row) → k < length paths → IsRowOf settings words (slice_index_or paths k []) (slice_index_or rows k d)
   pub once : IsDistinct bytes_eq paths
-  pub few : length paths ≤ 16384
+  pub few : length paths ≤ most_paths
   pub spelled : All IsPath paths
 
 -- the table holds what the lines set

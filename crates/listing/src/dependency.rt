@@ -13,6 +13,7 @@ ghost use Rattle.listing.specs.Nodes.{all_match, resolution_of, resolution_of_wo
 ghost use Rattle.listing.specs.Parts.{AreFieldsOf, AreNumbersOf, Grows, IsFirstField, IsNumberOf, IsPathField, specs_from};
 ghost use Rattle.listing.specs.Rules.{names_and_specs};
 ghost use Rattle.listing.specs.Table.{name_in};
+ghost use Rattle.listing.specs.Tree.{most_paths};
 
 use crate::ListingFault;
 use crate::line::{first_place, is_blank};
@@ -25,7 +26,7 @@ use std::alloc::Global;
 use std::marker::Model;
 
 /// The most dependencies in one value.
-const MOST: usize = 512;
+const MOST_DEPENDENCIES: usize = 512;
 
 /// The first field of a text, and what stands behind its colon.
 fn first_field(text: &[u8]) -> (&[u8], Option<&[u8]>)
@@ -200,7 +201,7 @@ impl Dependency {
 
     /// What becomes of the dependency where these paths are listed, each with its row.
     fn resolve(&self, listed: &IndexSet<PkgPath>, rows: &[Row<'_>]) -> Resolution
-        requires few { index_set_len listed.now ≤ 16384 }
+        requires few { index_set_len listed.now ≤ most_paths }
         requires rows { length rows.now ≡ length listed.now.keys }
         ensures { result ≡ resolution_of listed.now.keys rows.now self.now }
     {
@@ -262,7 +263,7 @@ impl<'a> Dependencies<'a> {
             .filter(|word| !word.is_empty())
             .enumerate()
         {
-            if count >= MOST {
+            if count >= MOST_DEPENDENCIES {
                 return Err(ListingFault::TooMany(line));
             }
             numbers.push(self.number(alloc, line, word)?)?;
@@ -294,7 +295,7 @@ impl<'a> Dependencies<'a> {
         listed: &IndexSet<PkgPath>,
         rows: &[Row<'_>],
     ) -> Result<Vec<Resolution>, ListingFault>
-        requires few { index_set_len listed.now ≤ 16384 }
+        requires few { index_set_len listed.now ≤ most_paths }
         requires rows { length rows.now ≡ length listed.now.keys }
         ensures { MatchResult result (λ v. v.items ≡ map (resolution_of_word listed.now.keys rows.now) self.now) (λ e. e ≡ ListingFault.Memory) }
     {

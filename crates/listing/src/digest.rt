@@ -8,8 +8,8 @@ use crate::tree::Tree;
 use sha2::{Digest, Sha256};
 
 impl Tree {
-    /// SHA-256 (FIPS 180-4) of the tree as lines: for each package, by position, `P PATH`, `N NAME`, `X` if it is
-    /// marked, `B PATH` for each dependency of its build, and `R PATH` for each that it needs once installed.
+    /// SHA-256 (FIPS 180-4) of the tree as lines, each ended by LF: for each package, by position, `P PATH`, `N NAME`,
+    /// `X` if it is marked, `B PATH` for each build dependency and `R PATH` for each run dependency, by position.
     #[tactic(auto, unfolding(crate::specs::Digest::digest_text))]
     pub fn digest(&self) -> [u8; 32]
         ensures { result ≡ sha256 (digest_text self.now) }

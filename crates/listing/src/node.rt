@@ -46,7 +46,7 @@ impl Node {
     }
 }
 
-/// Whether the row's package is to be left out, or a dependency of it isn't met.
+/// Whether IGNORE isn't empty in the row, or a dependency in it isn't met.
 fn is_marked(row: &Row<'_>, resolutions: &[Resolution]) -> bool
     requires build { All (λ n. n < length resolutions.now) (numbers_of_value row.now.build) }
     requires lib { All (λ n. n < length resolutions.now) (numbers_of_value row.now.lib) }

@@ -19,7 +19,7 @@ use pkgpath::PkgPath;
 use std::alloc::Global;
 
 /// The most paths in a listing.
-const MOST: usize = 16_384;
+const MOST_PATHS: usize = 16_384;
 
 /// What a value was read as: a name, the numbers of dependencies, or a text that is not read.
 #[derive(Drop)]
@@ -216,7 +216,7 @@ impl<'a> Table<'a> {
             (λ e. (e ≡ ListingFault.Memory) ⊎ (setting_fault names_and_specs earlier (setting line path variable text.now) ≡ Some e)) }
     {
         let known = self.paths.get_index_of(&path);
-        if known.is_none() && self.paths.len() >= MOST {
+        if known.is_none() && self.paths.len() >= MOST_PATHS {
             return Err(ListingFault::TooMany(line));
         }
         let reading = self.read_value(alloc, line, variable, text)?;

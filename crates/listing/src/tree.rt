@@ -17,7 +17,7 @@ use pkgpath::PkgPath;
 use std::alloc::Global;
 use std::marker::Model;
 
-/// The packages of a listing, by position.
+/// The packages of a listing, by position: at most 16,384, numbered from 0 in the order of their paths' first lines.
 #[derive(Drop)]
 pub struct Tree {
     paths: IndexSet<PkgPath>,
@@ -39,6 +39,11 @@ impl Model for Tree {
 
 impl Tree {
     /// The tree that the listing describes.
+    ///
+    /// # Errors
+    ///
+    /// `Memory`, where a growth was refused; else the fault of the first faulty line; and where no line is faulty,
+    /// `NoName` for the first line whose path has no name.
     pub fn parse(alloc: Global, text: &[u8]) -> Result<Tree, ListingFault>
         ensures { IsRightUnless ListingFault.Memory result (tree_of names_and_specs text.now) }
     {
@@ -51,7 +56,7 @@ impl Tree {
         Tree::of_table(alloc, table)
     }
 
-    /// The tree of all that the lines set, unless a path has no name.
+    /// The tree of all that the lines set, if each path has a name.
     fn of_table(alloc: Global, table: Table<'_>) -> Result<Tree, ListingFault>
         requires { (settings : List Setting) × Stands table settings }
         ensures { (settings : List Setting) → Stands table.entry settings
@@ -71,7 +76,7 @@ impl Tree {
         Ok(Tree { paths, nodes })
     }
 
-    /// How many packages are listed.
+    /// How many packages are listed. Their positions are the numbers below that.
     pub fn len(&self) -> u32
         ensures count { result ≡ length self.now }
         ensures tree { IsTree self.now }
@@ -79,7 +84,7 @@ impl Tree {
         self.nodes.len() as u32
     }
 
-    /// The position of a path, if it is listed.
+    /// The position of the path, if it is listed.
     pub fn position(&self, path: &PkgPath) -> Option<u32>
         ensures { result ≡ position (λ x. bytes_eq x.path path.now) self.now }
     {
@@ -87,6 +92,7 @@ impl Tree {
         Some(position as u32)
     }
 
+    /// The path of the package at the position.
     pub fn path(&self, position: u32) -> &PkgPath
         requires { position < length self.now }
         ensures { result.now ≡ path_at self.now position }
@@ -94,6 +100,7 @@ impl Tree {
         &self.paths.as_slice()[position as usize]
     }
 
+    /// The name of the package at the position: its FULLPKGNAME.
     pub fn name(&self, position: u32) -> &PkgName
         requires { position < length self.now }
         ensures { result.now ≡ name_at self.now position }
@@ -101,7 +108,8 @@ impl Tree {
         &self.nodes[position as usize].name
     }
 
-    /// The positions of what a build needs, ascending.
+    /// The positions of the listed dependencies of BUILD_DEPENDS and LIB_DEPENDS, ascending, each once. A dependency
+    /// whose path isn't listed has no position: it marks the package instead.
     pub fn build_deps(&self, position: u32) -> &[u32]
         requires { position < length self.now }
         ensures value { result.now ≡ build_at self.now position }
@@ -110,7 +118,8 @@ impl Tree {
         self.nodes[position as usize].build.as_slice()
     }
 
-    /// The positions of what an installed package needs, ascending.
+    /// The positions of the listed dependencies of LIB_DEPENDS and RUN_DEPENDS, ascending, each once. A dependency whose
+    /// path isn't listed has no position: it marks the package instead.
     pub fn run_deps(&self, position: u32) -> &[u32]
         requires { position < length self.now }
         ensures value { result.now ≡ run_at self.now position }
@@ -119,7 +128,8 @@ impl Tree {
         self.nodes[position as usize].run.as_slice()
     }
 
-    /// Whether the package is named to be left out, or lacks a dependency.
+    /// Whether the package's IGNORE isn't empty, or a dependency of it has a path that isn't listed, or one that is listed
+    /// by a name that a spec of the dependency doesn't match.
     pub fn marked(&self, position: u32) -> bool
         requires { position < length self.now }
         ensures { result ≡ is_marked_at self.now position }

@@ -11,7 +11,7 @@ use Rattle.pkgpath.proofs.FirstFault.{faultless, no_fault}
 use Rattle.pkgpath.proofs.PartKinds.{filter-none, list_all-filter, list_all-find, list_all-found, list_all-kept}
 use Rattle.pkgpath.proofs.Pieces.{lacks, length-join, length-pieces, pieces-lack, pieces-split, pieces_at-join, weight_of}
 use Rattle.pkgpath.proofs.Sets.{is_ascending, list_all-set_of, set_of-ascending, set_of-same}
-use Rattle.pkgpath.specs.PkgPath.{IsPath, Parts, Spells, canonical_text, directory_of, fault_of, is_directory, is_flavor, is_part, is_subpackage, parts_of, path_of, value_of}
+use Rattle.pkgpath.specs.PkgPath.{IsPath, Parts, Spells, canonical_text, directory_of, fault_of, is_directory, is_flavor, is_part, is_subpackage, most_bytes, parts_of, path_of, value_of}
 use Rattle.pkgpath.specs.declared.PathFault.{PathFault}
 
 filled_from_slash : (text : Text) → has_byte slash (directory_of text) ≡ true → is_empty text ≡ false
@@ -30,7 +30,7 @@ pub record IsWellFormed (v : Parts) : Type 0 where
   pub flavors : list_all is_flavor v.flavors ≡ true
   pub mark : v.is_explicitly_empty ≡ true → v.flavors ≡ []
   pub one : list_all is_subpackage (option_to_list v.subpackage) ≡ true
-  pub short : length (canonical_text v) ≤ 255
+  pub short : length (canonical_text v) ≤ most_bytes
 
 module _ (v : Parts) (good : IsWellFormed v) where
   canonical-pieces : pieces_at comma (canonical_text v) ≡ v.directory ∷ behind v.is_explicitly_empty v.flavors v.subpackage
@@ -83,7 +83,7 @@ module _ (text : Text) (none : fault_of text ≡ None) where
       let both = and_parts (lacks comma (directory_of text)) (list_all (lacks comma) (parts_of text)) pieces in
       and_from _ _ both.0 (spelled-all (lacks comma) refl both.1)
 
-  spelled-short : length (canonical_text (value_of text)) ≤ 255
+  spelled-short : length (canonical_text (value_of text)) ≤ most_bytes
   spelled-short =
       let v = value_of text in
       let rest = behind v.is_explicitly_empty v.flavors v.subpackage in

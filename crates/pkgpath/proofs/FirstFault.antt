@@ -5,7 +5,7 @@ use Rattle.std.specs.List.{count_by, list_all}
 use Rattle.faults.specs.Answers.{first_that_applies, unless_fault}
 use Rattle.faults.specs.Bytes.{Text, comma, has_byte, is_empty, slash}
 use Rattle.faults.specs.Pieces.{pieces_at}
-use Rattle.pkgpath.specs.PkgPath.{canonical_text, directory_of, fault_of, is_directory, is_part, is_subpackage, parts_of, path_of, value_from, value_of}
+use Rattle.pkgpath.specs.PkgPath.{canonical_text, directory_of, fault_of, is_directory, is_part, is_subpackage, most_bytes, parts_of, path_of, value_from, value_of}
 use Rattle.pkgpath.specs.declared.PathFault.{PathFault}
 use Rattle.pkgpath.specs.declared.PathFault.TheVariants.{Empty, TooLong, NoSlash, BadByte, TwoSubpackages, TwoEmptyParts}
 
@@ -27,7 +27,7 @@ none_applies false false false false false false none = (refl, refl, refl, refl,
 -- what a text without fault keeps to
 pub record IsFaultless (text : Text) : Type 0 where
   pub filled : is_empty text ≡ false
-  pub short : length text ≤ 255
+  pub short : length text ≤ most_bytes
   pub has_slash : has_byte slash (directory_of text) ≡ true
   pub directory : is_directory (directory_of text) ≡ true
   pub parts : list_all is_part (parts_of text) ≡ true
@@ -37,11 +37,11 @@ pub record IsFaultless (text : Text) : Type 0 where
 pub faultless : (text : Text) → fault_of text ≡ None → IsFaultless text
 faultless text none =
     let bytes = is_directory (directory_of text) && list_all is_part (parts_of text) in
-    let tests = none_applies (is_empty text) (ltb 255 (length text)) (not (has_byte slash (directory_of text))) (not bytes) (ltb 1 (count_by is_subpackage (parts_of text))) (ltb 1 (count_by is_empty (parts_of text))) none in
+    let tests = none_applies (is_empty text) (ltb most_bytes (length text)) (not (has_byte slash (directory_of text))) (not bytes) (ltb 1 (count_by is_subpackage (parts_of text))) (ltb 1 (count_by is_empty (parts_of text))) none in
     let good = and_parts (is_directory (directory_of text)) (list_all is_part (parts_of text)) (not-false bytes tests.3) in
     record {
       filled = tests.0;
-      short = ltb-false 255 (length text) tests.1;
+      short = ltb-false most_bytes (length text) tests.1;
       has_slash = not-false (has_byte slash (directory_of text)) tests.2;
       directory = good.0;
       parts = good.1;
@@ -51,7 +51,7 @@ faultless text none =
 
 pub no_fault : (text : Text) → IsFaultless text → fault_of text ≡ None
 no_fault text good =
-    rw (good.filled, le-ltb 255 (length text) good.short, good.has_slash, good.directory, good.parts, le-ltb 1 (count_by is_subpackage (parts_of text)) good.one_subpackage, le-ltb 1 (count_by is_empty (parts_of text)) good.one_empty)
+    rw (good.filled, le-ltb most_bytes (length text) good.short, good.has_slash, good.directory, good.parts, le-ltb 1 (count_by is_subpackage (parts_of text)) good.one_subpackage, le-ltb 1 (count_by is_empty (parts_of text)) good.one_empty)
 
 -- ---- what path_of answers
 
@@ -69,10 +69,10 @@ empty_from_length (b ∷ bs) none = absurd (omega arith)
 pub path_of-empty : (text : Text) → length text ≡ 0 → path_of text ≡ Err Empty
 path_of-empty text none = faulty text Empty (rw (empty_from_length text none))
 
-pub path_of-too_long : (text : Text) → 255 < length text → path_of text ≡ Err TooLong
-path_of-too_long text long = faulty text TooLong (rw (filled_from_length text (omega arith), lt-ltb 255 (length text) long))
+pub path_of-too_long : (text : Text) → most_bytes < length text → path_of text ≡ Err TooLong
+path_of-too_long text long = faulty text TooLong (rw (filled_from_length text (omega arith), lt-ltb most_bytes (length text) long))
 
-module _ (text directory : Text) (parts : List Text) (filled : 0 < length text) (short : length text ≤ 255) (pieces : pieces_at comma text ≡ directory ∷ parts) where
+module _ (text directory : Text) (parts : List Text) (filled : 0 < length text) (short : length text ≤ most_bytes) (pieces : pieces_at comma text ≡ directory ∷ parts) where
   directory-is : directory_of text ≡ directory
   directory-is = ap (λ ps. unwrap_or (slice_get ps 0) []) pieces
 
@@ -83,10 +83,10 @@ module _ (text directory : Text) (parts : List Text) (filled : 0 < length text) 
   later bad = (bad, BadByte) ∷ (ltb 1 (count_by is_subpackage parts), TwoSubpackages) ∷ (ltb 1 (count_by is_empty parts), TwoEmptyParts) ∷ []
 
   fault_of-later : has_byte slash directory ≡ true → fault_of text ≡ first_that_applies (later (not (is_directory directory && list_all is_part parts)))
-  fault_of-later has_slash = rw (filled_from_length text filled, le-ltb 255 (length text) short, directory-is, parts-is, has_slash)
+  fault_of-later has_slash = rw (filled_from_length text filled, le-ltb most_bytes (length text) short, directory-is, parts-is, has_slash)
 
   pub path_of-no_slash : has_byte slash directory ≡ false → path_of text ≡ Err NoSlash
-  path_of-no_slash none = faulty text NoSlash (rw (filled_from_length text filled, le-ltb 255 (length text) short, directory-is, none))
+  path_of-no_slash none = faulty text NoSlash (rw (filled_from_length text filled, le-ltb most_bytes (length text) short, directory-is, none))
 
   pub path_of-bad_byte : has_byte slash directory ≡ true → (is_directory directory && list_all is_part parts) ≡ false → path_of text ≡ Err BadByte
   path_of-bad_byte has_slash bad = faulty text BadByte (fault_of-later has_slash ∙ rw bad)

@@ -53,6 +53,10 @@ is_part part = list_all is_path_byte part && (is_empty part || is_subpackage par
 
 -- ---- what a text spells
 
+-- the most bytes that a text may have
+abbrev pub most_bytes : ℕ
+most_bytes = 255
+
 -- the fault of a text that spells no path: the first of these that applies
 abbrev pub fault_of : Text → Option PathFault
 fault_of text =
@@ -60,7 +64,7 @@ fault_of text =
     let parts = parts_of text in
     first_that_applies (
     (is_empty text, Empty)
-    ∷ (nat_lt 255 (length text), TooLong)
+    ∷ (nat_lt most_bytes (length text), TooLong)
     ∷ (not (has_byte slash directory), NoSlash)
     ∷ (not (is_directory directory && list_all is_part parts), BadByte)
     ∷ (nat_lt 1 (count_by is_subpackage parts), TwoSubpackages)

@@ -20,7 +20,8 @@ mod spelling;
 pub use crate::laws::{canonical_text_is_read_again, canonical_text_tells_the_path};
 pub use crate::path::PkgPath;
 
-/// Why a text is no package path. Of several reasons the first below `Memory` is the one.
+/// Why a text is no package path. Of several reasons the first below `Memory` is the one; `Memory` is given only where
+/// a growth was refused. None has a place.
 #[derive(Clone, Copy, Debug, PartialEq, Eq, Error)]
 pub enum PathFault {
     #[error("out of memory")]
@@ -33,9 +34,9 @@ pub enum PathFault {
     NoSlash,
     #[error("the path has a byte or a component that may not stand there")]
     BadByte,
-    #[error("the path has two subpackages")]
+    #[error("the path has more than one subpackage")]
     TwoSubpackages,
-    #[error("the path has two empty parts")]
+    #[error("the path has more than one empty part")]
     TwoEmptyParts,
 }
 

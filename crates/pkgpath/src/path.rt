@@ -39,8 +39,12 @@ impl Model for PkgPath {
 }
 
 impl PkgPath {
-    /// The path that the text spells, in at most 255 bytes. Parts may stand in any order, and a
-    /// flavor more than once; a text has one subpackage and one empty part at most.
+    /// The path that the text spells. Its parts may stand in any order, and a flavor more than once.
+    ///
+    /// # Errors
+    ///
+    /// `Memory`, where a growth was refused; else the first reason why the text spells none, in the order in which
+    /// `PathFault` lists them. A text of more than 255 bytes is refused, also where its canonical text is shorter.
     pub fn parse(alloc: Global, text: &[u8]) -> Result<PkgPath, PathFault>
         ensures { IsRightUnless PathFault.Memory result (path_of text.now) }
     {
@@ -48,7 +52,7 @@ impl PkgPath {
         Ok(PkgPath { text })
     }
 
-    /// Appends the canonical text, or nothing.
+    /// Appends the canonical text. Where a growth is refused, nothing is appended.
     pub fn write_to(&self, out: &mut Vec<u8>) -> Result<(), Memory>
         ensures ok { OnOk result (out.new.items ≡ out.old.items ++ self.now) }
         ensures err { OnErr result (out.new.items ≡ out.old.items) }
@@ -57,7 +61,7 @@ impl PkgPath {
         Ok(())
     }
 
-    /// The canonical text, which is that of a path.
+    /// The canonical text, which has at most 255 bytes and is read as this path again.
     pub fn as_bytes(&self) -> &[u8]
         ensures text { result.now ≡ self.now }
         ensures canonical { IsPath self.now }
@@ -65,7 +69,7 @@ impl PkgPath {
         self.text.as_slice()
     }
 
-    /// An equal path.
+    /// A path that is equal to this one, with room of its own.
     pub fn copy(&self) -> Result<PkgPath, Memory>
         ensures { IfOk result (λ path. path ≡ self.now) }
     {

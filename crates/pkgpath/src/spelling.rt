@@ -44,7 +44,7 @@ fn directory_fault(directory: &[u8]) -> Option<PathFault>
 /// The canonical text of a text without commas.
 fn read_directory(alloc: Global, text: &[u8]) -> Result<Vec<u8>, PathFault>
     requires filled { 0 < length text.now }
-    requires short { length text.now ≤ 255 }
+    requires short { length text.now ≤ grammar.most_bytes }
     requires alone { pieces_at comma text.now ≡ text.now ∷ [] }
     ensures { IsRightUnless PathFault.Memory (map_ok (λ v. v.items) result) (grammar.path_of text.now) }
 {
@@ -143,7 +143,7 @@ fn read_parts(
     parts: &[u8],
 ) -> Result<Vec<u8>, PathFault>
     requires filled { 0 < length text.now }
-    requires short { length text.now ≤ 255 }
+    requires short { length text.now ≤ grammar.most_bytes }
     requires cut { pieces_at comma text.now ≡ directory.now ∷ pieces_at comma parts.now }
     ensures { IsRightUnless PathFault.Memory (map_ok (λ v. v.items) result) (grammar.path_of text.now) }
 {

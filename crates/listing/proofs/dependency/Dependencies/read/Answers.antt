@@ -7,6 +7,7 @@ use Rattle.std.proofs.lemmas.Result.{err_from_is_err_and}
 use Rattle.faults.specs.Bytes.{is_empty}
 use Rattle.listing.specs.Dependencies.{words_of}
 use Rattle.listing.specs.Lines.{is_blank}
+use Rattle.listing.specs.Listing.{most_dependencies}
 use Rattle.listing.proofs.Numbers.{ReadSoFar, all_read, faulty_word, read_more, too_many, word_at}
 use Rattle.listing.proofs.dependency.Dependencies.read.Goals as goal
 
@@ -24,12 +25,12 @@ loop-count-preserved c =
       subst (ReadSoFar c.args.line c.args.value.now c.args.self.now c.number.new.self c.push.new.self.items) (sym (length_push c.loop-count.yielded (c.in-Some.count, c.in-Some.word)))
           (subst (λ ns. ReadSoFar c.args.line c.args.value.now c.args.self.now c.number.new.self ns (length c.loop-count.yielded + 1)) (sym c.in_ok-push.ensures.items)
           (read_more c.args.line c.args.value.now c.args.self.now c.loop-count.self c.number.new.self c.loop-count.numbers.items (length c.loop-count.yielded)
-          c.in_ok-number.field-0 c.in-Some.word.now c.loop-count.invariant.2 w.0 w.2 (omega (arith, w.1, c.if-count-ge-MOST.false))
+          c.in_ok-number.field-0 c.in-Some.word.now c.loop-count.invariant.2 w.0 w.2 (omega (arith, w.1, c.if-count-ge-MOST_DEPENDENCIES.false))
           c.in_ok-number.ensures.answer.0 c.in_ok-number.ensures.answer.1 c.number.ensures.grows)),
     )
 
-pub returns-then-count-ge-MOST-clause-answer : goal.returns-then-count-ge-MOST-clause-answer
-returns-then-count-ge-MOST-clause-answer c =
+pub returns-then-count-ge-MOST_DEPENDENCIES-clause-answer : goal.returns-then-count-ge-MOST_DEPENDENCIES-clause-answer
+returns-then-count-ge-MOST_DEPENDENCIES-clause-answer c =
     let all = enumerate_from 0 (words_of c.args.value.now) in
     let t : (length c.loop-count.yielded < length all) × ((c.in-Some.count, c.in-Some.word.now) ≡ get_or all (length c.loop-count.yielded) (c.in-Some.count, c.in-Some.word.now)) =
     YieldsList-turn (YieldsList-from_enumerate (YieldsList-at {t = c.filter.result} (cc) (YieldsList-from_filter _ (λ w. not (is_empty w)) (YieldsList-at {t = c.split.result} (cc)
@@ -38,7 +39,7 @@ returns-then-count-ge-MOST-clause-answer c =
     c.loop-count.yielded _ c.loop-count.yielded_by _ _ (c.in-Some.count, c.in-Some.word) c.in-Some.is c.next.ensures.steps in
     let w = word_at c.args.value.now (length c.loop-count.yielded) c.in-Some.count c.in-Some.word.now t.0 t.1 in
     inr (too_many c.args.line c.args.value.now c.args.self.now c.loop-count.self c.loop-count.numbers.items (length c.loop-count.yielded)
-    c.in-Some.word.now c.loop-count.invariant.2 w.0 w.2 (omega (arith, w.1, c.if-count-ge-MOST.true)))
+    c.in-Some.word.now c.loop-count.invariant.2 w.0 w.2 (omega (arith, w.1, c.if-count-ge-MOST_DEPENDENCIES.true)))
 
 pub returns-in_err-number-clause-answer : goal.returns-in_err-number-clause-answer
 returns-in_err-number-clause-answer c =
@@ -49,7 +50,7 @@ returns-in_err-number-clause-answer c =
     c.filter.ensures.closure (λ x b q k. search (rules, tests)))) (cc))
     c.loop-count.yielded _ c.loop-count.yielded_by _ _ (c.in-Some.count, c.in-Some.word) c.in-Some.is c.next.ensures.steps in
     let w = word_at c.args.value.now (length c.loop-count.yielded) c.in-Some.count c.in-Some.word.now t.0 t.1 in
-    let few : length c.loop-count.yielded < 512 = omega (arith, w.1, c.if-count-ge-MOST.false) in
+    let few : length c.loop-count.yielded < most_dependencies = omega (arith, w.1, c.if-count-ge-MOST_DEPENDENCIES.false) in
     let p = err_from_is_err_and c.from_residual.result c.from_residual.ensures.1 in
     rw (p.1, p.2) (elim c.in_err-number.ensures.answer [
       | inl m ↦ inl m

@@ -3,26 +3,27 @@ use Rattle.std.specs.List.{list_any}
 use Rattle.std.specs.Str.{bytes_eq}
 use Rattle.std.proofs.lemmas.Result.{MatchResult-weaker, err_from_is_err_and}
 use Rattle.listing.specs.Table.{AreRowsOf, new_row, setting, with_value}
+use Rattle.listing.specs.Tree.{most_paths}
 use Rattle.pkgpath.specs.PkgPath.{IsPath}
 use Rattle.listing.specs.declared.table.Row.{Row}
 use Rattle.listing.specs.declared.table.Value.{Value}
 use Rattle.listing.proofs.Rows.{anew_first, anew_there, fault_anew, fault_many, fault_value, no_fault, not_too_many, one_too_many, rows_moved, rows_push, rows_set, inserted_new}
 use Rattle.listing.proofs.table.Table.set.Goals as goal
-use Rattle.listing.proofs.table.Table.set.Goals.{else-is_none-via-then-is_none+else-len-ge-MOST, else-is_none-via-else-is_none}
+use Rattle.listing.proofs.table.Table.set.Goals.{else-is_none-via-then-is_none+else-len-ge-MOST_PATHS, else-is_none-via-else-is_none}
 
-pub returns-then-len-ge-MOST : goal.returns-then-len-ge-MOST
-returns-then-len-ge-MOST c = λ earlier h.
+pub returns-then-len-ge-MOST_PATHS : goal.returns-then-len-ge-MOST_PATHS
+returns-then-len-ge-MOST_PATHS c = λ earlier h.
     let new : list_any (bytes_eq c.args.path) c.args.self.now.paths.keys ≡ false =
     sym c.get_index_of-known.ensures.found ∙ c.is_none.ensures ∙ ap not c.if-is_none.true in
     let s = setting c.args.line c.args.path c.args.variable c.args.text.now in
     inr (fault_many earlier s (one_too_many earlier c.args.self.now.dependencies c.args.self.now.paths.keys c.args.self.now.rows.items s h new
-    (omega (arith, c.len.ensures.len, c.if-len-ge-MOST.true))))
+    (omega (arith, c.len.ensures.len, c.if-len-ge-MOST_PATHS.true))))
 
 pub returns-in_err-reading : goal.returns-in_err-reading
 returns-in_err-reading c = λ earlier h.
-    let room : (list_any (bytes_eq c.args.path) c.args.self.now.paths.keys ≡ true) ⊎ (length c.args.self.now.paths.keys < 16384) =
+    let room : (list_any (bytes_eq c.args.path) c.args.self.now.paths.keys ≡ true) ⊎ (length c.args.self.now.paths.keys < most_paths) =
     elim c.else-is_none.branch [
-      | else-is_none-via-then-is_none+else-len-ge-MOST w ↦ inr (omega (arith, w.len.ensures.len, w.if-len-ge-MOST.false))
+      | else-is_none-via-then-is_none+else-len-ge-MOST_PATHS w ↦ inr (omega (arith, w.len.ensures.len, w.if-len-ge-MOST_PATHS.false))
       | else-is_none-via-else-is_none w ↦ inl (sym c.get_index_of-known.ensures.found ∙ c.is_none.ensures ∙ ap not w.if-is_none.false)
     ] in
     let s = setting c.args.line c.args.path c.args.variable c.args.text.now in
@@ -67,9 +68,9 @@ returns-in-None c = λ earlier h.
     let here = rows_moved earlier words words c.args.self.now.paths.keys keys c.args.self.now.rows.items rows refl (sym same) (sym (ap (λ r. r.items) c.read_value.ensures.rows)) h in
     let absent : is_some c.get_index_of-known.result ≡ false = ap is_some c.in-None.is in
     let new : list_any (bytes_eq c.args.path) keys ≡ false = ap (list_any (bytes_eq c.args.path)) same ∙ sym c.get_index_of-known.ensures.found ∙ absent in
-    let room : length keys < 16384 =
+    let room : length keys < most_paths =
     elim c.else-is_none.branch [
-      | else-is_none-via-then-is_none+else-len-ge-MOST w ↦ omega (arith, ap length same, w.len.ensures.len, w.if-len-ge-MOST.false)
+      | else-is_none-via-then-is_none+else-len-ge-MOST_PATHS w ↦ omega (arith, ap length same, w.len.ensures.len, w.if-len-ge-MOST_PATHS.false)
       | else-is_none-via-else-is_none w ↦ absurd (true≢false (sym (c.is_none.ensures ∙ ap not w.if-is_none.false) ∙ absent))
     ] in
     let few = not_too_many earlier words keys rows s here (inr room) in

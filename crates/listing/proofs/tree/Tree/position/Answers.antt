@@ -1,4 +1,5 @@
 use Rattle.std.proofs.Common.{◌≤◌, length, arith, sym, ◌∙◌}
+use Rattle.listing.specs.Tree.{most_paths}
 use Rattle.listing.proofs.Positions.{length-packages_of, position-packages_of}
 use Rattle.listing.proofs.tree.Tree.position.Goals as goal
 
@@ -9,7 +10,7 @@ returns-in_err-position c =
 
 pub overflow_cast-result : goal.overflow_cast-result
 overflow_cast-result c =
-    let few : length c.self.inside.paths.keys ≤ 16384 =
+    let few : length c.self.inside.paths.keys ≤ most_paths =
     omega (arith, c.self.invariant.1.few, length-packages_of c.self.inside.paths.keys c.self.inside.nodes.items c.self.invariant.0) in
     omega (arith, c.in_ok-position.ensures.within, few)
 
