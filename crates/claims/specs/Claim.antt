@@ -4,7 +4,14 @@ use Rattle.std.specs.Prelude.{◌<◌, ◌≤◌, ℕ, Option}
 use Rattle.std.specs.Option.{option_cmp}
 use Rattle.std.specs.Ordering.{nat_cmp, on, then_cmp}
 use Rattle.std.specs.declared.cmp.Ordering.{Ordering}
-use Rattle.claims.specs.declared.TheConstants.{GREATEST_ROUND, MEMBERS}
+
+-- the greatest round that a claim may have
+abbrev pub greatest_round : ℕ
+greatest_round = 9223372036854775807
+
+-- the most members there may be, who are numbered from 0
+abbrev pub most_members : ℕ
+most_members = 9
 
 -- By round, and then by member.
 abbrev pub claim_cmp : Claim → Claim → Ordering
@@ -16,9 +23,9 @@ promised_cmp = option_cmp claim_cmp
 
 -- A round of a claim: 1 at least, and the greatest one at most.
 abbrev pub IsRound : ℕ → Type 0
-IsRound round = (1 ≤ round) × (round ≤ GREATEST_ROUND)
+IsRound round = (1 ≤ round) × (round ≤ greatest_round)
 
 -- A claim that a member can have made.
 pub record IsClaim (c : Claim) : Type 0 where
   pub round : IsRound c.round
-  pub member : c.member < MEMBERS
+  pub member : c.member < most_members

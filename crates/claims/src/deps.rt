@@ -7,7 +7,7 @@ use pkgpath::PkgPath;
 use std::alloc::Global;
 use std::marker::Model;
 
-/// A package that a build stood on, as its signature.
+/// A package that a build stood on, as its signature: its path, its name, and the SHA-256 of its record's text.
 #[derive(Drop)]
 pub struct Dep {
     pub path: PkgPath,
@@ -16,6 +16,7 @@ pub struct Dep {
 }
 
 impl Dep {
+    /// An equal signature.
     pub fn copy(&self) -> Result<Dep, Memory>
         ensures { IfOk result (λ dep. dep ≡ self.now) }
     {
@@ -29,7 +30,7 @@ impl Dep {
     }
 }
 
-/// A list of dependencies, which contracts see as such.
+/// A list of dependencies, in any order, which contracts see as such.
 #[derive(Drop)]
 pub struct Deps {
     items: Vec<Dep>,
@@ -45,24 +46,28 @@ impl Model for Deps {
 }
 
 impl Deps {
+    /// The list of these, in their order.
     pub fn new(items: Vec<Dep>) -> Deps
         ensures { result ≡ items.items }
     {
         Deps { items }
     }
 
+    /// The dependencies, in the list's order.
     pub fn into_vec(self) -> Vec<Dep>
         ensures { result.items ≡ self }
     {
         self.items
     }
 
+    /// The dependencies, in the list's order.
     pub fn as_slice(&self) -> &[Dep]
         ensures { result.now ≡ self.now }
     {
         self.items.as_slice()
     }
 
+    /// An equal list.
     pub fn copy(&self) -> Result<Deps, Memory>
         ensures { IfOk result (λ deps. deps ≡ self.now) }
     {

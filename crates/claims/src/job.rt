@@ -37,6 +37,7 @@ impl Job {
         &self.deps
     }
 
+    /// An equal job.
     pub fn copy(&self) -> Result<Job, Memory>
         ensures { IfOk result (λ job. job ≡ self.now) }
     {

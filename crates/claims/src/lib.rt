@@ -6,7 +6,7 @@ ghost use Rattle.std.specs.Prelude.{◌≡◌, ◌+◌, ◌≤◌, ◌↔◌, No
 ghost use Rattle.std.specs.Cmp.{IsTotalOrder};
 ghost use Rattle.std.specs.Ordering.{is_eq, is_gt, is_lt};
 ghost use Rattle.agreement.specs.Claims.{claim_below, claim_same, is_above, is_below};
-ghost use Rattle.claims.specs.Claim.{claim_cmp, promised_cmp};
+ghost use Rattle.claims.specs.Claim.{claim_cmp, greatest_round, promised_cmp};
 
 mod deps;
 mod job;
@@ -23,7 +23,7 @@ pub const GREATEST_ROUND: u64 = 9_223_372_036_854_775_807;
 /// Members are numbered from 0, below this.
 pub const MEMBERS: u8 = 9;
 
-/// No round is left above this one.
+/// No round is left above the one that was named.
 #[derive(Clone, Copy, Debug, PartialEq, Eq, Error)]
 #[error("no round is left")]
 pub struct RoundsSpent;
@@ -42,10 +42,10 @@ impl Fault for RoundsSpent {
     }
 }
 
-/// The round above. The greatest round, and any number above it, has none.
+/// The round above, which is one greater. The greatest round, and any number above it, has none.
 pub fn next_round(round: u64) -> Result<u64, RoundsSpent>
     ensures above { IfOk result (λ next. next ≡ round + 1) }
-    ensures spent { IsErr result ↔ (GREATEST_ROUND ≤ round) }
+    ensures spent { IsErr result ↔ (greatest_round ≤ round) }
 {
     if round >= GREATEST_ROUND {
         return Err(RoundsSpent);

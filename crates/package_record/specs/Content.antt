@@ -11,7 +11,10 @@ use Rattle.claims.specs.Claim.{IsClaim}
 use Rattle.claims.specs.Deps.{AreInOrder, is_ascending}
 use Rattle.agreement.specs.declared.claim.Claim.{Claim}
 use Rattle.claims.specs.declared.deps.Dep.{Dep}
-use Rattle.package_record.specs.declared.TheConstants.{LIMIT}
+
+-- the most bytes that a record's text may have
+abbrev pub most_bytes : ℕ
+most_bytes = 60000
 
 -- a file that a record carries
 pub record NamedFile : Type 0 where
@@ -76,11 +79,11 @@ record_text c = ended (header_lines c) ++ line_feed ∷ [] ++ flat_map (λ f. f.
 abbrev pub is_file_component : Text → Bool
 is_file_component c = not (is_among ([] ∷ codes "." ∷ codes ".." ∷ []) c)
 
--- a printable byte of ASCII, or a blank
+-- a byte from the blank to the tilde, which are the printable ones of ASCII
 abbrev pub is_printable : ℕ → Bool
 is_printable b = nat_le 0x20 b && nat_le b 0x7e
 
--- 1 to 255 printable bytes, with slashes between the components
+-- at most 255 printable bytes that do not begin with `@`, with slashes between the components
 abbrev pub is_file_name : Text → Bool
 is_file_name name =
     nat_le (length name) 255 && list_all is_printable name && not (begins_with (codes "@") name)
@@ -120,4 +123,4 @@ pub record IsRecord (c : Content) : Type 0 where
   pub built : AreInOrder c.built
   pub run : is_ascending c.run ≡ true
   pub file_names : AreFileNames (names_of c.files)
-  pub fits : length (record_text c) ≤ LIMIT
+  pub fits : length (record_text c) ≤ most_bytes

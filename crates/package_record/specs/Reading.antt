@@ -12,12 +12,11 @@ use Rattle.faults.specs.Pieces.{pieces_at, text_cmp}
 use Rattle.pkgname.specs.PkgName.{name_of}
 use Rattle.pkgpath.specs.PkgPath.{path_of}
 use Rattle.agreement.specs.declared.claim.Claim.{Claim}
-use Rattle.claims.specs.declared.TheConstants.{GREATEST_ROUND}
+use Rattle.claims.specs.Claim.{greatest_round}
 use Rattle.claims.specs.declared.deps.Dep.{Dep}
-use Rattle.package_record.specs.Content.{Content, NamedFile, is_next_name}
+use Rattle.package_record.specs.Content.{Content, NamedFile, is_next_name, most_bytes}
 use Rattle.package_record.specs.declared.RecordFault.{RecordFault}
 use Rattle.package_record.specs.declared.RecordFault.TheVariants.{BadLine, Truncated, Trailing, DigestDiffers, BadFileName, TooLarge}
-use Rattle.package_record.specs.declared.TheConstants.{LIMIT}
 
 infixl 10 ◌>>=◌
 -- a fault ends the reading; else it goes on with what was read
@@ -124,7 +123,7 @@ host_at p = do
 unfoldable pub claim_in : ℕ → Text → Result Claim RecordFault
 claim_in n text = do
   parts ← cut_in dot n text
-  round ← number_in 1 GREATEST_ROUND n parts.0
+  round ← number_in 1 greatest_round n parts.0
   member ← number_in 0 8 n parts.1
   Ok (record { round = round; member = member })
 
@@ -217,7 +216,7 @@ pub record Head : Type 0 where
 unfoldable pub size_in : ℕ → ℕ → Text → Result ℕ RecordFault
 size_in total n text =
     if not (is_number text) then Err (BadLine n)
-    else if nat_lt LIMIT (total + digits_value 10 text) then Err TooLarge
+    else if nat_lt most_bytes (total + digits_value 10 text) then Err TooLarge
     else Ok (digits_value 10 text)
 
 -- the digest and the size of the file with this name, behind files of this total
@@ -294,7 +293,7 @@ content_of_parts h bytes =
 -- the record that is the whole text
 unfoldable pub whole_of : Text → Result Content RecordFault
 whole_of text =
-    if nat_lt LIMIT (length text) then Err TooLarge
+    if nat_lt most_bytes (length text) then Err TooLarge
     else (do
       header ← header_of text
       content ← content_of_parts header.0 header.1
@@ -304,5 +303,5 @@ whole_of text =
 unfoldable pub first_of : Text → Result (Content × Text) RecordFault
 first_of text = do
   header ← header_of text
-  if nat_lt LIMIT (length text - length header.1 + total_of header.0) then Err TooLarge
+  if nat_lt most_bytes (length text - length header.1 + total_of header.0) then Err TooLarge
       else content_of_parts header.0 header.1

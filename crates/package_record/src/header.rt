@@ -1,11 +1,13 @@
 //! The header of a record, line by line.
 ghost use Rattle.std.specs.Prelude.{◌≡◌, ◌+◌, ◌≤◌, ◌++◌, ◌∷◌, [], Some, IfOk, IfSome, map, option_map, sum_by};
+ghost use Rattle.package_record.specs.Content.{most_bytes};
 ghost use Rattle.package_record.specs.Cursor.{place_of};
 ghost use Rattle.package_record.specs.Given.{Gives};
 ghost use Rattle.package_record.specs.Heads.{front_of, head_of, header_view};
 ghost use Rattle.package_record.specs.Names.{names_in};
 ghost use Rattle.package_record.specs.Reading.{all_at, built_at, entry_at, file_at, front_at, head_at, header_of, run_at, total_of};
 
+use crate::RecordFault;
 use crate::cursor::Cursor;
 use crate::fault::ReadError;
 use crate::names::admit;
@@ -13,7 +15,6 @@ use crate::number::size;
 use crate::reading::{
     claim_line, dependency, digest, host_line, name_line, path, path_line, version_line,
 };
-use crate::{LIMIT, RecordFault};
 use claims::{Claim, Dep};
 use indexmap::IndexSet;
 use pkgname::PkgName;
@@ -108,9 +109,9 @@ fn head_lines<'a>(
     name: &'a [u8],
     place: Cursor<'a>,
 ) -> Result<(Head<'a>, Cursor<'a>), ReadError>
-    requires { total ≤ LIMIT }
+    requires { total ≤ most_bytes }
     ensures head { Gives (λ x. (Some (head_of x.0), place_of x.1)) result (head_at total name.entry.now (place_of place.entry)) }
-    ensures within { IfOk result (λ x. total + x.0.size ≤ LIMIT) }
+    ensures within { IfOk result (λ x. total + x.0.size ≤ most_bytes) }
     ensures name { IfOk result (λ x. x.0.name.now ≡ name.entry.now) }
 {
     let (text, after) = place.field(b"@sha ")?;
@@ -133,9 +134,9 @@ fn entry<'a>(
     total: usize,
     place: Cursor<'a>,
 ) -> Result<(Option<Head<'a>>, Cursor<'a>), ReadError>
-    requires { total ≤ LIMIT }
+    requires { total ≤ most_bytes }
     ensures entry { Gives (λ x. (option_map head_of x.0, place_of x.1)) result (entry_at (names_in names.old) total (place_of place.entry)) }
-    ensures within { IfOk result (λ x. IfSome x.0 (λ h. total + h.size ≤ LIMIT)) }
+    ensures within { IfOk result (λ x. IfSome x.0 (λ h. total + h.size ≤ most_bytes)) }
     ensures entered { IfOk result (λ x. IfSome x.0 (λ h. names_in names.new ≡ names_in names.old ++ h.name.now ∷ [])) }
 {
     let (line, after) = place.line()?;
@@ -192,7 +193,7 @@ pub struct Heads<'a> {
 fn file_lines<'a>(alloc: Global, start: Cursor<'a>) -> Result<(Heads<'a>, Cursor<'a>), ReadError>
     ensures heads { Gives (λ x. (map head_of x.0.items.items, place_of x.1)) result (all_at file_at (place_of start.entry)) }
     ensures total { IfOk result (λ x. x.0.total ≡ sum_by (λ h. h.size) (map head_of x.0.items.items)) }
-    ensures within { IfOk result (λ x. x.0.total ≤ LIMIT) }
+    ensures within { IfOk result (λ x. x.0.total ≤ most_bytes) }
 {
     let mut heads = Vec::new(alloc);
     let mut names = IndexSet::new(alloc);
@@ -227,7 +228,7 @@ pub struct Header<'a> {
 pub fn read_header<'a>(alloc: Global, text: &'a [u8]) -> Result<(Header<'a>, &'a [u8]), ReadError>
     ensures header { Gives (λ x. (header_view x.0, x.1.now)) result (header_of text.entry.now) }
     ensures total { IfOk result (λ x. x.0.heads.total ≡ total_of (header_view x.0)) }
-    ensures within { IfOk result (λ x. x.0.heads.total ≤ LIMIT) }
+    ensures within { IfOk result (λ x. x.0.heads.total ≤ most_bytes) }
 {
     let place = Cursor {
         rest: text,

@@ -1,6 +1,7 @@
 //! Decimal numbers without leading zeros.
 ghost use Rattle.std.specs.Prelude.{◌≡◌, ◌+◌, ◌<◌, ◌≤◌, true, false, min, IfOk, MatchOption};
 ghost use Rattle.std.specs.Str.Parse.{digits_value};
+ghost use Rattle.package_record.specs.Content.{most_bytes};
 ghost use Rattle.package_record.specs.Given.{Gives};
 ghost use Rattle.package_record.specs.Reading.{is_number, number_in, size_in};
 
@@ -44,9 +45,9 @@ pub fn number_within(least: u64, greatest: u64, line: u64, text: &[u8]) -> Resul
 /// The size of a file, in this line, behind files of this total.
 #[tactic(auto, unfolding(crate::specs::Reading::size_in))]
 pub fn size(total: usize, line: u64, text: &[u8]) -> Result<usize, ReadError>
-    requires { total ≤ LIMIT }
+    requires { total ≤ most_bytes }
     ensures size { Gives (λ n. n) result (size_in total line text.now) }
-    ensures within { IfOk result (λ n. total + n ≤ LIMIT) }
+    ensures within { IfOk result (λ n. total + n ≤ most_bytes) }
 {
     let Some(number) = number(text) else {
         return Err(ReadError::Fault(RecordFault::BadLine(line)));

@@ -21,7 +21,7 @@ use crate::cursor::{Cursor, split};
 use crate::fault::ReadError;
 use crate::number::number_within;
 use crate::writing::digest_text;
-use claims::{Claim, Dep, GREATEST_ROUND};
+use claims::{Claim, Dep, GREATEST_ROUND, MEMBERS};
 use pkgname::{NameFault, PkgName};
 use pkgpath::{PathFault, PkgPath};
 use std::alloc::Global;
@@ -132,7 +132,7 @@ fn claim(line: u64, text: &[u8]) -> Result<Claim, ReadError>
 {
     let (round, member) = cut(b'.', line, text)?;
     let round = number_within(1, GREATEST_ROUND, line, round)?;
-    let member = number_within(0, 8, line, member)?;
+    let member = number_within(0, u64::from(MEMBERS) - 1, line, member)?;
     Ok(Claim {
         round,
         member: member as u8,
