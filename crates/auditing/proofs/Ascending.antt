@@ -16,7 +16,7 @@ pub member_cases : {X : Type 0} (x y : X) (xs : List X) → Contains (x ∷ xs) 
 member_cases x y xs (zero, within, here) = inl here
 member_cases x y xs (suc k, within, here) = inr (k, omega arith, here)
 
-no_members : {X : Type 0} (y : X) → ¬ Contains [] y
+pub no_members : {X : Type 0} (y : X) → ¬ Contains [] y
 no_members y (k, within, here) = omega arith
 
 pub contains_image : {X : Type 0} (f : ℕ → X) (xs : List ℕ) (x : ℕ) → Contains xs x → Contains (map f xs) (f x)

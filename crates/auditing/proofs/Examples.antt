@@ -1,5 +1,5 @@
 -- Verdicts on lists of packages of a small tree: the first package is built on the second, which runs on the third; the
--- last is left out.
+-- last is marked.
 use Rattle.std.proofs.Common.{◌≡◌, ◌≢◌, ◌<◌, ◌≤◌, ◌∙◌, ℕ, zero, suc, codes, length, refl, sym, ap, subst, replicate, List, [], ◌∷◌, true, false, arith}
 use Rattle.std.specs.Prelude.{AllPairs, Any, Contains}
 use Rattle.std.specs.Str.{bytes_eq}
@@ -9,7 +9,6 @@ use Rattle.engine.specs.Letters.{HoldsTheMarked, IsIgnored}
 use Rattle.faults.specs.Bytes.{Text}
 use Rattle.claims.specs.declared.deps.Dep.{Dep}
 use Rattle.listing.specs.Tree.{Tree, build_at, is_marked_at, run_at}
-use Rattle.package_record.specs.Content.{Content}
 use Rattle.auditing.specs.Allowed.{AreItsDependencies, IsAllowed, IsNew, IsSignatureOf, MayFollow, StoodEarlier}
 use Rattle.auditing.specs.Fits.{Fits}
 use Rattle.auditing.specs.Verdicts.{IsVerdict}
@@ -55,21 +54,10 @@ free p e ignored =
 left_out : IsIgnored tree 3
 left_out S holds = holds.marked 3 (omega arith) refl
 
--- ---- a record of the tree
+-- ---- a package of the tree
 
-abbrev q_content : Content
-q_content = record {
-  path = codes "a/q";
-  name = codes "q-1";
-  host = 3;
-  claim = record { round = 1; member = 0 };
-  built = [];
-  run = codes "a/r" ∷ [];
-  files = [];
-}
-
-q_fits : Fits tree q_content
-q_fits = record { position = 1; listed = refl; not_ignored = free 1 refl; name = refl; built = refl; run = refl }
+q_fits : Fits tree (codes "a/q") (codes "q-1") [] (codes "a/r" ∷ [])
+q_fits = record { position = 1; listed = refl; not_ignored = free 1 refl; name_is = refl; built_on = refl; runs_on = refl }
 
 -- ---- entries
 

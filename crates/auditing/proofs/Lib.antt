@@ -2,6 +2,8 @@ mod Examples
 pub mod Ascending
 pub mod Positions
 pub mod Built
+pub mod Sets
+pub mod Fitting
 pub mod Allowing
 pub mod Places
 pub mod Signatures

@@ -12,5 +12,5 @@ mod verdict;
 
 pub use crate::entry::Entry;
 pub use crate::judging::audit;
-pub use crate::laws::{allowed_lists, only_one_verdict};
+pub use crate::laws::{allowed_lists, only_one_verdict, packages_that_fit};
 pub use crate::verdict::{Reason, Verdict};

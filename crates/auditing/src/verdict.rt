@@ -1,19 +1,20 @@
 //! What an audit answers.
 
-/// Why a package may not follow those before it. Of several reasons the first is the one.
+/// Why a package may not follow those before it. Of several reasons the first in this order is the one.
 #[derive(Clone, Copy, Debug, PartialEq, Eq)]
 pub enum Reason {
     /// The tree has no such path.
     Unlisted,
-    /// The path is left out, or depends on one that is.
+    /// The path is ignored: the listing says so, a dependency is not listed or has a name that was not asked for, or it
+    /// depends on an ignored path.
     Ignored,
     /// The tree gives the path another name.
     OtherName,
     /// An earlier package has the path.
     PathTwice,
-    /// The package was not built on the build dependencies of its path, each once.
+    /// The package was not built on exactly the build dependencies of its path, each once.
     OtherDependencies,
-    /// A package that it was built on does not stand earlier with that name and digest.
+    /// A package that it was built on does not stand earlier with that path, name and digest.
     DependencyNotEarlier,
 }
 

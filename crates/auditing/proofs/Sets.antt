@@ -1,0 +1,180 @@
+-- Sets of texts: their members, and that they ascend.
+use Rattle.std.proofs.Common.{◌≡◌, ◌≢◌, ◌⊎◌, ◌∙◌, inl, inr, true, List, [], ◌∷◌, refl, sym, ap, subst, arith, true≢false}
+use Rattle.std.specs.Prelude.{AllPairs, Contains}
+use Rattle.std.specs.Cmp.{tied_itself}
+use Rattle.std.specs.Cmp.Lexicographic.{bytes_decides, nat_list_cmp_total, texts_ties}
+use Rattle.std.specs.List.{list_all}
+use Rattle.std.specs.Ordering.{is_eq, is_lt, ordering_reverse}
+use Rattle.std.specs.declared.cmp.Ordering.{Ordering}
+use Rattle.std.specs.declared.cmp.Ordering.TheVariants.{Less, Equal, Greater}
+use Rattle.std.proofs.lemmas.Bool.{and_parts}
+use Rattle.std.proofs.lemmas.List.Elements.{All-contains_itself}
+use Rattle.std.proofs.lemmas.List.Kept.{AllPairs-cons}
+use Rattle.faults.specs.Bytes.{Text}
+use Rattle.faults.specs.Pieces.{by_order, set_of, text_cmp, with_member}
+use Rattle.claims.specs.Deps.{is_ascending}
+use Rattle.auditing.proofs.Ascending.{contains_first, contains_later, member_cases, no_members}
+
+-- ---- members
+
+-- what stands at the same place is the same
+same_texts : (t u : Text) → text_cmp t u ≡ Equal → t ≡ u
+same_texts t u same = (bytes_decides t u).0 (texts_ties t u ∙ ap is_eq same)
+
+abbrev InSetWith : Text → List Text → Text → Type 0
+InSetWith t us x = (t ≡ x) ⊎ Contains us x
+
+member_with : (t x : Text) (us : List Text) → Contains (with_member t us) x → InSetWith t us x
+member_with t x [] member = member_cases t x [] member
+member_with t x (u ∷ us) member = by (text_cmp t u) member (member_with t x us)
+  where
+    by : (o : Ordering) → Contains (by_order o (t ∷ u ∷ us) (u ∷ us) (u ∷ with_member t us)) x → (Contains (with_member t us) x → InSetWith t us x)
+        → InSetWith t (u ∷ us) x
+    by Less member rest = member_cases t x (u ∷ us) member
+    by Equal member rest = inr member
+    by Greater member rest =
+        elim (member_cases u x (with_member t us) member) [
+          | inl e ↦ inr (subst (Contains (u ∷ us)) e (contains_first u us))
+          | inr later ↦ elim (rest later) [ inl e ↦ inl e | inr old ↦ inr (contains_later u x us old) ]
+        ]
+
+new_member : (t : Text) (us : List Text) → Contains (with_member t us) t
+new_member t [] = contains_first t []
+new_member t (u ∷ us) = by (text_cmp t u) refl (new_member t us)
+  where
+    by : (o : Ordering) → text_cmp t u ≡ o → Contains (with_member t us) t → Contains (by_order o (t ∷ u ∷ us) (u ∷ us) (u ∷ with_member t us)) t
+    by Less e rest = contains_first t (u ∷ us)
+    by Equal e rest = subst (Contains (u ∷ us)) (sym (same_texts t u e)) (contains_first u us)
+    by Greater e rest = contains_later u t (with_member t us) rest
+
+old_member : (t x : Text) (us : List Text) → Contains us x → Contains (with_member t us) x
+old_member t x [] member = contains_later t x [] member
+old_member t x (u ∷ us) member = by (text_cmp t u) (old_member t x us)
+  where
+    by : (o : Ordering) → (Contains us x → Contains (with_member t us) x) → Contains (by_order o (t ∷ u ∷ us) (u ∷ us) (u ∷ with_member t us)) x
+    by Less rest = contains_later t x (u ∷ us) member
+    by Equal rest = member
+    by Greater rest =
+        elim (member_cases u x us member) [
+          | inl e ↦ subst (Contains (u ∷ with_member t us)) e (contains_first u (with_member t us))
+          | inr later ↦ contains_later u x (with_member t us) (rest later)
+        ]
+
+-- a member of a list's set is one of the list
+pub from_set : (ts : List Text) (x : Text) → Contains (set_of ts) x → Contains ts x
+from_set [] x member = member
+from_set (t ∷ ts) x member =
+    elim (member_with t x (set_of ts) member) [
+      | inl e ↦ subst (Contains (t ∷ ts)) e (contains_first t ts)
+      | inr old ↦ contains_later t x ts (from_set ts x old)
+    ]
+
+-- and the other way round
+pub into_set : (ts : List Text) (x : Text) → Contains ts x → Contains (set_of ts) x
+into_set [] x member = member
+into_set (t ∷ ts) x member =
+    elim (member_cases t x ts member) [
+      | inl e ↦ subst (Contains (set_of (t ∷ ts))) e (new_member t (set_of ts))
+      | inr later ↦ old_member t x (set_of ts) (into_set ts x later)
+    ]
+
+-- ---- order
+
+-- each text is below all behind it
+abbrev pub Rising : List Text → Type 0
+Rising [] = Unit {0}
+Rising (t ∷ ts) = ((u : Text) → Contains ts u → text_cmp t u ≡ Less) × Rising ts
+
+flipped : (t u : Text) → text_cmp t u ≡ Greater → text_cmp u t ≡ Less
+flipped t u greater = nat_list_cmp_total.antisymm u t ∙ ap ordering_reverse greater
+
+rising_with : (t : Text) (us : List Text) → Rising us → Rising (with_member t us)
+rising_with t [] rising = (λ u member. absurd (no_members u member), tt)
+rising_with t (u ∷ us) rising = by (text_cmp t u) refl (rising_with t us rising.1)
+  where
+    by : (o : Ordering) → text_cmp t u ≡ o → Rising (with_member t us) → Rising (by_order o (t ∷ u ∷ us) (u ∷ us) (u ∷ with_member t us))
+    by Less e rest = (
+      λ x member.
+          elim (member_cases u x us member) [
+            | inl same ↦ subst (λ w. text_cmp t w ≡ Less) same e
+            | inr later ↦ nat_list_cmp_total.trans t u x e (rising.0 x later)
+          ],
+      rising,
+    )
+    by Equal e rest = rising
+    by Greater e rest = (
+      λ x member.
+          elim (member_with t x us member) [
+            | inl same ↦ subst (λ w. text_cmp u w ≡ Less) same (flipped t u e)
+            | inr old ↦ rising.0 x old
+          ],
+      rest,
+    )
+
+-- a set ascends
+pub set_rises : (ts : List Text) → Rising (set_of ts)
+set_rises [] = tt
+set_rises (t ∷ ts) = rising_with t (set_of ts) (set_rises ts)
+
+below_each : (t : Text) (ts : List Text) → list_all (λ u. is_lt (text_cmp t u)) ts ≡ true → (u : Text) → Contains ts u → text_cmp t u ≡ Less
+below_each t [] all u member = absurd (no_members u member)
+below_each t (w ∷ ts) all u member =
+    let parts = and_parts (is_lt (text_cmp t w)) (list_all (λ u. is_lt (text_cmp t u)) ts) all in
+    elim (member_cases w u ts member) [
+      | inl same ↦ subst (λ v. text_cmp t v ≡ Less) same (is_less (text_cmp t w) parts.0)
+      | inr later ↦ below_each t ts parts.1 u later
+    ]
+  where
+    is_less : (o : Ordering) → is_lt o ≡ true → o ≡ Less
+    is_less Less e = refl
+    is_less Equal e = cc
+    is_less Greater e = cc
+
+pub rises : (ts : List Text) → is_ascending ts ≡ true → Rising ts
+rises [] ascending = tt
+rises (t ∷ ts) ascending =
+    let parts = and_parts (list_all (λ u. is_lt (text_cmp t u)) ts) (is_ascending ts) ascending in
+    (below_each t ts parts.0, rises ts parts.1)
+
+not_below_itself : (t : Text) → text_cmp t t ≡ Less → ⊥
+not_below_itself t less = true≢false (sym (ap is_eq (tied_itself nat_list_cmp_total t)) ∙ ap is_eq less)
+
+-- texts that ascend differ
+pub differ : (ts : List Text) → Rising ts → AllPairs ◌≢◌ ts
+differ [] rising = λ i j d l m e. omega arith
+differ (t ∷ ts) rising =
+    AllPairs-cons ◌≢◌ t ts
+    (λ k d l same. not_below_itself t (subst (λ u. text_cmp t u ≡ Less) (sym same) (rising.0 _ (All-contains_itself ts k d l))))
+    (differ ts rising.1)
+
+-- a member behind the first is not the first of the other list
+in_tail : (t : Text) (ts us : List Text) (x : Text) → Rising (t ∷ ts) → Contains ts x → Contains (t ∷ us) x → Contains us x
+in_tail t ts us x rising mine other =
+    elim (member_cases t x us other) [
+      | inl same ↦ absurd (not_below_itself t (subst (λ u. text_cmp t u ≡ Less) (sym same) (rising.0 x mine)))
+      | inr later ↦ later
+    ]
+
+-- the first of two lists with the same members
+same_first : (t u : Text) (ts us : List Text) → Rising (t ∷ ts) → Rising (u ∷ us) → Contains (u ∷ us) t → Contains (t ∷ ts) u → t ≡ u
+same_first t u ts us mine other here there =
+    elim (member_cases u t us here) [
+      | inl e ↦ sym e
+      | inr below ↦ elim (member_cases t u ts there) [
+        | inl e ↦ e
+        | inr above ↦ absurd (not_below_itself t (nat_list_cmp_total.trans t u t (mine.0 u above) (other.0 t below)))
+      ]
+    ]
+
+-- lists that ascend and have the same members are the same
+pub same_members : (ts us : List Text) → Rising ts → Rising us → ((x : Text) → Contains ts x → Contains us x) → ((x : Text) → Contains us x → Contains ts x) → ts ≡ us
+same_members [] [] mine other there back = refl
+same_members [] (u ∷ us) mine other there back = absurd (no_members u (back u (contains_first u us)))
+same_members (t ∷ ts) [] mine other there back = absurd (no_members t (there t (contains_first t ts)))
+same_members (t ∷ ts) (u ∷ us) mine other there back =
+    let e = same_first t u ts us mine other (there t (contains_first t ts)) (back u (contains_first u us)) in
+    let tails =
+    same_members ts us mine.1 other.1
+    (λ x m. in_tail t ts us x mine m (subst (λ w. Contains (w ∷ us) x) (sym e) (there x (contains_later t x ts m))))
+    (λ x m. in_tail u us ts x other m (subst (λ w. Contains (w ∷ ts) x) e (back x (contains_later u x us m)))) in
+    λ i. e i ∷ tails i
