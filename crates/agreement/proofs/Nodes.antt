@@ -10,7 +10,7 @@ use Rattle.agreement.specs.Step.{notes_and_says, Input, Start, Built, Failed, Nu
 use Rattle.agreement.specs.World.{World, Event, Take, Stop, StopIn, Restart, member_of, outcome, after_event, run, start, after, after_any, add_sent, when, cut, down, put}
 use Rattle.agreement.specs.Agreed.{IsValue, decided_value}
 use Rattle.agreement.specs.AgreedList.{Needs, Entry, Cluster, Act, lookup, elsewhere, held_by, may_happen, list_with, cluster_after, after_act, after_acts, beginning, IsAllowed, IsMonotone}
-use Rattle.agreement.specs.Nodes.{OpenClaim, Node, Datagram, Net, Asked, Local, Comes, Happening, Does, Halts, HaltsIn, Wakes, stage_at, view, claim_then, node_with, halted_with, Reply, may_do, reply, for_path, add_datagram, net_after, net_cut, net_does, net_halts_in, net_halts, net_wakes, net_then, net_run, fresh_node, net_start}
+use Rattle.agreement.specs.Nodes.{OpenClaim, Node, Datagram, Net, Asked, Local, Comes, Happening, Does, Halts, HaltsIn, Wakes, stage_at, view, claim_then, node_with, halted_with, Reply, may_do, reply, for_path, add_datagram, net_after, net_cut, net_does, net_halts_in, net_halts, net_wakes, net_then, net_run, fresh_node, net_start, Matches}
 use Rattle.agreement.proofs.Kept.{put_same}
 use Rattle.agreement.proofs.Agreed.{found}
 use Rattle.agreement.proofs.AgreedList.{elsewhere_sent, ordered, held_listed, after_acts-append, after_acts_longer}
@@ -83,11 +83,6 @@ for_there : {V : Type 0} (p q : ℕ) (s : Option (Message V)) (ds : List (Datagr
     → for_path q (add_datagram p s ds) ≡ for_path q ds
 for_there p q None ds ne = refl
 for_there p q (Some m) ds ne = cond-false (eqb q p) _ _ (ne_eqb q p ne)
-
-pub record Matches (V : Type 0) (w : Net V) (c : Cluster V) : Type 0 where
-  pub members : (q i : ℕ) (x : Node V) → slice_get w.nodes i ≡ Some x → (c.at q).members i ≡ view x q
-  pub sent : (q : ℕ) → (c.at q).sent ≡ for_path q w.sent
-  pub list : c.list ≡ w.list
 
 module _ (V : Type 0) (enough : Quorums) where
   -- a step of i that says nothing changes no other member

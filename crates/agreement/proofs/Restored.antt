@@ -40,7 +40,7 @@ first_none : {V : Type 0} (h : Option V) (v : V) → h ≡ None → Some v ≡ f
 first_none {V} h v e = let P : Option V → Type 0 = λ h. Some v ≡ first h v in subst P (sym e) refl
 
 -- what is not below is the greater one
-greater_not_below : (p : Option Claim) (c : Claim) → is_below c p ≡ false → Some c ≡ greater p c
+pub greater_not_below : (p : Option Claim) (c : Claim) → is_below c p ≡ false → Some c ≡ greater p c
 greater_not_below None c e = refl
 greater_not_below (Some p) c e =
     elim (cases_Bool (claim_below p c)) [

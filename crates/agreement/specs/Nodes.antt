@@ -5,8 +5,8 @@ use Rattle.agreement.specs.Member.{Facts, Member, Stage, Closed, Gathering, Buil
 use Rattle.agreement.specs.Step.{Outcome, Input, Start, Built, Failed, Nudge, Deliver, Inquire, answer, on_message}
 use Rattle.agreement.specs.World.{put}
 use Rattle.agreement.specs.Agreed.{decided_value}
-use Rattle.agreement.specs.AgreedList.{Needs, Entry, lookup, list_with}
-use Rattle.std.specs.Prelude.{ℕ, Bool, true, false, ◌==◌, List, [], ◌∷◌, Option, Some, None, if◌then◌else◌, length, slice_get, slice_set, replicate, option_map}
+use Rattle.agreement.specs.AgreedList.{Needs, Entry, Cluster, lookup, list_with}
+use Rattle.std.specs.Prelude.{◌≡◌, ℕ, Bool, true, false, ◌==◌, List, [], ◌∷◌, Option, Some, None, if◌then◌else◌, length, slice_get, slice_set, replicate, option_map}
 
 -- an open claim, and the path that it is for
 pub record OpenClaim (V : Type 0) : Type 0 where
@@ -172,3 +172,10 @@ net_start n = record { nodes = replicate n fresh_node; sent = []; list = [] }
 -- the net of one node for each weight, after the happenings from the first one on
 abbrev pub after_all : {V : Type 0} → List ℕ → Needs V → List (Happening V) → Net V
 after_all weights may happenings = net_run (is_majority weights) may happenings (net_start (length weights))
+
+-- The net is what the cluster is: each node is, path by path, the member there; for each path the same was sent; and the
+-- lists are one.
+pub record Matches (V : Type 0) (w : Net V) (c : Cluster V) : Type 0 where
+  pub members : (p i : ℕ) (x : Node V) → slice_get w.nodes i ≡ Some x → (c.at p).members i ≡ view x p
+  pub sent : (p : ℕ) → (c.at p).sent ≡ for_path p w.sent
+  pub list : c.list ≡ w.list

@@ -1,11 +1,11 @@
 //! The laws of all paths at once, and of the list of what is agreed.
 ghost use Rattle.std.specs.Prelude.{◌≡◌, ◌++◌, ℕ, Bool, List, [], ◌∷◌, Option, Some, length, slice_get};
-ghost use Rattle.agreement.specs.Quorums.{AreQuorums, Quorums};
+ghost use Rattle.agreement.specs.Quorums.{AreQuorums, Quorums, is_majority};
 ghost use Rattle.agreement.specs.Member.{facts_of, restored};
 ghost use Rattle.agreement.specs.World.{IsLawfulWorld};
 ghost use Rattle.agreement.specs.Agreed.{IsValue};
 ghost use Rattle.agreement.specs.AgreedList.{Act, Cluster, Entry, IsAllowed, IsMonotone, Lengthens, Needs, WasBuilt, after_acts, beginning, held_by, lookup};
-ghost use Rattle.agreement.specs.Nodes.{Happening, Node, after_all};
+ghost use Rattle.agreement.specs.Nodes.{Happening, Matches, Node, after_all};
 ghost use Rattle.agreement.specs.Examples.{alone, one_and_zero, too_early, zero_first};
 
 /// Many paths, members with one open claim in all, and values that may be built only on what their builder holds. At
@@ -47,7 +47,7 @@ pub fn agrees_on_one_list<V>()
 {}
 
 /// The same of nodes, one for each weight, that keep facts for all paths and one open claim, and of datagrams that name
-/// their path.
+/// their path: whatever happens to them, they are path by path what members are after some acts.
 pub fn nodes_have_one_list<V>()
     ensures grows { (weights : List ℕ) (may : Needs V)
         → IsMonotone may
@@ -63,6 +63,10 @@ pub fn nodes_have_one_list<V>()
         → slice_get (after_all weights may happenings).nodes i ≡ Some node
         → (node.facts p).held ≡ Some v
         → lookup (after_all weights may happenings).list p ≡ Some v }
+    ensures alike { (weights : List ℕ) (may : Needs V)
+        → IsMonotone may
+        → (happenings : List (Happening V))
+        → (acts : List (Act V)) × Matches V (after_all weights may happenings) (after_acts (is_majority weights) may acts beginning) }
 {}
 
 /// A node alone agrees on path 0, and then on path 1, which needs it; not before.

@@ -5,7 +5,9 @@ ghost use Rattle.agreement.specs.Claims.{AtMost, Below, claim_below, is_above, i
 /// A ballot number: its round, and the member that opened it. Claims compare by round, and then by member.
 #[derive(Clone, Copy, Debug, PartialEq, Eq, PartialOrd, Ord, Hash)]
 pub struct Claim {
+    /// Rounds begin at 1; 0 is no round.
     pub round: u64,
+    /// The number of the member that opened it, from 0.
     pub member: u8,
 }
 
