@@ -1,7 +1,8 @@
 -- Digits without leading zeros compare as numbers by their length, and then by their bytes.
-use Rattle.std.proofs.Common.{◌≡◌, ℕ, ◌+◌, ◌*◌, ◌<◌, ◌≤◌, ◌==◌, true, not, List, [], ◌∷◌, length, slice_index, refl, arith, inl, inr, Less, Equal, Greater}
-use Rattle.std.proofs.lemmas.Bool.{cases_lt, lt-ltb}
+use Rattle.std.proofs.Common.{◌≡◌, ℕ, ◌+◌, ◌*◌, ◌<◌, ◌≤◌, ◌==◌, true, not, List, [], ◌∷◌, length, slice_index, refl, sym, arith, inl, inr, Less, Equal, Greater}
+use Rattle.std.proofs.lemmas.Bool.{cases_lt}
 use Rattle.std.specs.Char.{digit_value, is_ascii_digit}
+use Rattle.std.specs.Cmp.{nat_cmp_is}
 use Rattle.std.specs.Cmp.Lexicographic.{slice_cmp}
 use Rattle.std.specs.List.{list_all}
 use Rattle.std.specs.Ordering.{nat_cmp, ordering_then}
@@ -17,20 +18,6 @@ digit_is x h = grind arith
 -- a digit's value is below ten
 digit_below_ten : (x : ℕ) → is_ascii_digit x ≡ true → digit_value x < 10
 digit_below_ten x h = grind arith
-
--- ---- what comparing numbers answers
-
--- the first is below
-nat_cmp-Less : (m n : ℕ) → m < n → nat_cmp m n ≡ Less
-nat_cmp-Less m n h = rw (lt-ltb m n h) refl
-
--- they are one
-nat_cmp-Equal : (m n : ℕ) → m ≡ n → nat_cmp m n ≡ Equal
-nat_cmp-Equal m n h = grind arith
-
--- the first is above
-nat_cmp-Greater : (m n : ℕ) → n < m → nat_cmp m n ≡ Greater
-nat_cmp-Greater m n h = grind arith
 
 -- ---- digits in a row
 
@@ -58,7 +45,7 @@ less (x ∷ xs) (y ∷ ys) m n lt le d =
 -- as many digits behind the same front compare by their bytes
 level : (xs ys : List ℕ) (m : ℕ) → length xs ≡ length ys → list_all is_ascii_digit xs ≡ true → list_all is_ascii_digit ys ≡ true
     → nat_cmp (digits_value_after 10 m xs) (digits_value_after 10 m ys) ≡ slice_cmp nat_cmp xs ys
-level [] [] m e d f = nat_cmp-Equal m m refl
+level [] [] m e d f = sym (nat_cmp_is m m Equal refl)
 level [] (y ∷ ys) m e d f = absurd (omega arith)
 level (x ∷ xs) [] m e d f = absurd (omega arith)
 level (x ∷ xs) (y ∷ ys) m e d f =
@@ -66,13 +53,13 @@ level (x ∷ xs) (y ∷ ys) m e d f =
     let y_is = digit_is y (first_digit y ys f) in
     elim (cases_lt x y) [
       | inl below ↦
-          rw (nat_cmp-Less x y below) (nat_cmp-Less _ _ (less xs ys (m * 10 + digit_value x) (m * 10 + digit_value y) (omega arith) (omega arith) (other_digits x xs d)))
+          rw (← nat_cmp_is x y Less below) (sym (nat_cmp_is _ _ Less (less xs ys (m * 10 + digit_value x) (m * 10 + digit_value y) (omega arith) (omega arith) (other_digits x xs d))))
       | inr from ↦ elim (cases_lt y x) [
         | inl above ↦
-            rw (nat_cmp-Greater x y above) (nat_cmp-Greater _ _ (less ys xs (m * 10 + digit_value y) (m * 10 + digit_value x) (omega arith) (omega arith) (other_digits y ys f)))
+            rw (← nat_cmp_is x y Greater above) (sym (nat_cmp_is _ _ Greater (less ys xs (m * 10 + digit_value y) (m * 10 + digit_value x) (omega arith) (omega arith) (other_digits y ys f))))
         | inr upto ↦
             let same : x ≡ y = omega arith in
-            rw (nat_cmp-Equal x y same, same) (level xs ys (m * 10 + digit_value y) (omega arith) (other_digits x xs d) (other_digits y ys f))
+            rw (← nat_cmp_is x y Equal same, same) (level xs ys (m * 10 + digit_value y) (omega arith) (other_digits x xs d) (other_digits y ys f))
       ]
     ]
 
@@ -89,11 +76,11 @@ shorter xs (y ∷ ys) lt d f leading =
 pub number_cmp : (xs ys : List ℕ) → list_all is_ascii_digit xs ≡ true → not (slice_index xs 0 == 48) ≡ true → list_all is_ascii_digit ys ≡ true → not (slice_index ys 0 == 48) ≡ true
     → nat_cmp (number_of xs) (number_of ys) ≡ ordering_then (nat_cmp (length xs) (length ys)) (slice_cmp nat_cmp xs ys)
 number_cmp xs ys d leading f other_leading = elim (cases_lt (length xs) (length ys)) [
-  | inl fewer ↦ rw (nat_cmp-Less (length xs) (length ys) fewer) (nat_cmp-Less _ _ (shorter xs ys fewer d f other_leading))
+  | inl fewer ↦ rw (← nat_cmp_is (length xs) (length ys) Less fewer) (sym (nat_cmp_is _ _ Less (shorter xs ys fewer d f other_leading)))
   | inr from ↦ elim (cases_lt (length ys) (length xs)) [
-    | inl more ↦ rw (nat_cmp-Greater (length xs) (length ys) more) (nat_cmp-Greater _ _ (shorter ys xs more f d leading))
+    | inl more ↦ rw (← nat_cmp_is (length xs) (length ys) Greater more) (sym (nat_cmp_is _ _ Greater (shorter ys xs more f d leading)))
     | inr upto ↦
         let as_many : length xs ≡ length ys = omega arith in
-        rw (nat_cmp-Equal (length xs) (length ys) as_many) (level xs ys 0 as_many d f)
+        rw (← nat_cmp_is (length xs) (length ys) Equal as_many) (level xs ys 0 as_many d f)
   ]
 ]

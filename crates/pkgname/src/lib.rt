@@ -42,7 +42,7 @@ pub enum NameFault {
     /// flavor is empty.
     #[error("the name has a byte that may not stand there, or an empty flavor")]
     BadByte,
-    /// Number 201: no dash, other than the first byte, has a digit behind it. So of no bytes.
+    /// Number 201: no dash, other than the first byte, has a digit behind it.
     #[error("the name has no version")]
     NoVersion,
 }

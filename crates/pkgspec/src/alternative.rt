@@ -1,5 +1,5 @@
 //! An alternative of a spec.
-ghost use Rattle.std.specs.Prelude.{◌≡◌, IfOk, map, option_copied, vec_items};
+ghost use Rattle.std.specs.Prelude.{◌≡◌, map, option_copied, vec_items};
 ghost use Rattle.std.specs.List.{list_all};
 ghost use Rattle.faults.specs.Answers.{IsRightUnless, map_ok};
 ghost use Rattle.faults.specs.Bytes.{comma, dash};
@@ -11,6 +11,7 @@ ghost use Rattle.pkgspec.specs.Spec.{bound_texts, demand_texts, stem_of};
 use crate::SpecFault;
 use crate::bound::Bound;
 use crate::demand::Demand;
+use crate::part::{Part, copy_of_parts};
 use faults::Memory;
 use pkgname::{PkgName, Version, dash_before_version, first_piece, has_name_bytes};
 use std::alloc::Global;
@@ -59,19 +60,13 @@ impl Alternative {
             && all_hold(self.bounds.as_slice(), name.version())
             && all_are_met(self.demands.as_slice(), name.flavors())
     }
+}
 
-    pub fn copy(&self) -> Result<Alternative, Memory>
-        ensures { IfOk result (λ alternative. alternative ≡ self.now) }
-    {
+impl Part for Alternative {
+    fn copy(&self) -> Result<Alternative, Memory> {
         let stem = self.stem.clone()?;
-        let mut bounds = Vec::with_capacity(*self.bounds.allocator(), self.bounds.len())?;
-        for bound in &self.bounds {
-            bounds.push(bound.copy()?)?;
-        }
-        let mut demands = Vec::with_capacity(*self.demands.allocator(), self.demands.len())?;
-        for demand in &self.demands {
-            demands.push(demand.copy()?)?;
-        }
+        let bounds = copy_of_parts(&self.bounds)?;
+        let demands = copy_of_parts(&self.demands)?;
         Ok(Alternative {
             stem,
             bounds,

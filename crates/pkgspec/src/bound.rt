@@ -1,11 +1,12 @@
 //! A bound of the version.
-ghost use Rattle.std.specs.Prelude.{◌≡◌, IfOk};
+ghost use Rattle.std.specs.Prelude.{◌≡◌};
 ghost use Rattle.faults.specs.Answers.{IsRightUnless};
 ghost use Rattle.pkgspec.specs.Matching.{allows, holds};
 ghost use Rattle.pkgspec.specs.Reading.{bound_or_fault};
 ghost use Rattle.pkgspec.specs.Spec.{relation_of};
 
 use crate::SpecFault;
+use crate::part::Part;
 use faults::Memory;
 use pkgname::{Version, is_version};
 use std::alloc::Global;
@@ -71,10 +72,10 @@ impl Bound {
     {
         self.relation.allows(version.compare(&self.version))
     }
+}
 
-    pub fn copy(&self) -> Result<Bound, Memory>
-        ensures { IfOk result (λ bound. bound ≡ self.now) }
-    {
+impl Part for Bound {
+    fn copy(&self) -> Result<Bound, Memory> {
         let version = self.version.copy()?;
         Ok(Bound {
             relation: self.relation,

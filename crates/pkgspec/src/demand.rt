@@ -1,5 +1,5 @@
 //! A demand on a name's flavors.
-ghost use Rattle.std.specs.Prelude.{◌≡◌, IfOk, map, vec_items};
+ghost use Rattle.std.specs.Prelude.{◌≡◌, map, vec_items};
 ghost use Rattle.std.specs.List.{list_any};
 ghost use Rattle.std.specs.Str.{bytes_eq};
 ghost use Rattle.faults.specs.Answers.{IsRightUnless};
@@ -7,6 +7,7 @@ ghost use Rattle.pkgspec.specs.Matching.{is_met_by};
 ghost use Rattle.pkgspec.specs.Reading.{demand_or_fault};
 
 use crate::SpecFault;
+use crate::part::Part;
 use faults::Memory;
 use pkgname::has_name_bytes;
 use std::alloc::Global;
@@ -47,10 +48,10 @@ impl Demand {
     {
         is_among(flavors, self.flavor.as_slice()) == self.is_present
     }
+}
 
-    pub fn copy(&self) -> Result<Demand, Memory>
-        ensures { IfOk result (λ demand. demand ≡ self.now) }
-    {
+impl Part for Demand {
+    fn copy(&self) -> Result<Demand, Memory> {
         let flavor = self.flavor.clone()?;
         Ok(Demand {
             flavor,

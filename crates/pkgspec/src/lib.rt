@@ -12,6 +12,7 @@ use thiserror::Error;
 mod alternative;
 mod bound;
 mod demand;
+mod part;
 mod spec;
 #[cfg(test)]
 mod tests;

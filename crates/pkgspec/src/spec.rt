@@ -9,6 +9,7 @@ ghost use Rattle.pkgspec.specs.Spec.{spec_of};
 
 use crate::SpecFault;
 use crate::alternative::Alternative;
+use crate::part::copy_of_parts;
 use faults::Memory;
 use pkgname::{PkgName, first_piece};
 use std::alloc::Global;
@@ -73,13 +74,7 @@ impl Spec {
     pub fn copy(&self) -> Result<Spec, Memory>
         ensures { IfOk result (λ spec. spec ≡ self.now) }
     {
-        let mut alternatives = Vec::with_capacity(
-            *self.alternatives.allocator(),
-            self.alternatives.len(),
-        )?;
-        for alternative in &self.alternatives {
-            alternatives.push(alternative.copy()?)?;
-        }
+        let alternatives = copy_of_parts(&self.alternatives)?;
         Ok(Spec { alternatives })
     }
 }
