@@ -54,37 +54,14 @@ pub fn is_skipped(line: &[u8]) -> bool
 pub fn parts_of(line: &[u8]) -> Option<Parts<'_>>
     ensures { MatchOption result (is_cut line.now ≡ false) (AreParts line.now) }
 {
-    let equals = first_place(line, b'=')?;
+    let equals = line.iter().position(|byte| *byte == b'=')?;
     let key = &line[..equals];
-    let dot = last_dot(key)?;
+    let dot = key.iter().rposition(|byte| *byte == b'.')?;
     Some(Parts {
         path: &key[..dot],
         variable: &key[dot + 1..],
         value: trimmed(&line[equals + 1..]),
     })
-}
-
-/// Where the byte first stands.
-pub fn first_place(text: &[u8], byte: u8) -> Option<usize>
-    ensures { result ≡ position (λ b. b == byte) text.now }
-{
-    text.iter().position(|b| *b == byte)
-}
-
-/// Where the last dot stands.
-fn last_dot(text: &[u8]) -> Option<usize>
-    ensures { MatchOption result ((k : ℕ) → k < length text.now → (slice_index text.now k == dot) ≡ false)
-        (λ i. (i < length text.now) × (slice_index text.now i ≡ dot)
-        × ((k : ℕ) → i < k → k < length text.now → (slice_index text.now k == dot) ≡ false)) }
-{
-    let mut end = text.len();
-    while end > 0 {
-        end -= 1;
-        if text[end] == b'.' {
-            return Some(end);
-        }
-    }
-    None
 }
 
 /// A space or a tab.
