@@ -235,7 +235,7 @@ impl<'a> Dependencies<'a> {
         }
     }
 
-    /// The numbers of the dependencies of a value.
+    /// Reads the dependencies of a value, from the left, and answers their numbers.
     pub fn read(
         &mut self,
         alloc: Global,

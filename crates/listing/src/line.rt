@@ -35,7 +35,7 @@ impl Variable {
     }
 }
 
-/// What stands in a line: a path, the name of a variable, and a value without blanks at its ends.
+/// What stands in a line: a path, the name of a variable, and a value without spaces and tabs at its ends.
 #[derive(Clone, Copy)]
 pub struct Parts<'a> {
     pub path: &'a [u8],
@@ -43,7 +43,7 @@ pub struct Parts<'a> {
     pub value: &'a [u8],
 }
 
-/// Whether the line is empty or begins with an arrow.
+/// Whether the line is empty or begins with `===>`.
 pub fn is_skipped(line: &[u8]) -> bool
     ensures { result ≡ is_skipped line.now }
 {
@@ -64,14 +64,14 @@ pub fn parts_of(line: &[u8]) -> Option<Parts<'_>>
     })
 }
 
-/// A space or a tab.
+/// Whether the byte is a space or a tab.
 pub fn is_blank(byte: u8) -> bool
     ensures { result ≡ is_blank byte }
 {
     byte == b' ' || byte == b'\t'
 }
 
-/// The text without the blanks at its ends.
+/// The text without the spaces and tabs at its ends.
 fn trimmed(text: &[u8]) -> &[u8]
     ensures { result.now ≡ trimmed text.now }
 {

@@ -9,7 +9,7 @@ use crate::table::{Reading, Row, Value};
 use pkgname::PkgName;
 use std::alloc::Global;
 
-/// A package by its positions in a tree.
+/// A package without its path. Its dependencies stand as their positions in the tree: sets, ascending, each once.
 #[derive(Drop)]
 pub struct Node {
     pub name: PkgName,

@@ -128,8 +128,8 @@ impl Tree {
         self.nodes[position as usize].run.as_slice()
     }
 
-    /// Whether the package's IGNORE isn't empty, or a dependency of it has a path that isn't listed, or one whose listed
-    /// name a spec of the dependency doesn't match.
+    /// Whether the package's IGNORE isn't empty, or a dependency of it has a path that isn't listed, or one whose
+    /// listed name a spec of the dependency doesn't match.
     pub fn marked(&self, position: u32) -> bool
         requires { position < length self.now }
         ensures { result ≡ is_marked_at self.now position }
