@@ -21,7 +21,7 @@ SameHeldSameLetters =
 abbrev pub EachIsCountedOnce : Type 0
 EachIsCountedOnce = (s : State) (counts : Counts) → AreCounts s counts → total_of counts ≡ length s.tree
 
--- an engine shows the ignored packages so whatever is agreed
+-- an engine shows exactly the ignored packages as ignored, whatever is agreed
 abbrev pub IgnoredWhateverIsAgreed : Type 0
 IgnoredWhateverIsAgreed = (s : State) (p : ℕ) → IsEngine s → HasLetter s p Ignored ↔ IsIgnored s.tree p
 

@@ -36,7 +36,8 @@ impl<'a> Model for Engine<'a> {
 }
 
 impl<'a> Engine<'a> {
-    /// The engine of a tree of which nothing is agreed. It makes all the room that its calls need.
+    /// The engine of a tree of which nothing is agreed. It makes all the room that its calls need, so that they take no
+    /// memory.
     pub fn new(alloc: Global, tree: &'a Tree) -> Result<Engine<'a>, Memory>
         ensures { IfOk result (λ engine. engine ≡ record { tree = tree.entry.now; agreed = set.empty }) }
     {
@@ -54,7 +55,7 @@ impl<'a> Engine<'a> {
         })
     }
 
-    /// Adds the package at the position to the agreed ones. A second time changes nothing.
+    /// Adds the package at the position, which is not ignored, to the agreed ones. A second time changes nothing.
     pub fn agree(&mut self, position: u32)
         requires listed { position < length self.old.tree }
         requires not_ignored { ¬ HasLetter self.old position Letter.Ignored }
@@ -96,7 +97,7 @@ impl<'a> Engine<'a> {
         }
     }
 
-    /// How many packages have each letter.
+    /// How many packages have each letter, where the agreed packages are held.
     pub fn counts(&self) -> Counts
         ensures counts { AreCounts self.now result }
         ensures engine { IsEngine self.now }
@@ -114,7 +115,7 @@ impl<'a> Engine<'a> {
         counts
     }
 
-    /// The least position with the letter Q.
+    /// The least position with the letter Q, if a package has it.
     pub fn next_queued(&self) -> Option<u32>
         ensures queued { IsNextQueued self.now result }
         ensures engine { IsEngine self.now }

@@ -16,7 +16,7 @@ pub fn each_is_counted_once()
     ensures { EachIsCountedOnce }
 {}
 
-/// An engine shows the ignored packages so whatever is agreed.
+/// An engine shows exactly the ignored packages as ignored, whatever is agreed.
 pub fn ignored_whatever_is_agreed()
     ensures { IgnoredWhateverIsAgreed }
 {}

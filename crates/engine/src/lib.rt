@@ -25,8 +25,8 @@ pub enum Letter {
     B,
     /// Installable: some held packages contain it and, with each member, all its run dependencies.
     I,
-    /// Ignored and not held: in the least set that has each marked package, and each with a build or run dependency in
-    /// it. A dependency that isn't listed marks its package (`Tree::marked`).
+    /// Ignored and not held: in the least set that has each marked package and each package with a build or run
+    /// dependency in the set. `Tree::marked` says which are marked: a dependency that isn't listed marks its package.
     Ignored,
 }
 

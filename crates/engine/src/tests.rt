@@ -27,8 +27,9 @@ const CHAIN: &str =
 const RING: &str =
     "a/a.FULLPKGNAME=a-1\na/a.RUN_DEPENDS=a/b\na/b.FULLPKGNAME=b-1\na/b.RUN_DEPENDS=a/c\na/c.FULLPKGNAME=c-1\na/c.RUN_DEPENDS=a/a\na/d.FULLPKGNAME=d-1\na/d.BUILD_DEPENDS=a/a\n";
 
-/// Left out by name, for want of a dependency, or for what they depend on; and one that is not.
-const LEFT_OUT: &str =
+/// Ignored for IGNORE, for a dependency that isn't listed, or for an ignored one that they depend on; and one that is
+/// not ignored.
+const SOME_IGNORED: &str =
     "a/a.FULLPKGNAME=a-1\na/a.BUILD_DEPENDS=a/b\na/b.FULLPKGNAME=b-1\na/b.RUN_DEPENDS=a/c\na/c.FULLPKGNAME=c-1\na/c.IGNORE=old\na/d.FULLPKGNAME=d-1\na/d.RUN_DEPENDS=a/e\na/f.FULLPKGNAME=f-1\n";
 
 fn expecting(listing: &'static str, agreed: &'static [u32], letters: &'static [Letter]) -> Case {
@@ -52,7 +53,7 @@ fn letters_follow_what_is_agreed(rt: HostRuntime) -> Result<(), Fail> {
         expecting(RING, &[1], &[Q, B, Q, T]),
         expecting(RING, &[1, 0], &[B, B, Q, T]),
         expecting(RING, &[1, 0, 2], &[I, I, I, Q]),
-        expecting(LEFT_OUT, &[4], &[Ignored, Ignored, Ignored, Ignored, I]),
+        expecting(SOME_IGNORED, &[4], &[Ignored, Ignored, Ignored, Ignored, I]),
     ] {
         let tree = Tree::parse(rt.alloc(), case.listing.as_bytes())?;
         assert_eq!(rt;

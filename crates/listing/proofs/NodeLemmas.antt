@@ -18,7 +18,7 @@ use Rattle.pkgpath.specs.PkgPath.{IsPath}
 use Rattle.listing.specs.Dependencies.{words_of}
 use Rattle.listing.specs.Lines.{Setting, build_depends, ignore, lib_depends, run_depends}
 use Rattle.listing.specs.Listing.{dependencies_of, dependency_path, dependency_positions, is_met, name_of, package_of, paths_of, positions_of, tree_of_settings, value_of}
-use Rattle.listing.specs.Nodes.{IsNodeOf, IsSetOf, are_met, listed_positions, numbers_of_value, numbers_read, package_of_node, packages_of, resolution_at, resolution_of_word, text_of_value, unlisted, word_matches}
+use Rattle.listing.specs.Nodes.{HasNumbersBelow, IsNodeOf, IsSetOf, are_met, listed_positions, numbers_of_value, numbers_read, package_of_node, packages_of, resolution_at, resolution_of_word, text_of_value, unlisted, word_matches}
 use Rattle.listing.specs.Parts.{AreNumbersOf, IsReadAs, has_dependencies, position_of_word}
 use Rattle.listing.specs.Rules.{names_and_specs}
 use Rattle.listing.specs.Table.{AreRowsOf, IsRowOf, name_in, name_read, new_row}
@@ -112,12 +112,12 @@ text_here None = refl
 text_here (Some v) = refl
 
 pub within_row : (ss : List Setting) (words : List Text) (path : Text) (row : Row) → IsRowOf ss words path row
-    → All (λ n. n < length words) (numbers_of_value row.build) × All (λ n. n < length words) (numbers_of_value row.lib) × All (λ n. n < length words) (numbers_of_value row.run)
-within_row ss words path row h = (
-  (words_here words BuildDepends row.build refl (h.reads BuildDepends)).within,
-  (words_here words LibDepends row.lib refl (h.reads LibDepends)).within,
-  (words_here words RunDepends row.run refl (h.reads RunDepends)).within,
-)
+    → HasNumbersBelow (length words) row
+within_row ss words path row h = record {
+  build = (words_here words BuildDepends row.build refl (h.reads BuildDepends)).within;
+  lib = (words_here words LibDepends row.lib refl (h.reads LibDepends)).within;
+  run = (words_here words RunDepends row.run refl (h.reads RunDepends)).within;
+}
 
 -- ---- whether a position is there
 

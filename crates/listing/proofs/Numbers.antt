@@ -6,7 +6,7 @@ use Rattle.std.specs.Str.{bytes_eq}
 use Rattle.std.proofs.lemmas.Bool.{ltb-false}
 use Rattle.std.proofs.lemmas.Bool.Decides.{nat_tests}
 use Rattle.std.proofs.lemmas.List.{get_or-map, get_or_append_left, get_or_push, length_push, length-map, length-append, map_push, append_assoc, take_more, take_all, append-nil}
-use Rattle.std.proofs.lemmas.List.Elements.{All-get_or, All-head, All-push, All-tail, All-weaker, All-nil}
+use Rattle.std.proofs.lemmas.List.Elements.{All-get_or, All-head, All-push, All-tail, All-weaker}
 use Rattle.std.proofs.lemmas.List.FromFn.{get_or-enumerate_from, length-enumerate_from}
 use Rattle.std.proofs.lemmas.List.Quantifiers.{position-Some}
 use Rattle.std.proofs.lemmas.Slice.Eq.{bytes_eq-Decides}
@@ -168,13 +168,6 @@ pub record ReadSoFar (line : ℕ) (value : Text) (old new : List Text) (ns : Lis
   pub faultless : first_given (dependency_fault names_and_specs line) (take k (enumerate_from 0 (words_of value))) ≡ None
   pub are : AreNumbersOf new ns (take k (words_of value))
   pub grows : Grows old new
-
-pub nothing_read : (line : ℕ) (value : Text) (words : List Text) → ReadSoFar line value words words [] 0
-nothing_read line value words = record {
-  faultless = refl;
-  are = record { within = All-nil (λ n. n < length words); are = refl };
-  grows = grows_refl words;
-}
 
 -- the k-th dependency, and what the count says of it
 pub word_at : (value : Text) (k n : ℕ) (w : Text) → k < length (enumerate_from 0 (words_of value)) → (n, w) ≡ get_or (enumerate_from 0 (words_of value)) k (n, w)

@@ -65,9 +65,6 @@ pub record ParsedSoFar (text : Text) (table : Table) (k : ℕ) : Type 0 where
   pub faultless : first_given (fault_at names_and_specs (lines_of text)) (take k (numbers text)) ≡ None
   pub stands : Stands table (settings_of (take k (lines_of text)))
 
-pub parsed_nothing : (text : Text) (table : Table) → Stands table [] → ParsedSoFar text table 0
-parsed_nothing text table h = record { faultless = refl; stands = h }
-
 pub parsed_more : (text : Text) (table now : Table) (k n : ℕ) (line : Text) → k < length (pieces text) → line ≡ get_or (pieces text) k line → n ≡ k
     → ParsedSoFar text table k
     → (line_fault names_and_specs (settings_of (take k (lines_of text))) (n + 1, line) ≡ None)

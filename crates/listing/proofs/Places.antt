@@ -1,10 +1,9 @@
 -- Where in a text a test first or last passes.
 use Rattle.std.proofs.Common.{◌≡◌, ◌<◌, ◌≤◌, ◌+◌, ◌-◌, ℕ, suc, zero, Bool, true, false, not, cond, ◌||◌, nat_lt, List, [], ◌∷◌, length, take, drop, reverse, position, get_or, None, Some, refl, sym, ap, ◌∙◌, arith}
-use Rattle.std.specs.List.{prefix_len, suffix_len, position_or_len, slice_split, onto_first, before_first, list_any}
+use Rattle.std.specs.List.{prefix_len, suffix_len, position_or_len, before_first, list_any}
 use Rattle.std.proofs.lemmas.List.Quantifiers.{position-Some}
 use Rattle.std.proofs.lemmas.Bool.{ltb-true, ltb-false}
 use Rattle.std.proofs.lemmas.List.{drop_all, get_or-reverse, length-reverse, take_all, take_rest}
-use Rattle.std.proofs.lemmas.List.Splits.{slice_split_first}
 
 -- the first n pass, and the next, if there is one, does not
 pub prefix_len_is : (p : ℕ → Bool) (xs : List ℕ) (n : ℕ) → n ≤ length xs → ((k : ℕ) → k < n → p (get_or xs k 0) ≡ true)
@@ -41,28 +40,6 @@ pub place_is : (p : ℕ → Bool) (xs : List ℕ) (i : ℕ) → position p xs �
 place_is p xs i e =
     let h = from_some (nat_lt (position_or_len p xs) (length xs)) (position_or_len p xs) i e in
     (h.1, omega (arith, ltb-true _ _ h.0, h.1))
-
--- a text with a separator is its first piece and the pieces behind
-pub split_at : (p : ℕ → Bool) (xs : List ℕ) (i : ℕ) → position p xs ≡ Some i → slice_split p xs ≡ take i xs ∷ slice_split p (drop (i + 1) xs)
-split_at p xs i e =
-    let h = place_is p xs i e in
-    slice_split_first p xs 0 (omega (arith, h.0, h.1)) ∙ ap (λ n. take n xs ∷ slice_split p (drop (n + 1) xs)) h.0
-
--- a text with no separator is one piece
-split_more : (p : ℕ → Bool) (x : ℕ) (xs : List ℕ) (b : Bool) → p x ≡ b → length (x ∷ xs) ≤ position_or_len p (x ∷ xs)
-    → (length xs ≤ position_or_len p xs → slice_split p xs ≡ xs ∷ []) → slice_split p (x ∷ xs) ≡ (x ∷ xs) ∷ []
-split_more p x xs true e le rest =
-    absurd (let none : position_or_len p (x ∷ xs) ≡ 0 = ap (λ b. cond (not b) (1 + position_or_len p xs) 0) e in omega (arith, none, le))
-split_more p x xs false e le rest =
-    let more : position_or_len p (x ∷ xs) ≡ 1 + position_or_len p xs = ap (λ b. cond (not b) (1 + position_or_len p xs) 0) e in
-    ap (λ b. cond b ([] ∷ slice_split p xs) (onto_first x (slice_split p xs))) e ∙ ap (onto_first x) (rest (omega (arith, more, le)))
-
-split_by_length : (p : ℕ → Bool) (xs : List ℕ) → length xs ≤ position_or_len p xs → slice_split p xs ≡ xs ∷ []
-split_by_length p [] le = refl
-split_by_length p (x ∷ xs) le = split_more p x xs (p x) refl le (split_by_length p xs)
-
-pub split_none : (p : ℕ → Bool) (xs : List ℕ) → position p xs ≡ None → slice_split p xs ≡ xs ∷ []
-split_none p xs e = split_by_length p xs (ltb-false _ _ (from_none (nat_lt (position_or_len p xs) (length xs)) (position_or_len p xs) e))
 
 -- what stands before the first that passes, or all
 pub before_first_at : (p : ℕ → Bool) (xs : List ℕ) (i : ℕ) → position p xs ≡ Some i → before_first p xs ≡ take i xs

@@ -140,7 +140,7 @@ row_set ss words more line p path v x row same grows new h = record {
   reads = reads_set more v x row (reads_kept words more row grows h.reads) new;
 }
 
-nothing_in_new : (w : Variable) (line : ℕ) → value_in w (new_row line) ≡ None
+pub nothing_in_new : (w : Variable) (line : ℕ) → value_in w (new_row line) ≡ None
 nothing_in_new FullName line = refl
 nothing_in_new BuildDepends line = refl
 nothing_in_new LibDepends line = refl

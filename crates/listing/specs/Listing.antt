@@ -111,7 +111,7 @@ value_fault rules n variable value =
     else if bytes_eq variable ignore then None
     else dependencies_fault rules n value
 
--- the setting's path would be one more than may stand in a tree
+-- the setting's path is new, and there are as many before it as a listing may have
 abbrev pub is_one_too_many : List Setting → Setting → Bool
 is_one_too_many earlier s = not (is_among (paths_of earlier) s.path) && nat_le most_paths (length (paths_of earlier))
 

@@ -1,5 +1,5 @@
 -- What a contract sees of the nodes of a tree.
-use Rattle.std.specs.Prelude.{ℕ, ◌≡◌, ◌&&◌, ◌||◌, ◌==◌, Bool, false, not, List, [], ◌++◌, map, filter_map, position, Option, None, Some, slice_index_or}
+use Rattle.std.specs.Prelude.{ℕ, ◌≡◌, ◌<◌, ◌&&◌, ◌||◌, ◌==◌, Bool, false, not, List, [], All, ◌++◌, map, filter_map, position, Option, None, Some, slice_index_or}
 use Rattle.std.specs.List.{list_all, list_any, zip}
 use Rattle.std.specs.List.Sorted.{IsStrictlyIncreasing}
 use Rattle.std.specs.Option.{option_map_or}
@@ -50,7 +50,13 @@ abbrev pub numbers_of_value : Option Value → List ℕ
 numbers_of_value None = []
 numbers_of_value (Some v) = numbers_read v.reading
 
--- of a dependency that isn't listed
+-- each dependency of the row has a number below n
+pub record HasNumbersBelow (n : ℕ) (row : Row) : Type 0 where
+  pub build : All (λ k. k < n) (numbers_of_value row.build)
+  pub lib : All (λ k. k < n) (numbers_of_value row.lib)
+  pub run : All (λ k. k < n) (numbers_of_value row.run)
+
+-- what becomes of a dependency that isn't listed
 abbrev pub unlisted : Resolution
 unlisted = record { position = None; is_met = false }
 

@@ -45,11 +45,6 @@ pub record AreParts (line : Text) (parts : Parts) : Type 0 where
   pub variable : parts.variable.now ≡ variable_text line
   pub value : parts.value.now ≡ value_text line
 
--- the first field of a text, and what stands behind its colon
-abbrev pub IsFirstField : Text → Text → Option Text → Type 0
-IsFirstField text first None = fields_of text ≡ first ∷ []
-IsFirstField text first (Some rest) = fields_of text ≡ first ∷ fields_of rest
-
 -- the texts among these that say something
 abbrev pub filled : List Text → List Text
 filled texts = filter (λ s. not (is_empty s)) texts

@@ -10,16 +10,16 @@ ghost use Rattle.listing.specs.Dependencies.{is_operator_byte, is_shaped, words_
 ghost use Rattle.listing.specs.Entries.{IsRead};
 ghost use Rattle.listing.specs.Listing.{dependencies_fault, word_fault};
 ghost use Rattle.listing.specs.Nodes.{all_match, resolution_of, resolution_of_word};
-ghost use Rattle.listing.specs.Parts.{AreFieldsOf, AreNumbersOf, Grows, IsFirstField, IsNumberOf, IsPathField, specs_from};
+ghost use Rattle.listing.specs.Parts.{AreFieldsOf, AreNumbersOf, Grows, IsNumberOf, IsPathField, specs_from};
 ghost use Rattle.listing.specs.Rules.{names_and_specs};
 ghost use Rattle.listing.specs.Table.{name_in};
 ghost use Rattle.listing.specs.Tree.{most_paths};
 
 use crate::ListingFault;
-use crate::line::{first_place, is_blank};
+use crate::line::is_blank;
 use crate::table::Row;
 use indexmap::{IndexMap, IndexSet};
-use pkgname::PkgName;
+use pkgname::{PkgName, first_piece};
 use pkgpath::{PathFault, PkgPath};
 use pkgspec::{Spec, SpecFault};
 use std::alloc::Global;
@@ -27,16 +27,6 @@ use std::marker::Model;
 
 /// The most dependencies in one value.
 const MOST_DEPENDENCIES: usize = 512;
-
-/// The first field of a text, and what stands behind its colon.
-fn first_field(text: &[u8]) -> (&[u8], Option<&[u8]>)
-    ensures { IsFirstField text.now result.0.now (option_map (λ r. r.now) result.1) }
-{
-    match first_place(text, b':') {
-        Some(at) => (&text[..at], Some(&text[at + 1..])),
-        None => (text, None),
-    }
-}
 
 /// Whether the text has a slash.
 fn has_slash(text: &[u8]) -> bool
@@ -50,7 +40,7 @@ fn has_slash(text: &[u8]) -> bool
 fn path_field(word: &[u8]) -> Option<(&[u8], &[u8])>
     ensures { IsPathField word.now (option_map (λ f. (f.0.now, f.1.now)) result) }
 {
-    let (first, rest) = first_field(word);
+    let (first, rest) = first_piece(word, b':');
     let Some(rest) = rest else {
         return if has_slash(first) {
             Some((b"".as_slice(), first))
@@ -58,7 +48,7 @@ fn path_field(word: &[u8]) -> Option<(&[u8], &[u8])>
             None
         };
     };
-    let (second, rest) = first_field(rest);
+    let (second, rest) = first_piece(rest, b':');
     let Some(rest) = rest else {
         return match (has_slash(first), has_slash(second)) {
             (true, false) => Some((b"".as_slice(), first)),
@@ -66,7 +56,7 @@ fn path_field(word: &[u8]) -> Option<(&[u8], &[u8])>
             _ => None,
         };
     };
-    let (third, rest) = first_field(rest);
+    let (third, rest) = first_piece(rest, b':');
     if rest.is_some() {
         return None;
     }
@@ -245,7 +235,7 @@ impl<'a> Dependencies<'a> {
         }
     }
 
-    /// The numbers of the dependencies of a value.
+    /// Reads the dependencies of a value, from the left, and answers their numbers.
     pub fn read(
         &mut self,
         alloc: Global,

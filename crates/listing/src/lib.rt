@@ -18,16 +18,16 @@ mod tree;
 
 pub use crate::tree::Tree;
 
-/// Why a text is no listing. Lines are read in order, and the first fault is the one. A line is tested for its form, its
-/// path, the number of paths, its value from the left, and a second setting, in this order. Each fault but `Memory` has
-/// its line as its place, counted from 1.
+/// Why a text is no listing. Lines are read in order, and the first fault is the one. A line is tested for its form,
+/// its path, the number of paths, its value from the left, and a second setting, in this order. Each fault but `Memory`
+/// has its line as its place, counted from 1.
 #[derive(Clone, Copy, Debug, PartialEq, Eq, Error)]
 pub enum ListingFault {
     /// A growth was refused. It may stand in place of any other answer.
     #[error("out of memory")]
     Memory,
-    /// The line has no `=`, or no dot before it; or its FULLPKGNAME is no package name; or a dependency in it has not the
-    /// shape of one, or a spec that is none.
+    /// The line has no `=`, or no dot before it; or its FULLPKGNAME is no package name; or a dependency in it has not
+    /// the shape of one, or a spec that is none.
     #[error("line {0} is no line of a listing")]
     BadLine(u64),
     /// The line's own path, or the path of a dependency in it, is none.

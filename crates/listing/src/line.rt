@@ -35,7 +35,7 @@ impl Variable {
     }
 }
 
-/// What stands in a line: a path, the name of a variable, and a value without blanks at its ends.
+/// What stands in a line: a path, the name of a variable, and a value without spaces and tabs at its ends.
 #[derive(Clone, Copy)]
 pub struct Parts<'a> {
     pub path: &'a [u8],
@@ -43,7 +43,7 @@ pub struct Parts<'a> {
     pub value: &'a [u8],
 }
 
-/// Whether the line is empty or begins with an arrow.
+/// Whether the line is empty or begins with `===>`.
 pub fn is_skipped(line: &[u8]) -> bool
     ensures { result ≡ is_skipped line.now }
 {
@@ -54,9 +54,9 @@ pub fn is_skipped(line: &[u8]) -> bool
 pub fn parts_of(line: &[u8]) -> Option<Parts<'_>>
     ensures { MatchOption result (is_cut line.now ≡ false) (AreParts line.now) }
 {
-    let equals = first_place(line, b'=')?;
+    let equals = line.iter().position(|byte| *byte == b'=')?;
     let key = &line[..equals];
-    let dot = last_dot(key)?;
+    let dot = key.iter().rposition(|byte| *byte == b'.')?;
     Some(Parts {
         path: &key[..dot],
         variable: &key[dot + 1..],
@@ -64,37 +64,14 @@ pub fn parts_of(line: &[u8]) -> Option<Parts<'_>>
     })
 }
 
-/// Where the byte first stands.
-pub fn first_place(text: &[u8], byte: u8) -> Option<usize>
-    ensures { result ≡ position (λ b. b == byte) text.now }
-{
-    text.iter().position(|b| *b == byte)
-}
-
-/// Where the last dot stands.
-fn last_dot(text: &[u8]) -> Option<usize>
-    ensures { MatchOption result ((k : ℕ) → k < length text.now → (slice_index text.now k == dot) ≡ false)
-        (λ i. (i < length text.now) × (slice_index text.now i ≡ dot)
-        × ((k : ℕ) → i < k → k < length text.now → (slice_index text.now k == dot) ≡ false)) }
-{
-    let mut end = text.len();
-    while end > 0 {
-        end -= 1;
-        if text[end] == b'.' {
-            return Some(end);
-        }
-    }
-    None
-}
-
-/// A space or a tab.
+/// Whether the byte is a space or a tab.
 pub fn is_blank(byte: u8) -> bool
     ensures { result ≡ is_blank byte }
 {
     byte == b' ' || byte == b'\t'
 }
 
-/// The text without the blanks at its ends.
+/// The text without the spaces and tabs at its ends.
 fn trimmed(text: &[u8]) -> &[u8]
     ensures { result.now ≡ trimmed text.now }
 {

@@ -1,6 +1,6 @@
 //! A package of a tree, without its path.
 ghost use Rattle.std.specs.Prelude.{◌≡◌, ◌⊎◌, ◌<◌, ◌++◌, All, Some, length, MatchResult};
-ghost use Rattle.listing.specs.Nodes.{IsNodeOf, IsSetOf, are_met, is_marked_by, listed_positions, numbers_of_value, text_of_value};
+ghost use Rattle.listing.specs.Nodes.{HasNumbersBelow, IsNodeOf, IsSetOf, are_met, is_marked_by, listed_positions, numbers_of_value, text_of_value};
 ghost use Rattle.listing.specs.Table.{row_fault};
 
 use crate::ListingFault;
@@ -9,7 +9,7 @@ use crate::table::{Reading, Row, Value};
 use pkgname::PkgName;
 use std::alloc::Global;
 
-/// A package by its positions in a tree.
+/// A package without its path. Its dependencies stand as their positions in the tree: sets, ascending, each once.
 #[derive(Drop)]
 pub struct Node {
     pub name: PkgName,
@@ -25,9 +25,7 @@ impl Node {
         row: &Row<'_>,
         resolutions: &[Resolution],
     ) -> Result<Node, ListingFault>
-        requires build { All (λ n. n < length resolutions.now) (numbers_of_value row.now.build) }
-        requires lib { All (λ n. n < length resolutions.now) (numbers_of_value row.now.lib) }
-        requires run { All (λ n. n < length resolutions.now) (numbers_of_value row.now.run) }
+        requires { HasNumbersBelow (length resolutions.now) row.now }
         ensures { MatchResult result (IsNodeOf resolutions.now row.now)
             (λ e. (e ≡ ListingFault.Memory) ⊎ (row_fault row.now ≡ Some e)) }
     {
@@ -48,9 +46,7 @@ impl Node {
 
 /// Whether IGNORE isn't empty in the row, or a dependency in it isn't met.
 fn is_marked(row: &Row<'_>, resolutions: &[Resolution]) -> bool
-    requires build { All (λ n. n < length resolutions.now) (numbers_of_value row.now.build) }
-    requires lib { All (λ n. n < length resolutions.now) (numbers_of_value row.now.lib) }
-    requires run { All (λ n. n < length resolutions.now) (numbers_of_value row.now.run) }
+    requires { HasNumbersBelow (length resolutions.now) row.now }
     ensures { result ≡ is_marked_by resolutions.now row.now }
 {
     let is_complete = are_met(numbers_of(&row.build), resolutions)

@@ -56,39 +56,17 @@ pub struct Table<'a> {
 }
 
 impl<'a> Row<'a> {
-    /// A row in which one variable is set.
-    fn of(line: u64, variable: Variable, value: Value<'a>) -> Row<'a>
-        ensures { result ≡ with_value (new_row line) variable value.entry }
+    /// A row in which nothing is set.
+    fn new(line: u64) -> Row<'a>
+        ensures { result ≡ new_row line }
     {
-        let empty = Row {
+        Row {
             line,
             name: None,
             build: None,
             lib: None,
             run: None,
             ignore: None,
-        };
-        match variable {
-            Variable::FullName => Row {
-                name: Some(value),
-                ..empty
-            },
-            Variable::BuildDepends => Row {
-                build: Some(value),
-                ..empty
-            },
-            Variable::LibDepends => Row {
-                lib: Some(value),
-                ..empty
-            },
-            Variable::RunDepends => Row {
-                run: Some(value),
-                ..empty
-            },
-            Variable::Ignore => Row {
-                ignore: Some(value),
-                ..empty
-            },
         }
     }
 
@@ -241,8 +219,11 @@ impl<'a> Table<'a> {
             × (self.new.dependencies ≡ self.old.dependencies))
             (λ e. e ≡ ListingFault.Memory) }
     {
+        let mut row = Row::new(line);
+        // In a new row nothing is set, so that the value is no second one.
+        row.set(line, variable, value)?;
         self.paths.insert(path)?;
-        self.rows.push(Row::of(line, variable, value))?;
+        self.rows.push(row)?;
         Ok(())
     }
 

@@ -118,8 +118,8 @@ impl Tree {
         self.nodes[position as usize].build.as_slice()
     }
 
-    /// The positions of the listed dependencies of LIB_DEPENDS and RUN_DEPENDS, ascending, each once. A dependency whose
-    /// path isn't listed has no position: it marks the package instead.
+    /// The positions of the listed dependencies of LIB_DEPENDS and RUN_DEPENDS, ascending, each once. A dependency
+    /// whose path isn't listed has no position: it marks the package instead.
     pub fn run_deps(&self, position: u32) -> &[u32]
         requires { position < length self.now }
         ensures value { result.now ≡ run_at self.now position }
@@ -128,8 +128,8 @@ impl Tree {
         self.nodes[position as usize].run.as_slice()
     }
 
-    /// Whether the package's IGNORE isn't empty, or a dependency of it has a path that isn't listed, or one that is listed
-    /// by a name that a spec of the dependency doesn't match.
+    /// Whether the package's IGNORE isn't empty, or a dependency of it has a path that isn't listed, or one whose
+    /// listed name a spec of the dependency doesn't match.
     pub fn marked(&self, position: u32) -> bool
         requires { position < length self.now }
         ensures { result ≡ is_marked_at self.now position }

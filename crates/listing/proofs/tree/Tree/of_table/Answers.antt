@@ -1,8 +1,8 @@
-use Rattle.std.proofs.Common.{◌≡◌, ◌<◌, ℕ, All, None, Some, is_some, if◌then◌else◌, length, map, get_or, arith, ap, sym, subst, ◌∙◌, inl, inr}
+use Rattle.std.proofs.Common.{◌≡◌, ◌<◌, ℕ, None, Some, is_some, if◌then◌else◌, length, map, get_or, arith, ap, sym, subst, ◌∙◌, inl, inr}
 use Rattle.std.proofs.lemmas.List.{length-map}
 use Rattle.std.proofs.lemmas.Result.{err_from_is_err_and}
 use Rattle.faults.specs.Answers.{first_given}
-use Rattle.listing.specs.Nodes.{IsNodeOf, numbers_of_value, resolution_of_word}
+use Rattle.listing.specs.Nodes.{HasNumbersBelow, IsNodeOf, resolution_of_word}
 use Rattle.listing.specs.Table.{row_fault}
 use Rattle.listing.specs.Tree.{IsTree}
 use Rattle.listing.specs.declared.ListingFault.TheVariants.{NoName}
@@ -13,8 +13,8 @@ use Rattle.listing.proofs.NodeLemmas.{is_tree, named_by, node_more, tree_is, wit
 use Rattle.listing.proofs.Rows.{nameless_by_rows}
 use Rattle.listing.proofs.tree.Tree.of_table.Goals as goal
 
-pub of_row-requires-clause-build : goal.of_row-requires-clause-build
-of_row-requires-clause-build c =
+pub of_row-requires : goal.of_row-requires
+of_row-requires c =
     let row = c.row-item.result in
     let words = c.args.table.dependencies in
     let here : row ≡ get_or c.args.table.rows.items c.loop-row.row-index row =
@@ -22,32 +22,8 @@ of_row-requires-clause-build c =
     let place : c.loop-row.row-index < length c.args.table.paths.keys = omega (arith, c.loop-row-test.true, ap length c.deref-row-items.ensures.value, c.requires.1.lengths) in
     let size : length words ≡ length c.as_slice-in-loop-row.result.now =
     sym (ap length c.as_slice-in-loop-row.ensures.value ∙ ap length c.in_ok-resolutions.ensures ∙ length-map words (resolution_of_word c.args.table.paths.keys c.as_slice.result.now)) in
-    subst (λ m. All (λ n. n < m) (numbers_of_value row.build)) size
-    (subst (λ (r : Row). All (λ n. n < length words) (numbers_of_value r.build)) (sym here) (within_row c.requires.0 words _ _ (c.requires.1.each c.loop-row.row-index row place)).0)
-
-pub of_row-requires-clause-lib : goal.of_row-requires-clause-lib
-of_row-requires-clause-lib c =
-    let row = c.row-item.result in
-    let words = c.args.table.dependencies in
-    let here : row ≡ get_or c.args.table.rows.items c.loop-row.row-index row =
-    subst (λ rs. row ≡ get_or rs c.loop-row.row-index row) c.deref-row-items.ensures.value c.row-item.is in
-    let place : c.loop-row.row-index < length c.args.table.paths.keys = omega (arith, c.loop-row-test.true, ap length c.deref-row-items.ensures.value, c.requires.1.lengths) in
-    let size : length words ≡ length c.as_slice-in-loop-row.result.now =
-    sym (ap length c.as_slice-in-loop-row.ensures.value ∙ ap length c.in_ok-resolutions.ensures ∙ length-map words (resolution_of_word c.args.table.paths.keys c.as_slice.result.now)) in
-    subst (λ m. All (λ n. n < m) (numbers_of_value row.lib)) size
-    (subst (λ (r : Row). All (λ n. n < length words) (numbers_of_value r.lib)) (sym here) (within_row c.requires.0 words _ _ (c.requires.1.each c.loop-row.row-index row place)).1)
-
-pub of_row-requires-clause-run : goal.of_row-requires-clause-run
-of_row-requires-clause-run c =
-    let row = c.row-item.result in
-    let words = c.args.table.dependencies in
-    let here : row ≡ get_or c.args.table.rows.items c.loop-row.row-index row =
-    subst (λ rs. row ≡ get_or rs c.loop-row.row-index row) c.deref-row-items.ensures.value c.row-item.is in
-    let place : c.loop-row.row-index < length c.args.table.paths.keys = omega (arith, c.loop-row-test.true, ap length c.deref-row-items.ensures.value, c.requires.1.lengths) in
-    let size : length words ≡ length c.as_slice-in-loop-row.result.now =
-    sym (ap length c.as_slice-in-loop-row.ensures.value ∙ ap length c.in_ok-resolutions.ensures ∙ length-map words (resolution_of_word c.args.table.paths.keys c.as_slice.result.now)) in
-    subst (λ m. All (λ n. n < m) (numbers_of_value row.run)) size
-    (subst (λ (r : Row). All (λ n. n < length words) (numbers_of_value r.run)) (sym here) (within_row c.requires.0 words _ _ (c.requires.1.each c.loop-row.row-index row place)).2)
+    subst (λ n. HasNumbersBelow n row) size
+    (subst (HasNumbersBelow (length words)) (sym here) (within_row c.requires.0 words _ _ (c.requires.1.each c.loop-row.row-index row place)))
 
 pub resolve-requires-clause-few : goal.resolve-requires-clause-few
 resolve-requires-clause-few c = omega (arith, c.requires.1.few)
