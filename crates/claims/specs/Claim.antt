@@ -1,15 +1,15 @@
--- How claims compare, and which a member can have made.
+-- The limits of claims, how they compare, and which a member can have made.
 use Rattle.agreement.specs.declared.claim.Claim.{Claim}
 use Rattle.std.specs.Prelude.{◌<◌, ◌≤◌, ℕ, Option}
 use Rattle.std.specs.Option.{option_cmp}
 use Rattle.std.specs.Ordering.{nat_cmp, on, then_cmp}
 use Rattle.std.specs.declared.cmp.Ordering.{Ordering}
 
--- the greatest round that a claim may have
+-- The greatest round that a claim may have.
 abbrev pub greatest_round : ℕ
 greatest_round = 9223372036854775807
 
--- the most members there may be, who are numbered from 0
+-- The most members there may be. They are numbered from 0.
 abbrev pub most_members : ℕ
 most_members = 9
 

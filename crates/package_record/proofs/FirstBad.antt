@@ -5,7 +5,7 @@ use Rattle.std.proofs.lemmas.Bool.{cases_lt, lt-ltb}
 use Rattle.std.proofs.lemmas.List.{take_more, length-map}
 use Rattle.faults.specs.Answers.{first_given}
 use Rattle.faults.specs.Bytes.{Text}
-use Rattle.package_record.specs.Content.{AreFileNames, is_next_name, names_of}
+use Rattle.package_record.specs.Content.{AreFileNames, is_next_name, most_bytes, names_of}
 use Rattle.package_record.specs.Inside.{file_view}
 use Rattle.package_record.specs.Making.{names_fault, too_large}
 use Rattle.package_record.specs.declared.file.File.{File}
@@ -58,5 +58,5 @@ names_more files i x seen now name lt is e n more =
     more ∙ ap (λ (l : List Text). l ++ name ∷ []) e ∙ ap (λ (t : Text). take i names ++ t ∷ []) (n ∙ sym (named files i x lt is)) ∙ sym (take_more names i [] below)
 
 -- a length without fault is within the limit
-pub within : (n : ℕ) → too_large n ≡ None → n ≤ 60000
-within n none = elim (cases_lt 60000 n) [ inl over ↦ absurd (let e : too_large n ≡ Some TooLarge = rw (lt-ltb 60000 n over) refl in (cc)) | inr le ↦ le ]
+pub within : (n : ℕ) → too_large n ≡ None → n ≤ most_bytes
+within n none = elim (cases_lt most_bytes n) [ inl over ↦ absurd (let e : too_large n ≡ Some TooLarge = rw (lt-ltb most_bytes n over) refl in (cc)) | inr le ↦ le ]

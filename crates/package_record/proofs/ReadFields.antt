@@ -18,9 +18,9 @@ use Rattle.faults.specs.Bytes.{Text, begins_with, has_byte, is_empty}
 use Rattle.pkgname.specs.PkgName.{IsName}
 use Rattle.pkgpath.specs.PkgPath.{IsPath}
 use Rattle.agreement.specs.declared.claim.Claim.{Claim}
-use Rattle.claims.specs.Claim.{IsClaim}
+use Rattle.claims.specs.Claim.{IsClaim, greatest_round}
 use Rattle.claims.specs.declared.deps.Dep.{Dep}
-use Rattle.package_record.specs.Content.{IsDep}
+use Rattle.package_record.specs.Content.{IsDep, most_bytes}
 use Rattle.package_record.specs.Reading.{Place, ◌>>=◌, claim_in, cut_in, dependency_in, digest_in, field_at, if_lower, is_itself, is_number, line_at, name_in, number_in, path_in, size_in}
 use Rattle.package_record.specs.declared.RecordFault.{RecordFault}
 use Rattle.package_record.specs.declared.RecordFault.TheVariants.{BadLine}
@@ -124,22 +124,22 @@ number_read least greatest n v limit low high =
     where_true _ _ _ (and_from _ _ (and_from _ _ (decimal_number v small) (ap (leb least) value ∙ le-leb least v low)) (ap (λ d. leb d greatest) value ∙ le-leb v greatest high))
     ∙ ap Ok value
 
-pub size_read : (total n v : ℕ) → total + v ≤ 60000 → size_in total n (decimal v) ≡ Ok v
+pub size_read : (total n v : ℕ) → total + v ≤ most_bytes → size_in total n (decimal v) ≡ Ok v
 unfolding size_in
 size_read total n v within =
     let small : v < 2 ^ 64 = omega arith in
     let value = decimal_value v small in
-    where_false _ _ _ (ap not (decimal_number v small)) ∙ where_false _ _ _ (ap (λ d. ltb 60000 (total + d)) value ∙ le-ltb 60000 (total + v) within) ∙ ap Ok value
+    where_false _ _ _ (ap not (decimal_number v small)) ∙ where_false _ _ _ (ap (λ d. ltb most_bytes (total + d)) value ∙ le-ltb most_bytes (total + v) within) ∙ ap Ok value
 
 pub claim_read : (n : ℕ) (c : Claim) → IsClaim c → claim_in n (decimal c.round ++ 46 ∷ decimal c.member) ≡ Ok c
 unfolding claim_in
 claim_read n c good =
-    let most : c.round ≤ 9223372036854775807 = good.round.1 in
+    let most : c.round ≤ greatest_round = good.round.1 in
     let eight : c.member ≤ 8 = omega (arith, good.member) in
     let lacks : has_byte 46 (decimal c.round) ≡ false = lacks_failing is_ascii_digit 46 (decimal c.round) refl (decimal_digits c.round (omega arith)) in
     rw (
       cut_read 46 n (decimal c.round) (decimal c.member) lacks,
-      number_read 1 9223372036854775807 n c.round (omega arith) good.round.0 most,
+      number_read 1 greatest_round n c.round (omega arith) good.round.0 most,
       number_read 0 8 n c.member (omega arith) (omega arith) eight,
     )
 

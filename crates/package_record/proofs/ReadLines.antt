@@ -17,7 +17,7 @@ use Rattle.agreement.specs.declared.claim.Claim.{Claim}
 use Rattle.claims.specs.Claim.{IsClaim}
 use Rattle.claims.specs.Deps.{is_ascending}
 use Rattle.claims.specs.declared.deps.Dep.{Dep}
-use Rattle.package_record.specs.Content.{AreFileNames, Content, IsDep, NamedFile, built_line, claim_line, file_lines, front_lines, is_file_component, is_file_name, is_next_name, is_printable, names_of, run_line}
+use Rattle.package_record.specs.Content.{AreFileNames, Content, IsDep, NamedFile, built_line, claim_line, file_lines, front_lines, is_file_component, is_file_name, is_next_name, is_printable, most_bytes, names_of, run_line}
 use Rattle.package_record.specs.Reading.{Front, Head, Place, ◌>>=◌, all_at, built_at, claim_at, entry_at, file_at, front_at, go_on, head_at, host_at, is_above, last_of, many_at, name_at, path_at, run_at, version_at}
 use Rattle.package_record.specs.declared.RecordFault.{RecordFault}
 use Rattle.package_record.proofs.Ascending.{ascending_above, last_mapped}
@@ -205,7 +205,7 @@ record HeadFits (n : ℕ) (front : List Head) (h : Head) : Type 0 where
   name : is_next_name (map (λ h. h.name) front) h.name ≡ true
   digest : length h.digest ≡ 32
   bytes : IsBytes h.digest
-  total : sum_by (λ h. h.size) front + h.size ≤ 60000
+  total : sum_by (λ h. h.size) front + h.size ≤ most_bytes
   line : h.line ≡ n + 2
 
 file_read : (front : List Head) (n : ℕ) (h : Head) (ls : List Text) → HeadFits n front h → 0 < length ls → file_at front (at n (head_lines h ++ ls)) ≡ Ok (Some h, at (n + 3) ls)
@@ -251,7 +251,7 @@ heads_short : (hs : List Head) → length hs ≤ length (flat_map head_lines hs)
 heads_short [] = omega arith
 heads_short (h ∷ hs) = omega (arith, heads_short hs)
 
-files_fit : (n : ℕ) (front : List Head) (fs : List NamedFile) → AreFileNames (map (λ h. h.name) front ++ names_of fs) → sum_by (λ h. h.size) front + length (flat_map (λ f. f.bytes) fs) ≤ 60000
+files_fit : (n : ℕ) (front : List Head) (fs : List NamedFile) → AreFileNames (map (λ h. h.name) front ++ names_of fs) → sum_by (λ h. h.size) front + length (flat_map (λ f. f.bytes) fs) ≤ most_bytes
     → AllFit file_at head_lines HeadFits file_read n front (heads_from n fs)
 files_fit n front [] names total = tt
 files_fit n front (f ∷ fs) names total =
@@ -271,7 +271,7 @@ files_fit n front (f ∷ fs) names total =
     )
 
 -- the lines of files, and the empty line
-pub all_files_read : (n : ℕ) (fs : List NamedFile) (ls : List Text) → AreFileNames (names_of fs) → length (flat_map (λ f. f.bytes) fs) ≤ 60000 → 0 < length ls
+pub all_files_read : (n : ℕ) (fs : List NamedFile) (ls : List Text) → AreFileNames (names_of fs) → length (flat_map (λ f. f.bytes) fs) ≤ most_bytes → 0 < length ls
     → (m : ℕ) × (all_at file_at (at n (flat_map file_lines fs ++ ([] ∷ ls))) ≡ Ok (heads_from n fs, at m ls))
 all_files_read n fs ls names total some =
     let hs = heads_from n fs in

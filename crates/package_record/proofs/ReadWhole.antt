@@ -15,10 +15,10 @@ use Rattle.faults.specs.Bytes.{Text, begins_with, has_byte, is_among}
 use Rattle.faults.specs.Pieces.{pieces_at}
 use Rattle.pkgpath.specs.PkgPath.{IsPath}
 use Rattle.pkgpath.proofs.Pieces.{lacks}
-use Rattle.claims.specs.Claim.{IsClaim}
+use Rattle.claims.specs.Claim.{IsClaim, greatest_round}
 use Rattle.agreement.specs.declared.claim.Claim.{Claim}
 use Rattle.claims.specs.declared.deps.Dep.{Dep}
-use Rattle.package_record.specs.Content.{AreFileNames, Content, IsDep, IsRecord, NamedFile, built_line, claim_line, ended, file_lines, front_lines, header_lines, is_file_name, is_printable, names_of, record_text, run_line}
+use Rattle.package_record.specs.Content.{AreFileNames, Content, IsDep, IsRecord, NamedFile, built_line, claim_line, ended, file_lines, front_lines, header_lines, is_file_name, is_printable, most_bytes, names_of, record_text, run_line}
 use Rattle.package_record.specs.Reading.{Header, content_of_parts, files_in, first_of, header_of, total_of, whole_of}
 use Rattle.package_record.proofs.Cuts.{some_line}
 use Rattle.package_record.proofs.Lacking.{hex_lacks, lacks-append, lacks_all, lacks_failing, name_lacks, path_lacks}
@@ -36,7 +36,7 @@ number_lacks v small = lacks_failing is_ascii_digit 10 (decimal v) refl (decimal
 
 claim_lacks : (c : Claim) → IsClaim c → has_byte 10 (claim_line c) ≡ false
 claim_lacks c good =
-    let most : c.round ≤ 9223372036854775807 = good.round.1 in
+    let most : c.round ≤ greatest_round = good.round.1 in
     let eight : c.member ≤ 8 = omega (arith, good.member) in
     lacks-append 10 (codes "@claim " ++ decimal c.round ++ codes ".") (decimal c.member) (lacks-append 10 (codes "@claim " ++ decimal c.round) (codes ".") (number_lacks c.round (omega arith)) refl) (number_lacks c.member (omega arith))
 
@@ -76,7 +76,7 @@ any_default (name ∷ names) (suc k) d below = any_default names k d (omega arit
 named : (names : List Text) → AreFileNames names → All (λ name. is_file_name name ≡ true) names
 named names good k d below = rw (any_default names k d below) (and_parts _ (not (is_among (take k names) (get_or names k []))) (good k below)).0
 
-all_files_lack : (fs : List NamedFile) → All (λ name. is_file_name name ≡ true) (names_of fs) → length (flat_map (λ f. f.bytes) fs) ≤ 60000 → list_all (lacks 10) (flat_map file_lines fs) ≡ true
+all_files_lack : (fs : List NamedFile) → All (λ name. is_file_name name ≡ true) (names_of fs) → length (flat_map (λ f. f.bytes) fs) ≤ most_bytes → list_all (lacks 10) (flat_map file_lines fs) ≡ true
 all_files_lack [] good total = refl
 all_files_lack (f ∷ fs) good total =
     let sizes = length-append f.bytes (flat_map (λ f. f.bytes) fs) in
@@ -84,7 +84,7 @@ all_files_lack (f ∷ fs) good total =
     rw (name, hex_lacks 10 (sha256 f.bytes) refl refl, number_lacks (length f.bytes) (omega (arith, sizes, total)))
     (all_files_lack fs (λ k x below. good (suc k) x (omega arith)) (omega (arith, sizes, total)))
 
-header_lacks : (c : Content) → IsRecord c → length (flat_map (λ f. f.bytes) c.files) ≤ 60000 → list_all (lacks 10) (header_lines c) ≡ true
+header_lacks : (c : Content) → IsRecord c → length (flat_map (λ f. f.bytes) c.files) ≤ most_bytes → list_all (lacks 10) (header_lines c) ≡ true
 header_lacks c good total =
     rw (
       list_all-append (lacks 10) (front_lines c ++ map built_line c.built ++ map run_line c.run) (flat_map file_lines c.files),
@@ -148,7 +148,7 @@ header_from c n = record { front = front_of c; built = c.built; run = c.run; hea
 grouped : (a b c d e : List Text) → (((a ++ b) ++ c) ++ d) ++ e ≡ a ++ (b ++ (c ++ (d ++ e)))
 grouped a b c d e = simp append_assoc
 
-header_read : (c : Content) (bytes : Text) → IsRecord c → length (flat_map (λ f. f.bytes) c.files) ≤ 60000 → (n : ℕ) × (header_of (ended (header_lines c) ++ 10 ∷ bytes) ≡ Ok (header_from c n, bytes))
+header_read : (c : Content) (bytes : Text) → IsRecord c → length (flat_map (λ f. f.bytes) c.files) ≤ most_bytes → (n : ℕ) × (header_of (ended (header_lines c) ++ 10 ∷ bytes) ≡ Ok (header_from c n, bytes))
 unfolding header_of
 header_read c bytes good total =
     let behind = pieces_at 10 bytes in
@@ -211,7 +211,7 @@ text_length c =
 
 front_header : (c : Content) (rest : Text) → IsRecord c → (n : ℕ) × (header_of (record_text c ++ rest) ≡ Ok (header_from c n, flat_map (λ f. f.bytes) c.files ++ rest))
 front_header c rest good =
-    let short : length (record_text c) ≤ 60000 = good.fits in
+    let short : length (record_text c) ≤ most_bytes = good.fits in
     let h = header_read c (flat_map (λ f. f.bytes) c.files ++ rest) good (omega (arith, text_length c, short)) in
     (h.0, ap header_of (text_parts c rest) ∙ h.1)
 
@@ -221,7 +221,7 @@ unfolding whole_of
 text_is_read c good =
     let h = front_header c [] good in
     let header : header_of (record_text c) ≡ Ok (header_from c h.0, flat_map (λ f. f.bytes) c.files ++ []) = ap header_of (sym (append-nil (record_text c))) ∙ h.1 in
-    where_false (ltb 60000 (length (record_text c))) _ _ (le-ltb 60000 (length (record_text c)) good.fits) ∙ rw (header, content_read c h.0 [])
+    where_false (ltb most_bytes (length (record_text c))) _ _ (le-ltb most_bytes (length (record_text c)) good.fits) ∙ rw (header, content_read c h.0 [])
 
 -- and so it is where more stands behind it
 pub front_is_read : (c : Content) (rest : Text) → IsRecord c → first_of (record_text c ++ rest) ≡ Ok (c, rest)
@@ -230,10 +230,10 @@ front_is_read c rest good =
     let bytes = flat_map (λ f. f.bytes) c.files ++ rest in
     let text = record_text c ++ rest in
     let h = front_header c rest good in
-    let short : length (record_text c) ≤ 60000 = good.fits in
-    let within : length text - length bytes + total_of (header_from c h.0) ≤ 60000 =
+    let short : length (record_text c) ≤ most_bytes = good.fits in
+    let within : length text - length bytes + total_of (header_from c h.0) ≤ most_bytes =
     omega (arith, short, length-append (record_text c) rest, length-append (flat_map (λ f. f.bytes) c.files) rest, sizes_are h.0 c.files, text_length c) in
-    rw h.1 (where_false (ltb 60000 (length text - length bytes + total_of (header_from c h.0))) _ _ (le-ltb 60000 _ within) ∙ content_read c h.0 rest)
+    rw h.1 (where_false (ltb most_bytes (length text - length bytes + total_of (header_from c h.0))) _ _ (le-ltb most_bytes _ within) ∙ content_read c h.0 rest)
 
 -- no text of a record begins that of another
 pub no_text_begins : (c d : Content) (rest : Text) → IsRecord c → IsRecord d → record_text d ≡ record_text c ++ rest → (c ≡ d) × (rest ≡ [])

@@ -15,7 +15,7 @@ use Rattle.faults.specs.Bytes.{Text, begins_with, is_empty}
 use Rattle.pkgname.specs.PkgName.{IsName, name_of}
 use Rattle.pkgpath.specs.PkgPath.{IsPath, path_of}
 use Rattle.claims.specs.declared.deps.Dep.{Dep}
-use Rattle.package_record.specs.Content.{built_line, is_next_name, run_line}
+use Rattle.package_record.specs.Content.{built_line, is_next_name, most_bytes, run_line}
 use Rattle.package_record.specs.Reading.{Head, Place, ◌>>=◌, built_at, cut_in, dependency_in, digest_in, entry_at, field_at, head_at, if_lower, is_above, is_itself, is_number, last_of, line_at, line_in, name_in, path_in, run_at, size_in}
 use Rattle.package_record.specs.declared.RecordFault.TheVariants.{BadFileName, BadLine, TooLarge}
 use Rattle.package_record.proofs.Steps.{bind_ok, none_some, ok_is, refusal_ok, some_is, test_ok, ways}
@@ -196,13 +196,13 @@ number_text text e lt =
     first_zero [] e zero = absurd (omega arith)
     first_zero (c ∷ cs) e zero = eqb-true _ _ (or_left (eqb (length (c ∷ cs)) 1) (not (begins_with (codes "0") (c ∷ cs))) e (begins_zero c cs zero))
 
-size_taken : (total n : ℕ) (text : Text) (v : ℕ) → size_in total n text ≡ Ok v → (text ≡ decimal v) × (total + v ≤ 60000)
+size_taken : (total n : ℕ) (text : Text) (v : ℕ) → size_in total n text ≡ Ok v → (text ≡ decimal v) × (total + v ≤ most_bytes)
 unfolding size_in
 size_taken total n text v e =
-    let a = refusal_ok (not (is_number text)) (BadLine n) (cond (ltb 60000 (total + digits_value 10 text)) (Err TooLarge) (Ok (digits_value 10 text))) v e in
-    let b = refusal_ok (ltb 60000 (total + digits_value 10 text)) TooLarge (Ok (digits_value 10 text)) v a.1 in
+    let a = refusal_ok (not (is_number text)) (BadLine n) (cond (ltb most_bytes (total + digits_value 10 text)) (Err TooLarge) (Ok (digits_value 10 text))) v e in
+    let b = refusal_ok (ltb most_bytes (total + digits_value 10 text)) TooLarge (Ok (digits_value 10 text)) v a.1 in
     let small = ltb-false _ _ b.0 in
-    subst (λ (v : ℕ). (text ≡ decimal v) × (total + v ≤ 60000)) (ok_is (digits_value 10 text) v b.1) (sym (number_text text (not_false (is_number text) a.0) (omega arith)), omega arith)
+    subst (λ (v : ℕ). (text ≡ decimal v) × (total + v ≤ most_bytes)) (ok_is (digits_value 10 text) v b.1) (sym (number_text text (not_false (is_number text) a.0) (omega arith)), omega arith)
   where
     not_false : (b : Bool) → not b ≡ false → b ≡ true
     not_false true e = refl
@@ -212,13 +212,13 @@ size_taken total n text v e =
 pub record IsHead (names : List Text) (before : ℕ) (h : Head) : Type 0 where
   pub name : is_next_name names h.name ≡ true
   pub digest : decode_sized (encode_lower h.digest) 32 ≡ Ok h.digest
-  pub total : before + h.size ≤ 60000
+  pub total : before + h.size ≤ most_bytes
 
 abbrev pub head_lines : Head → List Text
 head_lines h = h.name ∷ (codes "@sha " ++ encode_lower h.digest) ∷ (codes "@size " ++ decimal h.size) ∷ []
 
 head_taken : (total : ℕ) (name : Text) (p : Place) (h : Head) (q : Place) → head_at total name p ≡ Ok (Some h, q)
-    → (p.lines ≡ (codes "@sha " ++ encode_lower h.digest) ∷ (codes "@size " ++ decimal h.size) ∷ q.lines) × (h.name ≡ name) × (decode_sized (encode_lower h.digest) 32 ≡ Ok h.digest) × (total + h.size ≤ 60000) × (q.passed ≡ p.passed + 2) × (h.line ≡ p.passed + 1)
+    → (p.lines ≡ (codes "@sha " ++ encode_lower h.digest) ∷ (codes "@size " ++ decimal h.size) ∷ q.lines) × (h.name ≡ name) × (decode_sized (encode_lower h.digest) 32 ≡ Ok h.digest) × (total + h.size ≤ most_bytes) × (q.passed ≡ p.passed + 2) × (h.line ≡ p.passed + 1)
 unfolding head_at
 head_taken total name p h q e =
     let a = bind_ok (field_at (codes "@sha ") p) (λ sha. digest_in sha.1.passed sha.0 >>= λ digest. field_at (codes "@size ") sha.1 >>= λ size. size_in total size.1.passed size.0 >>= λ n. Ok (Some (make digest n sha.1.passed), size.1)) (Some h, q) e in
@@ -235,8 +235,8 @@ head_taken total name p h q e =
     let same = ok_is (Some (make b.0 g.0 a.0.1.passed), f.0.1) (Some h, q) g.2 in
     let at_h : make b.0 g.0 a.0.1.passed ≡ h = some_is _ h (ap (λ (x : Option Head × Place). x.0) same) in
     let at_q : f.0.1 ≡ q = ap (λ (x : Option Head × Place). x.1) same in
-    subst (λ (q : Place). (p.lines ≡ (codes "@sha " ++ encode_lower h.digest) ∷ (codes "@size " ++ decimal h.size) ∷ q.lines) × (h.name ≡ name) × (decode_sized (encode_lower h.digest) 32 ≡ Ok h.digest) × (total + h.size ≤ 60000) × (q.passed ≡ p.passed + 2) × (h.line ≡ p.passed + 1)) at_q
-    (subst (λ (h : Head). (p.lines ≡ (codes "@sha " ++ encode_lower h.digest) ∷ (codes "@size " ++ decimal h.size) ∷ f.0.1.lines) × (h.name ≡ name) × (decode_sized (encode_lower h.digest) 32 ≡ Ok h.digest) × (total + h.size ≤ 60000) × (f.0.1.passed ≡ p.passed + 2) × (h.line ≡ p.passed + 1)) at_h
+    subst (λ (q : Place). (p.lines ≡ (codes "@sha " ++ encode_lower h.digest) ∷ (codes "@size " ++ decimal h.size) ∷ q.lines) × (h.name ≡ name) × (decode_sized (encode_lower h.digest) 32 ≡ Ok h.digest) × (total + h.size ≤ most_bytes) × (q.passed ≡ p.passed + 2) × (h.line ≡ p.passed + 1)) at_q
+    (subst (λ (h : Head). (p.lines ≡ (codes "@sha " ++ encode_lower h.digest) ∷ (codes "@size " ++ decimal h.size) ∷ f.0.1.lines) × (h.name ≡ name) × (decode_sized (encode_lower h.digest) 32 ≡ Ok h.digest) × (total + h.size ≤ most_bytes) × (f.0.1.passed ≡ p.passed + 2) × (h.line ≡ p.passed + 1)) at_h
     (lines, refl, ap (λ (t : Text). decode_sized t 32) (sym digest.1) ∙ digest.0, size.1, omega (arith, sha.1, second.1), sha.1))
   where
     make : List ℕ → ℕ → ℕ → Head

@@ -19,11 +19,11 @@ use Rattle.faults.specs.Bytes.{Text, is_empty}
 use Rattle.faults.specs.Pieces.{pieces_at}
 use Rattle.pkgname.specs.PkgName.{IsName}
 use Rattle.pkgpath.specs.PkgPath.{IsPath}
-use Rattle.claims.specs.Claim.{IsClaim}
+use Rattle.claims.specs.Claim.{IsClaim, greatest_round}
 use Rattle.agreement.specs.declared.claim.Claim.{Claim}
 use Rattle.claims.specs.Deps.{is_ascending}
 use Rattle.claims.specs.declared.deps.Dep.{Dep}
-use Rattle.package_record.specs.Content.{AreFileNames, Content, IsDep, IsRecord, NamedFile, built_line, claim_line, ended, file_lines, header_lines, is_next_name, names_of, record_text, run_line}
+use Rattle.package_record.specs.Content.{AreFileNames, Content, IsDep, IsRecord, NamedFile, built_line, claim_line, ended, file_lines, header_lines, is_next_name, most_bytes, names_of, record_text, run_line}
 use Rattle.package_record.specs.Given.{Fails, refusal_of}
 use Rattle.package_record.specs.Reading.{Front, Head, Header, Place, ◌>>=◌, all_at, built_at, claim_at, claim_in, content_of_parts, cut_in, field_at, file_at, files_in, first_of, front_at, header_of, host_at, is_above, name_at, name_in, is_number, line_at, number_in, path_at, path_in, run_at, total_of, version_at, whole_of}
 use Rattle.package_record.specs.declared.RecordFault.{RecordFault}
@@ -92,10 +92,10 @@ host_taken p x e =
 claim_taken : (n : ℕ) (text : Text) (c : Claim) → claim_in n text ≡ Ok c → (text ≡ decimal c.round ++ 46 ∷ decimal c.member) × IsClaim c
 unfolding claim_in
 claim_taken n text c e =
-    let a = bind_ok (cut_in 46 n text) (λ parts. number_in 1 9223372036854775807 n parts.0 >>= λ round. number_in 0 8 n parts.1 >>= λ member. Ok (claim round member)) c e in
-    let b = bind_ok (number_in 1 9223372036854775807 n a.0.0) (λ round. number_in 0 8 n a.0.1 >>= λ member. Ok (claim round member)) c a.2 in
+    let a = bind_ok (cut_in 46 n text) (λ parts. number_in 1 greatest_round n parts.0 >>= λ round. number_in 0 8 n parts.1 >>= λ member. Ok (claim round member)) c e in
+    let b = bind_ok (number_in 1 greatest_round n a.0.0) (λ round. number_in 0 8 n a.0.1 >>= λ member. Ok (claim round member)) c a.2 in
     let f = bind_ok (number_in 0 8 n a.0.1) (λ member. Ok (claim b.0 member)) c b.2 in
-    let round = number_taken 1 9223372036854775807 n a.0.0 b.0 (omega arith) b.1 in
+    let round = number_taken 1 greatest_round n a.0.0 b.0 (omega arith) b.1 in
     let member = number_taken 0 8 n a.0.1 f.0 (omega arith) f.1 in
     subst (λ (c : Claim). (text ≡ decimal c.round ++ 46 ∷ decimal c.member) × IsClaim c) (ok_is (claim b.0 f.0) c f.2) (
       cut_taken 46 n text a.0 a.1 ∙ ap (λ (t : Text). t ++ 46 ∷ a.0.1) round.0 ∙ ap (λ (t : Text). decimal b.0 ++ 46 ∷ t) member.0,
@@ -330,7 +330,7 @@ header_taken text x e =
 record Says (h : Header) (bytes : Text) (c : Content) (rest : Text) : Type 0 where
   text : ended (header_of_parts h) ++ 10 ∷ bytes ≡ record_text c ++ rest
   size : length bytes ≡ total_of h + length rest
-  fits : length (record_text c) ≤ 60000 → IsRecord c
+  fits : length (record_text c) ≤ most_bytes → IsRecord c
 
 content_taken : (h : Header) (bytes : Text) (x : Content × Text) → IsHeader h → content_of_parts h bytes ≡ Ok x → Says h bytes x.0 x.1
 unfolding content_of_parts
@@ -348,7 +348,7 @@ content_taken h bytes x good e =
     ∙ regrouped (ended (header_lines c)) (flat_map (λ f. f.bytes) b.0.0) b.0.1 in
     let size : length bytes ≡ total_of h + length b.0.1 =
     omega (arith, bodies.sizes, ap length bodies.parts, length-append (flat_map (λ f. f.bytes) bodies.more) b.0.1) in
-    let fits : length (record_text c) ≤ 60000 → IsRecord c = λ short. record {
+    let fits : length (record_text c) ≤ most_bytes → IsRecord c = λ short. record {
       names = record { path = good.front.path; name = good.front.name; built = good.built.deps; run = good.run.paths };
       host = good.front.host;
       claim = good.front.claim;
@@ -381,14 +381,14 @@ empty_is (b ∷ text) e = absurd cc
 pub whole_taken : (text : Text) (c : Content) → whole_of text ≡ Ok c → IsRecord c × (text ≡ record_text c)
 unfolding whole_of
 whole_taken text c e =
-    let a = refusal_ok (ltb 60000 (length text)) TooLarge (header_of text >>= λ header. content_of_parts header.0 header.1 >>= λ content. cond (is_empty content.1) (Ok content.0) (Err Trailing)) c e in
+    let a = refusal_ok (ltb most_bytes (length text)) TooLarge (header_of text >>= λ header. content_of_parts header.0 header.1 >>= λ content. cond (is_empty content.1) (Ok content.0) (Err Trailing)) c e in
     let b = bind_ok (header_of text) (λ header. content_of_parts header.0 header.1 >>= λ content. cond (is_empty content.1) (Ok content.0) (Err Trailing)) c a.1 in
     let f = bind_ok (content_of_parts b.0.0 b.0.1) (λ content. cond (is_empty content.1) (Ok content.0) (Err Trailing)) c b.2 in
     let t = test_ok (is_empty f.0.1) Trailing (Ok f.0.0) c f.2 in
     let header = header_taken text b.0 b.1 in
     let says = content_taken b.0.0 b.0.1 f.0 header.1 f.1 in
     let spelled : text ≡ record_text f.0.0 = header.0 ∙ says.text ∙ ap (λ (t : Text). record_text f.0.0 ++ t) (empty_is f.0.1 t.0) ∙ append-nil (record_text f.0.0) in
-    let short : length text ≤ 60000 = ltb-false _ _ a.0 in
+    let short : length text ≤ most_bytes = ltb-false _ _ a.0 in
     let whole : IsRecord f.0.0 × (text ≡ record_text f.0.0) = (says.fits (omega (arith, ap length spelled, short)), spelled) in
     subst (λ (c : Content). IsRecord c × (text ≡ record_text c)) (ok_is f.0.0 c t.1) whole
 
@@ -396,12 +396,12 @@ whole_taken text c e =
 pub first_taken : (text : Text) (x : Content × Text) → first_of text ≡ Ok x → IsRecord x.0 × (text ≡ record_text x.0 ++ x.1)
 unfolding first_of
 first_taken text x e =
-    let b = bind_ok (header_of text) (λ header. cond (ltb 60000 (length text - length header.1 + total_of header.0)) (Err TooLarge) (content_of_parts header.0 header.1)) x e in
-    let a = refusal_ok (ltb 60000 (length text - length b.0.1 + total_of b.0.0)) TooLarge (content_of_parts b.0.0 b.0.1) x b.2 in
+    let b = bind_ok (header_of text) (λ header. cond (ltb most_bytes (length text - length header.1 + total_of header.0)) (Err TooLarge) (content_of_parts header.0 header.1)) x e in
+    let a = refusal_ok (ltb most_bytes (length text - length b.0.1 + total_of b.0.0)) TooLarge (content_of_parts b.0.0 b.0.1) x b.2 in
     let header = header_taken text b.0 b.1 in
     let says = content_taken b.0.0 b.0.1 x header.1 a.1 in
     let spelled : text ≡ record_text x.0 ++ x.1 = header.0 ∙ says.text in
-    let short : length text - length b.0.1 + total_of b.0.0 ≤ 60000 = ltb-false _ _ a.0 in
+    let short : length text - length b.0.1 + total_of b.0.0 ≤ most_bytes = ltb-false _ _ a.0 in
     let long : length text ≡ length (ended (header_of_parts b.0.0)) + suc (length b.0.1) = ap length header.0 ∙ length-append (ended (header_of_parts b.0.0)) (10 ∷ b.0.1) in
     (says.fits (omega (arith, ap length spelled, length-append (record_text x.0) x.1, short, long, says.size)), spelled)
 

@@ -79,11 +79,11 @@ record_text c = ended (header_lines c) ++ line_feed ∷ [] ++ flat_map (λ f. f.
 abbrev pub is_file_component : Text → Bool
 is_file_component c = not (is_among ([] ∷ codes "." ∷ codes ".." ∷ []) c)
 
--- a byte from the blank to the tilde, which are the printable ones of ASCII
+-- a printable byte, which is one from the blank to the tilde
 abbrev pub is_printable : ℕ → Bool
 is_printable b = nat_le 0x20 b && nat_le b 0x7e
 
--- at most 255 printable bytes that do not begin with `@`, with slashes between the components
+-- 1 to 255 printable bytes that do not begin with `@`: components with slashes between them
 abbrev pub is_file_name : Text → Bool
 is_file_name name =
     nat_le (length name) 255 && list_all is_printable name && not (begins_with (codes "@") name)

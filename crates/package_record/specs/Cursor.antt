@@ -5,5 +5,5 @@ use Rattle.package_record.specs.Reading.{Place}
 use Rattle.package_record.specs.declared.cursor.Cursor.{Cursor}
 
 -- how many lines the cursor has passed, and those from there on
-abbrev pub place_of : Cursor → Place
-place_of c = record { passed = c.passed; lines = pieces_at line_feed c.rest.now }
+abbrev pub cursor_view : Cursor → Place
+cursor_view c = record { passed = c.passed; lines = pieces_at line_feed c.rest.now }

@@ -9,6 +9,7 @@ use pkgname::PkgName;
 use pkgpath::PkgPath;
 use std::alloc::Global;
 
+/// What a record says, as it was handed in or read.
 #[derive(Drop)]
 pub struct Fields {
     pub path: PkgPath,
@@ -23,6 +24,7 @@ pub struct Fields {
 impl Fields {
     ghost use Rattle.package_record.specs.Inside.{content_of};
 
+    /// Equal fields.
     pub fn copy(&self) -> Result<Fields, Memory>
         ensures { IfOk result (λ fields. content_of fields ≡ content_of self.now) }
     {

@@ -3,7 +3,8 @@ ghost use Rattle.std.specs.Prelude.{◌≡◌, IfOk};
 
 use faults::Memory;
 
-/// A file by its name, in which slashes stand between components, and its bytes.
+/// A file by its name, in which slashes stand between components, and its bytes. Which names are good is tested where
+/// a record is made.
 #[derive(Drop)]
 pub struct File {
     pub name: Vec<u8>,
@@ -11,6 +12,7 @@ pub struct File {
 }
 
 impl File {
+    /// An equal file.
     pub fn copy(&self) -> Result<File, Memory>
         ensures name { IfOk result (λ file. file.name.items ≡ self.now.name.items) }
         ensures bytes { IfOk result (λ file. file.bytes.items ≡ self.now.bytes.items) }

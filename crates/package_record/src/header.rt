@@ -1,7 +1,7 @@
 //! The header of a record, line by line.
 ghost use Rattle.std.specs.Prelude.{◌≡◌, ◌+◌, ◌≤◌, ◌++◌, ◌∷◌, [], Some, IfOk, IfSome, map, option_map, sum_by};
 ghost use Rattle.package_record.specs.Content.{most_bytes};
-ghost use Rattle.package_record.specs.Cursor.{place_of};
+ghost use Rattle.package_record.specs.Cursor.{cursor_view};
 ghost use Rattle.package_record.specs.Given.{Gives};
 ghost use Rattle.package_record.specs.Heads.{front_of, head_of, header_view};
 ghost use Rattle.package_record.specs.Names.{names_in};
@@ -39,9 +39,10 @@ pub struct Head<'a> {
     pub line: u64,
 }
 
+/// The five lines that each record begins with.
 #[tactic(auto, unfolding(crate::specs::Reading::front_at))]
 pub fn front_lines<'a>(alloc: Global, place: Cursor<'a>) -> Result<(Front, Cursor<'a>), ReadError>
-    ensures { Gives (λ x. (front_of x.0, place_of x.1)) result (front_at (place_of place.entry)) }
+    ensures { Gives (λ x. (front_of x.0, cursor_view x.1)) result (front_at (cursor_view place.entry)) }
 {
     let place = version_line(place)?;
     let (name, place) = name_line(alloc, place)?;
@@ -63,7 +64,7 @@ fn built_line<'a>(
     deps: &[Dep],
     place: Cursor<'a>,
 ) -> Result<(Option<Dep>, Cursor<'a>), ReadError>
-    ensures { Gives (λ x. (x.0, place_of x.1)) result (built_at deps.now (place_of place.entry)) }
+    ensures { Gives (λ x. (x.0, cursor_view x.1)) result (built_at deps.now (cursor_view place.entry)) }
 {
     let (line, after) = place.line()?;
     let Some(text) = line.strip_prefix(b"@built ") else {
@@ -86,7 +87,7 @@ fn run_line<'a>(
     paths: &[PkgPath],
     place: Cursor<'a>,
 ) -> Result<(Option<PkgPath>, Cursor<'a>), ReadError>
-    ensures { Gives (λ x. (x.0, place_of x.1)) result (run_at paths.now (place_of place.entry)) }
+    ensures { Gives (λ x. (x.0, cursor_view x.1)) result (run_at paths.now (cursor_view place.entry)) }
 {
     let (line, after) = place.line()?;
     let Some(text) = line.strip_prefix(b"@run ") else {
@@ -110,7 +111,7 @@ fn head_lines<'a>(
     place: Cursor<'a>,
 ) -> Result<(Head<'a>, Cursor<'a>), ReadError>
     requires { total ≤ most_bytes }
-    ensures head { Gives (λ x. (Some (head_of x.0), place_of x.1)) result (head_at total name.entry.now (place_of place.entry)) }
+    ensures head { Gives (λ x. (Some (head_of x.0), cursor_view x.1)) result (head_at total name.entry.now (cursor_view place.entry)) }
     ensures within { IfOk result (λ x. total + x.0.size ≤ most_bytes) }
     ensures name { IfOk result (λ x. x.0.name.now ≡ name.entry.now) }
 {
@@ -135,7 +136,7 @@ fn entry<'a>(
     place: Cursor<'a>,
 ) -> Result<(Option<Head<'a>>, Cursor<'a>), ReadError>
     requires { total ≤ most_bytes }
-    ensures entry { Gives (λ x. (option_map head_of x.0, place_of x.1)) result (entry_at (names_in names.old) total (place_of place.entry)) }
+    ensures entry { Gives (λ x. (option_map head_of x.0, cursor_view x.1)) result (entry_at (names_in names.old) total (cursor_view place.entry)) }
     ensures within { IfOk result (λ x. IfSome x.0 (λ h. total + h.size ≤ most_bytes)) }
     ensures entered { IfOk result (λ x. IfSome x.0 (λ h. names_in names.new ≡ names_in names.old ++ h.name.now ∷ [])) }
 {
@@ -154,7 +155,7 @@ fn entry<'a>(
 }
 
 fn built_lines<'a>(alloc: Global, start: Cursor<'a>) -> Result<(Vec<Dep>, Cursor<'a>), ReadError>
-    ensures { Gives (λ x. (x.0.items, place_of x.1)) result (all_at built_at (place_of start.entry)) }
+    ensures { Gives (λ x. (x.0.items, cursor_view x.1)) result (all_at built_at (cursor_view start.entry)) }
 {
     let mut deps = Vec::new(alloc);
     let mut place = start;
@@ -169,7 +170,7 @@ fn built_lines<'a>(alloc: Global, start: Cursor<'a>) -> Result<(Vec<Dep>, Cursor
 }
 
 fn run_lines<'a>(alloc: Global, start: Cursor<'a>) -> Result<(Vec<PkgPath>, Cursor<'a>), ReadError>
-    ensures { Gives (λ x. (x.0.items, place_of x.1)) result (all_at run_at (place_of start.entry)) }
+    ensures { Gives (λ x. (x.0.items, cursor_view x.1)) result (all_at run_at (cursor_view start.entry)) }
 {
     let mut paths = Vec::new(alloc);
     let mut place = start;
@@ -191,7 +192,7 @@ pub struct Heads<'a> {
 }
 
 fn file_lines<'a>(alloc: Global, start: Cursor<'a>) -> Result<(Heads<'a>, Cursor<'a>), ReadError>
-    ensures heads { Gives (λ x. (map head_of x.0.items.items, place_of x.1)) result (all_at file_at (place_of start.entry)) }
+    ensures heads { Gives (λ x. (map head_of x.0.items.items, cursor_view x.1)) result (all_at file_at (cursor_view start.entry)) }
     ensures total { IfOk result (λ x. x.0.total ≡ sum_by (λ h. h.size) (map head_of x.0.items.items)) }
     ensures within { IfOk result (λ x. x.0.total ≤ most_bytes) }
 {

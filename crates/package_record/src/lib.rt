@@ -3,7 +3,7 @@
 
 ghost use Rattle.std.specs.Prelude.{◌≡◌};
 ghost use Rattle.package_record.specs.declared.RecordFault.TheVariants.{Memory as out_of_memory};
-ghost use Rattle.package_record.specs.Refusals.{refusal_number, refusal_place};
+ghost use Rattle.package_record.specs.Refusals.{number_of, place_of};
 
 use faults::{Fault, Memory};
 use std::alloc::{AllocError, AllocFailed};
@@ -32,10 +32,11 @@ pub use crate::laws::{
 };
 pub use crate::package::{Record, make};
 
-/// The most bytes that a record's text has.
+/// The most bytes that a record's text may have.
 pub const LIMIT: usize = 60_000;
 
-/// Why a text is no record, or why none can be made: the first fault. Lines and files are counted from 1.
+/// Why a text is no record, or why none can be made: the first fault. A number is that of a line, counted from 1;
+/// where a record is made, that of `BadFileName` is the number of a file, counted from 1.
 #[derive(Clone, Copy, Debug, PartialEq, Eq, Error)]
 pub enum RecordFault {
     #[error("out of memory")]
@@ -79,9 +80,9 @@ impl<T: Drop> From<AllocFailed<T>> for RecordFault {
 }
 
 impl Fault for RecordFault {
-    ghost number_of = { refusal_number };
+    ghost number_of = { number_of };
 
-    ghost place_of = { refusal_place };
+    ghost place_of = { place_of };
 
     fn number(&self) -> u32 {
         match self {

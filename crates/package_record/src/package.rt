@@ -20,6 +20,9 @@ use sha2::{Digest, Sha256};
 use std::alloc::Global;
 use std::marker::Model;
 
+/// A package that was built: its path and name, the host that built it and under which claim, the dependencies that
+/// it was built on, the paths that it needs to run, and its files. The text of a record is within `LIMIT`; its
+/// dependencies and its paths to run ascend, each path once; its files' names are good, and each stands once.
 #[derive(Drop)]
 pub struct Record {
     fields: Fields,
@@ -36,8 +39,9 @@ impl Model for Record {
     ghost invariant = { λ r. IsRecord (content_of r.fields) };
 }
 
-/// The record that says this. A bad file name is refused at the number of its file, counted
-/// from 1, and so is one that an earlier file has; the length is tested after the names.
+/// The record that says this. The names of all files are tested first: `BadFileName` has the number, counted from 1,
+/// of the first file whose name is bad or is that of an earlier file. Then comes `TooLarge`, if the text would be over
+/// `LIMIT`.
 pub fn make(
     alloc: Global,
     path: PkgPath,
@@ -76,7 +80,15 @@ pub fn make(
 }
 
 impl Record {
-    /// The record whose text this is. Which fault a text has is the first from the left.
+    /// The record whose text this is. It is tested in this order:
+    ///
+    /// 1. The length of the whole text, which is `TooLarge` over `LIMIT`.
+    /// 2. The header, line by line: a line without its LF is `Truncated`; where a file's name may stand, a bad one, or
+    ///    one that stood before, is `BadFileName`; a size with which the files so far are over `LIMIT` is `TooLarge`;
+    ///    all else that does not fit is `BadLine`.
+    /// 3. The files' bytes: fewer than the sizes say are `Truncated`.
+    /// 4. The digests of the files: `DigestDiffers` has the `@sha` line of the first file that has another one.
+    /// 5. The end: bytes behind the record are `Trailing`.
     pub fn parse(alloc: Global, text: &[u8]) -> Result<Record, RecordFault>
         // What is read is spelled so.
         ensures text { IfOk result (λ r. IsRecord r × (text.now ≡ record_text r)) }
@@ -87,7 +99,9 @@ impl Record {
         Ok(Record { fields })
     }
 
-    /// The record at the front of the text, and how many bytes its text takes.
+    /// The record at the front of the text, and how many bytes its own text takes. Anything may stand behind it. The
+    /// tests are those of `parse`, without the last, and with another one of the length: it comes right after the
+    /// header, and is `TooLarge` where the header and the sizes together are over `LIMIT`.
     pub fn read_first(alloc: Global, text: &[u8]) -> Result<(Record, usize), RecordFault>
         ensures text { IfOk result (λ first. IsRecord first.0 × (take first.1 text.now ≡ record_text first.0)) }
         ensures length { IfOk result (λ first. first.1 ≡ length (record_text first.0)) }
@@ -98,7 +112,7 @@ impl Record {
         Ok((Record { fields }, length))
     }
 
-    /// Appends the text.
+    /// Appends the text, or nothing.
     pub fn write_to(&self, out: &mut Vec<u8>) -> Result<(), Memory>
         ensures ok { OnOk result (out.new.items ≡ out.old.items ++ record_text self.now) }
         ensures err { OnErr result (out.new.items ≡ out.old.items) }
@@ -120,6 +134,7 @@ impl Record {
         *self.fields.files.allocator()
     }
 
+    /// The path of the package.
     pub fn path(&self) -> &PkgPath
         ensures path { result.now ≡ self.now.path }
         ensures record { IsRecord self.now }
@@ -127,42 +142,49 @@ impl Record {
         &self.fields.path
     }
 
+    /// The name of the package: its stem, version and flavors.
     pub fn name(&self) -> &PkgName
         ensures { result.now ≡ self.now.name }
     {
         &self.fields.name
     }
 
+    /// The host that built it.
     pub fn host(&self) -> u16
         ensures { result ≡ self.now.host }
     {
         self.fields.host
     }
 
+    /// The claim under which it was built.
     pub fn claim(&self) -> Claim
         ensures { result ≡ self.now.claim }
     {
         self.fields.claim
     }
 
+    /// The packages that it was built on, as their signatures, ascending by path.
     pub fn built(&self) -> &[Dep]
         ensures { result.now ≡ self.now.built }
     {
         self.fields.built.as_slice()
     }
 
+    /// The paths that it needs to run, ascending.
     pub fn run(&self) -> &[PkgPath]
         ensures { result.now ≡ self.now.run }
     {
         self.fields.run.as_slice()
     }
 
+    /// Its files, in the order in which they were handed in.
     pub fn files(&self) -> &[File]
         ensures { map file_view result.now ≡ self.now.files }
     {
         self.fields.files.as_slice()
     }
 
+    /// An equal record.
     pub fn copy(&self) -> Result<Record, Memory>
         ensures { IfOk result (λ r. r ≡ self.now) }
     {

@@ -1,6 +1,6 @@
 //! The lines of a header, each read from the left.
 ghost use Rattle.std.specs.Prelude.{◌≡◌};
-ghost use Rattle.package_record.specs.Cursor.{place_of};
+ghost use Rattle.package_record.specs.Cursor.{cursor_view};
 ghost use Rattle.package_record.specs.Given.{Gives};
 ghost use Rattle.package_record.specs.Reading.{
   claim_at,
@@ -26,12 +26,14 @@ use pkgname::{NameFault, PkgName};
 use pkgpath::{PathFault, PkgPath};
 use std::alloc::Global;
 
+/// The line is not what stands there in a record.
 fn bad_line(line: u64) -> ReadError
     ensures { result ≡ ReadError.Fault (RecordFault.BadLine line) }
 {
     ReadError::Fault(RecordFault::BadLine(line))
 }
 
+/// The package path that the text is, in its canonical form.
 #[tactic(auto, unfolding(crate::specs::Reading::path_in))]
 pub fn path(alloc: Global, line: u64, text: &[u8]) -> Result<PkgPath, ReadError>
     ensures { Gives (λ path. path) result (path_in line text.now) }
@@ -43,6 +45,7 @@ pub fn path(alloc: Global, line: u64, text: &[u8]) -> Result<PkgPath, ReadError>
     }
 }
 
+/// The package name that the text is.
 #[tactic(auto, unfolding(crate::specs::Reading::name_in))]
 fn name(alloc: Global, line: u64, text: &[u8]) -> Result<PkgName, ReadError>
     ensures { Gives (λ name. name) result (name_in line text.now) }
@@ -66,6 +69,7 @@ pub fn digest(line: u64, text: &[u8]) -> Result<[u8; 32], ReadError>
     }
 }
 
+/// What stands before the first such byte, and behind it.
 #[tactic(auto, unfolding(crate::specs::Reading::cut_in))]
 fn cut<'a>(byte: u8, line: u64, text: &'a [u8]) -> Result<(&'a [u8], &'a [u8]), ReadError>
     ensures { Gives (λ x. (x.0.now, x.1.now)) result (cut_in byte line text.entry.now) }
@@ -76,6 +80,7 @@ fn cut<'a>(byte: u8, line: u64, text: &'a [u8]) -> Result<(&'a [u8], &'a [u8]), 
     }
 }
 
+/// A path, a name and a digest, with one blank between two of them.
 #[tactic(auto, unfolding(crate::specs::Reading::dependency_in))]
 pub fn dependency(alloc: Global, line: u64, text: &[u8]) -> Result<Dep, ReadError>
     ensures { Gives (λ dep. dep) result (dependency_in line text.now) }
@@ -88,9 +93,10 @@ pub fn dependency(alloc: Global, line: u64, text: &[u8]) -> Result<Dep, ReadErro
     Ok(Dep { path, name, digest })
 }
 
+/// The line `@dpb 1`.
 #[tactic(auto, unfolding(crate::specs::Reading::version_at))]
 pub fn version_line(place: Cursor<'_>) -> Result<Cursor<'_>, ReadError>
-    ensures { Gives (λ x. place_of x) result (version_at (place_of place.entry)) }
+    ensures { Gives (λ x. cursor_view x) result (version_at (cursor_view place.entry)) }
 {
     let (line, after) = place.line()?;
     if line != b"@dpb 1".as_slice() {
@@ -99,33 +105,37 @@ pub fn version_line(place: Cursor<'_>) -> Result<Cursor<'_>, ReadError>
     Ok(after)
 }
 
+/// The line `@name NAME`.
 #[tactic(auto, unfolding(crate::specs::Reading::name_at))]
 pub fn name_line(alloc: Global, place: Cursor<'_>) -> Result<(PkgName, Cursor<'_>), ReadError>
-    ensures { Gives (λ x. (x.0, place_of x.1)) result (name_at (place_of place.entry)) }
+    ensures { Gives (λ x. (x.0, cursor_view x.1)) result (name_at (cursor_view place.entry)) }
 {
     let (text, after) = place.field(b"@name ")?;
     let name = name(alloc, after.passed, text)?;
     Ok((name, after))
 }
 
+/// The line `@comment pkgpath=PATH`.
 #[tactic(auto, unfolding(crate::specs::Reading::path_at))]
 pub fn path_line(alloc: Global, place: Cursor<'_>) -> Result<(PkgPath, Cursor<'_>), ReadError>
-    ensures { Gives (λ x. (x.0, place_of x.1)) result (path_at (place_of place.entry)) }
+    ensures { Gives (λ x. (x.0, cursor_view x.1)) result (path_at (cursor_view place.entry)) }
 {
     let (text, after) = place.field(b"@comment pkgpath=")?;
     let path = path(alloc, after.passed, text)?;
     Ok((path, after))
 }
 
+/// The line `@host N`.
 #[tactic(auto, unfolding(crate::specs::Reading::host_at))]
 pub fn host_line(place: Cursor<'_>) -> Result<(u16, Cursor<'_>), ReadError>
-    ensures { Gives (λ x. (x.0, place_of x.1)) result (host_at (place_of place.entry)) }
+    ensures { Gives (λ x. (x.0, cursor_view x.1)) result (host_at (cursor_view place.entry)) }
 {
     let (text, after) = place.field(b"@host ")?;
     let host = number_within(0, 65_535, after.passed, text)?;
     Ok((host as u16, after))
 }
 
+/// A round and a member, with a dot between them.
 #[tactic(auto, unfolding(crate::specs::Reading::claim_in))]
 fn claim(line: u64, text: &[u8]) -> Result<Claim, ReadError>
     ensures { Gives (λ claim. claim) result (claim_in line text.now) }
@@ -139,9 +149,10 @@ fn claim(line: u64, text: &[u8]) -> Result<Claim, ReadError>
     })
 }
 
+/// The line `@claim ROUND.MEMBER`.
 #[tactic(auto, unfolding(crate::specs::Reading::claim_at))]
 pub fn claim_line(place: Cursor<'_>) -> Result<(Claim, Cursor<'_>), ReadError>
-    ensures { Gives (λ x. (x.0, place_of x.1)) result (claim_at (place_of place.entry)) }
+    ensures { Gives (λ x. (x.0, cursor_view x.1)) result (claim_at (cursor_view place.entry)) }
 {
     let (text, after) = place.field(b"@claim ")?;
     let claim = claim(after.passed, text)?;

@@ -36,6 +36,7 @@ fn put_field(out: &mut Vec<u8>, word: &[u8], text: &[u8]) -> Result<(), Memory>
     put_line(out, &[word, text])
 }
 
+/// The 64 lower-case hexadecimal digits of the digest.
 pub fn digest_text(digest: &[u8; 32]) -> [u8; 64]
     ensures text { result ≡ encode_lower digest.now }
     ensures size { length digest.now ≡ 32 }
