@@ -1,7 +1,7 @@
 -- How a run of calls goes on.
 use Rattle.std.proofs.Common.{⊎_elim, inr, ℕ, List, [], ◌∷◌, length, take, Result, Ok, Err, sym, subst}
 use Rattle.stable_record.specs.declared.disk_fault.DiskFault.{DiskFault}
-use Rattle.stable_record.specs.History.{History, written, cut_to, synced, seen, overwritten}
+use Rattle.stable_record.specs.History.{History, IsBytes, written, cut_to, synced, seen, overwritten}
 use Rattle.stable_record.specs.Crash.{MayLeave, Leaves, Torn, AllAlong, at_first, and_then}
 use Rattle.stable_record.specs.Faults.{WritesDown, CutsDown}
 use Rattle.stable_record.specs.Possible.{overwritten_is_torn}
@@ -12,7 +12,7 @@ pub wrote_down : {T : Type 0} (P : List ℕ → Type 0) (start old new : History
 wrote_down P start old new at bytes (Ok x) so_far leaves possible down =
     let after = overwritten at bytes (seen old) in
     let torn = and_then (written at (length bytes) after) old so_far leaves in
-    let kept : Leaves P (synced ∷ written at (length bytes) after ∷ old) = λ c is. leaves c (seen old, possible, subst (λ (f : List ℕ). Torn at (length bytes) (seen old) f) (sym is) (overwritten_is_torn at bytes (seen old))) in
+    let kept : Leaves P (synced ∷ written at (length bytes) after ∷ old) = λ c is. leaves c (seen old, possible, subst (λ (f : List ℕ). Torn at (length bytes) (seen old) f) (sym is.0) (overwritten_is_torn at bytes (seen old) (subst IsBytes is.0 is.1))) in
     subst (AllAlong P start) (sym down.done) (and_then synced (written at (length bytes) after ∷ old) torn kept)
 wrote_down P start old new at bytes (Err e) so_far leaves possible down =
     ⊎_elim (λ same. subst (AllAlong P start) (sym same) so_far) (λ part. subst (AllAlong P start) (sym part.1) (and_then (written at (length bytes) part.0) old so_far leaves)) down.failed
@@ -23,7 +23,7 @@ pub cut_along : {T : Type 0} (P : List ℕ → Type 0) (start old new : History)
 cut_along P start old new len (Ok x) so_far leaves possible down =
     let after = take len (seen old) in
     let torn = and_then (cut_to len after) old so_far leaves in
-    let kept : Leaves P (synced ∷ cut_to len after ∷ old) = λ c is. leaves c (seen old, possible, inr is) in
+    let kept : Leaves P (synced ∷ cut_to len after ∷ old) = λ c is. leaves c (seen old, possible, inr is.0) in
     subst (AllAlong P start) (sym down.done) (and_then synced (cut_to len after ∷ old) torn kept)
 cut_along P start old new len (Err e) so_far leaves possible down =
     ⊎_elim (λ same. subst (AllAlong P start) (sym same) so_far) (λ part. subst (AllAlong P start) (sym part.1) (and_then (cut_to len part.0) old so_far leaves)) down.failed

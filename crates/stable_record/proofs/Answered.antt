@@ -9,7 +9,8 @@ use Rattle.stable_record.specs.declared.log_fault.LogFault.{LogFault}
 use Rattle.stable_record.specs.declared.log_fault.LogFault.TheVariants.{NotALog, OtherCluster}
 use Rattle.stable_record.specs.Log.{Note, open_gate, closed_gate, header, magic, entries, log_file}
 use Rattle.stable_record.specs.Opening.{IsBlank, no_more_than_a_gate, begun, not_opened, HasMagic, Opens, shortest}
-use Rattle.stable_record.proofs.Entries.{AreBytes, Scanned, scan}
+use Rattle.stable_record.specs.History.{IsBytes}
+use Rattle.stable_record.proofs.Entries.{Scanned, scan}
 
 -- two lists are equal or not
 same_or_not : (xs ys : List ℕ) → (xs ≡ ys) ⊎ (xs ≡ ys → ⊥)
@@ -24,7 +25,7 @@ module _ (i : Identity) where
   Answered file = (answer : Result (List Note) LogFault) × Opens i file answer
 
   -- behind the right header
-  of_log : (file : List ℕ) → AreBytes file → take (suc (length (header i))) file ≡ open_gate ∷ header i → Answered file
+  of_log : (file : List ℕ) → IsBytes file → take (suc (length (header i))) file ≡ open_gate ∷ header i → Answered file
   of_log file bytes begins =
       let rest = drop (suc (length (header i))) file in
       let read : Scanned rest = scan (length rest) rest (omega arith) (λ k. subst (λ x. x < 256) (sym (get_or-drop (suc (length (header i))) file k 0)) (bytes (suc (length (header i)) + k))) in
@@ -35,7 +36,7 @@ module _ (i : Identity) where
       read.ends
 
   -- of at least two bytes, the first of which isn't closed by 0, with the right magic
-  of_magic : (gate : ℕ) (rest : List ℕ) → AreBytes (gate ∷ rest) → 2 ≤ suc (length rest) → gate ≢ closed_gate → HasMagic i (gate ∷ rest) → Answered (gate ∷ rest)
+  of_magic : (gate : ℕ) (rest : List ℕ) → IsBytes (gate ∷ rest) → 2 ≤ suc (length rest) → gate ≢ closed_gate → HasMagic i (gate ∷ rest) → Answered (gate ∷ rest)
   of_magic gate rest bytes long not_zero right = elim (cases_eq gate open_gate) [
     | inl opened ↦ ⊎_elim
         (λ short. (Err NotALog, inl (not_blank_open opened short, λ log. omega (arith, short, log.long_enough))))
@@ -60,12 +61,12 @@ module _ (i : Identity) where
       not_blank_shut not_just (begun few zero) = not_zero (let s : Some gate ≡ Some closed_gate = zero in cc)
       not_blank_shut not_just (not_opened just shut is_right) = not_just just
 
-  pub opens_some : (file : List ℕ) → AreBytes file → Answered file
+  pub opens_some : (file : List ℕ) → IsBytes file → Answered file
   opens_some [] bytes = (Ok [], inl (no_more_than_a_gate (omega arith), refl))
   opens_some (gate ∷ []) bytes = (Ok [], inl (no_more_than_a_gate (omega arith), refl))
   opens_some (gate ∷ next ∷ rest) bytes = of_two gate next rest bytes
     where
-      of_two : (gate next : ℕ) (rest : List ℕ) → AreBytes (gate ∷ next ∷ rest) → Answered (gate ∷ next ∷ rest)
+      of_two : (gate next : ℕ) (rest : List ℕ) → IsBytes (gate ∷ next ∷ rest) → Answered (gate ∷ next ∷ rest)
       of_two gate next rest bytes = elim (cases_eq gate closed_gate) [
         | inl zero ↦ ⊎_elim
             (λ more. (Err NotALog, inl (not_blank zero more, λ log. absurd (let s : Some gate ≡ Some open_gate = log.is_open in let z : gate ≡ 0 = zero in cc))))

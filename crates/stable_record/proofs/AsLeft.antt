@@ -11,6 +11,7 @@ use Rattle.stable_record.specs.History.{History, synced, seen}
 use Rattle.stable_record.specs.Log.{Note, HasNotes, gate_place, note_of}
 use Rattle.stable_record.specs.Opening.{IsBlank, Opens, OpensAsLeft, OpensTo, StaysAs}
 use Rattle.stable_record.proofs.Along.{along_on}
+use Rattle.stable_record.proofs.Bytes.{left_are_bytes}
 use Rattle.stable_record.proofs.Opens.{opens_once}
 
 module _ (i : Identity) (start : History) (possible : MayLeave start (seen start)) where
@@ -24,15 +25,21 @@ module _ (i : Identity) (start : History) (possible : MayLeave start (seen start
   as_seen : (notes : List Note) (c : List ℕ) → Opens i (seen start) (Ok notes) → Opens i c (Ok notes) → P c
   as_seen notes c here there = record {
     left = seen start;
+    are_bytes = left_are_bytes start (seen start) possible;
     could_be = possible;
     same = λ answer. (λ is. subst (Opens i c) (opens_once i (seen start) (Ok notes) answer here is) there, λ is. subst (Opens i (seen start)) (opens_once i c (Ok notes) answer there is) here);
   }
 
   not_begun : Along start
-  not_begun = at_first (λ c left. record { left = c; could_be = left; same = λ answer. (λ is. is, λ is. is) })
+  not_begun = at_first (λ c left. record { left = c; are_bytes = left_are_bytes start c left; could_be = left; same = λ answer. (λ is. is, λ is. is) })
 
   just_synced : Along (synced ∷ start)
-  just_synced = and_then synced start not_begun (λ c is. record { left = seen start; could_be = possible; same = λ answer. (λ here. subst (λ f. Opens i f answer) (sym is) here, λ there. subst (λ f. Opens i f answer) is there) })
+  just_synced = and_then synced start not_begun (λ c is. record {
+    left = seen start;
+    are_bytes = left_are_bytes start (seen start) possible;
+    could_be = possible;
+    same = λ answer. (λ here. subst (λ f. Opens i f answer) (sym is.0) here, λ there. subst (λ f. Opens i f answer) is.0 there);
+  })
 
   -- after the first sync, which was done or not
   pub synced_along : (new : History) → new ≡ synced ∷ start → Along new
@@ -48,7 +55,7 @@ module _ (i : Identity) (start : History) (possible : MayLeave start (seen start
 
 -- what is read is on the disk
 pub synced_on_disk : (h new : History) → new ≡ synced ∷ h → IsOnDisk new
-synced_on_disk h new is = subst IsOnDisk (sym is) (λ c e. e)
+synced_on_disk h new is = subst IsOnDisk (sym is) (λ c e. e.0)
 
 -- one sync
 pub one_sync : (h new : History) → new ≡ synced ∷ h → OnlySyncs h new

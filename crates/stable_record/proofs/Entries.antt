@@ -4,17 +4,18 @@ use Rattle.std.specs.Int.{w32, to_be_bytes, from_be_bytes}
 use Rattle.std.proofs.lemmas.Bool.{cases_lt, cases_eq}
 use Rattle.std.proofs.lemmas.List.{get_or-take, get_or-drop, get_or_past, take-append-drop}
 use Rattle.std.proofs.lemmas.Nat.{be_bytes_4}
+use Rattle.stable_record.specs.History.{IsBytes}
 use Rattle.stable_record.specs.Log.{Note, entry, entries, open_gate}
 use Rattle.stable_record.specs.Opening.{IsCutShort}
 
-bytes_of_front : (behind : List ℕ) → ((i : ℕ) → get_or behind i 0 < 256) → (i : ℕ) → get_or (take 4 behind) i 0 < 256
+bytes_of_front : (behind : List ℕ) → IsBytes behind → IsBytes (take 4 behind)
 bytes_of_front behind bytes i = ⊎_elim
     (λ below. omega (arith, get_or-take 4 behind i 0 below, bytes i))
     (λ past. omega (arith, get_or_past (take 4 behind) i 0 (omega (arith, length-take 4 behind))))
     (cases_lt i 4)
 
 -- an open gate, four bytes and as many bytes as they say are an entry
-pub whole_entry : (file behind note rest : List ℕ) (gate n : ℕ) → file ≡ gate ∷ behind → gate ≡ open_gate → 4 ≤ length behind → ((i : ℕ) → get_or file i 0 < 256)
+pub whole_entry : (file behind note rest : List ℕ) (gate n : ℕ) → file ≡ gate ∷ behind → gate ≡ open_gate → 4 ≤ length behind → IsBytes file
     → n ≡ from_be_bytes w32 (take 4 behind) → length note ≡ n → note ≡ take n (drop 4 behind) → rest ≡ drop n (drop 4 behind) → file ≡ entry note ++ rest
 whole_entry file behind note rest gate n is opened long bytes reads size front back =
     let len = take 4 behind in
@@ -24,9 +25,6 @@ whole_entry file behind note rest gate n is opened long bytes reads size front b
     let joined : note ++ rest ≡ tail = ap (λ l. l ++ rest) front ∙ ap (λ l. take n tail ++ l) back ∙ take-append-drop n tail in
     is ∙ ap (λ g. g ∷ behind) opened
     ∙ ap (λ l. open_gate ∷ l) (sym (append_assoc (to_be_bytes w32 (length note)) note rest ∙ ap (λ l. l ++ (note ++ rest)) spelled ∙ ap (λ l. len ++ l) joined ∙ take-append-drop 4 behind))
-
-abbrev pub AreBytes : List ℕ → Type 0
-AreBytes bytes = (k : ℕ) → get_or bytes k 0 < 256
 
 -- entries, and an end where the gate is closed or something isn't whole
 pub record Scanned (rest : List ℕ) : Type 0 where
@@ -43,13 +41,13 @@ one_more_fits : (n : Note) (ns : List Note) → length n < 2 ^ 32 → All (λ (n
 one_more_fits n ns fits all zero d lt = fits
 one_more_fits n ns fits all (suc k) d lt = all k d (omega (arith, lt))
 
-number_fits : (bs : List ℕ) → AreBytes bs → from_be_bytes w32 bs < 2 ^ 32
+number_fits : (bs : List ℕ) → IsBytes bs → from_be_bytes w32 bs < 2 ^ 32
 number_fits bs bytes = omega (arith, bytes 0, bytes 1, bytes 2, bytes 3)
 
 stopped : (rest : List ℕ) → ((gate : ℕ) × (behind : List ℕ) × (rest ≡ gate ∷ behind) × (gate ≢ open_gate)) ⊎ IsCutShort rest → Scanned rest
 stopped rest ends = record { notes = []; end = rest; parts = refl; lengths = none_fit; ends = ends }
 
-pub scan : (fuel : ℕ) (rest : List ℕ) → length rest ≤ fuel → AreBytes rest → Scanned rest
+pub scan : (fuel : ℕ) (rest : List ℕ) → length rest ≤ fuel → IsBytes rest → Scanned rest
 scan fuel [] few bytes = record { notes = []; end = []; parts = refl; lengths = none_fit; ends = inr tt }
 scan zero (gate ∷ behind) few bytes = absurd (omega (arith, few))
 scan (suc n) (gate ∷ behind) few bytes =

@@ -1,14 +1,15 @@
 -- A byte put into ranges of a file, and what a disk in memory may leave.
-use Rattle.std.proofs.Common.{◌≡◌, ⊎_elim, inl, inr, ℕ, zero, suc, ◌+◌, ◌-◌, min, max, List, [], ◌∷◌, ◌++◌, length, take, drop, replicate, refl, sym, ◌∙◌, ap, arith, append_assoc, length-append, length-take, length-drop}
+use Rattle.std.proofs.Common.{◌≡◌, ⊎_elim, inl, inr, ℕ, zero, suc, ◌+◌, ◌-◌, ◌<◌, ◌==◌, true, false, min, max, List, [], ◌∷◌, ◌++◌, length, take, drop, replicate, refl, sym, ◌∙◌, ap, arith, append_assoc, length-append, length-take, length-drop}
 use Rattle.std.proofs.lemmas.Bool.{cases_lt}
-use Rattle.std.proofs.lemmas.List.{take_at, drop_all, drop_at, length-replicate, take-append-drop, drop-drop}
+use Rattle.std.proofs.lemmas.List.{take_at, drop_all, drop_at, length-replicate}
 use Rattle.stable_record.specs.declared.mem_disk.Left.{Left}
 use Rattle.stable_record.specs.declared.mem_disk.Left.TheVariants.{Before, Written, Fill}
 use Rattle.stable_record.specs.Crash.{MayLeave, Torn}
-use Rattle.stable_record.specs.Events.{Event, replay, holds, was_there, writes, cuts, syncs, reads, measures, fails}
-use Rattle.stable_record.specs.History.{seen, overwritten}
+use Rattle.stable_record.specs.Events.{Event, WereBytes, replay, holds, was_there, writes, cuts, syncs, reads, measures, fails}
+use Rattle.stable_record.specs.History.{History, IsBytes, written, seen, overwritten}
 use Rattle.stable_record.specs.Memory.{on_disk, unsynced, blanked, filled, left_file}
-use Rattle.stable_record.specs.Possible.{replay_possible}
+use Rattle.stable_record.specs.Possible.{replay_possible, unchanged}
+use Rattle.stable_record.proofs.Bytes.{bytes-append, bytes-take, bytes-drop, bytes-replicate}
 
 -- one range, place by place
 take_nil : (n : ℕ) → take {A = ℕ} n [] ≡ []
@@ -86,8 +87,20 @@ filled_nil : (b : ℕ) (rs : List (ℕ × ℕ)) → filled b rs [] ≡ []
 filled_nil b [] = refl
 filled_nil b (r ∷ rs) = ap (filled b rs) (blanked_nil b r) ∙ filled_nil b rs
 
+bytes-blanked : (b : ℕ) → b < 256 → (r : ℕ × ℕ) (f : List ℕ) → IsBytes f → IsBytes (blanked b r f)
+bytes-blanked b byte (at, n) f are =
+    let size = length (take n (drop at f)) in
+    bytes-append (take at f ++ replicate size b) (drop (at + n) f) (bytes-append (take at f) (replicate size b) (bytes-take at f are) (bytes-replicate size b byte)) (bytes-drop (at + n) f are)
+
+bytes-filled : (b : ℕ) → b < 256 → (rs : List (ℕ × ℕ)) (f : List ℕ) → IsBytes f → IsBytes (filled b rs f)
+bytes-filled b byte [] f are = are
+bytes-filled b byte (r ∷ rs) f are = bytes-filled b byte rs (blanked b r f) (bytes-blanked b byte r f are)
+
 -- a write whose bytes are any others
-module _ (b at : ℕ) (bytes f : List ℕ) (rs : List (ℕ × ℕ)) where
+module _ (b at first : ℕ) (more f : List ℕ) (rs : List (ℕ × ℕ)) where
+  abbrev bytes : List ℕ
+  bytes = first ∷ more
+
   abbrev after : List ℕ
   after = overwritten at bytes f
 
@@ -134,8 +147,8 @@ module _ (b at : ℕ) (bytes f : List ℕ) (rs : List (ℕ × ℕ)) where
   abbrev count : ℕ
   count = at + length bytes - start
 
-  any_bytes : Torn at (length bytes) old (filled b (rs ++ (start, count) ∷ []) after)
-  any_bytes =
+  any_bytes : b < 256 → IsBytes after → Torn at (length bytes) old (filled b (rs ++ (start, count) ∷ []) after)
+  any_bytes byte were =
       let middle = replicate (length (take count (drop start wet))) b in
       let size : length (filled b (rs ++ (start, count) ∷ []) after) ≡ max (length f) (at + length bytes) = length-filled b (rs ++ (start, count) ∷ []) after ∙ length_after in
       let ends : start + count ≡ at + length bytes = omega arith in
@@ -148,45 +161,69 @@ module _ (b at : ℕ) (bytes f : List ℕ) (rs : List (ℕ × ℕ)) where
             ∙ ap (λ l. take at old ++ middle ++ l) drop_same;
         no_shorter = omega (arith, size, length-filled b rs f);
         no_longer = omega (arith, size, length-filled b rs f);
+        are_bytes = bytes-filled b byte (rs ++ (start, count) ∷ []) after were;
       }
 
--- a write that did nothing
-unchanged : (at n : ℕ) (f : List ℕ) → Torn at n f f
-unchanged at n f = record {
-  middle = take n (drop at f);
-  parts =
-      sym (take-append-drop at f)
-      ∙ ap (λ l. take at f ++ l) (sym (take-append-drop n (drop at f)) ∙ ap (λ l. take n (drop at f) ++ l) (drop-drop n at f))
-      ∙ sym (append_assoc (take at f) (take n (drop at f)) (drop (at + n) f));
-  no_shorter = omega arith;
-  no_longer = omega arith;
-}
+-- the bytes as of the last sync
+on_disk_bytes : (es : List Event) → WereBytes es → IsBytes (on_disk (replay es))
+on_disk_bytes [] were = were 0
+on_disk_bytes (holds file ∷ es) were = were 0
+on_disk_bytes (was_there file ∷ es) were = were 0
+on_disk_bytes (writes at bs ∷ es) were = on_disk_bytes es (λ k. were (suc k))
+on_disk_bytes (cuts len ∷ es) were = on_disk_bytes es (λ k. were (suc k))
+on_disk_bytes (syncs ∷ es) were = were 0
+on_disk_bytes (reads at room bs ∷ es) were = on_disk_bytes es (λ k. were (suc k))
+on_disk_bytes (measures len ∷ es) were = on_disk_bytes es (λ k. were (suc k))
+on_disk_bytes (fails ∷ es) were = on_disk_bytes es (λ k. were (suc k))
 
-before_possible : (es : List Event) → MayLeave (replay es) (on_disk (replay es))
-before_possible [] = refl
-before_possible (holds file ∷ es) = refl
-before_possible (was_there file ∷ es) = tt
-before_possible (writes at bytes ∷ es) = (on_disk (replay es), before_possible es, unchanged at (length bytes) (on_disk (replay es)))
-before_possible (cuts len ∷ es) = (on_disk (replay es), before_possible es, inl refl)
-before_possible (syncs ∷ es) = refl
-before_possible (reads at room bytes ∷ es) = before_possible es
-before_possible (measures len ∷ es) = before_possible es
-before_possible (fails ∷ es) = before_possible es
+before_possible : (es : List Event) → WereBytes es → MayLeave (replay es) (on_disk (replay es))
+before_possible [] were = refl
+before_possible (holds file ∷ es) were = (refl, were 0)
+before_possible (was_there file ∷ es) were = were 0
+before_possible (writes at bs ∷ es) were =
+    let so_far : WereBytes es = λ k. were (suc k) in
+    (on_disk (replay es), before_possible es so_far, unchanged at (length bs) (on_disk (replay es)) (on_disk_bytes es so_far))
+before_possible (cuts len ∷ es) were = (on_disk (replay es), before_possible es (λ k. were (suc k)), inl refl)
+before_possible (syncs ∷ es) were = (refl, were 0)
+before_possible (reads at room bs ∷ es) were = before_possible es (λ k. were (suc k))
+before_possible (measures len ∷ es) were = before_possible es (λ k. were (suc k))
+before_possible (fails ∷ es) were = before_possible es (λ k. were (suc k))
 
-fill_possible : (b : ℕ) (es : List Event) → MayLeave (replay es) (filled b (unsynced (replay es)) (seen (replay es)))
-fill_possible b [] = refl
-fill_possible b (holds file ∷ es) = refl
-fill_possible b (was_there file ∷ es) = tt
-fill_possible b (writes at bytes ∷ es) =
-    let h = replay es in (filled b (unsynced h) (seen h), fill_possible b es, any_bytes b at bytes (seen h) (unsynced h))
-fill_possible b (cuts len ∷ es) = let h = replay es in (filled b (unsynced h) (seen h), fill_possible b es, inr (sym (take-filled b (unsynced h) len (seen h))))
-fill_possible b (syncs ∷ es) = refl
-fill_possible b (reads at room bytes ∷ es) = fill_possible b es
-fill_possible b (measures len ∷ es) = fill_possible b es
-fill_possible b (fails ∷ es) = fill_possible b es
+fill_possible : (b : ℕ) → b < 256 → (es : List Event) → WereBytes es → MayLeave (replay es) (filled b (unsynced (replay es)) (seen (replay es)))
+fill_possible b byte [] were = refl
+fill_possible b byte (holds file ∷ es) were = (refl, were 0)
+fill_possible b byte (was_there file ∷ es) were = were 0
+fill_possible b byte (writes at [] ∷ es) were =
+    let h = replay es in
+    let so_far : WereBytes es = λ k. were (suc k) in
+    let wet = filled b (unsynced h) (seen h) in (wet, fill_possible b byte es so_far, unchanged at 0 wet (bytes-filled b byte (unsynced h) (seen h) (so_far 0)))
+fill_possible b byte (writes at (first ∷ more) ∷ es) were =
+    let h = replay es in (
+      filled b (unsynced h) (seen h),
+      fill_possible b byte es (λ k. were (suc k)),
+      any_bytes b at first more (seen h) (unsynced h) byte (were 0),
+    )
+fill_possible b byte (cuts len ∷ es) were =
+    let h = replay es in (filled b (unsynced h) (seen h), fill_possible b byte es (λ k. were (suc k)), inr (sym (take-filled b (unsynced h) len (seen h))))
+fill_possible b byte (syncs ∷ es) were = (refl, were 0)
+fill_possible b byte (reads at room bs ∷ es) were = fill_possible b byte es (λ k. were (suc k))
+fill_possible b byte (measures len ∷ es) were = fill_possible b byte es (λ k. were (suc k))
+fill_possible b byte (fails ∷ es) were = fill_possible b byte es (λ k. were (suc k))
+
+-- the byte that the disk is told to leave is one
+abbrev pub TellsByte : Left → Type 0
+TellsByte Before = Unit {0}
+TellsByte Written = Unit {0}
+TellsByte (Fill b) = b < 256
+
+-- a write of some bytes is one range more
+pub unsynced_push : (at : ℕ) (bs file : List ℕ) (h : History) → (length bs == 0) ≡ false
+    → unsynced (written at (length bs) file ∷ h) ≡ unsynced h ++ (min at (length (seen h)), at + length bs - min at (length (seen h))) ∷ []
+unsynced_push at [] file h some = absurd (let e : true ≡ false = some in cc)
+unsynced_push at (x ∷ xs) file h some = refl
 
 -- what a disk in memory is told to leave is among what a crash may leave
-pub left_possible : (left : Left) (es : List Event) → MayLeave (replay es) (left_file left (replay es))
-left_possible Before es = before_possible es
-left_possible Written es = replay_possible es
-left_possible (Fill b) es = fill_possible b es
+pub left_possible : (left : Left) (es : List Event) → TellsByte left → WereBytes es → MayLeave (replay es) (left_file left (replay es))
+left_possible Before es byte were = before_possible es were
+left_possible Written es byte were = replay_possible es were
+left_possible (Fill b) es byte were = fill_possible b byte es were

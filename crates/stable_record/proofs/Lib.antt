@@ -1,6 +1,7 @@
 mod Along
 mod Answered
 mod AsLeft
+mod Bytes
 mod Entries
 mod Examples
 mod Files

@@ -19,10 +19,7 @@ with_gate gate i = gate ∷ header i ++ closed_gate ∷ []
 
 -- a synced history is on the disk
 pub on_disk_after : (h new : History) → new ≡ synced ∷ h → IsOnDisk new
-on_disk_after h new is = subst IsOnDisk (sym is) (λ c e. e)
-
-pub possible_after : (h new : History) → new ≡ synced ∷ h → MayLeave new (seen new)
-possible_after h new is = subst (λ (k : History). MayLeave k (seen k)) (sym is) refl
+on_disk_after h new is = subst IsOnDisk (sym is) (λ c e. e.0)
 
 module _ (i : Identity) where
   abbrev IsNew : List ℕ → Type 0

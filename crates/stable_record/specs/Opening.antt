@@ -1,5 +1,5 @@
 -- What a file is opened as.
-use Rattle.std.specs.Prelude.{◌≡◌, ◌≢◌, ◌⊎◌, ◌↔◌, ℕ, ◌+◌, ◌<◌, ◌≤◌, ◌^◌, All, List, [], ◌∷◌, ◌++◌, length, take, drop, Some, Result, Ok, Err, slice_get, slice_index, map}
+use Rattle.std.specs.Prelude.{◌≡◌, ◌≢◌, ◌⊎◌, ◌↔◌, ℕ, ◌+◌, ◌<◌, ◌≤◌, ◌^◌, All, List, [], ◌∷◌, ◌++◌, length, take, drop, Some, Result, Ok, Err, slice_get, map}
 use Rattle.std.specs.Int.{w32, from_be_bytes}
 use Rattle.stable_record.specs.declared.identity.Identity.{Identity}
 use Rattle.stable_record.specs.declared.log_fault.LogFault.{LogFault}
@@ -9,7 +9,7 @@ use Rattle.stable_record.specs.declared.reading.Opening.TheVariants.{Blank, Note
 use Rattle.stable_record.specs.declared.reading.AtGate.{AtGate}
 use Rattle.stable_record.specs.declared.reading.AtGate.TheVariants as at
 use Rattle.stable_record.specs.Log.{Note, entry, HasNotes, note_of, gate_place, magic, header, log_file, open_gate, closed_gate}
-use Rattle.stable_record.specs.History.{History}
+use Rattle.stable_record.specs.History.{History, IsBytes}
 use Rattle.stable_record.specs.Crash.{AllAlong, MayLeave}
 
 -- the length of a log without notes: two gates and the header
@@ -24,8 +24,8 @@ HasMagic i file = take 8 (drop 1 file) ≡ magic i
 abbrev pub IsAsOwner : Identity → List ℕ → Type 0
 IsAsOwner i file = take (length (header i)) (drop 1 file) ≡ header i
 
--- What a crash may have left of a log in making: nothing or one byte; or no more than a log without notes, the first
--- byte being 0; or just that much, the header's gate closed behind which the right magic stands.
+-- A log is to be made of this file: it has at most one byte; or it is no longer than a log without notes, and its first
+-- byte is 0; or it is just as long as one, its first byte isn't 1, and the right magic stands behind that byte.
 pub data IsBlank (i : Identity) (file : List ℕ) : Type 0 where
   no_more_than_a_gate : length file ≤ 1 → IsBlank i file
   begun : length file ≤ shortest i → slice_get file 0 ≡ Some closed_gate → IsBlank i file
@@ -75,13 +75,14 @@ OpensTo i file (Notes notes end) = HasNotes i (map note_of notes.items) file × 
 abbrev pub StaysAs : Identity → List Note → History → History → Type 0
 StaysAs i notes = AllAlong (λ file. Opens i file (Ok notes))
 
--- The file opens as one that a crash at the start could have left.
+-- The file opens as some file of bytes that a crash at the start could have left.
 pub record OpensAsLeft (i : Identity) (start : History) (file : List ℕ) : Type 0 where
   pub left : List ℕ
+  pub are_bytes : IsBytes left
   pub could_be : MayLeave start left
   pub same : (answer : Result (List Note) LogFault) → Opens i left answer ↔ Opens i file answer
 
 -- Each file of bytes opens to something, and no file to two things.
 pub record HasOneAnswer (i : Identity) : Type 0 where
-  pub some_answer : (file : List ℕ) → ((k : ℕ) → slice_index file k < 256) → (answer : Result (List Note) LogFault) × Opens i file answer
+  pub some_answer : (file : List ℕ) → IsBytes file → (answer : Result (List Note) LogFault) × Opens i file answer
   pub no_second : (file : List ℕ) (a b : Result (List Note) LogFault) → Opens i file a → Opens i file b → a ≡ b

@@ -73,7 +73,7 @@ impl Disk for FaultDisk {
 
     ghost room = { λ d. let m = d.inner in record { bytes = min (vec_capacity m.file) (vec_capacity m.before) - length m.file.items; calls = vec_capacity m.ranges - length m.ranges.items } };
 
-    ghost stays_possible = { λ d. replay_possible d.inner.noted.events };
+    ghost stays_possible = { λ d. replay_possible d.inner.noted.events d.inner.were_bytes };
 
     fn len(&mut self) -> Result<u64, DiskFault> {
         self.inner.len()

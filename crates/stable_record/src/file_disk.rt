@@ -1,8 +1,8 @@
 //! A file of the operating system. Each call is noted with its answer, for clauses alone.
 ghost use Rattle.std.specs.Prelude.{◌≡◌, ◌≤◌, ◌^◌, ◌∷◌, [], ℕ, List, true, length, IfOk};
-ghost use Rattle.stable_record.specs.Events.{agrees, replay};
+ghost use Rattle.stable_record.specs.Events.{WereBytes, agrees, replay};
 ghost use Rattle.stable_record.specs.Faults.{one_more};
-ghost use Rattle.stable_record.specs.History.{found};
+ghost use Rattle.stable_record.specs.History.{Bytes, found};
 ghost use Rattle.stable_record.specs.Possible.{replay_possible};
 ghost use Rattle.stable_record.specs.Room.{Room};
 
@@ -30,6 +30,7 @@ pub struct FileDisk {
     file: File,
     failures: u64,
     noted: Record,
+    ghost were_bytes: { WereBytes noted.events },
 }
 
 impl FileDisk {
@@ -43,8 +44,8 @@ impl FileDisk {
     /// A disk over an open file. Whatever the file has is taken to be what a read gives, and nothing is known of what
     /// a crash leaves of it.
     pub fn new(file: File) -> FileDisk
-        ghost content: { List ℕ }
-        ensures history { replay result.noted.events ≡ found content ∷ [] }
+        ghost content: { Bytes }
+        ensures history { replay result.noted.events ≡ found content.list ∷ [] }
         ensures no_failure { result.failures ≡ 0 }
     {
         FileDisk {
@@ -101,7 +102,7 @@ impl Disk for FileDisk {
 
     ghost room = { λ _. record { bytes = 2 ^ 64; calls = 2 ^ 32 } };
 
-    ghost stays_possible = { λ d. replay_possible d.noted.events };
+    ghost stays_possible = { λ d. replay_possible d.noted.events d.were_bytes };
 
     fn len(&mut self) -> Result<u64, DiskFault> {
         match self.file.metadata() {
@@ -132,6 +133,7 @@ impl Disk for FileDisk {
                 Ok(())
             }
             Err(_error) => {
+                self.noted.note(&[WRITTEN, at], bytes);
                 self.noted.note(&[FAILED], &[]);
                 Err(self.failed())
             }
@@ -145,6 +147,7 @@ impl Disk for FileDisk {
                 Ok(())
             }
             Err(_error) => {
+                self.noted.note(&[CUT, len], &[]);
                 self.noted.note(&[FAILED], &[]);
                 Err(self.failed())
             }

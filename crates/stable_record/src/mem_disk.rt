@@ -1,7 +1,7 @@
 //! A disk in memory.
 ghost use Rattle.std.specs.Prelude.{◌≡◌, ◌-◌, ◌+◌, ◌≤◌, ◌<◌, ◌^◌, ℕ, [], ◌∷◌, ◌++◌, length, map, min, take, drop, replicate, IfOk, IsOk, OnOk, false, if◌then◌else◌, ⊤, vec_len, vec_capacity};
 ghost use Rattle.stable_record.specs.Crash.{MayLeave};
-ghost use Rattle.stable_record.specs.Events.{replay};
+ghost use Rattle.stable_record.specs.Events.{WereBytes, replay};
 ghost use Rattle.stable_record.specs.History.{History, overwritten, seen, stands};
 ghost use Rattle.stable_record.specs.Memory.{blanked, filled, left_file, on_disk, unsynced};
 ghost use Rattle.stable_record.specs.Possible.{replay_possible};
@@ -47,6 +47,7 @@ pub struct MemDisk {
     ghost ranges_are: { ranges.items ≡ unsynced (replay noted.events) },
     ghost fits: { length file.items ≤ vec_capacity before },
     ghost fits_back: { length before.items ≤ vec_capacity file },
+    ghost were_bytes: { WereBytes noted.events },
 }
 
 impl MemDisk {
@@ -146,6 +147,7 @@ impl MemDisk {
 /// Puts a byte in each place of some ranges.
 fn fill(file: &mut Vec<u8>, ranges: &[(usize, usize)], byte: u8)
     ensures items { file.new.items ≡ filled byte ranges.now file.old.items }
+    ensures is_byte { byte < 256 }
     ensures len { length file.new.items ≡ length file.old.items }
     ensures capacity { vec_capacity file.new ≡ vec_capacity file.old }
 {
@@ -173,6 +175,9 @@ fn overwrite(file: &mut Vec<u8>, at: usize, bytes: &[u8])
     ensures items { file.new.items ≡ overwritten at bytes.now file.old.items }
     ensures capacity { vec_capacity file.old ≤ vec_capacity file.new }
 {
+    if bytes.is_empty() {
+        return;
+    }
     reach(file, at);
     put(file, at, bytes);
 }
@@ -210,7 +215,7 @@ impl Disk for MemDisk {
 
     ghost room = { λ d. record { bytes = min (vec_capacity d.file) (vec_capacity d.before) - length d.file.items; calls = vec_capacity d.ranges - length d.ranges.items } };
 
-    ghost stays_possible = { λ d. replay_possible d.noted.events };
+    ghost stays_possible = { λ d. replay_possible d.noted.events d.were_bytes };
 
     fn len(&mut self) -> Result<u64, DiskFault> {
         Ok(self.file.len() as u64)
@@ -224,6 +229,10 @@ impl Disk for MemDisk {
     }
 
     fn write_at(&mut self, at: u64, bytes: &[u8]) -> Result<(), DiskFault> {
+        if bytes.is_empty() {
+            self.noted.note(&[WRITTEN, at], bytes);
+            return Ok(());
+        }
         let start = at as usize;
         if bytes.len() > usize::MAX - start {
             return Err(DiskFault::Memory);

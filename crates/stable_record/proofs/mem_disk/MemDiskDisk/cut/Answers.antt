@@ -1,0 +1,6 @@
+use Rattle.stable_record.proofs.Bytes.{noted_cut}
+use Rattle.stable_record.proofs.mem_disk.MemDiskDisk.cut.Goals as goal
+
+pub invariant_of-self-clause-were_bytes : goal.invariant_of-self-clause-were_bytes
+invariant_of-self-clause-were_bytes c =
+    let self = c.keep_before.new.self in noted_cut c.args.len self.noted.events c.note.new.self.events c.note.ensures self.were_bytes
