@@ -14,14 +14,16 @@ pub fn command<'a>(alloc: Global) -> Result<Command<'a>, AllocError>
     ensures shape { IfOk result (λ command. shape_of command ≡ audit_command) }
     ensures local { IfOk result (λ command. (fields_of command).has_globals ≡ false) }
 {
-    let listing = required(alloc, "LISTING", "a listing of the ports tree");
+    let listing = required(alloc, "LISTING", "a listing of a ports tree");
     let list = required(
         alloc,
         "LIST",
-        "the packages in order, and what each was built on",
+        "a text of packages, in the order in which they were built",
     );
     Command::new(alloc, "audit")
-        .about("Says whether a list of packages is one that builds of the listing can have made.")
+        .about(
+            "Says whether builds of a listing can have made the packages of a list, one after the other.",
+        )
         .arg(listing)?
         .arg(list)
 }

@@ -71,7 +71,7 @@ fn dpbr_command<'a>(alloc: Global) -> Result<Command<'a>, AllocError>
     ensures { IfOk result (λ command. app_of command ≡ dpbr_app) }
 {
     Command::new(alloc, "dpbr")
-        .about("Replays and judges bulk builds of a ports tree.")
+        .about("Letters and audits of a bulk build of ports.")
         .subcommand_required(true)
         .subcommand(status::command(alloc)?)?
         .subcommand(audit::command(alloc)?)
