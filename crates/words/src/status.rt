@@ -2,7 +2,7 @@
 ghost use Rattle.std.specs.Prelude.{◌≡◌, IfNone, IfOk, IfSome, Some, codes, false};
 ghost use Rattle.clap.specs.Words.{found_of, rows_of, shape_of};
 ghost use Rattle.clap.specs.declared.builder.command.Command.TheViews.{out-Command as fields_of};
-ghost use Rattle.words.specs.Calls.{IsCallOf, status_command};
+ghost use Rattle.words.specs.Calls.{HasBoth, IsCallOf, status_command};
 
 use crate::Call;
 use crate::arguments::{required, text_of};
@@ -25,7 +25,7 @@ pub fn command<'a>(alloc: Global) -> Result<Command<'a>, AllocError>
 /// The call with the values that were found.
 pub fn call_of<'a>(found: &ArgMatches<'a>) -> Option<Call<'a>>
     ensures some { IfSome result (IsCallOf (Some (codes "status", rows_of (found_of found.now)))) }
-    ensures none { IfNone result ((call : Call) → ¬ IsCallOf (Some (codes "status", rows_of (found_of found.now))) call) }
+    ensures none { IfNone result (¬ HasBoth (rows_of (found_of found.now)) (codes "LISTING") (codes "HELD")) }
 {
     let listing = text_of(found, "LISTING")?;
     let held = text_of(found, "HELD")?;
