@@ -1,4 +1,4 @@
-//! Replays and judges bulk builds of a ports tree.
+//! Letters and audits of a bulk build of ports, from files.
 #![tactic(auto)]
 
 use replay::dpbr_main;

@@ -14,6 +14,7 @@ use Rattle.faults.specs.Bytes.{Text, is_empty}
 use Rattle.listing.specs.Lines.{Line}
 use Rattle.listing.specs.Tree.{Tree, path_at}
 use Rattle.pkgpath.specs.PkgPath.{path_of}
+use Rattle.replay.proofs.Positions.{ok_once}
 use Rattle.replay.specs.Held.{Holds, IsFaultless, Names}
 use Rattle.replay.specs.declared.held.HeldFault.TheVariants.{Memory, BadList, Unlisted, Ignored}
 
@@ -42,9 +43,6 @@ empty_spells_none (b ∷ text) path empty spelled = true≢false (sym empty)
 err_is_no_ok : {X F : Type 0} (r : Result X F) (x : X) → IsErr r → r ≡ Ok x → ⊥
 err_is_no_ok (Ok y) x is e = true≢false (sym is)
 err_is_no_ok (Err y) x is e = cc
-
-ok_once : {X F : Type 0} (r : Result X F) (x y : X) → r ≡ Ok x → r ≡ Ok y → x ≡ y
-ok_once r x y e f = cc
 
 -- an empty line has no fault
 empty_is_faultless : (tree : Tree) (line : Line) → is_empty line.1 ≡ true → IsFaultless tree line

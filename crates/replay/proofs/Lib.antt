@@ -1,4 +1,5 @@
 mod Examples
+pub mod Beginnings
 pub mod Ends
 pub mod Fields
 pub mod Holding

@@ -39,7 +39,8 @@ named_at tree text path p spelled e =
     let found = listed_at tree path p e in
     record { listed = found.0; spelled = spelled ∙ ap Ok (sym found.1) }
 
-ok_once : {X F : Type 0} (r : Result X F) (x y : X) → r ≡ Ok x → r ≡ Ok y → x ≡ y
+-- there is one value at most
+pub ok_once : {X F : Type 0} (r : Result X F) (x y : X) → r ≡ Ok x → r ≡ Ok y → x ≡ y
 ok_once r x y e f = cc
 
 -- one text spells one path

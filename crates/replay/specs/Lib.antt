@@ -1,9 +1,9 @@
 pub mod Audit
 pub mod Held
+pub mod HeldRefusals
 pub mod List
 pub mod ListLaws
 pub mod ListRefusals
 pub mod Listed
 pub mod Printed
-pub mod Refusals
 pub mod Status

@@ -32,12 +32,12 @@ abbrev pub IsBuilt : ListLine → Type 0
 IsBuilt (Package d) = ⊥
 IsBuilt (Built d) = Unit {0}
 
--- what the line says was added
+-- the line says something, and that was added
 pub record AddsLine (before : Option Packages) (line : Text) (after : Packages) : Type 0 where
   pub said : ListLine
   pub says : Says line said
   pub added : said_in (Some after) ≡ said_in before ++ said ∷ []
 
--- if the line says anything, it is what no package was built on
+-- if the line says anything, it is about one that a package was built on, and no package was read before it
 abbrev pub CannotFollow : Option Packages → Text → Type 0
 CannotFollow before line = (said : ListLine) → Says line said → (before ≡ None) × IsBuilt said

@@ -1,6 +1,6 @@
 -- What the program prints, and the status with which it then ends.
-use Rattle.std.specs.Prelude.{◌≡◌, ℕ, List, Option}
-use Rattle.std.specs.Io.KnownBytes.{Appends}
+use Rattle.std.specs.Prelude.{◌≡◌, ◌⊎◌, ℕ, List, Option, take}
+use Rattle.std.specs.Io.KnownBytes.{Appends, Keeps}
 use Rattle.auditing.specs.declared.verdict.Verdict.{Verdict}
 use Rattle.clap.specs.Words.{Row}
 use Rattle.faults.specs.Bytes.{Text}
@@ -47,3 +47,18 @@ pub record HasCarriedOut (matched : Option (Text × List Row)) (status : ℕ) (b
   pub call : Call
   pub is_call : IsCallOf matched call
   pub printed : HasPrinted call status before after
+
+-- known bytes grow by a beginning of the text: by nothing, a part of it or the whole
+abbrev pub AppendsBeginning : Option (List ℕ) → Option (List ℕ) → Text → Type 0
+AppendsBeginning before after text = (n : ℕ) × Appends before after (take n text)
+
+-- what was written since is a beginning of one text that the call prints
+pub record HasBegun (call : Call) (before after : Option (List ℕ)) : Type 0 where
+  pub status : ℕ
+  pub text : Text
+  pub is_output : IsOutputOf call status text
+  pub begun : AppendsBeginning before after text
+
+-- nothing was written since, or a beginning of what the call that clap matched prints
+abbrev pub HasStopped : Option (Text × List Row) → Option (List ℕ) → Option (List ℕ) → Type 0
+HasStopped matched before after = Keeps before after ⊎ ((call : Call) × IsCallOf matched call × HasBegun call before after)

@@ -5,7 +5,7 @@ ghost use Rattle.engine.specs.Letters.{IsIgnored};
 ghost use Rattle.engine.specs.State.{has_agreed};
 ghost use Rattle.faults.specs.Bytes.{is_empty};
 ghost use Rattle.replay.specs.Held.{AreHeld, Holds, IsFaultOf, IsFirstFault};
-ghost use Rattle.replay.specs.Refusals.{number_of, place_of};
+ghost use Rattle.replay.specs.HeldRefusals.{number_of, place_of};
 ghost use Rattle.replay.specs.declared.held.HeldFault.TheVariants.{Memory as OutOfMemory};
 
 use crate::pieces::pieces;

@@ -6,6 +6,7 @@ mod laws;
 mod list;
 mod list_line;
 mod pieces;
+mod printing;
 mod program;
 mod refusal;
 mod report;

@@ -69,8 +69,8 @@ pub(crate) struct Packages {
 /// The entries of a list of packages.
 ///
 /// A package has a line `package PATH NAME DIGEST`, and behind it a line `built PATH NAME DIGEST` for each package that it
-/// was built on; the paths may have any of their spellings, and the digests are in lower-case hexadecimal digits. Each line
-/// but the last ends with LF. A text of no bytes is the empty list, and an empty line is a fault.
+/// was built on; the paths may have any of their spellings, and the digests are in lower-case hexadecimal digits. Lines end
+/// with LF, which the last may lack. A text of no bytes is the empty list, and an empty line is a fault.
 pub fn read_list(alloc: Global, text: &[u8]) -> Result<Vec<Entry>, ListFault>
     ensures entries { IfOk result (λ entries. AreEntries text.now entries.items) }
     ensures refused { IfErr result (λ e. (e ≡ ListFault.Memory) ⊎ IsFirstBadLine text.now e) }

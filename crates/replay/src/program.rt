@@ -1,9 +1,10 @@
 //! The program `dpbr`.
-ghost use Rattle.std.specs.Prelude.{◌≡◌, ◌≤◌, ◌⊎◌, IfOk, map, string_bytes, true};
+ghost use Rattle.std.specs.Prelude.{◌≡◌, ◌≢◌, ◌≤◌, ◌⊎◌, IfOk, OnErr, map, string_bytes, true};
 ghost use Rattle.std.specs.Io.KnownBytes.{Keeps};
-ghost use Rattle.replay.specs.Printed.{HasCarriedOut, HasPrinted, IsAudit, IsOutputOf, IsStatus};
-ghost use Rattle.words.specs.Calls.{IsCallOf, are_taken, matched};
+ghost use Rattle.replay.specs.Printed.{HasBegun, HasCarriedOut, HasPrinted, HasStopped, IsAudit, IsOutputOf, IsStatus};
+ghost use Rattle.words.specs.Calls.{are_taken, matched};
 
+use crate::printing::print;
 use crate::refusal::Refusal;
 use crate::report::status;
 use crate::verdict::{audit_list, status_after, verdict_text};
@@ -30,9 +31,10 @@ pub fn dpbr_main<R: Files + AllocGlobal, O: Write, E: Write>(
     ensures status { result ≤ 3 }
     ensures done { result ≡ 0 → HasCarriedOut (matched (map string_bytes words.now)) 0 (O.contents out.old) (O.contents out.new) }
     ensures denied { result ≡ 3 → HasCarriedOut (matched (map string_bytes words.now)) 3 (O.contents out.old) (O.contents out.new) }
-    // Words that clap takes, and that name each value of a call, are no wrong words.
-    ensures wrong_words { result ≡ 2 → are_taken (map string_bytes words.now) ≡ true
-        → (call : Call) → ¬ IsCallOf (matched (map string_bytes words.now)) call }
+    // Words that clap takes are no wrong words.
+    ensures wrong_words { result ≡ 2 → are_taken (map string_bytes words.now) ≢ true }
+    // After a fault nothing was written, or no more than a beginning of what the call prints.
+    ensures fault { result ≡ 1 → HasStopped (matched (map string_bytes words.now)) (O.contents out.old) (O.contents out.new) }
     ensures quiet { result ≡ 2 → Keeps (O.contents out.old) (O.contents out.new) }
 {
     let refusal = match dpbr_words(rt.alloc(), words) {
@@ -58,10 +60,10 @@ fn carry_out<R: Files + AllocGlobal, O: Write>(
 ) -> Result<u8, Refusal>
     ensures printed { IfOk result (λ status. HasPrinted call.now status (O.contents out.old) (O.contents out.new)) }
     ensures status { IfOk result (λ status. (status ≡ 0) ⊎ (status ≡ 3)) }
+    ensures stopped { OnErr result (Keeps (O.contents out.old) (O.contents out.new) ⊎ HasBegun call.now (O.contents out.old) (O.contents out.new)) }
 {
     let output = output(rt, call)?;
-    out.write_all(output.text.as_slice())?;
-    out.flush()?;
+    print(out, output.text.as_slice())?;
     Ok(output.status)
 }
 

@@ -2,7 +2,7 @@
 ghost use Rattle.std.specs.Prelude.{◌≡◌, ◌⊎◌, None};
 ghost use Rattle.listing.specs.Refusals as listings;
 ghost use Rattle.replay.specs.ListRefusals as lists;
-ghost use Rattle.replay.specs.Refusals as held;
+ghost use Rattle.replay.specs.HeldRefusals as held;
 
 use crate::held::HeldFault;
 use crate::list::ListFault;

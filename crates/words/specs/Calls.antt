@@ -1,5 +1,5 @@
 -- The calls of `dpbr`, as clap matches their words.
-use Rattle.std.specs.Prelude.{◌≡◌, codes, fold, List, [], ◌∷◌, Bool, Option, None, Some, true}
+use Rattle.std.specs.Prelude.{◌≡◌, ◌⊎◌, codes, fold, List, [], ◌∷◌, Bool, Option, None, Some, true}
 use Rattle.clap.specs.Words.{App, Row, Rule, Shape, Text, first_of, new_app, new_rule, subcommand_of, takes, with_rule, with_subcommand}
 use Rattle.words.specs.declared.Call.{Call}
 use Rattle.words.specs.declared.Call.TheVariants.{Audit, Status}
@@ -50,3 +50,14 @@ IsCallOf (Some (name, rows)) (Status listing held) =
     (name ≡ codes "status") × IsWord rows (codes "LISTING") listing.now × IsWord rows (codes "HELD") held.now
 IsCallOf (Some (name, rows)) (Audit listing list) =
     (name ≡ codes "audit") × IsWord rows (codes "LISTING") listing.now × IsWord rows (codes "LIST") list.now
+
+-- a word was matched under each of two names
+abbrev pub HasBoth : List Row → Text → Text → Type 0
+HasBoth rows one other = ((t : Text) × IsWord rows one t) × ((t : Text) × IsWord rows other t)
+
+-- clap matched a call's subcommand, and a word for each of the call's values
+abbrev pub NamesCall : Option (Text × List Row) → Type 0
+NamesCall None = ⊥
+NamesCall (Some (name, rows)) =
+    ((name ≡ codes "status") × HasBoth rows (codes "LISTING") (codes "HELD"))
+    ⊎ ((name ≡ codes "audit") × HasBoth rows (codes "LISTING") (codes "LIST"))

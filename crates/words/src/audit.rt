@@ -2,7 +2,7 @@
 ghost use Rattle.std.specs.Prelude.{◌≡◌, IfNone, IfOk, IfSome, Some, codes, false};
 ghost use Rattle.clap.specs.Words.{found_of, rows_of, shape_of};
 ghost use Rattle.clap.specs.declared.builder.command.Command.TheViews.{out-Command as fields_of};
-ghost use Rattle.words.specs.Calls.{IsCallOf, audit_command};
+ghost use Rattle.words.specs.Calls.{HasBoth, IsCallOf, audit_command};
 
 use crate::Call;
 use crate::arguments::{required, text_of};
@@ -14,14 +14,16 @@ pub fn command<'a>(alloc: Global) -> Result<Command<'a>, AllocError>
     ensures shape { IfOk result (λ command. shape_of command ≡ audit_command) }
     ensures local { IfOk result (λ command. (fields_of command).has_globals ≡ false) }
 {
-    let listing = required(alloc, "LISTING", "a listing of the ports tree");
+    let listing = required(alloc, "LISTING", "a listing of a ports tree");
     let list = required(
         alloc,
         "LIST",
-        "the packages in order, and what each was built on",
+        "a text of packages, in the order in which they were built",
     );
     Command::new(alloc, "audit")
-        .about("Says whether a list of packages is one that builds of the listing can have made.")
+        .about(
+            "Says whether builds of a listing can have made the packages of a list, one after the other.",
+        )
         .arg(listing)?
         .arg(list)
 }
@@ -29,7 +31,7 @@ pub fn command<'a>(alloc: Global) -> Result<Command<'a>, AllocError>
 /// The call with the values that were found.
 pub fn call_of<'a>(found: &ArgMatches<'a>) -> Option<Call<'a>>
     ensures some { IfSome result (IsCallOf (Some (codes "audit", rows_of (found_of found.now)))) }
-    ensures none { IfNone result ((call : Call) → ¬ IsCallOf (Some (codes "audit", rows_of (found_of found.now))) call) }
+    ensures none { IfNone result (¬ HasBoth (rows_of (found_of found.now)) (codes "LISTING") (codes "LIST")) }
 {
     let listing = text_of(found, "LISTING")?;
     let list = text_of(found, "LIST")?;

@@ -4,7 +4,7 @@
 ghost use Rattle.std.specs.Prelude.{◌≡◌, IfErr, IfNone, IfOk, IfSome, map, true};
 ghost use Rattle.clap.specs.Words.{app_of, kind_of, subcommand_rows_of};
 ghost use Rattle.clap.specs.declared.error.kind.ErrorKind.TheVariants.{OutOfMemory};
-ghost use Rattle.words.specs.Calls.{IsCallOf, are_taken, dpbr_app, matched};
+ghost use Rattle.words.specs.Calls.{IsCallOf, NamesCall, are_taken, dpbr_app, matched};
 
 mod arguments;
 mod audit;
@@ -29,9 +29,8 @@ pub enum Call<'a> {
 /// Words that make no call, and those that ask for help, are refused with clap's text.
 pub fn dpbr_words<'a, S: AsStr>(alloc: Global, words: &'a [S]) -> Result<Call<'a>, Error>
     ensures call { IfOk result (IsCallOf (matched (map S.text words.entry.now))) }
-    // Words that clap takes, and that name each value of a call, are refused only for want of memory.
-    ensures refused { IfErr result (λ e. are_taken (map S.text words.entry.now) ≡ true
-        → (call : Call) → IsCallOf (matched (map S.text words.entry.now)) call → kind_of e ≡ OutOfMemory) }
+    // Words that clap takes are refused only for want of memory.
+    ensures refused { IfErr result (λ e. are_taken (map S.text words.entry.now) ≡ true → kind_of e ≡ OutOfMemory) }
 {
     let matches = matches_of(alloc, words)?;
     match call_of(&matches) {
@@ -51,7 +50,7 @@ fn matches_of<'a, S: AsStr>(alloc: Global, words: &'a [S]) -> Result<ArgMatches<
 
 fn call_of<'a>(matches: &ArgMatches<'a>) -> Option<Call<'a>>
     ensures some { IfSome result (IsCallOf (subcommand_rows_of matches.now)) }
-    ensures none { IfNone result ((call : Call) → ¬ IsCallOf (subcommand_rows_of matches.now) call) }
+    ensures none { IfNone result (¬ NamesCall (subcommand_rows_of matches.now)) }
 {
     match matches.subcommand() {
         Some(("status", found)) => status::call_of(found),
@@ -71,7 +70,7 @@ fn dpbr_command<'a>(alloc: Global) -> Result<Command<'a>, AllocError>
     ensures { IfOk result (λ command. app_of command ≡ dpbr_app) }
 {
     Command::new(alloc, "dpbr")
-        .about("Replays and judges bulk builds of a ports tree.")
+        .about("Letters and audits of a bulk build of ports.")
         .subcommand_required(true)
         .subcommand(status::command(alloc)?)?
         .subcommand(audit::command(alloc)?)

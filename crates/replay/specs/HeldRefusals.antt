@@ -1,4 +1,4 @@
--- The numbers and places of the refusals.
+-- The number and place of a refusal of a text of held paths.
 use Rattle.std.specs.Prelude.{ℕ, Option, None, Some}
 use Rattle.replay.specs.declared.held.HeldFault.{HeldFault}
 use Rattle.replay.specs.declared.held.HeldFault.TheVariants.{Memory, BadList, Unlisted, Ignored}

@@ -1,0 +1,9 @@
+-- Words that clap takes name a call.
+use Rattle.std.proofs.Common.{map, subst, sym}
+use Rattle.words.proofs.Taken.{taken_names_call}
+use Rattle.words.specs.Calls.{NamesCall}
+use Rattle.words.proofs.dpbr_words.Goals as goal
+
+pub returns-clause-refused : goal.returns-clause-refused
+returns-clause-refused g c =
+    λ taken. absurd (c.in-None.ensures.none (subst NamesCall (sym c.in_ok-matches.ensures.matched) (taken_names_call (map g.S.AsStr.text c.args.words.now) taken)))
