@@ -1,6 +1,5 @@
 //! Ballots on records whose outcomes are known. The records differ in their hosts.
 ghost use Rattle.std.specs.Prelude.{◌<◌};
-ghost use Rattle.claims.specs.declared.TheConstants.{MEMBERS};
 
 use crate::{Body, Claimer, Fact, Message, Next, Note, Tally, Voter};
 use arrayvec::ArrayVec;
@@ -102,14 +101,13 @@ fn promises_and_votes(rt: HostRuntime) -> Result<(), Fail> {
     Ok(())
 }
 
-/// The claimer once the member voted, if one is left, and what follows.
-fn voted(open: Option<Claimer>, from: u8) -> Result<(Option<Claimer>, Follows), Memory>
-    requires { from < MEMBERS }
+/// What follows once the member voted.
+fn voted(claimer: &mut Claimer, from: u8) -> Result<Follows, Memory>
+    requires { from < 9 }
 {
-    let claimer = open.ok_or(Memory)?;
     let step = claimer.vote(from, FIRST)?;
-    let (left, next) = claimer.apply(step);
-    Ok((left, follows(&next)))
+    let next = claimer.apply(step);
+    Ok(follows(&next))
 }
 
 /// What follows a step, and the hosts of its records.
@@ -128,39 +126,38 @@ fn follows(next: &Next) -> Follows {
 
 #[test]
 fn counts_a_member_once(rt: HostRuntime) -> Result<(), Fail> {
-    let open = Claimer::Voting {
+    let mut claimer = Claimer::Voting {
         claim: FIRST,
         value: record(rt.alloc(), 7)?,
         voted: nobody_of(3),
     };
-    let (open, _) = voted(Some(open), 2)?;
-    let (open, again) = voted(open, 2)?;
-    assert!(rt; open.is_some() && again == NOTHING);
-    let (open, majority) = voted(open, 1)?;
-    assert!(rt; open.is_none() && majority == ("hold", Some(7), Some(7)));
+    let once = voted(&mut claimer, 2)?;
+    let again = voted(&mut claimer, 2)?;
+    assert!(rt; once == NOTHING && again == NOTHING);
+    let majority = voted(&mut claimer, 1)?;
+    assert!(rt; majority == ("hold", Some(7), Some(7)));
     Ok(())
 }
 
-fn gathering(members: u8) -> Option<Claimer> {
-    Some(Claimer::Gathering {
+fn gathering(members: u8) -> Claimer {
+    Claimer::Gathering {
         claim: claim(3, 0),
         promised: nobody_of(members),
         report: None,
-    })
+    }
 }
 
-/// The claimer once the member promised and reported this, and what follows.
+/// What follows once the member promised and reported this.
 fn promised(
-    open: Option<Claimer>,
+    claimer: &mut Claimer,
     from: u8,
     report: Option<&(Claim, Record)>,
-) -> Result<(Option<Claimer>, Follows), Memory>
-    requires { from < MEMBERS }
+) -> Result<Follows, Memory>
+    requires { from < 9 }
 {
-    let claimer = open.ok_or(Memory)?;
     let step = claimer.promise(from, claim(3, 0), report)?;
-    let (left, next) = claimer.apply(step);
-    Ok((left, follows(&next)))
+    let next = claimer.apply(step);
+    Ok(follows(&next))
 }
 
 /// What follows three of the five reports, and two of three.
@@ -169,11 +166,13 @@ fn kept(
     equal: &(Claim, Record),
     greatest: &(Claim, Record),
 ) -> Result<(Follows, Follows), Memory> {
-    let (open, _) = promised(gathering(5), 1, Some(first))?;
-    let (open, _) = promised(open, 2, Some(equal))?;
-    let (_, of_five) = promised(open, 3, Some(greatest))?;
-    let (open, _) = promised(gathering(3), 1, Some(first))?;
-    let (_, of_three) = promised(open, 2, Some(equal))?;
+    let mut claimer = gathering(5);
+    promised(&mut claimer, 1, Some(first))?;
+    promised(&mut claimer, 2, Some(equal))?;
+    let of_five = promised(&mut claimer, 3, Some(greatest))?;
+    let mut claimer = gathering(3);
+    promised(&mut claimer, 1, Some(first))?;
+    let of_three = promised(&mut claimer, 2, Some(equal))?;
     Ok((of_five, of_three))
 }
 
@@ -190,11 +189,12 @@ fn proposes_what_was_reported(rt: HostRuntime) -> Result<(), Fail> {
 
 #[test]
 fn builds_what_nobody_reported(rt: HostRuntime) -> Result<(), Fail> {
-    let (open, first) = promised(gathering(3), 2, None)?;
+    let mut claimer = gathering(3);
+    let first = promised(&mut claimer, 2, None)?;
     assert_eq!(rt; first, NOTHING);
-    let (open, majority) = promised(open, 1, None)?;
+    let majority = promised(&mut claimer, 1, None)?;
     assert_eq!(rt; majority, ("build", None, None));
-    assert!(rt; open.is_some_and(|claimer| claimer.claim() == claim(3, 0)));
+    assert!(rt; claimer.claim() == claim(3, 0));
     Ok(())
 }
 
