@@ -115,6 +115,8 @@ pub fn members_are_careful()
         on_offer 3 x (claim 2 0) ≡ says x (Nay 3 (claim 2 0) (Some (claim 2 1))) }
     ensures no_promise_after_the_vote { let x = bound_to (claim 2 1) (Some (ballot (claim 2 1) 7)) Closed in
         on_offer 3 x (claim 2 1) ≡ says x (Nay 3 (claim 2 1) (Some (claim 2 1))) }
+    ensures bound_by_its_vote { let x = bound_to (claim 1 0) None Closed in
+        (on_propose 3 x (ballot (claim 2 1) 7)).member.promised ≡ Some (claim 2 1) }
     ensures no_vote_twice { let x = bound_to (claim 2 1) (Some (ballot (claim 2 1) 7)) Closed in
         on_propose 3 x (ballot (claim 2 1) 7) ≡ says x (Vote 3 (claim 2 1)) }
     ensures no_count_twice { let once = with_member nobody 2 in

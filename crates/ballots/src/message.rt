@@ -11,12 +11,17 @@ use pkgpath::PkgPath;
 /// What a message says of its path.
 #[derive(Drop)]
 pub enum Body<V = Record> {
+    /// The claim's member asks for promises.
     Offer(Claim),
-    /// The claim, and the sender's last vote.
+    /// The sender votes for no claim below this one any more. With it goes its last vote, if it has cast one.
     Promise(Claim, Option<(Claim, V)>),
+    /// The claim's member asks for votes for the value.
     Propose(Claim, V),
+    /// The sender votes for the claim's proposal.
     Vote(Claim),
+    /// The value is agreed.
     Agreed(V),
+    /// The sender asks for the agreed value.
     Ask,
     /// The claim that is turned down, and the one that the sender promised.
     Nay(Claim, Claim),
@@ -29,27 +34,36 @@ pub struct Message<V = Record> {
     pub sender: u8,
     /// The digest of the sender's tree.
     pub tree: [u8; 32],
+    /// The path that it is about.
     pub path: PkgPath,
+    /// What it says of that path.
     pub body: Body<V>,
 }
 
 /// What a member has to know of a path after a stop.
 #[derive(Drop)]
 pub enum Fact<V = Record> {
+    /// It opened a claim of this round.
     Opened(u64),
+    /// It promised the claim.
     Promised(Claim),
+    /// It voted for the value, under the claim.
     Voted(Claim, V),
+    /// The value is agreed.
     Held(V),
 }
 
 /// What a member writes down of a path before it answers.
 #[derive(Drop)]
 pub struct Note<V = Record> {
+    /// The path that it is about.
     pub path: PkgPath,
+    /// What is to be known of that path.
     pub fact: Fact<V>,
 }
 
 impl<V: Value> Body<V> {
+    /// An equal body. It fails only for want of memory.
     pub fn copy(&self) -> Result<Body<V>, Memory>
         ensures { IfOk result (λ body. body ≡ self.now) }
     {
@@ -75,6 +89,7 @@ impl<V: Value> Body<V> {
 }
 
 impl<V: Value> Message<V> {
+    /// An equal message. It fails only for want of memory.
     pub fn copy(&self) -> Result<Message<V>, Memory>
         ensures { IfOk result (λ message. message ≡ self.now) }
     {
@@ -90,6 +105,7 @@ impl<V: Value> Message<V> {
 }
 
 impl<V: Value> Fact<V> {
+    /// An equal fact. It fails only for want of memory.
     pub fn copy(&self) -> Result<Fact<V>, Memory>
         ensures { IfOk result (λ fact. fact ≡ self.now) }
     {
@@ -109,6 +125,7 @@ impl<V: Value> Fact<V> {
 }
 
 impl<V: Value> Note<V> {
+    /// An equal note. It fails only for want of memory.
     pub fn copy(&self) -> Result<Note<V>, Memory>
         ensures { IfOk result (λ note. note ≡ self.now) }
     {

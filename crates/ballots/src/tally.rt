@@ -1,13 +1,13 @@
 //! The members that promised or voted so far.
-ghost use Rattle.std.specs.Prelude.{◌≡◌, ◌<◌, [], ℕ, IfOk};
-ghost use Rattle.agreement.specs.Quorums.{is_majority, named_in, with_member};
-ghost use Rattle.claims.specs.declared.TheConstants.{MEMBERS};
+ghost use Rattle.std.specs.Prelude.{◌≡◌, IfOk};
+ghost use Rattle.agreement.specs.Quorums.{is_majority};
+ghost use Rattle.ballots.specs.Support.{IsMember, joined_by, of_nobody, set_of};
 
 use arrayvec::ArrayVec;
 use faults::Memory;
 use std::marker::Model;
 
-/// The members that joined, each once. Contracts see it as what each member weighs, and the list of those that joined.
+/// The members that joined, each once. Contracts see it as what each member weighs, and those that joined, in that order.
 #[derive(Drop)]
 pub struct Tally {
     weights: ArrayVec<u8, 9>,
@@ -27,9 +27,9 @@ impl Model for Tally {
 }
 
 impl Tally {
-    /// A tally that nobody joined, of members that weigh this.
+    /// A tally that nobody joined. Member k has the weight at place k.
     pub fn new(weights: ArrayVec<u8, 9>) -> Tally
-        ensures { result ≡ record { weights = weights.items; joined = [] } }
+        ensures { result ≡ of_nobody weights.items }
     {
         Tally {
             weights,
@@ -37,11 +37,10 @@ impl Tally {
         }
     }
 
-    /// Adds the member, which counts once.
+    /// Adds the member, which counts once, however often it joins.
     pub fn join(&mut self, member: u8)
-        requires { member < MEMBERS }
-        ensures weights { self.new.weights ≡ self.old.weights }
-        ensures joined { (k : ℕ) → named_in self.new.joined k ≡ with_member (named_in self.old.joined) member k }
+        requires { IsMember member }
+        ensures { self.new ≡ joined_by self.old member }
     {
         if !self.joined.contains(&member) {
             self.joined.push(member);
@@ -50,9 +49,8 @@ impl Tally {
 
     /// The tally with one more member, which counts once.
     pub fn with(&self, member: u8) -> Result<Tally, Memory>
-        requires { member < MEMBERS }
-        ensures weights { IfOk result (λ t. t.weights ≡ self.now.weights) }
-        ensures joined { IfOk result (λ t. named_in t.joined ≡ with_member (named_in self.now.joined) member) }
+        requires { IsMember member }
+        ensures { IfOk result (λ tally. tally ≡ joined_by self.now member) }
     {
         let weights = self.weights.clone()?;
         let joined = self.joined.clone()?;
@@ -63,15 +61,22 @@ impl Tally {
 
     /// A tally of the same members that nobody joined.
     pub fn emptied(&self) -> Result<Tally, Memory>
-        ensures { IfOk result (λ t. t ≡ record { weights = self.now.weights; joined = [] }) }
+        ensures { IfOk result (λ tally. tally ≡ of_nobody self.now.weights) }
     {
         let weights = self.weights.clone()?;
         Ok(Tally::new(weights))
     }
 
+    /// Whether the member joined. Those that did not are asked again.
+    pub fn has(&self, member: u8) -> bool
+        ensures { result ≡ set_of self.now member }
+    {
+        self.joined.contains(&member)
+    }
+
     /// Whether those that joined are a majority.
     pub fn is_majority(&self) -> bool
-        ensures { result ≡ is_majority self.now.weights (named_in self.now.joined) }
+        ensures { result ≡ is_majority self.now.weights (set_of self.now) }
     {
         agreement::is_majority(self.weights.as_slice(), self.joined.as_slice())
     }

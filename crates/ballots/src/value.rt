@@ -8,6 +8,7 @@ use package_record::Record;
 
 /// A value that can be copied, where memory allows it.
 pub trait Value: Drop {
+    /// An equal value. It fails only for want of memory.
     fn copy(&self) -> Result<Self, Memory>
         ensures { IfOk result (λ copy. copy ≡ self.now) };
 }

@@ -17,7 +17,9 @@ use std::marker::Model;
 /// whoever makes a voter proves that.
 #[derive(Drop)]
 pub struct Voter<V = Record> {
+    /// The greatest claim that it promised or voted under.
     pub promised: Option<Claim>,
+    /// The claim and the value of its last vote.
     pub voted: Option<(Claim, V)>,
 }
 
@@ -31,17 +33,19 @@ impl<V> Model for Voter<V> {
     ghost invariant = { λ voter. HasPromised voter.promised voter.voted };
 }
 
-/// What a voter is to note first, and then what it answers to the claim's member. It holds all that was grown for the step:
-/// `kept` is the value that the voter keeps where it votes.
+/// What a voter is to note first, and then what it answers to the claim's member. It holds all that was grown for the step.
 #[derive(Drop)]
 pub struct VoterStep<V = Record> {
+    /// What has to be on the log before the answer goes out.
     pub note: Option<Fact<V>>,
+    /// A promise, a vote or a nay.
     pub answer: Body<V>,
+    /// The value that the voter keeps where it votes.
     pub kept: Option<V>,
 }
 
 impl<V: Value> Voter<V> {
-    /// The step for an offer: a promise that reports the last vote, or a refusal.
+    /// The step for an offer: a promise that reports the last vote, or a nay. It fails only for want of memory.
     pub fn offer(&self, claim: Claim) -> Result<VoterStep<V>, Memory>
         ensures { IfOk result (λ step. IsStepOf V self.now (λ i x. on_offer i x claim) step) }
     {
@@ -64,7 +68,7 @@ impl<V: Value> Voter<V> {
         Ok(self.refusal(claim))
     }
 
-    /// The step for a proposal: a vote, or a refusal.
+    /// The step for a proposal: a vote, or a nay. It fails only for want of memory.
     pub fn propose(&self, claim: Claim, value: &V) -> Result<VoterStep<V>, Memory>
         ensures { IfOk result (λ step. IsStepOf V self.now (λ i x. on_propose i x (ballot claim value.now)) step) }
     {
