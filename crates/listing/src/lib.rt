@@ -23,23 +23,24 @@ pub use crate::tree::Tree;
 /// has its line as its place, counted from 1.
 #[derive(Clone, Copy, Debug, PartialEq, Eq, Error)]
 pub enum ListingFault {
-    /// A growth was refused. It may stand in place of any other answer.
+    /// Number 1: a growth was refused. It may stand in place of any other answer.
     #[error("out of memory")]
     Memory,
-    /// The line has no `=`, or no dot before it; or its FULLPKGNAME is no package name; or a dependency in it has not
-    /// the shape of one, or a spec that is none.
+    /// Number 401: the line has no `=`, or no dot before it; or its FULLPKGNAME is no package name; or a dependency in
+    /// it has not the shape of one, or a spec that is none.
     #[error("line {0} is no line of a listing")]
     BadLine(u64),
-    /// The line's own path, or the path of a dependency in it, is none.
+    /// Number 402: the line's own path, or the path of a dependency in it, is none.
     #[error("line {0} has a text that is no package path")]
     BadPath(u64),
-    /// The line sets a variable of a path to another value than an earlier line does.
+    /// Number 403: the line sets a variable of a path to another value than an earlier line does.
     #[error("line {0} sets a variable to another value")]
     TwiceSet(u64),
-    /// The line has the 16,385th path, or a 513th dependency in its value.
+    /// Number 404: the line has the 16,385th path, or a 513th dependency in its value.
     #[error("line {0} has one path or one dependency too many")]
     TooMany(u64),
-    /// No line is faulty, and a path has no FULLPKGNAME: the line is the first that sets a variable of such a path.
+    /// Number 405: no line is faulty, and a path has no FULLPKGNAME. The line is the first that sets a variable of such
+    /// a path.
     #[error("the path at line {0} has no name")]
     NoName(u64),
 }

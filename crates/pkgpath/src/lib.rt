@@ -24,18 +24,26 @@ pub use crate::path::PkgPath;
 /// a growth was refused. None has a place.
 #[derive(Clone, Copy, Debug, PartialEq, Eq, Error)]
 pub enum PathFault {
+    /// Number 1: a growth was refused. It says nothing of the text.
     #[error("out of memory")]
     Memory,
+    /// Number 101: the text has no byte.
     #[error("the path is empty")]
     Empty,
+    /// Number 105: the text has more than 255 bytes.
     #[error("the path has more than 255 bytes")]
     TooLong,
+    /// Number 102: the directory, which ends at the first comma, has no `/`.
     #[error("the directory has no slash")]
     NoSlash,
+    /// Number 103: a component of the directory is empty, `.` or `..`, a part is a lone `-` or has a `/`, or a byte may
+    /// not stand in a path.
     #[error("the path has a byte or a component that may not stand there")]
     BadByte,
+    /// Number 104: more than one part begins with a dash.
     #[error("the path has more than one subpackage")]
     TwoSubpackages,
+    /// Number 106: more than one part is empty.
     #[error("the path has more than one empty part")]
     TwoEmptyParts,
 }
