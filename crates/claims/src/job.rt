@@ -7,8 +7,8 @@ use faults::Memory;
 use pkgpath::PkgPath;
 use std::marker::Model;
 
-/// A build that a claim leads to: the path, the host that builds it, and the dependencies that it stands on, in order of
-/// path. Whoever makes a job proves that order.
+/// A build that a claim leads to: the path, the host that builds it, and the dependencies that it stands on, in order
+/// of path. Whoever makes a job proves that order.
 #[derive(Drop)]
 pub struct Job {
     pub path: PkgPath,

@@ -1,5 +1,5 @@
-//! Claims, how they compare, the rounds that are left for them, and the jobs that they lead to, with the dependencies that
-//! a build stands on.
+//! Claims, how they compare, the rounds that are left for them, and the jobs that they lead to, with the dependencies
+//! that a build stands on.
 #![tactic(auto)]
 
 ghost use Rattle.std.specs.Prelude.{◌≡◌, ◌+◌, ◌≤◌, ◌↔◌, None, Option, Some, IfOk, IsErr};
