@@ -17,8 +17,9 @@ pub enum Failing {
     From(u64),
 }
 
-/// A disk in memory whose device fails at the calls that it was told, and at no others. A call that fails is
-/// `DiskFault::Device`, and has no effect but that it is counted. `len` and `reserve` are not counted and never fail so.
+/// A disk in memory whose device fails at the calls that it was told, and at no others. A call that fails answers
+/// `DiskFault::Device` and has no effect but that it is counted. `len` and `reserve` are not counted, and the device
+/// doesn't fail at them.
 #[derive(Drop)]
 pub struct FaultDisk {
     inner: MemDisk,

@@ -27,9 +27,9 @@ const MEASURED: u64 = 5;
 
 const FAILED: u64 = 6;
 
-/// A file of the operating system. What contracts say of its bytes, and of what a crash leaves, they say as long as each
+/// A file of the operating system. What contracts say of its bytes, and of what a crash leaves, holds as long as each
 /// read so far gave what the history says. A write or cut that failed counts as made, so that what is said of a crash
-/// stands; of what is read or synced after it nothing is said until the file is opened again.
+/// stands; once something was read or synced after it, nothing is said until the file is opened again.
 #[derive(Drop)]
 pub struct FileDisk {
     file: File,
@@ -40,8 +40,8 @@ pub struct FileDisk {
 
 impl FileDisk {
     /// Opens the file at a path to read and write it, and makes an empty one where there is none. It then syncs the
-    /// folder, so that a crash doesn't take a new file away, and fails where that can't be done. It has no contract: std
-    /// says nothing of a file that it opens.
+    /// folder, so that a crash doesn't take a new file away, and fails where that can't be done. It has no contract:
+    /// std's call to open a file says nothing of what it gives.
     pub fn open_file(rt: &HostRuntime, path: &str) -> io::Result<File> {
         let mut options = OpenOptions::new();
         options.read(true).write(true).create(true);
@@ -55,6 +55,7 @@ impl FileDisk {
     pub fn new(file: File) -> FileDisk
         ghost content: { Bytes }
         ensures history { replay result.noted.events ≡ found content.list ∷ [] }
+        ensures kept { agrees result.noted.events ≡ true }
         ensures no_failure { result.failures ≡ 0 }
     {
         FileDisk {
