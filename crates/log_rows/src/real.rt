@@ -23,6 +23,7 @@ fn a_real_log_is_opened_again(rt: HostRuntime) -> Result<(), Fail> {
     log.append(&NOTE)?;
     log.append(&[5; 3])?;
     let mut disk = log.into_disk();
+    disk.write_at(500, &[])?;
     assert_eq!(rt; disk.len()?, 71);
     assert_eq!(rt; disk.failures(), 0);
     let (log, notes) = log_at(&rt, "log")?;

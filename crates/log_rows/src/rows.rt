@@ -1,5 +1,5 @@
 use crate::logs::{NOTE, are_same, file_of, opened, who};
-use stable_record::{Disk, Failing, FaultDisk, Identity, Left, Log, LogFault, MemDisk};
+use stable_record::{Disk, DiskFault, Failing, FaultDisk, Identity, Left, Log, LogFault, MemDisk};
 use std::alloc::Global;
 use std::test::Fail;
 
@@ -121,6 +121,20 @@ fn a_log_of_others_is_left_alone(rt: HostRuntime) -> Result<(), Fail> {
             }
         }
     }
+    Ok(())
+}
+
+#[test]
+fn a_write_of_nothing_does_nothing(rt: HostRuntime) -> Result<(), Fail> {
+    let mut disk = MemDisk::new(rt.alloc(), &[5; 3])?;
+    disk.write_at(10, &[])?;
+    disk.write_at(u64::MAX, &[])?;
+    assert!(rt; disk.bytes() == [5; 3].as_slice());
+    // No file in memory is that long.
+    assert_eq!(rt; disk.write_at(u64::MAX, &[1]), Err(DiskFault::Memory));
+    assert!(rt; disk.bytes() == [5; 3].as_slice());
+    disk.write_at(5, &[1])?;
+    assert!(rt; disk.bytes() == [5, 5, 5, 0, 0, 1].as_slice());
     Ok(())
 }
 

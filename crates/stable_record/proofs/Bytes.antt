@@ -30,6 +30,9 @@ bytes-replicate n b byte k = ⊎_elim
     (λ past. omega (arith, get_or_past (replicate n b) k 0 (omega (arith, past, length-replicate {A = ℕ} n b))))
     (cases_lt k n)
 
+zero_is_byte : 0 < 256
+zero_is_byte = omega arith
+
 -- a file after a write
 pub bytes-overwritten : (at : ℕ) (bytes file : List ℕ) → IsBytes bytes → IsBytes file → IsBytes (overwritten at bytes file)
 bytes-overwritten at [] file are were = were
@@ -37,7 +40,7 @@ bytes-overwritten at (byte ∷ rest) file are were =
     let bytes = byte ∷ rest in
     let zeros = replicate (at - length file) 0 in
     bytes-append (take at file ++ zeros ++ bytes) (drop (at + length bytes) file)
-    (bytes-append (take at file ++ zeros) bytes (bytes-append (take at file) zeros (bytes-take at file were) (bytes-replicate (at - length file) 0 (omega arith))) are)
+    (bytes-append (take at file ++ zeros) bytes (bytes-append (take at file) zeros (bytes-take at file were) (bytes-replicate (at - length file) 0 zero_is_byte)) are)
     (bytes-drop (at + length bytes) file were)
 
 -- what a crash may leave

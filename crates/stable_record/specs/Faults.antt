@@ -51,12 +51,12 @@ pub record ReadsAt (file : List ℕ) (at count : ℕ) (buf : List ℕ) : Type 0 
   pub bytes : take count buf ≡ take count (drop at file)
   pub all : count ≡ min (length buf) (length file - at)
 
--- a write and a sync: done on the disk, or in part
+-- A write, and then a sync. On Ok both were done. Else neither was, or the write alone, of which a read gives anything.
 pub record WritesDown {T : Type 0} (at : ℕ) (bytes : List ℕ) (old new : History) (result : Result T DiskFault) : Type 0 where
   pub done : OnOk result (new ≡ synced ∷ written at (length bytes) (overwritten at bytes (seen old)) ∷ old)
   pub failed : OnErr result ((new ≡ old) ⊎ ((after : List ℕ) × (new ≡ written at (length bytes) after ∷ old)))
 
--- a cut and a sync: done on the disk, or in part
+-- A cut, and then a sync. On Ok both were done. Else neither was, or the cut alone, of which a read gives anything.
 pub record CutsDown {T : Type 0} (len : ℕ) (old new : History) (result : Result T DiskFault) : Type 0 where
   pub done : OnOk result (new ≡ synced ∷ cut_to len (take len (seen old)) ∷ old)
   pub failed : OnErr result ((new ≡ old) ⊎ ((after : List ℕ) × (new ≡ cut_to len after ∷ old)))

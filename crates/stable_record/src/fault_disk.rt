@@ -1,20 +1,25 @@
 //! A disk in memory that fails as it was told.
-ghost use Rattle.std.specs.Prelude.{◌≡◌, ◌+◌, ⊤, if◌then◌else◌, ◌-◌, min, length, vec_capacity};
-ghost use Rattle.stable_record.specs.Events.{replay};
-ghost use Rattle.stable_record.specs.Faults.{is_due, one_more};
-ghost use Rattle.stable_record.specs.Room.{Room};
+ghost use Rattle.std.specs.Prelude.{◌≡◌, ◌≤◌, ⊤, if◌then◌else◌, IfOk, length};
+ghost use Rattle.stable_record.specs.Faults.{Cuts, ReadsAt, Syncs, Writes, counted, is_due, one_more};
+ghost use Rattle.stable_record.specs.History.{seen};
+ghost use Rattle.stable_record.specs.Room.{UsesRoom};
 ghost use Rattle.stable_record.specs.Possible.{replay_possible};
 
 use crate::{Disk, DiskFault, MemDisk};
 use faults::Memory;
 
-/// Which calls fail, `read`, `write_at`, `cut` and `sync` counted from 1.
+/// Which calls fail: `read`, `write_at`, `cut` and `sync` are counted, from 1.
 #[derive(Clone, Copy, Debug, PartialEq, Eq)]
 pub enum Failing {
+    /// The call with this number alone.
     Once(u64),
+    /// That call and all later ones.
     From(u64),
 }
 
+/// A disk in memory whose device fails at the calls that it was told, and at no others. A call that fails answers
+/// `DiskFault::Device` and has no effect but that it is counted. `len` and `reserve` are not counted, and the device
+/// doesn't fail at them.
 #[derive(Drop)]
 pub struct FaultDisk {
     inner: MemDisk,
@@ -25,6 +30,7 @@ pub struct FaultDisk {
 }
 
 impl FaultDisk {
+    /// A disk over this one, with no call counted yet.
     pub fn new(inner: MemDisk, failing: Failing) -> FaultDisk
         ensures inner { result.inner ≡ inner }
         ensures failing { result.failing ≡ failing }
@@ -38,7 +44,7 @@ impl FaultDisk {
         }
     }
 
-    /// The disk that failed or not.
+    /// The disk in memory, with what the calls that didn't fail have done.
     pub fn into_inner(self) -> MemDisk
         ensures { result ≡ self.inner }
     {
@@ -65,42 +71,72 @@ impl FaultDisk {
 }
 
 impl Disk for FaultDisk {
-    ghost history = { λ d. replay d.inner.noted.events };
+    ghost use Rattle.stable_record.specs.Failing.{FailsAsTold, IsNotCounted, history_of, room_of};
+
+    ghost history = { history_of };
 
     ghost is_kept = { λ _. ⊤ };
 
     ghost failures_of = { λ d. d.failures };
 
-    ghost room = { λ d. let m = d.inner in record { bytes = min (vec_capacity m.file) (vec_capacity m.before) - length m.file.items; calls = vec_capacity m.ranges - length m.ranges.items } };
+    ghost room = { room_of };
 
     ghost stays_possible = { λ d. replay_possible d.inner.noted.events d.inner.were_bytes };
 
-    fn len(&mut self) -> Result<u64, DiskFault> {
+    fn len(&mut self) -> Result<u64, DiskFault>
+        ensures not_counted { IsNotCounted self.old self.new result }
+        ensures same { history_of self.new ≡ history_of self.old }
+        ensures answer { IfOk result (λ n. n ≡ length (seen (history_of self.old))) }
+        ensures cause { self.new.failures ≡ counted result self.old.failures }
+        ensures room { UsesRoom 0 (room_of self.old) (room_of self.new) result }
+    {
         self.inner.len()
     }
 
-    fn read(&mut self, at: u64, buf: &mut [u8]) -> Result<usize, DiskFault> {
+    fn read(&mut self, at: u64, buf: &mut [u8]) -> Result<usize, DiskFault>
+        ensures as_told { FailsAsTold self.old self.new result }
+        ensures same { history_of self.new ≡ history_of self.old }
+        ensures count { IfOk result (λ n. n ≤ length buf.old) }
+        ensures answer { IfOk result (λ n. ReadsAt (seen (history_of self.old)) at n buf.new) }
+        ensures cause { self.new.failures ≡ counted result self.old.failures }
+        ensures room { UsesRoom 0 (room_of self.old) (room_of self.new) result }
+    {
         if self.fails() {
             return Err(DiskFault::Device);
         }
         self.inner.read(at, buf)
     }
 
-    fn write_at(&mut self, at: u64, bytes: &[u8]) -> Result<(), DiskFault> {
+    fn write_at(&mut self, at: u64, bytes: &[u8]) -> Result<(), DiskFault>
+        ensures as_told { FailsAsTold self.old self.new result }
+        ensures effect { Writes at bytes.now (history_of self.old) (history_of self.new) result }
+        ensures cause { self.new.failures ≡ counted result self.old.failures }
+        ensures room { at ≤ length (seen (history_of self.old)) → UsesRoom (length bytes.now) (room_of self.old) (room_of self.new) result }
+    {
         if self.fails() {
             return Err(DiskFault::Device);
         }
         self.inner.write_at(at, bytes)
     }
 
-    fn cut(&mut self, len: u64) -> Result<(), DiskFault> {
+    fn cut(&mut self, len: u64) -> Result<(), DiskFault>
+        ensures as_told { FailsAsTold self.old self.new result }
+        ensures effect { Cuts len (history_of self.old) (history_of self.new) result }
+        ensures cause { self.new.failures ≡ counted result self.old.failures }
+        ensures room { UsesRoom 0 (room_of self.old) (room_of self.new) result }
+    {
         if self.fails() {
             return Err(DiskFault::Device);
         }
         self.inner.cut(len)
     }
 
-    fn sync(&mut self) -> Result<(), DiskFault> {
+    fn sync(&mut self) -> Result<(), DiskFault>
+        ensures as_told { FailsAsTold self.old self.new result }
+        ensures effect { Syncs (history_of self.old) (history_of self.new) result }
+        ensures cause { self.new.failures ≡ counted result self.old.failures }
+        ensures room { UsesRoom 0 (room_of self.old) (room_of self.new) result }
+    {
         if self.fails() {
             return Err(DiskFault::Device);
         }

@@ -1,5 +1,6 @@
 //! A file of the operating system. Each call is noted with its answer, for clauses alone.
-ghost use Rattle.std.specs.Prelude.{◌≡◌, ◌≤◌, ◌^◌, ◌∷◌, [], ℕ, List, true, length, IfOk};
+ghost use Rattle.std.specs.Prelude.{◌≡◌, ◌≢◌, ◌≤◌, ◌^◌, ◌∷◌, [], ℕ, List, true, length, IfOk, IfSome};
+ghost use Rattle.std.specs.Path.{path_parent};
 ghost use Rattle.stable_record.specs.Events.{WereBytes, agrees, replay};
 ghost use Rattle.stable_record.specs.Faults.{one_more};
 ghost use Rattle.stable_record.specs.History.{Bytes, found};
@@ -12,6 +13,7 @@ use faults::Memory;
 use std::fs::{File, OpenOptions};
 use std::io;
 use std::os::unix::fs::FileExt;
+use std::path::Path;
 
 const WRITTEN: u64 = 1;
 
@@ -25,6 +27,9 @@ const MEASURED: u64 = 5;
 
 const FAILED: u64 = 6;
 
+/// A file of the operating system. What contracts say of its bytes, and of what a crash leaves, holds as long as each
+/// read so far gave what the history says. A write or cut that failed counts as made, so that what is said of a crash
+/// stands; once something was read or synced after it, nothing is said until the file is opened again.
 #[derive(Drop)]
 pub struct FileDisk {
     file: File,
@@ -34,11 +39,15 @@ pub struct FileDisk {
 }
 
 impl FileDisk {
-    /// Opens the file at a path to read and write it, and makes an empty one where there is none.
+    /// Opens the file at a path to read and write it, and makes an empty one where there is none. It then syncs the
+    /// folder, so that a crash doesn't take a new file away, and fails where that can't be done. It has no contract:
+    /// std's call to open a file says nothing of what it gives.
     pub fn open_file(rt: &HostRuntime, path: &str) -> io::Result<File> {
         let mut options = OpenOptions::new();
         options.read(true).write(true).create(true);
-        options.open(rt, path)
+        let file = options.open(rt, path)?;
+        File::open(rt, folder_of(path))?.sync_all()?;
+        Ok(file)
     }
 
     /// A disk over an open file. Whatever the file has is taken to be what a read gives, and nothing is known of what
@@ -46,6 +55,7 @@ impl FileDisk {
     pub fn new(file: File) -> FileDisk
         ghost content: { Bytes }
         ensures history { replay result.noted.events ≡ found content.list ∷ [] }
+        ensures kept { agrees result.noted.events ≡ true }
         ensures no_failure { result.failures ≡ 0 }
     {
         FileDisk {
@@ -63,6 +73,16 @@ impl FileDisk {
     {
         self.failures = self.failures.saturating_add(1);
         DiskFault::Device
+    }
+}
+
+/// The folder that the last name of a path stands in.
+fn folder_of(path: &str) -> &str
+    ensures { IfSome (path_parent path.now) (λ folder. folder ≢ [] → result.now ≡ folder) }
+{
+    match Path::new(path).parent() {
+        Some(folder) if !folder.as_str().is_empty() => folder.as_str(),
+        _ => ".",
     }
 }
 

@@ -13,7 +13,7 @@ use std::alloc::Global;
 
 const MAX_LEN: u64 = 2_147_483_648;
 
-/// A log in a file.
+/// An open log of notes in a file.
 #[derive(Drop)]
 pub struct Log<D: Disk> {
     pub(crate) alloc: Global,
@@ -26,7 +26,9 @@ pub struct Log<D: Disk> {
 }
 
 impl<D: Disk> Log<D> {
-    /// Adds a note. At `Ok` each crash leaves it from then on. After `Device` the log has to be opened again.
+    /// Adds a note. At `Ok` it is on the disk, so that each crash leaves it from then on. After `Device` a crash leaves
+    /// the notes from before, with the new one or without, and each further call is `MustReopen`. `Full` and `Memory`
+    /// change nothing.
     pub fn append(&mut self, note: &[u8]) -> Result<(), LogFault>
         ensures acknowledged { D.is_kept self.new.disk → (notes : List Note) → Holds D.history self.old notes
             → OnOk result (Holds D.history self.new (notes ++ note.now ∷ [])) }
@@ -69,7 +71,7 @@ impl<D: Disk> Log<D> {
         Ok(())
     }
 
-    /// The disk of the log.
+    /// The disk that the log stands on, as it is.
     pub fn into_disk(self) -> D
         ensures { result ≡ self.disk }
     {

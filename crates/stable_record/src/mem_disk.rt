@@ -31,7 +31,8 @@ pub enum Left {
     Fill(u8),
 }
 
-/// A file in memory, and what a crash would leave of it.
+/// A file in memory, and what a crash would leave of it. Its device never fails. A write that would end past 2^64 is
+/// refused as `Memory`, like one that the allocator has no room for: no file in memory is that long.
 #[derive(Drop)]
 pub struct MemDisk {
     file: Vec<u8>,
@@ -77,7 +78,7 @@ impl MemDisk {
 }
 
 impl MemDisk {
-    /// The disk after a crash.
+    /// The disk after a crash, which left the file as told, all of it on the disk.
     pub fn crash(self, left: Left) -> MemDisk
         ensures left { replay result.noted.events ≡ stands (left_file left (replay self.noted.events)) ∷ [] }
         ensures possible { MayLeave (replay self.noted.events) (left_file left (replay self.noted.events)) }

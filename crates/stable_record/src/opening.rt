@@ -15,7 +15,7 @@ use std::alloc::Global;
 impl<D: Disk> Log<D> {
     /// Opens a file that a crash may have left, repairs its end, and gives its notes in order. Of an empty file, or of
     /// one whose making a crash broke off, it makes a log. A crash may come at any moment of it. An `Err` hands the
-    /// disk back.
+    /// disk back, and `NotALog` and `OtherCluster` leave the file as it is.
     pub fn open(
         alloc: Global,
         disk: D,
