@@ -17,7 +17,8 @@ use Rattle.faults.specs.Bytes.{Text}
 use Rattle.claims.specs.declared.deps.Dep.{Dep}
 use Rattle.listing.specs.Tree.{ArePositions, IsTree, Tree, build_at, no_package, path_at}
 use Rattle.auditing.specs.Allowed.{AreItsDependencies, needed_paths, paths_of, position_of}
-use Rattle.auditing.proofs.Ascending.{contains_image, has_preimage, same_ascending}
+use Rattle.auditing.proofs.Ascending.{same_ascending}
+use Rattle.auditing.proofs.Members.{contains_image, has_preimage}
 use Rattle.auditing.proofs.Positions.{all_listed, has_position, paths_at}
 
 -- ---- numbers that differ

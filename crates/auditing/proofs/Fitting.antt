@@ -2,21 +2,23 @@
 use Rattle.std.proofs.Common.{◌≡◌, ◌≢◌, ℕ, List, refl, sym, subst}
 use Rattle.std.specs.Prelude.{AllPairs, Contains}
 use Rattle.faults.specs.Bytes.{Text}
-use Rattle.faults.specs.Pieces.{set_of}
+use Rattle.std.specs.Cmp.Lexicographic.{nat_list_cmp_total}
+use Rattle.faults.specs.Pieces.{set_of, text_cmp}
 use Rattle.claims.specs.Deps.{AreInOrder}
 use Rattle.claims.specs.declared.deps.Dep.{Dep}
 use Rattle.listing.specs.Tree.{Tree}
 use Rattle.auditing.specs.Allowed.{AreItsDependencies, IsNew, MayFollow, StoodEarlier, needed_paths, paths_of}
 use Rattle.auditing.specs.Fits.{Fits, run_paths}
 use Rattle.auditing.specs.declared.entry.Entry.{Entry}
-use Rattle.auditing.proofs.Sets.{differ, from_set, into_set, rises, same_members, set_rises}
+use Rattle.auditing.proofs.Ascending.{differ, same_members}
+use Rattle.auditing.proofs.Sets.{from_set, into_set, rises, set_rises}
 
 -- the set of the needed paths is each of these once
 from_needed_set : (tree : Tree) (p : ℕ) (built : List Dep) → paths_of built ≡ set_of (needed_paths tree p) → AreItsDependencies tree p built
 from_needed_set tree p built is =
     let needed : List Text = needed_paths tree p in
     record {
-      once = subst (AllPairs ◌≢◌) (sym is) (differ (set_of needed) (set_rises needed));
+      once = subst (AllPairs ◌≢◌) (sym is) (differ text_cmp nat_list_cmp_total (set_of needed) (set_rises needed));
       exactly = λ path. (
         λ member. from_set needed path (subst (λ ts. Contains ts path) is member),
         λ member. subst (λ ts. Contains ts path) (sym is) (into_set needed path member),
@@ -27,7 +29,7 @@ from_needed_set tree p built is =
 needed_set : (tree : Tree) (p : ℕ) (built : List Dep) → AreInOrder built → AreItsDependencies tree p built → paths_of built ≡ set_of (needed_paths tree p)
 needed_set tree p built in_order are =
     let needed : List Text = needed_paths tree p in
-    same_members (paths_of built) (set_of needed) (rises (paths_of built) in_order) (set_rises needed)
+    same_members text_cmp nat_list_cmp_total (paths_of built) (set_of needed) (rises (paths_of built) in_order) (set_rises needed)
     (λ path member. into_set needed path ((are.exactly path).0 member))
     (λ path member. (are.exactly path).1 (from_set needed path member))
 

@@ -1,5 +1,6 @@
 mod Examples
 pub mod Ascending
+pub mod Members
 pub mod Positions
 pub mod Built
 pub mod Sets

@@ -1,19 +1,17 @@
 -- Sets of texts: their members, and that they ascend.
-use Rattle.std.proofs.Common.{◌≡◌, ◌≢◌, ◌⊎◌, ◌∙◌, inl, inr, true, List, [], ◌∷◌, refl, sym, ap, subst, arith, true≢false}
-use Rattle.std.specs.Prelude.{AllPairs, Contains}
-use Rattle.std.specs.Cmp.{tied_itself}
+use Rattle.std.proofs.Common.{◌≡◌, ◌⊎◌, ◌∙◌, inl, inr, true, List, [], ◌∷◌, refl, sym, ap, subst}
+use Rattle.std.specs.Prelude.{Contains}
 use Rattle.std.specs.Cmp.Lexicographic.{bytes_decides, nat_list_cmp_total, texts_ties}
 use Rattle.std.specs.List.{list_all}
 use Rattle.std.specs.Ordering.{is_eq, is_lt, ordering_reverse}
 use Rattle.std.specs.declared.cmp.Ordering.{Ordering}
 use Rattle.std.specs.declared.cmp.Ordering.TheVariants.{Less, Equal, Greater}
 use Rattle.std.proofs.lemmas.Bool.{and_parts}
-use Rattle.std.proofs.lemmas.List.Elements.{All-contains_itself}
-use Rattle.std.proofs.lemmas.List.Kept.{AllPairs-cons}
 use Rattle.faults.specs.Bytes.{Text}
 use Rattle.faults.specs.Pieces.{by_order, set_of, text_cmp, with_member}
 use Rattle.claims.specs.Deps.{is_ascending}
-use Rattle.auditing.proofs.Ascending.{contains_first, contains_later, member_cases, no_members}
+use Rattle.auditing.proofs.Ascending.{Rising}
+use Rattle.auditing.proofs.Members.{contains_first, contains_later, member_cases, no_members}
 
 -- ---- members
 
@@ -80,19 +78,14 @@ into_set (t ∷ ts) x member =
 
 -- ---- order
 
--- each text is below all behind it
-abbrev pub Rising : List Text → Type 0
-Rising [] = Unit {0}
-Rising (t ∷ ts) = ((u : Text) → Contains ts u → text_cmp t u ≡ Less) × Rising ts
-
 flipped : (t u : Text) → text_cmp t u ≡ Greater → text_cmp u t ≡ Less
 flipped t u greater = nat_list_cmp_total.antisymm u t ∙ ap ordering_reverse greater
 
-rising_with : (t : Text) (us : List Text) → Rising us → Rising (with_member t us)
+rising_with : (t : Text) (us : List Text) → Rising text_cmp us → Rising text_cmp (with_member t us)
 rising_with t [] rising = (λ u member. absurd (no_members u member), tt)
 rising_with t (u ∷ us) rising = by (text_cmp t u) refl (rising_with t us rising.1)
   where
-    by : (o : Ordering) → text_cmp t u ≡ o → Rising (with_member t us) → Rising (by_order o (t ∷ u ∷ us) (u ∷ us) (u ∷ with_member t us))
+    by : (o : Ordering) → text_cmp t u ≡ o → Rising text_cmp (with_member t us) → Rising text_cmp (by_order o (t ∷ u ∷ us) (u ∷ us) (u ∷ with_member t us))
     by Less e rest = (
       λ x member.
           elim (member_cases u x us member) [
@@ -112,7 +105,7 @@ rising_with t (u ∷ us) rising = by (text_cmp t u) refl (rising_with t us risin
     )
 
 -- a set ascends
-pub set_rises : (ts : List Text) → Rising (set_of ts)
+pub set_rises : (ts : List Text) → Rising text_cmp (set_of ts)
 set_rises [] = tt
 set_rises (t ∷ ts) = rising_with t (set_of ts) (set_rises ts)
 
@@ -130,51 +123,8 @@ below_each t (w ∷ ts) all u member =
     is_less Equal e = cc
     is_less Greater e = cc
 
-pub rises : (ts : List Text) → is_ascending ts ≡ true → Rising ts
+pub rises : (ts : List Text) → is_ascending ts ≡ true → Rising text_cmp ts
 rises [] ascending = tt
 rises (t ∷ ts) ascending =
     let parts = and_parts (list_all (λ u. is_lt (text_cmp t u)) ts) (is_ascending ts) ascending in
     (below_each t ts parts.0, rises ts parts.1)
-
-not_below_itself : (t : Text) → text_cmp t t ≡ Less → ⊥
-not_below_itself t less = true≢false (sym (ap is_eq (tied_itself nat_list_cmp_total t)) ∙ ap is_eq less)
-
--- texts that ascend differ
-pub differ : (ts : List Text) → Rising ts → AllPairs ◌≢◌ ts
-differ [] rising = λ i j d l m e. omega arith
-differ (t ∷ ts) rising =
-    AllPairs-cons ◌≢◌ t ts
-    (λ k d l same. not_below_itself t (subst (λ u. text_cmp t u ≡ Less) (sym same) (rising.0 _ (All-contains_itself ts k d l))))
-    (differ ts rising.1)
-
--- a member behind the first is not the first of the other list
-in_tail : (t : Text) (ts us : List Text) (x : Text) → Rising (t ∷ ts) → Contains ts x → Contains (t ∷ us) x → Contains us x
-in_tail t ts us x rising mine other =
-    elim (member_cases t x us other) [
-      | inl same ↦ absurd (not_below_itself t (subst (λ u. text_cmp t u ≡ Less) (sym same) (rising.0 x mine)))
-      | inr later ↦ later
-    ]
-
--- the first of two lists with the same members
-same_first : (t u : Text) (ts us : List Text) → Rising (t ∷ ts) → Rising (u ∷ us) → Contains (u ∷ us) t → Contains (t ∷ ts) u → t ≡ u
-same_first t u ts us mine other here there =
-    elim (member_cases u t us here) [
-      | inl e ↦ sym e
-      | inr below ↦ elim (member_cases t u ts there) [
-        | inl e ↦ e
-        | inr above ↦ absurd (not_below_itself t (nat_list_cmp_total.trans t u t (mine.0 u above) (other.0 t below)))
-      ]
-    ]
-
--- lists that ascend and have the same members are the same
-pub same_members : (ts us : List Text) → Rising ts → Rising us → ((x : Text) → Contains ts x → Contains us x) → ((x : Text) → Contains us x → Contains ts x) → ts ≡ us
-same_members [] [] mine other there back = refl
-same_members [] (u ∷ us) mine other there back = absurd (no_members u (back u (contains_first u us)))
-same_members (t ∷ ts) [] mine other there back = absurd (no_members t (there t (contains_first t ts)))
-same_members (t ∷ ts) (u ∷ us) mine other there back =
-    let e = same_first t u ts us mine other (there t (contains_first t ts)) (back u (contains_first u us)) in
-    let tails =
-    same_members ts us mine.1 other.1
-    (λ x m. in_tail t ts us x mine m (subst (λ w. Contains (w ∷ us) x) (sym e) (there x (contains_later t x ts m))))
-    (λ x m. in_tail u us ts x other m (subst (λ w. Contains (w ∷ ts) x) e (back x (contains_later u x us m)))) in
-    λ i. e i ∷ tails i

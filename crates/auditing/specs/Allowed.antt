@@ -38,7 +38,8 @@ pub record IsSignatureOf (d : Dep) (entry : Entry) : Type 0 where
 abbrev pub StoodEarlier : List Entry → List Dep → Type 0
 StoodEarlier earlier built = All (λ d. Any (IsSignatureOf d) earlier) built
 
--- the entry may follow these
+-- The entry's path is listed, not ignored and new, its name is the tree's, it was built on exactly its dependencies, and each of
+-- these stood earlier.
 pub record MayFollow (tree : Tree) (earlier : List Entry) (entry : Entry) : Type 0 where
   pub position : ℕ
   pub listed : position_of tree entry.path ≡ Some position

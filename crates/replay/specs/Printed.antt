@@ -1,11 +1,12 @@
 -- What the program prints, and the status with which it then ends.
-use Rattle.std.specs.Prelude.{◌≡◌, ◌⊎◌, ℕ, List, Option, take}
+use Rattle.std.specs.Prelude.{◌≡◌, ◌⊎◌, ℕ, List, Ok, Option, take}
 use Rattle.std.specs.Io.KnownBytes.{Appends, Keeps}
 use Rattle.auditing.specs.declared.verdict.Verdict.{Verdict}
 use Rattle.clap.specs.Words.{Row}
 use Rattle.faults.specs.Bytes.{Text}
-use Rattle.listing.specs.Listing.{Rules}
+use Rattle.listing.specs.Listing.{Rules, tree_of}
 use Rattle.listing.specs.Rules.{names_and_specs}
+use Rattle.listing.specs.Tree.{Tree}
 use Rattle.replay.specs.Audit.{IsVerdictOnListing, status_of, verdict_line}
 use Rattle.replay.specs.Status.{IsStatusOfListing}
 use Rattle.words.specs.Calls.{IsCallOf}
@@ -15,6 +16,10 @@ use Rattle.words.specs.declared.Call.TheVariants.{Audit, Status}
 -- how the program reads listings
 abbrev pub rules : Rules
 rules = names_and_specs
+
+-- a listing, as the program reads it, describes the tree
+abbrev pub IsDescribed : Tree → Type 0
+IsDescribed tree = (listing : Text) × (tree_of rules listing ≡ Ok tree)
 
 -- the status that a listing and a text of held package paths describe
 pub record IsStatus (text : Text) : Type 0 where

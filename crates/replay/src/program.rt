@@ -1,7 +1,7 @@
 //! The program `dpbr`.
 ghost use Rattle.std.specs.Prelude.{◌≡◌, ◌≢◌, ◌≤◌, ◌⊎◌, IfOk, OnErr, map, string_bytes, true};
 ghost use Rattle.std.specs.Io.KnownBytes.{Keeps};
-ghost use Rattle.replay.specs.Printed.{HasBegun, HasCarriedOut, HasPrinted, HasStopped, IsAudit, IsOutputOf, IsStatus};
+ghost use Rattle.replay.specs.Printed.{HasBegun, HasCarriedOut, HasPrinted, HasStopped, IsAudit, IsDescribed, IsOutputOf, IsStatus};
 ghost use Rattle.words.specs.Calls.{are_taken, matched};
 
 use crate::printing::print;
@@ -87,6 +87,15 @@ fn output<R: Files + AllocGlobal>(rt: &R, call: &Call<'_>) -> Result<Answer, Ref
     }
 }
 
+/// The tree that the listing in a file describes.
+fn tree_of_file<R: Files + AllocGlobal>(rt: &R, listing: &str) -> Result<Tree, Refusal>
+    ensures { IfOk result IsDescribed }
+{
+    let listing = fs::read(rt, listing)?;
+    let tree = Tree::parse(rt.alloc(), listing.as_slice())?;
+    Ok(tree)
+}
+
 fn status_of_files<R: Files + AllocGlobal>(
     rt: &R,
     listing: &str,
@@ -94,9 +103,7 @@ fn status_of_files<R: Files + AllocGlobal>(
 ) -> Result<Vec<u8>, Refusal>
     ensures { IfOk result (λ text. IsStatus text.items) }
 {
-    let listing = fs::read(rt, listing)?;
-    let tree = Tree::parse(rt.alloc(), listing.as_slice())?;
-    drop(listing);
+    let tree = tree_of_file(rt, listing)?;
     let held = fs::read(rt, held)?;
     let text = status(rt.alloc(), &tree, held.as_slice())?;
     Ok(text)
@@ -110,9 +117,7 @@ fn audit_of_files<R: Files + AllocGlobal>(
     ensures audit { IfOk result (λ output. IsAudit output.status output.text.items) }
     ensures status { IfOk result (λ output. (output.status ≡ 0) ⊎ (output.status ≡ 3)) }
 {
-    let listing = fs::read(rt, listing)?;
-    let tree = Tree::parse(rt.alloc(), listing.as_slice())?;
-    drop(listing);
+    let tree = tree_of_file(rt, listing)?;
     let list = fs::read(rt, list)?;
     let verdict = audit_list(rt.alloc(), &tree, list.as_slice())?;
     let text = verdict_text(rt.alloc(), verdict)?;
