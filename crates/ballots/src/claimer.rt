@@ -23,7 +23,7 @@ use package_record::Record;
 /// An open claim of one path, and how far it is.
 #[derive(Drop)]
 pub enum Claimer<V = Record> {
-    /// Promises come in, from those in `promised` so far. Of the votes that they report, the one under the greatest claim
+    /// Promises come in, from those in `promised` so far. Of the votes they report, the one under the greatest claim
     /// is kept, and of equal claims the first.
     Gathering {
         claim: Claim,
@@ -54,7 +54,7 @@ pub enum ClaimerStep<V = Record> {
     },
     /// A majority promised and reported nothing.
     Builds,
-    /// A majority promised, and this is what it reported: `value` stays, and `sent` goes to all as the claim's proposal.
+    /// A majority promised and reported this: `value` stays, and `sent` goes to all as the claim's proposal.
     Proposes {
         value: V,
         voted: Tally,
@@ -130,8 +130,8 @@ impl<V: Value> Claimer<V> {
 }
 
 impl<V: Value> Claimer<V> {
-    /// Takes the step, and gives what follows it. It moves what the step holds, and takes no memory. Where a value is to be
-    /// held the claimer stays as it was, and is to be dropped.
+    /// Takes the step, and gives what follows it. It moves what the step holds, and takes no memory. Where a value is
+    /// to be held the claimer stays as it was, and is to be dropped.
     pub fn apply(&mut self, step: ClaimerStep<V>) -> Next<V>
         ensures claimer { self.new ≡ claimer_then self.old step }
         ensures next { result ≡ next_of self.old step }
@@ -190,8 +190,8 @@ impl<V: Value> Claimer<V> {
     }
 }
 
-/// The step once the promise is counted, where this is the greatest report: at a majority what was reported is proposed, and
-/// else a value is built.
+/// The step once the promise is counted, where this is the greatest report: at a majority what was reported is
+/// proposed, and else a value is built.
 fn gathering<V: Value>(tally: Tally, report: Option<&(Claim, V)>) -> Result<ClaimerStep<V>, Memory>
     ensures { IfOk result (λ step. step ≡ gathering_step tally (option_copied report.entry)) }
 {

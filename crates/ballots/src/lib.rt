@@ -1,7 +1,7 @@
 //! The ballots of one path: what a voter answers to offers and proposals, and what a claimer does with the answers.
 //!
-//! They are generic in the value that is agreed on. No rule is stated here a second time: contracts say that a step is the
-//! one that a member of the agreement theory takes.
+//! They are generic in the value that is agreed on. No rule is stated here a second time: contracts say that a step is
+//! the one that a member of the agreement theory takes.
 #![tactic(auto)]
 
 mod claimer;

@@ -7,7 +7,7 @@ use arrayvec::ArrayVec;
 use faults::Memory;
 use std::marker::Model;
 
-/// The members that joined, each once. Contracts see it as what each member weighs, and those that joined, in that order.
+/// The members that joined, each once. Contracts see what each member weighs, and those that joined, in that order.
 #[derive(Drop)]
 pub struct Tally {
     weights: ArrayVec<u8, 9>,

@@ -13,8 +13,8 @@ use faults::Memory;
 use package_record::Record;
 use std::marker::Model;
 
-/// What a member promised, and its last vote, for one path. Each vote raises what is promised, so who voted has promised;
-/// whoever makes a voter proves that.
+/// What a member promised, and its last vote, for one path. Each vote raises what is promised, so who voted has
+/// promised; whoever makes a voter proves that.
 #[derive(Drop)]
 pub struct Voter<V = Record> {
     /// The greatest claim that it promised or voted under.
@@ -33,7 +33,7 @@ impl<V> Model for Voter<V> {
     ghost invariant = { λ voter. HasPromised voter.promised voter.voted };
 }
 
-/// What a voter is to note first, and then what it answers to the claim's member. It holds all that was grown for the step.
+/// What a voter is to note first, and then what it answers to the claim's member. It holds all that was grown for it.
 #[derive(Drop)]
 pub struct VoterStep<V = Record> {
     /// What has to be on the log before the answer goes out.
