@@ -14,7 +14,7 @@ pub fn command<'a>(alloc: Global) -> Result<Command<'a>, AllocError>
     ensures shape { IfOk result (λ command. shape_of command ≡ audit_command) }
     ensures local { IfOk result (λ command. (fields_of command).has_globals ≡ false) }
 {
-    let listing = required(alloc, "LISTING", "a listing of a ports tree");
+    let listing = required(alloc, "LISTING", "a listing of the ports tree");
     let list = required(
         alloc,
         "LIST",

@@ -14,8 +14,8 @@ pub fn command<'a>(alloc: Global) -> Result<Command<'a>, AllocError>
     ensures shape { IfOk result (λ command. shape_of command ≡ status_command) }
     ensures local { IfOk result (λ command. (fields_of command).has_globals ≡ false) }
 {
-    let listing = required(alloc, "LISTING", "a listing of a ports tree");
-    let held = required(alloc, "HELD", "a text of held package paths, one a line");
+    let listing = required(alloc, "LISTING", "a listing of the ports tree");
+    let held = required(alloc, "HELD", "the package paths that are held, one a line");
     Command::new(alloc, "status")
         .about("Prints the letter of each package path, and how many paths have each letter.")
         .arg(listing)?
