@@ -1,7 +1,7 @@
 use crate::logs::{NOTE, are_same, who};
 use stable_record::{Disk, FileDisk, Log, LogFault};
-use std::io;
 use std::test::Fail;
+use std::{fs, io};
 
 fn disk_at(rt: &HostRuntime, path: &str) -> io::Result<FileDisk> {
     let file = FileDisk::open_file(rt, path)?;
@@ -18,6 +18,7 @@ fn log_at(rt: &HostRuntime, path: &str) -> Result<(Log<FileDisk>, Vec<Vec<u8>>),
 
 #[test]
 fn a_real_log_is_opened_again(rt: HostRuntime) -> Result<(), Fail> {
+    fs::write(&rt, "log", b"")?;
     let (mut log, notes) = log_at(&rt, "log")?;
     assert_eq!(rt; notes.len(), 0);
     log.append(&NOTE)?;
