@@ -69,7 +69,8 @@ def listing(paths, some_ignored=True):
 
 
 def measured(words, folder):
-    """Seconds of the fastest of some runs, and the peak memory in KiB of the last, and what it wrote."""
+    """The median of the seconds of some runs, and the peak memory in KiB of the last. What that run wrote is in the folder's
+    file `answer`."""
     times = []
     for _ in range(5):
         with open(f"{folder}/answer", "wb") as out:
