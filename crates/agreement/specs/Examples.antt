@@ -1,4 +1,4 @@
--- Runs of three members that say that the machine does agree, so that the laws do not speak of nothing.
+-- Runs of three members, and of one node, that say that the machine does agree, so that the laws do not speak of nothing.
 use Rattle.std.specs.Prelude.{ℕ, true, None, Some, ◌||◌, ◌==◌, is_some, Option, List, [], ◌∷◌}
 use Rattle.agreement.specs.Claims.{Claim}
 use Rattle.agreement.specs.Votes.{Ballot}

@@ -18,12 +18,12 @@ mod tree;
 
 pub use crate::tree::Tree;
 
-/// Why a text is no listing. Lines are read in order, and the first fault is the one. A line is tested for its form,
+/// Why a text is no listing. Of several faulty lines the first counts. A line is tested for its form,
 /// its path, the number of paths, its value from the left, and a second setting, in this order. Each fault but `Memory`
 /// has its line as its place, counted from 1.
 #[derive(Clone, Copy, Debug, PartialEq, Eq, Error)]
 pub enum ListingFault {
-    /// Number 1: a growth was refused. It may stand in place of any other answer.
+    /// Number 1: a growth was refused. It says nothing of the text.
     #[error("out of memory")]
     Memory,
     /// Number 401: the line has no `=`, or no dot before it; or its FULLPKGNAME is no package name; or a dependency in

@@ -2,7 +2,7 @@
 use stable_record::{Disk, Identity, Log, LogFault, MemDisk};
 use std::alloc::Global;
 
-/// A note that promises a round of the path `a/b`.
+/// A note that opens round 1 of the path `a/b`.
 pub const NOTE: [u8; 14] = [1, 0, 3, 97, 47, 98, 0, 0, 0, 0, 0, 0, 0, 1];
 
 pub fn who() -> Identity {

@@ -39,9 +39,8 @@ impl Model for Record {
     ghost invariant = { λ r. IsRecord (content_of r.fields) };
 }
 
-/// The record that says this. The names of all files are tested first: `BadFileName` has the number, counted from 1,
-/// of the first file whose name is bad or is that of an earlier file. Then comes `TooLarge`, if the text would be over
-/// `LIMIT`.
+/// The record that says this. File names come first: `BadFileName` counts the files from 1, and names the one whose name
+/// is bad or was used before. A text that would be over `LIMIT` is `TooLarge`.
 pub fn make(
     alloc: Global,
     path: PkgPath,

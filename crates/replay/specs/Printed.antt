@@ -41,7 +41,7 @@ abbrev pub IsOutputOf : Call → ℕ → Text → Type 0
 IsOutputOf (Status listing held) status text = (status ≡ 0) × IsStatus text
 IsOutputOf (Audit listing list) status text = IsAudit status text
 
--- what was written since is one such text, and the status is the one that goes with it
+-- what was written since, where it is known, is one such text, and the status is the one that goes with it
 pub record HasPrinted (call : Call) (status : ℕ) (before after : Option (List ℕ)) : Type 0 where
   pub text : Text
   pub is_output : IsOutputOf call status text
@@ -57,13 +57,13 @@ pub record HasCarriedOut (matched : Option (Text × List Row)) (status : ℕ) (b
 abbrev pub AppendsBeginning : Option (List ℕ) → Option (List ℕ) → Text → Type 0
 AppendsBeginning before after text = (n : ℕ) × Appends before after (take n text)
 
--- what was written since is a beginning of one text that the call prints
+-- what was written since, where it is known, is a beginning of one text that the call prints
 pub record HasBegun (call : Call) (before after : Option (List ℕ)) : Type 0 where
   pub status : ℕ
   pub text : Text
   pub is_output : IsOutputOf call status text
   pub begun : AppendsBeginning before after text
 
--- nothing was written since, or a beginning of what the call that clap matched prints
+-- nothing is known to be written since, or what was is a beginning of what the call that clap matched prints
 abbrev pub HasStopped : Option (Text × List Row) → Option (List ℕ) → Option (List ℕ) → Type 0
 HasStopped matched before after = Keeps before after ⊎ ((call : Call) × IsCallOf matched call × HasBegun call before after)

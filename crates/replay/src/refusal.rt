@@ -12,7 +12,7 @@ use std::alloc::AllocError;
 use std::io::ErrorKind;
 use std::{fmt, io};
 
-/// The number of a fault, and the line or event where it came up, if it has one.
+/// The number of a fault, and the line where it came up, if it has one.
 #[derive(Clone, Copy, Debug, PartialEq, Eq)]
 pub(crate) struct Refusal {
     number: u32,

@@ -61,7 +61,7 @@ pub record CutsDown {T : Type 0} (len : ℕ) (old new : History) (result : Resul
   pub done : OnOk result (new ≡ synced ∷ cut_to len (take len (seen old)) ∷ old)
   pub failed : OnErr result ((new ≡ old) ⊎ ((after : List ℕ) × (new ≡ cut_to len after ∷ old)))
 
--- memory was wanting only where the device has no more room
+-- memory was wanting only where the disk had not room for so many calls and bytes, and no more than that was used up
 pub record UsesRoomFor {T : Type 0} (bytes calls : ℕ) (old new : Room) (result : Result T DiskFault) : Type 0 where
   pub enough : bytes ≤ old.bytes → calls ≤ old.calls → ¬ (IsErrOf result Memory)
   pub bytes_left : old.bytes ≤ new.bytes + bytes
