@@ -12,10 +12,14 @@ check:
 install: all
 	install -d $(DESTDIR)$(BINDIR) $(DESTDIR)$(MANDIR)/man1
 	install -m 755 crates/dpbr/out/dpbr $(DESTDIR)$(BINDIR)/dpbr
+	install -m 755 tools/expand-listing $(DESTDIR)$(BINDIR)/expand-listing
 	install -m 644 man/dpbr.1 $(DESTDIR)$(MANDIR)/man1/dpbr.1
+
+dist: all
+	tools/dist
 
 bench: all
 	bench/status
 	bench/audit
 
-.PHONY: all check install bench
+.PHONY: all check install dist bench

@@ -1,0 +1,30 @@
+"""The gate: every proof from nothing, each wrong body, each test and each program."""
+import os
+import re
+import subprocess
+
+from topics.tally import PROGRAM, TOP
+
+# what `make dist` tells of the gate that the program passed
+LAST_LINES = f"{TOP}/crates/dpbr/out/gate"
+
+
+def run(tally):
+    """Runs `rt ci`, shows what it prints, and adds its counts."""
+    gate = subprocess.Popen(["rt", "ci"], cwd=TOP, stdout=subprocess.PIPE, text=True)
+    lines = []
+    for line in gate.stdout:
+        print(line, end="", flush=True)
+        lines.append(line)
+    status = gate.wait()
+    counts = re.fullmatch(r"(\d+) passed, (\d+) failed\s*", lines[-1] if lines else "")
+    if counts:
+        tally.passed += int(counts[1])
+        tally.failed += int(counts[2])
+    if status and not (counts and int(counts[2])):
+        tally.add("rt ci", f"it ended with status {status}")
+    if not status and os.path.exists(PROGRAM):
+        # the gate has just proved and built the program from these sources, so ./dpbr need not do it again
+        open(f"{TOP}/crates/dpbr/out/built", "w").close()
+        with open(LAST_LINES, "w") as file:
+            file.writelines(lines[-2:])

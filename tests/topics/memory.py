@@ -1,0 +1,58 @@
+"""Want of memory at each allocation of dpbr: the right answer or fault 1, and nothing else."""
+import os
+import shutil
+import tempfile
+
+from topics.tally import EXAMPLES, answer, built_shim, difference
+
+
+def refusing(folder, number):
+    """The environment in which the allocation of that number is refused, and the file that then appears."""
+    mark = f"{folder}/refused"
+    return {**os.environ, "LD_PRELOAD": f"{folder}/refuse.so", "REFUSE": str(number), "REFUSED": mark}, mark
+
+
+def long_listing(paths):
+    """A listing whose letters fill several buffers of output, and a text that holds a third of it."""
+    lines = []
+    for n in range(paths):
+        lines.append(f"ports/p{n}.FULLPKGNAME=p{n}-1.0\n")
+        if n:
+            lines.append(f"ports/p{n}.RUN_DEPENDS=ports/p{n // 2} STEM-*:ports/p{n - 1}:build\n")
+    return "".join(lines), "".join(f"ports/p{n}\n" for n in range(paths // 3))
+
+
+def refusals(tally, folder, words, name):
+    """Refuses the first request for memory, the second, and so on, until a run meets no refusal."""
+    right = answer(words, folder)
+    number = 0
+    while True:
+        number += 1
+        environment, mark = refusing(folder, number)
+        got = answer(words, folder, env=environment)
+        if not os.path.exists(mark):
+            break
+        os.remove(mark)
+        if got != right and got != (b"", b"dpbr: fault 1\n", 1):
+            tally.add(f"{name}, allocation {number} refused", difference(got, (b"", b"dpbr: fault 1\n", 1)))
+            return
+    print(f"tests/run: {name}: {number - 1} allocations, each refused once", flush=True)
+    tally.add(name, difference(got, right) or ("" if number > 1 else "no allocation was seen"))
+
+
+def run(tally):
+    with tempfile.TemporaryDirectory() as folder:
+        if not built_shim(tally, folder, "refuse"):
+            return
+        listing, held = long_listing(600)
+        for name, text in (("LONG", listing), ("HALF", held), ("BAD", "a/p\n")):
+            with open(f"{folder}/{name}", "w") as file:
+                file.write(text)
+        for name in ("listing", "held", "list", "list.late"):
+            shutil.copy(f"{EXAMPLES}/{name}", folder)
+        refusals(tally, folder, ["status", "listing", "held"], "memory for the example")
+        refusals(tally, folder, ["audit", "listing", "list"], "memory for the example's list")
+        refusals(tally, folder, ["audit", "listing", "list.late"], "memory for the example's late list")
+        refusals(tally, folder, ["status", "--single", "LONG", "HALF"], "memory for a long listing")
+        refusals(tally, folder, ["status", "listing", "BAD"], "memory for a refused text")
+        refusals(tally, folder, ["audit", "listing", "BAD"], "memory for a refused list")

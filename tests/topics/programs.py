@@ -1,0 +1,98 @@
+"""dpbr as it is built: stored cases, words and files that are refused, listings at their limits."""
+import os
+import subprocess
+import tempfile
+
+from topics.tally import EXAMPLES, PROGRAM, TESTS, TOP, answer, contents, difference
+
+COMMANDS = ("status", "audit")
+
+
+def stored_cases(tally):
+    """Texts whose answers are known, each a folder with the words and the three answers."""
+    for command in COMMANDS:
+        for number in sorted(os.listdir(f"{TESTS}/{command}")):
+            folder = f"{TESTS}/{command}/{number}"
+            words = contents(f"{folder}/words").decode().split()
+            wanted = (contents(f"{folder}/stdout"), contents(f"{folder}/stderr"), int(contents(f"{folder}/status")))
+            tally.add(f"{command}/{number}", difference(answer(words, folder), wanted))
+
+
+def examples(tally):
+    """What the README and the manual page show."""
+    letters = contents(f"{TESTS}/examples.stdout")
+    late = b"no: package 5: dependency not earlier\n"
+    for words, out, status in ((["status", "listing", "held"], letters, 0), (["audit", "listing", "list"], b"yes\n", 0),
+                               (["audit", "listing", "list.late"], late, 3)):
+        tally.add(f"the example {' '.join(words)}", difference(answer(words, EXAMPLES), (out, b"", status)))
+    for command, text in (("status", b"I=0 B=0 Q=0 T=0 !=0\n"), ("audit", b"yes\n")):
+        got = answer([command, "/dev/null", "/dev/null"], EXAMPLES)
+        tally.add(f"{command} of empty files", difference(got, (text, b"", 0)))
+
+
+def no_calls(tally):
+    """Words that are no call of the program: clap's text on standard error, and status 2."""
+    status, audit = ["status", "listing", "held"], ["audit", "listing", "list"]
+    for words in ([], ["--help"], ["help"], ["--version"], ["status"], ["status", "listing"], [*status, "more"], ["state", *status[1:]],
+                  [b"status", b"\xff", b"held"], ["status", "--help"], ["audit"], ["audit", "listing"], [*audit, "more"],
+                  ["audit", "--help"], ["audits", *audit[1:]], ["--single", *status], ["--single", *audit], [*status, "--single=yes"],
+                  ["status", "--single", "--single", *status[1:]], ["status", "--singles", *status[1:]], ["status", "--", *status[1:], "--single"]):
+        out, error, code = answer(words, EXAMPLES)
+        problem = "" if (out, code) == (b"", 2) and error else f"{out!r:.200}, {error!r:.200}, status {code}"
+        tally.add(f"the words {words}", problem)
+
+
+def faults(tally):
+    """Files that can't be read or are refused: which file is looked at first, and that nothing else is printed."""
+    good = f"{EXAMPLES}/listing"
+    with tempfile.TemporaryDirectory() as folder:
+        with open(f"{folder}/bad", "w") as file:
+            file.write("a/p\n")
+        for words, fault in (("status none none", "2"), (f"status {good} none", "2"), ("status bad none", "401 at 1"),
+                             (f"status {folder} bad", "2"), (f"status {good} bad", "901 at 1"), ("audit none bad", "2"),
+                             (f"audit {good} none", "2"), (f"audit {good} {folder}", "2"), ("audit bad none", "401 at 1"),
+                             (f"audit {good} bad", "1308 at 1"), ("status none bad --single", "2"), (f"audit --single {good} bad", "1308 at 1")):
+            tally.add(words, difference(answer(words.split(), folder), (b"", f"dpbr: fault {fault}\n".encode(), 1)))
+    for words in (["status", "listing", "held"], ["audit", "listing", "list"], ["audit", "listing", "list.late"]):
+        with open("/dev/full", "wb") as full:
+            done = subprocess.run([PROGRAM, *words], cwd=EXAMPLES, stdout=full, stderr=subprocess.PIPE)
+        tally.add(f"{words} on a full device", difference((b"", done.stderr, done.returncode), (b"", b"dpbr: fault 2\n", 1)))
+
+
+def limits(tally):
+    """The most paths that a listing has and the most dependencies of one value, and one more of each."""
+    most_paths, most_dependencies = 16384, 512
+    paths = [f"ports/p{n}.FULLPKGNAME=p{n}-1.0\n" for n in range(most_paths + 1)]
+    dependencies = [f"ports/p{n}" for n in range(most_dependencies + 1)]
+    named = "".join(paths[: most_dependencies + 1])
+    letters = "".join(f"Q ports/p{n} p{n}-1.0\n" for n in range(most_paths))
+    with tempfile.TemporaryDirectory() as folder:
+        for name, text in (("most_paths", "".join(paths[:-1])), ("a_path_more", "".join(paths)), ("held", ""),
+                           ("most_dependencies", f"{named}a/p.FULLPKGNAME=p-1\na/p.RUN_DEPENDS={' '.join(dependencies[:-1])}\n"),
+                           ("a_dependency_more", f"{named}a/p.FULLPKGNAME=p-1\na/p.RUN_DEPENDS={' '.join(dependencies)}\n")):
+            with open(f"{folder}/{name}", "w") as file:
+                file.write(text)
+        out, error, status = answer(["status", "most_paths", "held"], folder)
+        tally.add("the most paths", difference((out[: len(letters)], error, status), (letters.encode(), b"", 0)))
+        out, error, status = answer(["status", "most_dependencies", "held"], folder)
+        tally.add("the most dependencies", difference((b"", error, status), (b"", b"", 0)))
+        for words, line in (("status a_path_more held", most_paths + 1), ("audit a_path_more held", most_paths + 1),
+                            ("status a_dependency_more held", most_dependencies + 3)):
+            tally.add(words, difference(answer(words.split(), folder), (b"", f"dpbr: fault 404 at {line}\n".encode(), 1)))
+
+
+def wrapper(tally):
+    """The command of the README, from another folder, too."""
+    wanted = (contents(f"{TESTS}/examples.stdout"), b"", 0)
+    for program, folder, words in (("./dpbr", TOP, "status examples/listing examples/held"), ("../dpbr", EXAMPLES, "status listing held")):
+        done = subprocess.run([program, *words.split()], cwd=folder, capture_output=True)
+        tally.add(f"{program} {words}", difference((done.stdout, done.stderr, done.returncode), wanted))
+
+
+def run(tally):
+    wrapper(tally)
+    stored_cases(tally)
+    examples(tally)
+    no_calls(tally)
+    faults(tally)
+    limits(tally)
