@@ -28,20 +28,41 @@ fn bytes_of(alloc: Global, word: &[u8]) -> Result<Vec<u8>, AllocError> {
     }
 }
 
-fn name(alloc: Global, text: &[u8]) -> Result<String, AllocError> {
-    let name = match PkgName::parse(alloc, text) {
-        Ok(name) => name,
-        Err(fault) => return format!(in alloc; "{}", fault.number()),
-    };
-    let Ok(name) = name.copy() else {
-        return String::from_str(alloc, "no memory");
-    };
-    let mut answer = hex::encode(alloc, name.stem())?;
+fn number(alloc: Global, fault: &impl Fault) -> Result<String, AllocError> {
+    format!(in alloc; "{}", fault.number())
+}
+
+fn no_memory(alloc: Global) -> Result<String, AllocError> {
+    String::from_str(alloc, "no memory")
+}
+
+// A blank, and the word in hexadecimal.
+fn append(alloc: Global, answer: &mut String, word: &[u8]) -> Result<(), AllocError> {
+    let word = hex::encode(alloc, word)?;
     answer.push(' ')?;
-    answer.push_str(hex::encode(alloc, name.version().as_bytes())?.as_str())?;
+    answer.push_str(word.as_str())
+}
+
+fn name(alloc: Global, text: &[u8]) -> Result<String, AllocError> {
+    match PkgName::parse(alloc, text) {
+        Ok(name) => copied_name(alloc, &name),
+        Err(fault) => number(alloc, &fault),
+    }
+}
+
+fn copied_name(alloc: Global, name: &PkgName) -> Result<String, AllocError> {
+    match name.copy() {
+        Ok(copy) if copy == *name => parts(alloc, &copy),
+        Ok(_) => String::from_str(alloc, "another name"),
+        Err(_) => no_memory(alloc),
+    }
+}
+
+fn parts(alloc: Global, name: &PkgName) -> Result<String, AllocError> {
+    let mut answer = hex::encode(alloc, name.stem())?;
+    append(alloc, &mut answer, name.version().as_bytes())?;
     for flavor in name.flavors() {
-        answer.push(' ')?;
-        answer.push_str(hex::encode(alloc, flavor.as_slice())?.as_str())?;
+        append(alloc, &mut answer, flavor.as_slice())?;
     }
     Ok(answer)
 }
@@ -50,10 +71,17 @@ fn compare(alloc: Global, own: &[u8], other: &[u8]) -> Result<String, AllocError
     if !is_version(own) || !is_version(other) {
         return String::from_str(alloc, "no version");
     }
-    let (Ok(own), Ok(other)) = (Version::new(alloc, own), Version::new(alloc, other)) else {
-        return String::from_str(alloc, "no memory");
-    };
-    String::from_str(alloc, place(own.compare(&other)))
+    match (Version::new(alloc, own), Version::new(alloc, other)) {
+        (Ok(own), Ok(other)) => String::from_str(alloc, compared(&own, &other)),
+        _ => no_memory(alloc),
+    }
+}
+
+fn compared(own: &Version, other: &Version) -> &'static str {
+    match other.copy() {
+        Ok(copy) => place(own.compare(&copy)),
+        Err(_) => "no memory",
+    }
 }
 
 fn place(ordering: Ordering) -> &'static str {
@@ -65,23 +93,35 @@ fn place(ordering: Ordering) -> &'static str {
 }
 
 fn spec(alloc: Global, text: &[u8], name: &[u8]) -> Result<String, AllocError> {
-    let spec = match Spec::parse(alloc, text) {
-        Ok(spec) => spec,
-        Err(fault) => return format!(in alloc; "{}", fault.number()),
-    };
-    let (Ok(spec), Ok(name)) = (spec.copy(), PkgName::parse(alloc, name)) else {
-        return String::from_str(alloc, "no name");
-    };
-    String::from_str(alloc, if spec.matches(&name) { "yes" } else { "no" })
+    match Spec::parse(alloc, text) {
+        Ok(spec) => String::from_str(alloc, matched(alloc, &spec, name)),
+        Err(fault) => number(alloc, &fault),
+    }
+}
+
+fn matched(alloc: Global, spec: &Spec, name: &[u8]) -> &'static str {
+    match (spec.copy(), PkgName::parse(alloc, name)) {
+        (Ok(spec), Ok(name)) => answer_of(spec.matches(&name)),
+        _ => "no name",
+    }
+}
+
+fn answer_of(holds: bool) -> &'static str {
+    if holds { "yes" } else { "no" }
 }
 
 fn path(alloc: Global, text: &[u8]) -> Result<String, AllocError> {
-    let path = match PkgPath::parse(alloc, text) {
-        Ok(path) => path,
-        Err(fault) => return format!(in alloc; "{}", fault.number()),
-    };
+    match PkgPath::parse(alloc, text) {
+        Ok(path) => written(alloc, &path),
+        Err(fault) => number(alloc, &fault),
+    }
+}
+
+// What a copy of the path is written as.
+fn written(alloc: Global, path: &PkgPath) -> Result<String, AllocError> {
+    let mut text = Vec::new(alloc);
     match path.copy() {
-        Ok(path) => hex::encode(alloc, path.as_bytes()),
-        Err(_) => String::from_str(alloc, "no memory"),
+        Ok(copy) if copy.write_to(&mut text).is_ok() => hex::encode(alloc, text.as_slice()),
+        _ => no_memory(alloc),
     }
 }

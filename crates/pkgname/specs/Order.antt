@@ -11,9 +11,12 @@ use Rattle.pkgname.specs.Version.{Component, Parts, parts_of}
 abbrev pub component_cmp : Component → Component → Ordering
 component_cmp = then_cmp (on (λ c. c.number) nat_cmp) (on (λ c. rest_of c.rest) rest_cmp)
 
--- by the components from the left, a body that ends first being below; then by the marker p, none being below any
+-- by the components from the left, a body that ends first being below; then by the marker p, none
+-- being below any
 abbrev pub body_cmp : Parts → Parts → Ordering
-body_cmp = then_cmp (on (λ x. x.components) (slice_cmp component_cmp)) (on (λ x. x.p) (option_cmp nat_cmp))
+body_cmp = then_cmp
+    (on (λ x. x.components) (slice_cmp component_cmp))
+    (on (λ x. x.p) (option_cmp nat_cmp))
 
 -- by the marker v, none being below any; then by components and the marker p
 abbrev pub parts_cmp : Parts → Parts → Ordering

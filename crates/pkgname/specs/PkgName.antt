@@ -17,7 +17,8 @@ is_name_byte b = is_word_byte b && not (is_one_of (codes "/:|,!*<>=") b)
 
 -- at the place stands a dash, and behind it a byte that begins a version
 abbrev pub is_dash_before : (ℕ → Bool) → Text → ℕ → Bool
-is_dash_before begins text i = slice_index text i == dash && option_map_or begins (slice_get text (i + 1)) false
+is_dash_before begins text i =
+    slice_index text i == dash && option_map_or begins (slice_get text (i + 1)) false
 
 -- the first such place other than the text's first byte, if there is one
 abbrev pub version_dash : (ℕ → Bool) → Text → Option ℕ
@@ -29,8 +30,8 @@ pub record Parts : Type 0 where
   pub version : Text
   pub flavors : List Text
 
--- the parts of a text by the dash at this place: the stem before it, the version behind it up to the next dash or the
--- end, and behind the version the flavors between dashes
+-- the parts of a text by the dash at this place: the stem before it, the version behind it up to
+-- the next dash or the end, and behind the version the flavors between dashes
 abbrev pub parts_round : Text → ℕ → Parts
 parts_round text place =
     let pieces = pieces_at dash (drop (place + 1) text) in
@@ -54,8 +55,8 @@ parts_of text = parts_by is_ascii_digit text
 abbrev pub has_empty_flavor : Text → Bool
 has_empty_flavor text = option_map_or (λ p. list_any is_empty p.flavors) (parts_of text) false
 
--- the fault of a text that is no name, the first that applies: it has more than 255 bytes; a byte may not stand in a
--- name, or a flavor is empty; it has no version
+-- the fault of a text that is no name, the first that applies: it has more than 255 bytes; a byte
+-- may not stand in a name, or a flavor is empty; it has no version
 abbrev pub fault_of : Text → Option NameFault
 fault_of text = first_that_applies (
     (nat_lt 255 (length text), TooLong)

@@ -29,19 +29,23 @@ pub record Rest : Type 0 where
 -- the number behind the word, where the text is the word and digits alone
 abbrev pub number_behind : Text → Text → Option ℕ
 number_behind word text =
-    if begins_with word text && list_all is_ascii_digit (drop (length word) text) then Some (number_of (drop (length word) text)) else None
+    if begins_with word text && list_all is_ascii_digit (drop (length word) text)
+    then Some (number_of (drop (length word) text))
+    else None
 
 -- a rest of this rank where a number stands behind its word, and otherwise the other rest
 abbrev pub by_word : Rank → Option ℕ → Rest → Rest
 by_word rank None other = other
 by_word rank (Some number) other = record { rank = rank; number = number; text = [] }
 
--- a rest that is no such word: that of the release itself if it is empty, and else another, told by its bytes
+-- a rest that is no such word: that of the release itself if it is empty, and else another, told by
+-- its bytes
 abbrev pub without_word : Text → Rest
-without_word text = record { rank = if is_empty text then Release else Other; number = 0; text = text }
+without_word text =
+    record { rank = if is_empty text then Release else Other; number = 0; text = text }
 
--- what a text says as a rest, the first that applies: one of these words with digits alone, or nothing, behind it; else
--- a rest without a word
+-- what a text says as a rest, the first that applies: one of these words with digits alone, or
+-- nothing, behind it; else a rest without a word
 abbrev pub rest_of : Text → Rest
 rest_of text =
     by_word Alpha (number_behind (codes "alpha") text)

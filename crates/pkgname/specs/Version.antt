@@ -10,7 +10,9 @@ use Rattle.pkgname.specs.PkgName.{is_name_byte}
 
 -- the text is a version: it begins with a digit, and each byte is one of a name other than the dash
 abbrev pub is_version : Text → Bool
-is_version text = option_map_or is_ascii_digit (slice_get text 0) false && list_all is_name_byte text && not (has_byte dash text)
+is_version text =
+    option_map_or is_ascii_digit (slice_get text 0) false
+    && list_all is_name_byte text && not (has_byte dash text)
 
 -- the text is that of a version
 abbrev pub IsVersion : Text → Type 0
@@ -32,7 +34,9 @@ before_digits_at_end text = take (length text - suffix_len is_ascii_digit text) 
 
 -- the text ends with the letter and at least one digit
 abbrev pub has_marker : ℕ → Text → Bool
-has_marker letter text = not (is_empty (digits_at_end text)) && ends_with nat_eq (before_digits_at_end text) (letter ∷ [])
+has_marker letter text =
+    not (is_empty (digits_at_end text))
+    && ends_with nat_eq (before_digits_at_end text) (letter ∷ [])
 
 -- the number of the marker with this letter, if the text ends with one
 abbrev pub marker : ℕ → Text → Option ℕ
@@ -40,7 +44,8 @@ marker letter text = if has_marker letter text then Some (number_of (digits_at_e
 
 -- the text without the marker with this letter, if it ends with one
 abbrev pub without_marker : ℕ → Text → Text
-without_marker letter text = if has_marker letter text then take (length (before_digits_at_end text) - 1) text else text
+without_marker letter text =
+    if has_marker letter text then take (length (before_digits_at_end text) - 1) text else text
 
 -- ---- the components of the body
 
@@ -51,7 +56,8 @@ pub record Component : Type 0 where
   -- what stands behind them
   pub rest : Text
 
--- the component that a piece of a body is: the number of its leading digits, and what stands behind them
+-- the component that a piece of a body is: the number of its leading digits, and what stands behind
+-- them
 abbrev pub component_of : Text → Component
 component_of piece = record {
   number = number_of (take_while is_ascii_digit piece);
@@ -62,15 +68,15 @@ component_of piece = record {
 abbrev pub components_of : Text → List Component
 components_of body = map component_of (pieces_at dot body)
 
--- what a version says: the number of its marker v, if it has one, its components, and the number of its marker p, if it
--- has one
+-- what a version says: the number of its marker v, if it has one, its components, and the number of
+-- its marker p, if it has one
 pub record Parts : Type 0 where
   pub v : Option ℕ
   pub components : List Component
   pub p : Option ℕ
 
--- what the text of a version says: the marker v is the one at its end, the marker p the one at the end of what is left,
--- and what is then left is the body
+-- what the text of a version says: the marker v is the one at its end, the marker p the one at the
+-- end of what is left, and what is then left is the body
 abbrev pub parts_of : Text → Parts
 parts_of text =
     let without_v = without_marker letter_v text in

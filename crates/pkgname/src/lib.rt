@@ -3,10 +3,9 @@
 
 ghost use Rattle.std.specs.Prelude.{◌≡◌, None};
 ghost use Rattle.pkgname.specs.declared.NameFault.TheVariants.{Memory as OutOfMemory};
-ghost use Rattle.pkgname.specs.Refusals.{refusal_number};
+ghost use Rattle.pkgname.specs.Refusals.{number_of};
 
-use faults::{Fault, Memory};
-use std::alloc::{AllocError, AllocFailed};
+use faults::{Fault, WantOfMemory};
 use thiserror::Error;
 
 mod bytes;
@@ -17,8 +16,6 @@ mod number;
 mod parts;
 mod pieces;
 mod rest;
-#[cfg(test)]
-mod tests;
 mod version;
 
 pub use crate::bytes::{dash_before_version, has_name_bytes};
@@ -48,7 +45,7 @@ pub enum NameFault {
 }
 
 impl Fault for NameFault {
-    ghost number_of = { refusal_number };
+    ghost number_of = { number_of };
 
     ghost place_of = { λ _. None };
 
@@ -66,26 +63,10 @@ impl Fault for NameFault {
     }
 }
 
-impl From<Memory> for NameFault {
+impl<E: WantOfMemory> From<E> for NameFault {
     ghost from_gives = { λ _ e. e ≡ OutOfMemory };
 
-    fn from(_error: Memory) -> NameFault {
-        NameFault::Memory
-    }
-}
-
-impl From<AllocError> for NameFault {
-    ghost from_gives = { λ _ e. e ≡ OutOfMemory };
-
-    fn from(_error: AllocError) -> NameFault {
-        NameFault::Memory
-    }
-}
-
-impl<T: Drop> From<AllocFailed<T>> for NameFault {
-    ghost from_gives = { λ _ e. e ≡ OutOfMemory };
-
-    fn from(_error: AllocFailed<T>) -> NameFault {
+    fn from(_error: E) -> NameFault {
         NameFault::Memory
     }
 }

@@ -49,10 +49,10 @@ impl Model for PkgName {
 
 impl PkgName {
     /// Reads the whole text as a name, or answers its first fault. By packages-specs(7) the version
-    /// begins behind the first dash that a digit follows, and goes to the next dash or the end; what
-    /// stands before that first dash is the stem, and what follows the version are flavors between
-    /// dashes. By this project's own rule that dash is not the first byte, no flavor is empty, and
-    /// only the bytes of `has_name_bytes` may stand there.
+    /// begins behind the first dash that a digit follows, and goes to the next dash or the end;
+    /// what stands before that first dash is the stem, and what follows the version are flavors
+    /// between dashes. By this project's own rule that dash is not the first byte, no flavor is
+    /// empty, and only the bytes of `has_name_bytes` may stand there.
     pub fn parse(alloc: Global, text: &[u8]) -> Result<PkgName, NameFault>
         ensures { IsRightUnless NameFault.Memory result (name_of text.now) }
     {
@@ -133,8 +133,12 @@ impl PkgName {
 
 /// The flavors between dashes, none of which is empty.
 fn flavors_of(alloc: Global, behind: Option<&[u8]>) -> Result<Vec<Vec<u8>>, NameFault>
-    ensures ok { IfOk result (λ flavors. (map vec_items flavors.items ≡ pieces_behind dash (option_copied behind.entry)) × (list_any is_empty (pieces_behind dash (option_copied behind.entry)) ≡ false)) }
-    ensures err { IfErr result (λ e. (e ≡ NameFault.Memory) ⊎ ((e ≡ NameFault.BadByte) × (list_any is_empty (pieces_behind dash (option_copied behind.entry)) ≡ true))) }
+    ensures ok { IfOk result (λ flavors.
+        (map vec_items flavors.items ≡ pieces_behind dash (option_copied behind.entry))
+        × (list_any is_empty (pieces_behind dash (option_copied behind.entry)) ≡ false)) }
+    ensures err { IfErr result (λ e. (e ≡ NameFault.Memory)
+        ⊎ ((e ≡ NameFault.BadByte)
+            × (list_any is_empty (pieces_behind dash (option_copied behind.entry)) ≡ true))) }
 {
     let mut flavors = Vec::new(alloc);
     let mut left = behind;

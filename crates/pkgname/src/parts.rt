@@ -99,7 +99,8 @@ fn compare_markers(own: &Option<Number<'_>>, other: &Option<Number<'_>>) -> Orde
 
 /// Compares the components from the left. A body that ends first is below.
 fn compare_bodies(own: &[u8], other: &[u8]) -> Ordering
-    ensures { result ≡ slice_cmp component_cmp (components_of own.entry.now) (components_of other.entry.now) }
+    ensures { result
+        ≡ slice_cmp component_cmp (components_of own.entry.now) (components_of other.entry.now) }
 {
     let (mut own_left, mut other_left) = (own, other);
     'components: loop {

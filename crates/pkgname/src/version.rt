@@ -56,8 +56,8 @@ impl Version {
     ///   its rest;
     /// - then by the number of `p`, none being below `p0`.
     ///
-    /// Rests from the lowest are `alpha`, `beta`, `pre`, `rc`, nothing, `pl`, and any other, where a
-    /// word may have digits behind it and nothing else; the same word compares by the number of
+    /// Rests from the lowest are `alpha`, `beta`, `pre`, `rc`, nothing, `pl`, and any other, where
+    /// a word may have digits behind it and nothing else; the same word compares by the number of
     /// these, 0 without any, and other rests by their bytes. Numbers have any number of digits.
     /// Versions that tie need not be equal, as 1.02 and 1.2. It takes no memory.
     pub fn compare(&self, other: &Version) -> Ordering

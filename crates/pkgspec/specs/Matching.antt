@@ -25,16 +25,22 @@ holds version bound = allows bound.relation (version_cmp version bound.version)
 
 -- the flavor is there exactly if it has to be
 abbrev pub is_met_by : List Text → Demand → Bool
-is_met_by flavors demand = if demand.is_present then is_among flavors demand.flavor else not (is_among flavors demand.flavor)
+is_met_by flavors demand =
+    if demand.is_present
+    then is_among flavors demand.flavor
+    else not (is_among flavors demand.flavor)
 
 -- the stem is that of the name, or `STEM`, which stands for each
 abbrev pub is_stem_of : Text → Text → Bool
 is_stem_of stem name = bytes_eq stem (codes "STEM") || bytes_eq stem (stem_of name)
 
--- the alternative's stem is that of the name, all bounds hold of the name's version, and its flavors meet all demands
+-- the alternative's stem is that of the name, all bounds hold of the name's version, and its
+-- flavors meet all demands
 abbrev pub alternative_matches : Text → Alternative → Bool
 alternative_matches name a =
-    is_stem_of a.stem name && list_all (holds (version_of name)) a.bounds && list_all (is_met_by (flavors_of name)) a.demands
+    is_stem_of a.stem name
+    && list_all (holds (version_of name)) a.bounds
+    && list_all (is_met_by (flavors_of name)) a.demands
 
 -- some alternative matches the name
 abbrev pub matches : List Alternative → Text → Bool

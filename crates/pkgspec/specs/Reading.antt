@@ -13,7 +13,8 @@ bound_or_fault text = if is_bound text then Ok (bound_of text) else Err BadBound
 
 -- the bounds that the texts say, or a fault if one of them is no bound
 abbrev pub bounds_or_fault : List Text → Result (List Bound) SpecFault
-bounds_or_fault texts = if list_all is_bound texts then Ok (filter_map bound_of texts) else Err BadBound
+bounds_or_fault texts =
+    if list_all is_bound texts then Ok (filter_map bound_of texts) else Err BadBound
 
 -- the demand that the text says, or its fault
 abbrev pub demand_or_fault : Text → Result Demand SpecFault
@@ -29,4 +30,5 @@ alternative_or_fault text = unless_fault (alternative_fault text) (alternative_o
 
 -- the alternatives that the texts spell, or the fault of the first that spells none
 abbrev pub alternatives_or_fault : List Text → Result (List Alternative) SpecFault
-alternatives_or_fault texts = unless_fault (first_given alternative_fault texts) (map alternative_of texts)
+alternatives_or_fault texts =
+    unless_fault (first_given alternative_fault texts) (map alternative_of texts)

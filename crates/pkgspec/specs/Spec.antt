@@ -1,4 +1,5 @@
--- What a text says as a spec: alternatives, each with a stem, bounds of the version, and demands on flavors.
+-- What a text says as a spec: alternatives, each with a stem, bounds of the version, and demands on
+-- flavors.
 use Rattle.std.specs.Prelude.{ℕ, Bool, ◌&&◌, ◌||◌, not, nat_lt, List, [], ◌∷◌, length, drop, map, filter_map, codes, Option, Some, None, Result, is_some, if◌then◌else◌}
 use Rattle.std.specs.Char.{is_ascii_digit}
 use Rattle.std.specs.List.{list_all}
@@ -37,7 +38,8 @@ pub record Alternative : Type 0 where
 abbrev pub begins_bounds : ℕ → Bool
 begins_bounds b = is_one_of (codes "*<>=") b || is_ascii_digit b
 
--- the stem, the bounds in the place of a version, and the flavors of an alternative, if it has bounds
+-- the stem, the bounds in the place of a version, and the flavors of an alternative, if it has
+-- bounds
 abbrev pub parts_of : Text → Option name.Parts
 parts_of text = parts_by begins_bounds text
 
@@ -49,7 +51,8 @@ stem_of text = option_map_or (λ p. p.stem) (parts_of text) text
 abbrev pub bound_texts : Text → List Text
 bound_texts text = option_map_or (λ p. pieces_at comma p.version) (parts_of text) []
 
--- the texts of an alternative's demands on flavors, which stand between dashes behind the bounds, if there are any
+-- the texts of an alternative's demands on flavors, which stand between dashes behind the bounds,
+-- if there are any
 abbrev pub demand_texts : Text → List Text
 demand_texts text = option_map_or (λ p. p.flavors) (parts_of text) []
 
@@ -68,7 +71,9 @@ relation_of text =
 -- the bound that a text is, if it is a version, alone or behind an operator
 abbrev pub bound_of : Text → Option Bound
 bound_of text =
-    if is_version (relation_of text).1 then Some (record { relation = (relation_of text).0; version = (relation_of text).1 }) else None
+    if is_version (relation_of text).1
+    then Some (record { relation = (relation_of text).0; version = (relation_of text).1 })
+    else None
 
 -- the text is a star, which wants nothing of a version
 abbrev pub is_star : Text → Bool
@@ -84,16 +89,18 @@ is_denied text = begins_with (codes "!") text
 
 -- the flavor that a text is about, and whether it has to be there
 abbrev pub demand_of : Text → Demand
-demand_of text = record { flavor = if is_denied text then drop 1 text else text; is_present = not (is_denied text) }
+demand_of text = record {
+    flavor = if is_denied text then drop 1 text else text; is_present = not (is_denied text) }
 
 -- the flavor that the text is about is not empty and has bytes of a name alone
 abbrev pub is_demand : Text → Bool
-is_demand text = not (is_empty (demand_of text).flavor) && list_all is_name_byte (demand_of text).flavor
+is_demand text =
+    not (is_empty (demand_of text).flavor) && list_all is_name_byte (demand_of text).flavor
 
 -- ---- what a text spells
 
--- the fault of an alternative, the first that applies: it is empty; its stem has a byte that no name has; a bound is
--- none; a flavor is empty or has a byte that no name has
+-- the fault of an alternative, the first that applies: it is empty; its stem has a byte that no
+-- name has; a bound is none; a flavor is empty or has a byte that no name has
 abbrev pub alternative_fault : Text → Option SpecFault
 alternative_fault text = first_that_applies (
     (is_empty text, Empty)
@@ -110,11 +117,12 @@ alternative_of text = record {
   demands = map demand_of (demand_texts text);
 }
 
--- the fault of a text that is no spec, the first that applies: it is empty; it has more than 1,024 bytes; that of the
--- first alternative from the left that has one
+-- the fault of a text that is no spec, the first that applies: it is empty; it has more than 1,024
+-- bytes; that of the first alternative from the left that has one
 abbrev pub fault_of : Text → Option SpecFault
 fault_of text =
-    option_or (first_that_applies ((is_empty text, Empty) ∷ (nat_lt 1024 (length text), TooLong) ∷ []))
+    option_or
+        (first_that_applies ((is_empty text, Empty) ∷ (nat_lt 1024 (length text), TooLong) ∷ []))
     (first_given alternative_fault (pieces_at bar text))
 
 -- the alternatives that a text spells, which stand between bars, or its fault

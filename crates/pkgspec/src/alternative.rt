@@ -29,7 +29,8 @@ impl Model for Alternative {
 
     ghost Value = { Alternative };
 
-    ghost view = { λ a. record { stem = a.stem.items; bounds = a.bounds.items; demands = a.demands.items } };
+    ghost view = { λ a. record {
+        stem = a.stem.items; bounds = a.bounds.items; demands = a.demands.items } };
 }
 
 impl Alternative {
@@ -106,8 +107,10 @@ struct Parts<'a> {
 impl<'a> Parts<'a> {
     fn new(text: &'a [u8]) -> Parts<'a>
         ensures stem { result.stem.now ≡ stem_of text.entry.now }
-        ensures bounds { pieces_behind comma (option_copied result.bounds) ≡ bound_texts text.entry.now }
-        ensures demands { pieces_behind dash (option_copied result.demands) ≡ demand_texts text.entry.now }
+        ensures bounds { pieces_behind comma (option_copied result.bounds)
+            ≡ bound_texts text.entry.now }
+        ensures demands { pieces_behind dash (option_copied result.demands)
+            ≡ demand_texts text.entry.now }
     {
         match dash_before_version(text, b"*<>=") {
             Some(dash) => {
@@ -128,7 +131,8 @@ impl<'a> Parts<'a> {
 }
 
 fn parse_bounds(alloc: Global, texts: Option<&[u8]>) -> Result<Vec<Bound>, SpecFault>
-    ensures { IsRightUnless SpecFault.Memory (map_ok vec_items result) (bounds_or_fault (pieces_behind comma (option_copied texts.entry))) }
+    ensures { IsRightUnless SpecFault.Memory (map_ok vec_items result)
+        (bounds_or_fault (pieces_behind comma (option_copied texts.entry))) }
 {
     let mut bounds = Vec::new(alloc);
     let mut left = texts;
@@ -143,7 +147,8 @@ fn parse_bounds(alloc: Global, texts: Option<&[u8]>) -> Result<Vec<Bound>, SpecF
 }
 
 fn parse_demands(alloc: Global, texts: Option<&[u8]>) -> Result<Vec<Demand>, SpecFault>
-    ensures { IsRightUnless SpecFault.Memory (map_ok vec_items result) (demands_or_fault (pieces_behind dash (option_copied texts.entry))) }
+    ensures { IsRightUnless SpecFault.Memory (map_ok vec_items result)
+        (demands_or_fault (pieces_behind dash (option_copied texts.entry))) }
 {
     let mut demands = Vec::new(alloc);
     let mut left = texts;

@@ -2,11 +2,10 @@
 #![tactic(auto)]
 
 ghost use Rattle.std.specs.Prelude.{◌≡◌, None};
-ghost use Rattle.pkgspec.specs.Refusals.{refusal_number};
+ghost use Rattle.pkgspec.specs.Refusals.{number_of};
 ghost use Rattle.pkgspec.specs.declared.SpecFault.TheVariants.{Memory as OutOfMemory};
 
-use faults::{Fault, Memory};
-use std::alloc::{AllocError, AllocFailed};
+use faults::{Fault, WantOfMemory};
 use thiserror::Error;
 
 mod alternative;
@@ -14,8 +13,6 @@ mod bound;
 mod demand;
 mod part;
 mod spec;
-#[cfg(test)]
-mod tests;
 
 pub use crate::spec::Spec;
 
@@ -44,7 +41,7 @@ pub enum SpecFault {
 }
 
 impl Fault for SpecFault {
-    ghost number_of = { refusal_number };
+    ghost number_of = { number_of };
 
     ghost place_of = { λ _. None };
 
@@ -63,26 +60,10 @@ impl Fault for SpecFault {
     }
 }
 
-impl From<Memory> for SpecFault {
+impl<E: WantOfMemory> From<E> for SpecFault {
     ghost from_gives = { λ _ e. e ≡ OutOfMemory };
 
-    fn from(_error: Memory) -> SpecFault {
-        SpecFault::Memory
-    }
-}
-
-impl From<AllocError> for SpecFault {
-    ghost from_gives = { λ _ e. e ≡ OutOfMemory };
-
-    fn from(_error: AllocError) -> SpecFault {
-        SpecFault::Memory
-    }
-}
-
-impl<T: Drop> From<AllocFailed<T>> for SpecFault {
-    ghost from_gives = { λ _ e. e ≡ OutOfMemory };
-
-    fn from(_error: AllocFailed<T>) -> SpecFault {
+    fn from(_error: E) -> SpecFault {
         SpecFault::Memory
     }
 }

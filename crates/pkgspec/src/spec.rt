@@ -57,10 +57,10 @@ impl Spec {
         Ok(Spec { alternatives })
     }
 
-    /// Whether some alternative matches the name. By packages-specs(7) an alternative does where its
-    /// stem is the name's, all its bounds hold of the name's version, and each flavor that it names
-    /// is present or absent as it says. Three points are this project's own: the stem `STEM` is that
-    /// of each name; bounds go by the order of `Version::compare`, so that `q-=1.2` matches
+    /// Whether some alternative matches the name. By packages-specs(7) an alternative does where
+    /// its stem is the name's, all its bounds hold of the name's version, and each flavor that it
+    /// names is present or absent as it says. Three points are this project's own: the stem `STEM`
+    /// is that of each name; bounds go by the order of `Version::compare`, so that `q-=1.2` matches
     /// `q-1.02`; and a `*` is never a wild character of a stem. It takes no memory.
     pub fn matches(&self, name: &PkgName) -> bool
         ensures { result ≡ matches self.now name.now }
@@ -80,7 +80,8 @@ impl Spec {
 }
 
 fn parse_alternatives(alloc: Global, text: &[u8]) -> Result<Vec<Alternative>, SpecFault>
-    ensures { IsRightUnless SpecFault.Memory (map_ok vec_items result) (alternatives_or_fault (pieces_at bar text.now)) }
+    ensures { IsRightUnless SpecFault.Memory (map_ok vec_items result)
+        (alternatives_or_fault (pieces_at bar text.now)) }
 {
     let mut alternatives = Vec::new(alloc);
     let mut left = Some(text);
