@@ -68,6 +68,22 @@ def listing(paths, some_ignored=True):
     return "\n".join(lines) + "\n", names, packages
 
 
+def run_chain(paths):
+    """A listing in which each path needs one other to run, all in one chain, whose places are shuffled; and its paths."""
+    numbers = Numbers(paths)
+    order = list(range(paths))
+    for n in range(paths - 1, 0, -1):
+        other = numbers.below(n + 1)
+        order[n], order[other] = order[other], order[n]
+    needed = dict(zip(order, order[1:]))
+    lines = []
+    for n in range(paths):
+        lines.append(f"devel/link{n}.FULLPKGNAME=link{n}-1.0")
+        if n in needed:
+            lines.append(f"devel/link{n}.RUN_DEPENDS=devel/link{needed[n]}")
+    return "\n".join(lines) + "\n", [f"devel/link{n}" for n in range(paths)]
+
+
 def measured(words, folder):
     """The median of the seconds of some runs, and the peak memory in KiB of the last. What that run wrote is in the folder's
     file `answer`."""
