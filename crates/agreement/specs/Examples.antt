@@ -1,4 +1,5 @@
--- Runs of three members, and of one node, that say that the machine does agree, so that the laws do not speak of nothing.
+-- Runs of three members, and of one node, that say that the machine does agree, so that the laws do
+-- not speak of nothing.
 use Rattle.std.specs.Prelude.{ℕ, true, None, Some, ◌||◌, ◌==◌, is_some, Option, List, [], ◌∷◌}
 use Rattle.agreement.specs.Claims.{Claim}
 use Rattle.agreement.specs.Votes.{Ballot}
@@ -12,8 +13,8 @@ use Rattle.agreement.specs.Nodes.{Happening, Does, Local, Comes}
 abbrev pub three : List ℕ
 three = 1 ∷ 1 ∷ 1 ∷ []
 
--- Member 0 opens a claim, 0 and 1 promise, 0 builds 7 and proposes it, both vote, 0 hears both votes, and 2 hears
--- what is agreed. A message is named by how many were sent after it.
+-- Member 0 opens a claim, 0 and 1 promise, 0 builds 7 and proposes it, both vote, 0 hears both
+-- votes, and 2 hears what is agreed. A message is named by how many were sent after it.
 abbrev pub plain : List (Event ℕ)
 plain =
     Take 0 (Start 0)  -- Offer
@@ -29,8 +30,9 @@ plain =
     ∷ Take 2 (Deliver 0)
     ∷ []
 
--- The same up to the proposal, which only 1 takes, and 1 stops inside that step: its note stays, and no vote is sent.
--- Member 2 opens a greater claim, and hears of 7 from member 1, so that 7 is proposed again, and agreed.
+-- The same up to the proposal, which only 1 takes, and 1 stops inside that step: its note stays,
+-- and no vote is sent. Member 2 opens a greater claim, and hears of 7 from member 1, so that 7 is
+-- proposed again, and agreed.
 abbrev pub taken_over : List (Event ℕ)
 taken_over =
     Take 0 (Start 0)  -- Offer
@@ -92,4 +94,11 @@ claim round member = record { round = round; member = member }
 
 -- a member that promised the claim, and holds nothing
 abbrev pub bound_to : Claim → Option (Ballot ℕ) → Stage ℕ → Member ℕ
-bound_to c vote stage = record { opened = 1; promised = Some c; voted = vote; held = None; up = true; stage = stage }
+bound_to c vote stage = record {
+  opened = 1;
+  promised = Some c;
+  voted = vote;
+  held = None;
+  up = true;
+  stage = stage;
+}

@@ -1,11 +1,13 @@
--- A member's step for one path, case by case: what it notes, what it sends, and what becomes of it. In each case the
--- first line that applies counts.
-use Rattle.std.specs.Prelude.{ℕ, suc, max, not, ◌&&◌, List, Option, Some, None, if◌then◌else◌, slice_get, option_map}
+-- A member's step for one path, case by case: what it notes, what it sends, and what becomes of it.
+-- In each case the first line that applies counts.
+use Rattle.std.specs.Prelude.{ℕ, suc, max, not, ◌&&◌, List, Option, Some, None, if◌then◌else◌}
+use Rattle.std.specs.Prelude.{slice_get, option_map}
 use Rattle.agreement.specs.Claims.{Claim, claim_same, is_above, is_below, is_promised}
 use Rattle.agreement.specs.Quorums.{Quorums, nobody, with_member}
 use Rattle.agreement.specs.Votes.{Ballot, PromiseOf, ballot, is_voted, kept_report}
 use Rattle.agreement.specs.Messages.{Message, Offer, Promise, Propose, Vote, Nay, Agreed, Ask}
-use Rattle.agreement.specs.Member.{Member, Note, Opened, Promised, Voted, Held, Stage, Closed, Gathering, Building, Voting}
+use Rattle.agreement.specs.Member.{Member, Note, Opened, Promised, Voted, Held, Stage, Closed}
+use Rattle.agreement.specs.Member.{Gathering, Building, Voting}
 
 -- what a step leaves: the member, its note, and the message that goes out
 pub record Outcome (V : Type 0) : Type 0 where
@@ -44,19 +46,24 @@ notes x note = record { member = x; note = Some note; send = None }
 abbrev pub notes_and_says : {V : Type 0} → Member V → Note V → Message V → Outcome V
 notes_and_says x note message = record { member = x; note = Some note; send = Some message }
 
--- Start. A member that holds the value is refused. Else the round is one above the one asked for and all that it opened.
+-- Start. A member that holds the value is refused. Else the round is one above the one asked for
+-- and all that it opened.
 abbrev pub on_start : {V : Type 0} → ℕ → Member V → Option V → ℕ → Option (Outcome V)
 on_start i x (Some v) above = None
 on_start i x None above =
     let round = suc (max above x.opened) in
     let c : Claim = record { round = round; member = i } in
-    Some (notes_and_says (record x { opened = round; stage = Gathering c nobody None }) (Opened round) (Offer c))
+    Some (notes_and_says
+    (record x { opened = round; stage = Gathering c nobody None })
+    (Opened round)
+    (Offer c))
 
 -- Built. Refused unless the open claim waits for a value, which is then its proposal.
 abbrev pub on_built : {V : Type 0} → Member V → Stage V → V → Option (Outcome V)
 on_built x Closed v = None
 on_built x (Gathering c S k) v = None
-on_built x (Building c) v = Some (says (record x { stage = Voting (ballot c v) nobody }) (Propose (ballot c v)))
+on_built x (Building c) v =
+    Some (says (record x { stage = Voting (ballot c v) nobody }) (Propose (ballot c v)))
 on_built x (Voting b S) v = None
 
 -- Failed. Refused unless the open claim waits for a value; then the claim is dropped.
@@ -78,8 +85,8 @@ abbrev pub on_inquire : {V : Type 0} → Member V → Option V → Option (Outco
 on_inquire x (Some v) = None
 on_inquire x None = Some (says x Ask)
 
--- An offer of c. Above what is promised, it is promised; the promise is repeated as long as no vote was cast under it;
--- else the offer is turned down.
+-- An offer of c. Above what is promised, it is promised; the promise is repeated as long as no vote
+-- was cast under it; else the offer is turned down.
 abbrev pub on_offer : {V : Type 0} → ℕ → Member V → Claim → Outcome V
 on_offer i x c =
     let promise = Promise (record { member = i; claim = c; report = x.voted }) in
@@ -89,12 +96,15 @@ on_offer i x c =
     then says x promise
     else says x (Nay i c x.promised))
 
--- A proposal. The vote is cast, unless a greater claim is promised or it was cast before; it is repeated where its claim
--- is still the one promised; else the proposal is turned down.
+-- A proposal. The vote is cast, unless a greater claim is promised or it was cast before; it is
+-- repeated where its claim is still the one promised; else the proposal is turned down.
 abbrev pub on_propose : {V : Type 0} → ℕ → Member V → Ballot V → Outcome V
 on_propose i x b =
     if not (is_below b.claim x.promised) && not (is_voted b.claim x.voted)
-    then notes_and_says (record x { promised = Some b.claim; voted = Some b }) (Voted b) (Vote i b.claim)
+    then notes_and_says
+    (record x { promised = Some b.claim; voted = Some b })
+    (Voted b)
+    (Vote i b.claim)
     else (if is_voted b.claim x.voted && is_promised b.claim x.promised
     then says x (Vote i b.claim)
     else says x (Nay i b.claim x.promised))
@@ -102,9 +112,11 @@ on_propose i x b =
 -- Once a quorum promised: what was reported is proposed again, and else a value is to be built.
 abbrev pub on_quorum : {V : Type 0} → Member V → Claim → Option (Ballot V) → Outcome V
 on_quorum x c None = still (record x { stage = Building c })
-on_quorum x c (Some b) = says (record x { stage = Voting (ballot c b.value) nobody }) (Propose (ballot c b.value))
+on_quorum x c (Some b) =
+    says (record x { stage = Voting (ballot c b.value) nobody }) (Propose (ballot c b.value))
 
--- A promise of the claim that gathers. Its sender joins, and its report is kept if it is the greatest so far.
+-- A promise of the claim that gathers. Its sender joins, and its report is kept if it is the
+-- greatest so far.
 abbrev pub on_promise : {V : Type 0} → Quorums → Member V → Stage V → PromiseOf V → Outcome V
 on_promise enough x Closed p = still x
 on_promise enough x (Gathering c S k) p =
@@ -116,8 +128,8 @@ on_promise enough x (Gathering c S k) p =
 on_promise enough x (Building c) p = still x
 on_promise enough x (Voting b S) p = still x
 
--- A vote for the claim's proposal. Its sender joins; once a quorum voted, the value is held, the others are told, and the
--- claim is done with.
+-- A vote for the claim's proposal. Its sender joins; once a quorum voted, the value is held, the
+-- others are told, and the claim is done with.
 abbrev pub on_vote : {V : Type 0} → Quorums → Member V → Stage V → ℕ → Claim → Outcome V
 on_vote enough x Closed m c = still x
 on_vote enough x (Gathering d S k) m c = still x
@@ -125,7 +137,10 @@ on_vote enough x (Building d) m c = still x
 on_vote enough x (Voting b S) m c =
     if claim_same c b.claim
     then (if enough (with_member S m)
-    then notes_and_says (record x { held = Some b.value; stage = Closed }) (Held b.value) (Agreed b.value)
+    then notes_and_says
+    (record x { held = Some b.value; stage = Closed })
+    (Held b.value)
+    (Agreed b.value)
     else still (record x { stage = Voting b (with_member S m) }))
     else still x
 
@@ -150,7 +165,8 @@ on_message enough i x (Agreed v) = on_agreed x x.held v
 on_message enough i x Ask = on_ask x x.held
 
 -- what member i does on an input, or None where it refuses
-abbrev pub answer : {V : Type 0} → Quorums → ℕ → Member V → List (Message V) → Input V → Option (Outcome V)
+abbrev pub answer : {V : Type 0} → Quorums → ℕ → Member V → List (Message V) → Input V
+    → Option (Outcome V)
 answer enough i x sent (Start above) = on_start i x x.held above
 answer enough i x sent (Built v) = on_built x x.stage v
 answer enough i x sent Failed = on_failed x x.stage

@@ -4,7 +4,8 @@ use Rattle.agreement.specs.Votes.{Ballot, PromiseOf, VoteOf, Has, IsLawful}
 use Rattle.agreement.specs.Messages.{Message, Promise, Propose}
 use Rattle.agreement.specs.Member.{Member, Note, Voted, Closed}
 use Rattle.agreement.specs.Step.{Input, Outcome, answer, still}
-use Rattle.std.specs.Prelude.{ℕ, Bool, true, false, not, ◌==◌, List, [], ◌∷◌, Option, Some, None, if◌then◌else◌, option_map}
+use Rattle.std.specs.Prelude.{ℕ, Bool, true, false, not, ◌==◌, List, [], ◌∷◌, Option, Some, None}
+use Rattle.std.specs.Prelude.{if◌then◌else◌, option_map}
 
 -- all members for one path, with what they noted and sent
 pub record World (V : Type 0) : Type 0 where
@@ -43,13 +44,15 @@ member_of (Stop i) = i
 member_of (StopIn i input) = i
 member_of (Restart i) = i
 
--- what the event leaves, or None where it is refused: only a member that is up takes inputs or stops, and only one that
--- is down restarts
+-- what the event leaves, or None where it is refused: only a member that is up takes inputs or
+-- stops, and only one that is down restarts
 abbrev pub outcome : {V : Type 0} → Quorums → World V → Event V → Option (Outcome V)
 outcome enough w (Take i input) = when (w.members i).up (answer enough i (w.members i) w.sent input)
 outcome enough w (Stop i) = when (w.members i).up (Some (still (down (w.members i))))
-outcome enough w (StopIn i input) = when (w.members i).up (option_map cut (answer enough i (w.members i) w.sent input))
-outcome enough w (Restart i) = when (not (w.members i).up) (Some (still (record (w.members i) { up = true; stage = Closed })))
+outcome enough w (StopIn i input) =
+    when (w.members i).up (option_map cut (answer enough i (w.members i) w.sent input))
+outcome enough w (Restart i) =
+    when (not (w.members i).up) (Some (still (record (w.members i) { up = true; stage = Closed })))
 
 -- f, but x at i
 abbrev pub put : {X : Type 0} → (ℕ → X) → ℕ → X → ℕ → X
@@ -85,7 +88,14 @@ after_event enough w e = after_any w (member_of e) (outcome enough w e)
 -- the world at first: all members are up, nothing is noted, and nothing was sent
 abbrev pub start : {V : Type 0} → World V
 start = record {
-  members = λ i. record { opened = 0; promised = None; voted = None; held = None; up = true; stage = Closed };
+  members = λ i. record {
+    opened = 0;
+    promised = None;
+    voted = None;
+    held = None;
+    up = true;
+    stage = Closed;
+  };
   logs = λ i. [];
   sent = [];
 }

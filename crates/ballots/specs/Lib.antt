@@ -1,4 +1,5 @@
+pub mod Weights
 pub mod Support
-pub mod Inside
 pub mod Pledge
 pub mod InTheAgreement
+pub mod inside

@@ -7,24 +7,29 @@ ghost use Rattle.ballots.specs.InTheAgreement.{
   claim_of,
   claimer_joined,
   claimer_then,
+  weights_of,
+};
+ghost use Rattle.ballots.specs.inside.Steps.{
   gathering_step,
-  next_of,
+  idle_step,
+  joining_step,
+  quorum_step,
   voting_step,
 };
 ghost use Rattle.ballots.specs.Support.{IsMember};
 
 use crate::value::copy_of_vote;
-use crate::{Tally, Value};
+use crate::{Tally, Value, Weights};
 use agreement::keep;
 use claims::Claim;
 use faults::Memory;
 use package_record::Record;
 
-/// An open claim of one path, and how far it is.
+/// An open claim of one path, and how far it is. What members weigh stays with it.
 #[derive(Drop)]
 pub enum Claimer<V = Record> {
-    /// Promises come in, from those in `promised` so far. Of the votes they report, the one under the greatest claim
-    /// is kept, and of equal claims the first.
+    /// Promises come in, from those in `promised` so far. Of the votes they report, the one under
+    /// the greatest claim is kept, and of equal claims the first.
     Gathering {
         claim: Claim,
         promised: Tally,
@@ -33,6 +38,7 @@ pub enum Claimer<V = Record> {
     /// A majority promised and reported nothing, so that a value is to be built.
     Building {
         claim: Claim,
+        weights: Weights,
     },
     /// Votes for the proposal come in, from those in `voted` so far.
     Voting {
@@ -42,29 +48,12 @@ pub enum Claimer<V = Record> {
     },
 }
 
-/// What a step changes. It holds all that the change needs, so that taking it needs no memory.
+/// What a step leads to, and what it changes of the open claim. The two are apart, so that what is
+/// noted can be handed to a log before the change is taken.
 #[derive(Drop)]
-pub enum ClaimerStep<V = Record> {
-    /// The message is of another claim, or comes too late: it changes nothing.
-    Nothing,
-    /// A member joined: this is the tally now, and of the reports that came, if any did, the one that is kept.
-    Joins {
-        tally: Tally,
-        report: Option<(Claim, V)>,
-    },
-    /// A majority promised and reported nothing.
-    Builds,
-    /// A majority promised and reported this: `value` stays, and `sent` goes to all as the claim's proposal.
-    Proposes {
-        value: V,
-        voted: Tally,
-        sent: V,
-    },
-    /// A majority voted: `noted` is noted and held, and `sent` goes to all others as agreed. The claim is done with.
-    Holds {
-        noted: V,
-        sent: V,
-    },
+pub struct ClaimerStep<V = Record> {
+    pub next: Next<V>,
+    pub change: ClaimerChange<V>,
 }
 
 /// What follows a step.
@@ -76,12 +65,37 @@ pub enum Next<V = Record> {
     Build,
     /// The value goes to all as the claim's proposal.
     Propose(Claim, V),
-    /// The value is noted and held, and goes to all others as agreed. The claim is done with, and so is its claimer.
+    /// `noted` is noted, and `sent` goes to all others as agreed. They are the value of the
+    /// claimer, which is held then, and the claim is done with.
     Hold { noted: V, sent: V },
 }
 
+/// What a step changes of the open claim. It holds all that the change needs, so that taking it
+/// needs no memory.
+#[derive(Drop)]
+pub enum ClaimerChange<V = Record> {
+    /// The message is of another claim, or comes too late: nothing changes.
+    Stays,
+    /// A member joined: this is the tally now, and of the reports that came, if any did, the one
+    /// that is kept.
+    Joins {
+        tally: Tally,
+        report: Option<(Claim, V)>,
+    },
+    /// A majority promised and reported nothing.
+    Builds,
+    /// A majority promised and reported this value, which is proposed.
+    Proposes {
+        value: V,
+        voted: Tally,
+    },
+    /// A majority voted, and the claim is done with.
+    Ends,
+}
+
 impl<V: Value> Claimer<V> {
-    /// The step for a promise of the member `from`, which reports its last vote. It fails only for want of memory.
+    /// The step for a promise of the member `from`, which reports its last vote. It fails only for
+    /// want of memory.
     pub fn promise(
         &self,
         from: u8,
@@ -98,12 +112,12 @@ impl<V: Value> Claimer<V> {
                 report: kept,
             } => {
                 if claim != *offered {
-                    return Ok(ClaimerStep::Nothing);
+                    return Ok(ClaimerStep::idle());
                 }
                 let tally = promised.with(from)?;
-                gathering(tally, keep(kept.as_ref(), report))
+                gathering(*offered, tally, keep(kept.as_ref(), report))
             }
-            Claimer::Building { .. } | Claimer::Voting { .. } => Ok(ClaimerStep::Nothing),
+            Claimer::Building { .. } | Claimer::Voting { .. } => Ok(ClaimerStep::idle()),
         }
     }
 
@@ -119,45 +133,38 @@ impl<V: Value> Claimer<V> {
                 voted,
             } => {
                 if claim != *proposed {
-                    return Ok(ClaimerStep::Nothing);
+                    return Ok(ClaimerStep::idle());
                 }
                 let tally = voted.with(from)?;
                 voting(tally, value)
             }
-            Claimer::Gathering { .. } | Claimer::Building { .. } => Ok(ClaimerStep::Nothing),
+            Claimer::Gathering { .. } | Claimer::Building { .. } => Ok(ClaimerStep::idle()),
         }
     }
 }
 
 impl<V: Value> Claimer<V> {
-    /// Takes the step, and gives what follows it. It moves what the step holds, and takes no memory. Where a value is
-    /// to be held the claimer stays as it was, and is to be dropped.
-    pub fn apply(&mut self, step: ClaimerStep<V>) -> Next<V>
-        ensures claimer { self.new ≡ claimer_then self.old step }
-        ensures next { result ≡ next_of self.old step }
+    /// Takes what a step changes. It moves what that holds, and takes no memory. Where the claim is
+    /// done with the claimer stays as it was, and is to be dropped, or taken apart for its value.
+    pub fn apply(&mut self, change: ClaimerChange<V>)
+        ensures { self.new ≡ claimer_then self.old change }
     {
-        match step {
-            ClaimerStep::Nothing => Next::Nothing,
-            ClaimerStep::Joins { tally, report } => {
-                self.join(tally, report);
-                Next::Nothing
-            }
-            ClaimerStep::Builds => {
+        match change {
+            ClaimerChange::Stays | ClaimerChange::Ends => {}
+            ClaimerChange::Joins { tally, report } => self.join(tally, report),
+            ClaimerChange::Builds => {
                 *self = Claimer::Building {
                     claim: self.claim(),
+                    weights: self.weights().copy(),
                 };
-                Next::Build
             }
-            ClaimerStep::Proposes { value, voted, sent } => {
-                let claim = self.claim();
+            ClaimerChange::Proposes { value, voted } => {
                 *self = Claimer::Voting {
-                    claim,
+                    claim: self.claim(),
                     value,
                     voted,
                 };
-                Next::Propose(claim, sent)
             }
-            ClaimerStep::Holds { noted, sent } => Next::Hold { noted, sent },
         }
     }
 
@@ -167,8 +174,19 @@ impl<V: Value> Claimer<V> {
     {
         match self {
             Claimer::Gathering { claim, .. } => *claim,
-            Claimer::Building { claim } => *claim,
+            Claimer::Building { claim, .. } => *claim,
             Claimer::Voting { claim, .. } => *claim,
+        }
+    }
+
+    /// What members weigh.
+    pub fn weights(&self) -> &Weights
+        ensures { result.now ≡ weights_of self.now }
+    {
+        match self {
+            Claimer::Gathering { promised, .. } => promised.weights(),
+            Claimer::Building { weights, .. } => weights,
+            Claimer::Voting { voted, .. } => voted.weights(),
         }
     }
 
@@ -190,23 +208,67 @@ impl<V: Value> Claimer<V> {
     }
 }
 
-/// The step once the promise is counted, where this is the greatest report: at a majority what was reported is
-/// proposed, and else a value is built.
-fn gathering<V: Value>(tally: Tally, report: Option<&(Claim, V)>) -> Result<ClaimerStep<V>, Memory>
-    ensures { IfOk result (λ step. step ≡ gathering_step tally (option_copied report.entry)) }
-{
-    if !tally.is_majority() {
-        let report = copy_of_vote(report)?;
-        return Ok(ClaimerStep::Joins { tally, report });
+impl<V: Value> ClaimerStep<V> {
+    /// Nothing changes, and nothing follows.
+    fn idle() -> ClaimerStep<V>
+        ensures { result ≡ idle_step }
+    {
+        ClaimerStep {
+            next: Next::Nothing,
+            change: ClaimerChange::Stays,
+        }
     }
+
+    /// A member joined, and is not the last of a majority.
+    fn joining(tally: Tally, report: Option<(Claim, V)>) -> ClaimerStep<V>
+        ensures { result ≡ joining_step tally report }
+    {
+        ClaimerStep {
+            next: Next::Nothing,
+            change: ClaimerChange::Joins { tally, report },
+        }
+    }
+}
+
+/// The step once the promise is counted, where this is the greatest report.
+fn gathering<V: Value>(
+    claim: Claim,
+    tally: Tally,
+    report: Option<&(Claim, V)>,
+) -> Result<ClaimerStep<V>, Memory>
+    ensures { IfOk result (λ step. step ≡ gathering_step claim tally (option_copied report.entry)) }
+{
+    if tally.is_majority() {
+        return promised(claim, tally, report);
+    }
+    let report = copy_of_vote(report)?;
+    Ok(ClaimerStep::joining(tally, report))
+}
+
+/// The step once a majority promised: what was reported is proposed, and else a value is built.
+fn promised<V: Value>(
+    claim: Claim,
+    tally: Tally,
+    report: Option<&(Claim, V)>,
+) -> Result<ClaimerStep<V>, Memory>
+    ensures { IfOk result (λ step. step ≡ quorum_step claim tally (option_copied report.entry)) }
+{
     match report {
         Some((_, value)) => {
-            let voted = tally.emptied()?;
             let sent = value.copy()?;
             let value = value.copy()?;
-            Ok(ClaimerStep::Proposes { value, voted, sent })
+            Ok(ClaimerStep {
+                next: Next::Propose(claim, sent),
+                change: ClaimerChange::Proposes {
+                    value,
+                    voted: tally.emptied(),
+                },
+            })
         }
-        None => Ok(ClaimerStep::Builds),
+        None => Ok(ClaimerStep {
+            next: Next::Build,
+            change: ClaimerChange::Builds,
+        }),
     }
 }
 
@@ -215,12 +277,12 @@ fn voting<V: Value>(tally: Tally, value: &V) -> Result<ClaimerStep<V>, Memory>
     ensures { IfOk result (λ step. step ≡ voting_step tally value.now) }
 {
     if !tally.is_majority() {
-        return Ok(ClaimerStep::Joins {
-            tally,
-            report: None,
-        });
+        return Ok(ClaimerStep::joining(tally, None));
     }
     let noted = value.copy()?;
     let sent = value.copy()?;
-    Ok(ClaimerStep::Holds { noted, sent })
+    Ok(ClaimerStep {
+        next: Next::Hold { noted, sent },
+        change: ClaimerChange::Ends,
+    })
 }

@@ -13,7 +13,8 @@ use pkgpath::PkgPath;
 pub enum Body<V = Record> {
     /// The claim's member asks for promises.
     Offer(Claim),
-    /// The sender votes for no claim below this one any more. With it goes its last vote, if it has cast one.
+    /// The sender votes for no claim below this one any more. With it goes its last vote, if it has
+    /// cast one.
     Promise(Claim, Option<(Claim, V)>),
     /// The claim's member asks for votes for the value.
     Propose(Claim, V),

@@ -3,14 +3,16 @@ ghost use Rattle.std.specs.Prelude.{◌≡◌, IfOk};
 ghost use Rattle.agreement.specs.Quorums.{is_majority};
 ghost use Rattle.ballots.specs.Support.{IsMember, joined_by, of_nobody, set_of};
 
+use crate::Weights;
 use arrayvec::ArrayVec;
 use faults::Memory;
 use std::marker::Model;
 
-/// The members that joined, each once. Contracts see what each member weighs, and those that joined, in that order.
+/// The members that joined, each once. Contracts see what each member weighs, and those that
+/// joined, in that order.
 #[derive(Drop)]
 pub struct Tally {
-    weights: ArrayVec<u8, 9>,
+    weights: Weights,
     joined: ArrayVec<u8, 9>,
 }
 
@@ -19,7 +21,7 @@ impl Model for Tally {
 
     ghost Value = { Support };
 
-    ghost use Rattle.ballots.specs.Inside.{HoldsMembersOnce, support_of};
+    ghost use Rattle.ballots.specs.inside.Tally.{HoldsMembersOnce, support_of};
 
     ghost view = { support_of };
 
@@ -27,12 +29,12 @@ impl Model for Tally {
 }
 
 impl Tally {
-    /// A tally that nobody joined. Member k has the weight at place k.
-    pub fn new(weights: ArrayVec<u8, 9>) -> Tally
-        ensures { result ≡ of_nobody weights.items }
+    /// A tally that nobody joined.
+    pub fn new(weights: &Weights) -> Tally
+        ensures { result ≡ of_nobody weights.now }
     {
         Tally {
-            weights,
+            weights: weights.copy(),
             joined: ArrayVec::new(),
         }
     }
@@ -52,19 +54,27 @@ impl Tally {
         requires { IsMember member }
         ensures { IfOk result (λ tally. tally ≡ joined_by self.now member) }
     {
-        let weights = self.weights.clone()?;
         let joined = self.joined.clone()?;
-        let mut tally = Tally { weights, joined };
+        let mut tally = Tally {
+            weights: self.weights.copy(),
+            joined,
+        };
         tally.join(member);
         Ok(tally)
     }
 
     /// A tally of the same members that nobody joined.
-    pub fn emptied(&self) -> Result<Tally, Memory>
-        ensures { IfOk result (λ tally. tally ≡ of_nobody self.now.weights) }
+    pub fn emptied(&self) -> Tally
+        ensures { result ≡ of_nobody self.now.weights }
     {
-        let weights = self.weights.clone()?;
-        Ok(Tally::new(weights))
+        Tally::new(&self.weights)
+    }
+
+    /// What members weigh.
+    pub fn weights(&self) -> &Weights
+        ensures { result.now ≡ self.now.weights }
+    {
+        &self.weights
     }
 
     /// Whether the member joined. Those that did not are asked again.

@@ -3,7 +3,8 @@ ghost use Rattle.std.specs.Prelude.{◌≡◌, IfOk, Some};
 ghost use Rattle.agreement.specs.Member.{greater};
 ghost use Rattle.agreement.specs.Step.{on_offer, on_propose};
 ghost use Rattle.agreement.specs.Votes.{ballot, is_voted, report_of};
-ghost use Rattle.ballots.specs.InTheAgreement.{IsStepOf, kept_of, promised_then, refusal_of, voted_then};
+ghost use Rattle.ballots.specs.InTheAgreement.{IsStepOf, promised_then, voted_then};
+ghost use Rattle.ballots.specs.inside.Steps.{refusal_of};
 
 use crate::value::copy_of_vote;
 use crate::{Body, Fact, Value};
@@ -13,8 +14,8 @@ use faults::Memory;
 use package_record::Record;
 use std::marker::Model;
 
-/// What a member promised, and its last vote, for one path. Each vote raises what is promised, so who voted has
-/// promised; whoever makes a voter proves that.
+/// What a member promised, and its last vote, for one path. Each vote raises what is promised, so
+/// who voted has promised; whoever makes a voter proves that.
 #[derive(Drop)]
 pub struct Voter<V = Record> {
     /// The greatest claim that it promised or voted under.
@@ -33,28 +34,31 @@ impl<V> Model for Voter<V> {
     ghost invariant = { λ voter. HasPromised voter.promised voter.voted };
 }
 
-/// What a voter is to note first, and then what it answers to the claim's member. It holds all that was grown for it.
+/// What a voter is to note first, what it then answers to the claim's member, and what it keeps. It
+/// holds all that was grown for it. What it keeps is apart from the note, so that the note can be
+/// handed to a log before the change is taken.
 #[derive(Drop)]
 pub struct VoterStep<V = Record> {
     /// What has to be on the log before the answer goes out.
     pub note: Option<Fact<V>>,
     /// A promise, a vote or a nay.
     pub answer: Body<V>,
-    /// The value that the voter keeps where it votes.
-    pub kept: Option<V>,
+    /// What changes of the voter: it keeps what is noted.
+    pub change: Option<Fact<V>>,
 }
 
 impl<V: Value> Voter<V> {
-    /// The step for an offer: a promise that reports the last vote, or a nay. It fails only for want of memory.
+    /// The step for an offer: a promise that reports the last vote, or a nay. It fails only for
+    /// want of memory.
     pub fn offer(&self, claim: Claim) -> Result<VoterStep<V>, Memory>
-        ensures { IfOk result (λ step. IsStepOf V self.now (λ i x. on_offer i x claim) step) }
+        ensures { IfOk result (IsStepOf V self.now (λ i x. on_offer i x claim)) }
     {
         if is_above(claim, self.promised) {
             let voted = copy_of_vote(self.voted.as_ref())?;
             return Ok(VoterStep {
                 note: Some(Fact::Promised(claim)),
                 answer: Body::Promise(claim, voted),
-                kept: None,
+                change: Some(Fact::Promised(claim)),
             });
         }
         if is_promised(claim, self.promised) && !self.has_voted(claim) {
@@ -62,7 +66,7 @@ impl<V: Value> Voter<V> {
             return Ok(VoterStep {
                 note: None,
                 answer: Body::Promise(claim, voted),
-                kept: None,
+                change: None,
             });
         }
         Ok(self.refusal(claim))
@@ -70,7 +74,8 @@ impl<V: Value> Voter<V> {
 
     /// The step for a proposal: a vote, or a nay. It fails only for want of memory.
     pub fn propose(&self, claim: Claim, value: &V) -> Result<VoterStep<V>, Memory>
-        ensures { IfOk result (λ step. IsStepOf V self.now (λ i x. on_propose i x (ballot claim value.now)) step) }
+        ensures { IfOk result
+            (IsStepOf V self.now (λ i x. on_propose i x (ballot claim value.now))) }
     {
         let voted = self.has_voted(claim);
         if !is_below(claim, self.promised) && !voted {
@@ -79,38 +84,33 @@ impl<V: Value> Voter<V> {
             return Ok(VoterStep {
                 note: Some(Fact::Voted(claim, noted)),
                 answer: Body::Vote(claim),
-                kept: Some(kept),
+                change: Some(Fact::Voted(claim, kept)),
             });
         }
         if voted && is_promised(claim, self.promised) {
             return Ok(VoterStep {
                 note: None,
                 answer: Body::Vote(claim),
-                kept: None,
+                change: None,
             });
         }
         Ok(self.refusal(claim))
     }
 
-    /// Takes the step, and gives its note and its answer. It moves what the step holds, and takes no memory.
-    pub fn apply(&mut self, step: VoterStep<V>) -> (Option<Fact<V>>, Body<V>)
-        requires { kept_of step.note ≡ step.kept }
-        ensures promised { self.new.promised ≡ promised_then self.old step.note }
-        ensures voted { report_of self.new.voted ≡ voted_then self.old step.note }
-        ensures handed_out { result ≡ (step.note, step.answer) }
+    /// Takes what a step changes, or a fact that was noted: it keeps the greatest claim that it
+    /// promised or voted under, and its last vote. It moves what it is given, and takes no memory.
+    pub fn apply(&mut self, change: Option<Fact<V>>)
+        ensures promised { self.new.promised ≡ promised_then self.old change }
+        ensures voted { report_of self.new.voted ≡ voted_then self.old change }
     {
-        let VoterStep { note, answer, kept } = step;
-        match &note {
-            Some(Fact::Promised(claim)) => self.promised = self.greater(*claim),
-            Some(Fact::Voted(claim, _)) => {
-                self.promised = self.greater(*claim);
-                if let Some(value) = kept {
-                    self.voted = Some((*claim, value));
-                }
+        match change {
+            Some(Fact::Promised(claim)) => self.promised = self.greater(claim),
+            Some(Fact::Voted(claim, value)) => {
+                self.promised = self.greater(claim);
+                self.voted = Some((claim, value));
             }
             _ => {}
         }
-        (note, answer)
     }
 
     fn has_voted(&self, claim: Claim) -> bool
@@ -129,7 +129,7 @@ impl<V: Value> Voter<V> {
         VoterStep {
             note: None,
             answer: Body::Nay(claim, promised),
-            kept: None,
+            change: None,
         }
     }
 

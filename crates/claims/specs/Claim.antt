@@ -1,5 +1,6 @@
 -- The limits of claims, how they compare, and which a member can have made.
 use Rattle.agreement.specs.declared.claim.Claim.{Claim}
+use Rattle.claims.specs.declared.TheConstants.{GREATEST_ROUND, MEMBERS}
 use Rattle.std.specs.Prelude.{◌<◌, ◌≤◌, ℕ, Option}
 use Rattle.std.specs.Option.{option_cmp}
 use Rattle.std.specs.Ordering.{nat_cmp, on, then_cmp}
@@ -7,11 +8,11 @@ use Rattle.std.specs.declared.cmp.Ordering.{Ordering}
 
 -- The greatest round that a claim may have.
 abbrev pub greatest_round : ℕ
-greatest_round = 9223372036854775807
+greatest_round = GREATEST_ROUND
 
 -- The most members there may be. They are numbered from 0.
 abbrev pub most_members : ℕ
-most_members = 9
+most_members = MEMBERS
 
 -- By round, and then by member.
 abbrev pub claim_cmp : Claim → Claim → Ordering

@@ -4,9 +4,11 @@ use Rattle.faults.specs.Bytes.{Text}
 use Rattle.agreement.specs.declared.claim.Claim.{Claim}
 use Rattle.claims.specs.declared.deps.Dep.{Dep}
 
--- the path, the claim that it is built under, its host, and the signatures that it stands on
+-- the name of the unit, the paths of its packages, the claim that they are built under, the host,
+-- and the signatures that the build stands on
 pub record Task : Type 0 where
   pub path : Text
+  pub packages : List Text
   pub claim : Claim
   pub host : ℕ
   pub deps : List Dep

@@ -7,7 +7,8 @@ use pkgpath::PkgPath;
 use std::alloc::Global;
 use std::marker::Model;
 
-/// A package that a build stood on, as its signature: its path, its name, and the SHA-256 of its record's text.
+/// A package that a build stood on, as its signature: its path, its name, and the SHA-256 of its
+/// record's text.
 #[derive(Drop)]
 pub struct Dep {
     pub path: PkgPath,

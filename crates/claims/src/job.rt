@@ -1,34 +1,49 @@
 //! What a host is to build.
 ghost use Rattle.std.specs.Prelude.{◌≡◌, IfOk};
-ghost use Rattle.claims.specs.Deps.{AreInOrder};
+ghost use Rattle.claims.specs.Deps.{AreAscending, AreInOrder};
 
 use crate::{Claim, Deps};
 use faults::Memory;
 use pkgpath::PkgPath;
+use std::alloc::Global;
 use std::marker::Model;
 
-/// A build that a claim leads to: the path, the host that builds it, and the dependencies that it stands on, in order
-/// of path. Whoever makes a job proves that order.
+/// A build that a claim leads to: the unit by its name, the paths of the packages that it makes,
+/// the host that builds them, and the dependencies that they stand on. Paths and dependencies are
+/// in order of path, each once, and whoever makes a job proves that.
 #[derive(Drop)]
 pub struct Job {
+    /// The name of the unit: its only package's path, or the path without subpackage that its
+    /// packages share.
     pub path: PkgPath,
+    /// The paths of the packages to be made.
+    pub packages: Vec<PkgPath>,
     pub claim: Claim,
     pub host: u16,
     pub deps: Deps,
 }
 
 impl Model for Job {
-    ghost use Rattle.claims.specs.Deps.{AreInOrder};
     ghost use Rattle.claims.specs.Job.{Task};
 
     ghost Value = { Task };
 
-    ghost view = { λ job. record { path = job.path; claim = job.claim; host = job.host; deps = job.deps } };
+    ghost use Rattle.claims.specs.inside.Job.{IsInOrder, task_of};
 
-    ghost invariant = { λ job. AreInOrder job.deps };
+    ghost view = { task_of };
+
+    ghost invariant = { IsInOrder };
 }
 
 impl Job {
+    /// The paths of the packages to be made, in order, each once.
+    pub fn packages(&self) -> &[PkgPath]
+        ensures packages { result.now ≡ self.now.packages }
+        ensures in_order { AreAscending self.now.packages }
+    {
+        self.packages.as_slice()
+    }
+
     /// The dependencies, in order of path, each path once.
     pub fn deps(&self) -> &Deps
         ensures deps { result.now ≡ self.now.deps }
@@ -42,12 +57,25 @@ impl Job {
         ensures { IfOk result (λ job. job ≡ self.now) }
     {
         let path = self.path.copy()?;
+        let packages = copy_paths(self.packages.as_slice(), *self.packages.allocator())?;
         let deps = self.deps.copy()?;
         Ok(Job {
             path,
+            packages,
             claim: self.claim,
             host: self.host,
             deps,
         })
     }
+}
+
+/// Equal paths, in their order.
+fn copy_paths(paths: &[PkgPath], alloc: Global) -> Result<Vec<PkgPath>, Memory>
+    ensures { IfOk result (λ copies. copies.items ≡ paths.now) }
+{
+    let mut copies = Vec::with_capacity(alloc, paths.len())?;
+    for path in paths {
+        copies.push(path.copy()?)?;
+    }
+    Ok(copies)
 }

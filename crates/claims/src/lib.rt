@@ -1,5 +1,5 @@
-//! Claims, how they compare, the rounds that are left for them, and the jobs that they lead to, with the dependencies
-//! that a build stands on.
+//! Claims, how they compare, the rounds that are left for them, and the jobs that they lead to,
+//! with the dependencies that a build stands on.
 #![tactic(auto)]
 
 ghost use Rattle.std.specs.Prelude.{◌≡◌, ◌+◌, ◌≤◌, ◌↔◌, None, Option, Some, IfOk, IsErr};
@@ -53,8 +53,8 @@ pub fn next_round(round: u64) -> Result<u64, RoundsSpent>
     Ok(round + 1)
 }
 
-/// Claims compare by round, and then by member; the order is total, and it is the one by which promises and reports are
-/// judged. No claim at all is below every claim.
+/// Claims compare by round, and then by member; the order is total, and it is the one by which
+/// promises and reports are judged. No claim at all is below every claim.
 pub fn claims_compare()
     ensures same { (a b : _) → ⟦<Claim as Ord>⟧.cmp a b ≡ claim_cmp a b }
     ensures same_claim { (a b : _) → ⟦<Claim as PartialEq>⟧.eq a b ≡ claim_same a b }
@@ -62,6 +62,8 @@ pub fn claims_compare()
     ensures total { IsTotalOrder claim_cmp }
     ensures below { (c d : _) → is_lt (claim_cmp c d) ≡ claim_below c d }
     ensures equal { (c d : _) → is_eq (claim_cmp c d) ≡ claim_same c d }
-    ensures above_promised { (c : _) (promised : Option _) → is_lt (promised_cmp promised (Some c)) ≡ is_above c promised }
-    ensures below_promised { (c : _) (promised : Option _) → is_gt (promised_cmp promised (Some c)) ≡ is_below c promised }
+    ensures above_promised { (c : _) (promised : Option _)
+        → is_lt (promised_cmp promised (Some c)) ≡ is_above c promised }
+    ensures below_promised { (c : _) (promised : Option _)
+        → is_gt (promised_cmp promised (Some c)) ≡ is_below c promised }
 {}
