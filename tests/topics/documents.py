@@ -43,7 +43,7 @@ def definitions(path):
         if re.match(r"(abbrev|unfoldable|pub|record|data|[a-z_]+ pub) ", line) and not is_import(line) and not line.startswith("pub mod"):
             starts.append(n)
     for start, end in zip(starts, starts[1:] + [len(lines)]):
-        body = [line for line in lines[start:end] if line.strip() and not line.startswith("--")]
+        body = [line for line in lines[start:end] if line.strip() and not line.lstrip().startswith("--")]
         yield start + 1, len(body)
 
 
@@ -60,7 +60,7 @@ def to_believe(tally):
     for path in meaning():
         long = [start for start, length in definitions(path) if length > LONGEST]
         tally.add(os.path.relpath(path, TOP), f"definitions at {long} have more than {LONGEST} lines" if long else "")
-        count += sum(1 for line in lines_of(path) if line.strip() and not line.startswith("--") and not is_import(line))
+        count += sum(1 for line in lines_of(path) if line.strip() and not line.lstrip().startswith("--") and not is_import(line))
     told = re.search(r"([\d,]+) lines of definitions", contents(f"{TOP}/docs/DEFINITIONS.md").decode())
     number = int(told[1].replace(",", "")) if told else 0
     tally.add("docs/DEFINITIONS.md", "" if number == count else f"it tells of {number} lines of definitions, and {count} stand")

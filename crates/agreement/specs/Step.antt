@@ -137,11 +137,9 @@ on_vote enough x (Building d) m c = still x
 on_vote enough x (Voting b S) m c =
     if claim_same c b.claim
     then (if enough (with_member S m)
-    then notes_and_says
-    (record x { held = Some b.value; stage = Closed })
-    (Held b.value)
-    (Agreed b.value)
-    else still (record x { stage = Voting b (with_member S m) }))
+        then notes_and_says
+            (record x { held = Some b.value; stage = Closed }) (Held b.value) (Agreed b.value)
+        else still (record x { stage = Voting b (with_member S m) }))
     else still x
 
 -- An agreed value. It is held, unless one is, and an open claim is dropped.
