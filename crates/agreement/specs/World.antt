@@ -89,7 +89,12 @@ after_event enough w e = after_any w (member_of e) (outcome enough w e)
 abbrev pub start : {V : Type 0} → World V
 start = record {
   members = λ i. record {
-    opened = 0; promised = None; voted = None; held = None; up = true; stage = Closed;
+    opened = 0;
+    promised = None;
+    voted = None;
+    held = None;
+    up = true;
+    stage = Closed;
   };
   logs = λ i. [];
   sent = [];

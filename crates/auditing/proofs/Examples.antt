@@ -5,7 +5,8 @@ use Rattle.std.specs.Prelude.{AllPairs, Any, Contains}
 use Rattle.std.specs.Str.{bytes_eq}
 use Rattle.std.proofs.lemmas.Bool.{false≢true, true≢false}
 use Rattle.std.proofs.lemmas.Option.{none-some}
-use Rattle.engine.specs.Letters.{HoldsTheMarked, IsIgnored}
+use Rattle.units.specs.Ignored.{AreTheIgnored, HoldsTheMarked, IsIgnored}
+use Rattle.units.specs.Units.{IsUnitOf, Unit, unit_with}
 use Rattle.faults.specs.Bytes.{Text}
 use Rattle.claims.specs.declared.deps.Dep.{Dep}
 use Rattle.listing.specs.Tree.{Tree, build_at, is_marked_at, run_at}
@@ -16,13 +17,14 @@ use Rattle.auditing.specs.declared.entry.Entry.{Entry}
 use Rattle.auditing.specs.declared.verdict.Reason.TheVariants.{Unlisted, Ignored, OtherName, PathTwice, OtherDependencies, DependencyNotEarlier}
 use Rattle.auditing.specs.declared.verdict.Verdict.TheVariants.{Yes, No}
 use Rattle.auditing.proofs.Allowing.{extended}
+use Rattle.auditing.proofs.OfUnit.{these_from_are}
 
 abbrev tree : Tree
 tree =
-    record { path = codes "a/p"; name = codes "p-1"; build = 1 ∷ []; run = []; is_marked = false }
-    ∷ record { path = codes "a/q"; name = codes "q-1"; build = []; run = 2 ∷ []; is_marked = false }
-    ∷ record { path = codes "a/r"; name = codes "r-1"; build = []; run = []; is_marked = false }
-    ∷ record { path = codes "a/s"; name = codes "s-1"; build = []; run = []; is_marked = true }
+    record { path = codes "a/p"; group = codes "a/p"; name = codes "p-1"; build = 1 ∷ []; run = []; is_marked = false }
+    ∷ record { path = codes "a/q"; group = codes "a/q"; name = codes "q-1"; build = []; run = 2 ∷ []; is_marked = false }
+    ∷ record { path = codes "a/r"; group = codes "a/r"; name = codes "r-1"; build = []; run = []; is_marked = false }
+    ∷ record { path = codes "a/s"; group = codes "a/s"; name = codes "s-1"; build = []; run = []; is_marked = true }
     ∷ []
 
 other_text : (s t : Text) → bytes_eq s t ≡ false → bytes_eq t t ≡ true → s ≢ t
@@ -54,10 +56,43 @@ free p e ignored =
 left_out : IsIgnored tree 3
 left_out S holds = holds.marked 3 (omega arith) refl
 
+marked_alone : (p : ℕ) → is_marked_at tree p ≡ true → IsIgnored tree p
+marked_alone zero e = absurd (false≢true e)
+marked_alone (suc zero) e = absurd (false≢true e)
+marked_alone (suc (suc zero)) e = absurd (false≢true e)
+marked_alone (suc (suc (suc zero))) e = left_out
+marked_alone (suc (suc (suc (suc p)))) e = absurd (false≢true e)
+
+are_marked : AreTheIgnored tree (is_marked_at tree)
+are_marked p = (marked_alone p, λ ignored. ignored (is_marked_at tree) (record { marked = λ q l h. h; build = by_build; run = by_run }))
+
+-- ---- their units
+
+abbrev unit_of : ℕ → Unit
+unit_of p = unit_with tree (is_marked_at tree) p
+
+is_unit : (p : ℕ) → p < length tree → is_marked_at tree p ≡ false → IsUnitOf tree p (unit_of p)
+is_unit p l e = record { ignored = is_marked_at tree; are_ignored = are_marked; listed = l; not_ignored = e; is = refl }
+
+p_unit : IsUnitOf tree 0 (unit_of 0)
+p_unit = is_unit 0 (omega arith) refl
+
+q_unit : IsUnitOf tree 1 (unit_of 1)
+q_unit = is_unit 1 (omega arith) refl
+
 -- ---- a package of the tree
 
 q_fits : Fits tree (codes "a/q") (codes "q-1") [] (codes "a/r" ∷ [])
-q_fits = record { position = 1; listed = refl; not_ignored = free 1 refl; name_is = refl; built_on = refl; runs_on = refl }
+q_fits = record {
+  position = 1;
+  listed = refl;
+  not_ignored = free 1 refl;
+  name_is = refl;
+  unit = unit_of 1;
+  of_unit = q_unit;
+  built_on = refl;
+  runs_on = refl;
+}
 
 -- ---- entries
 
@@ -83,7 +118,11 @@ nothing_twice : (ts : List Text) → length ts ≤ 1 → AllPairs ◌≢◌ ts
 nothing_twice ts few i j d l m e = omega arith
 
 built_on_q : (byte : ℕ) → AreItsDependencies tree 0 (on_q byte ∷ [])
-built_on_q byte = record { once = nothing_twice (codes "a/q" ∷ []) (omega arith); exactly = λ path. (λ h. h, λ h. h) }
+built_on_q byte = record {
+  unit = unit_of 0;
+  of_unit = p_unit;
+  are = record { once = nothing_twice (codes "a/q" ∷ []) (omega arith); exactly = λ path. (λ h. h, λ h. h) };
+}
 
 new_after_q : IsNew (q_entry ∷ []) (codes "a/p")
 new_after_q zero d l = other_text (codes "a/q") (codes "a/p") refl refl
@@ -100,7 +139,11 @@ q_may_follow = record {
   not_ignored = free 1 refl;
   name = refl;
   new = λ k d l. absurd (omega arith);
-  dependencies = record { once = nothing_twice [] (omega arith); exactly = λ path. (λ h. h, λ h. h) };
+  dependencies = record {
+    unit = unit_of 1;
+    of_unit = q_unit;
+    are = record { once = nothing_twice [] (omega arith); exactly = λ path. (λ h. h, λ h. h) };
+  };
   stood = λ k d l. absurd (omega arith);
 }
 
@@ -165,7 +208,7 @@ example_without_dependencies = (
     entry = p_entry [];
     stands = refl;
     before = q_allowed;
-    reason_is = (0, refl, (free 0 refl, refl, new_after_q, λ are. let member = (are.exactly (codes "a/q")).1 (0, omega arith, refl) in omega (arith, member.1)));
+    reason_is = (0, refl, (free 0 refl, refl, new_after_q, λ are. let these = these_from_are tree 0 (unit_of 0) [] p_unit are in let member = (these.exactly (codes "a/q")).1 (0, omega arith, refl) in omega (arith, member.1)));
   },
 )
 
@@ -176,7 +219,7 @@ example_dependency_twice = (
     entry = p_entry (on_q 1 ∷ on_q 1 ∷ []);
     stands = refl;
     before = q_allowed;
-    reason_is = (0, refl, (free 0 refl, refl, new_after_q, λ are. are.once 0 1 [] (omega arith) (omega arith) refl));
+    reason_is = (0, refl, (free 0 refl, refl, new_after_q, λ are. (these_from_are tree 0 (unit_of 0) (on_q 1 ∷ on_q 1 ∷ []) p_unit are).once 0 1 [] (omega arith) (omega arith) refl));
   },
 )
 

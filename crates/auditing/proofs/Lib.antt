@@ -3,10 +3,10 @@ pub mod Ascending
 pub mod Members
 pub mod Positions
 pub mod Built
+pub mod OfUnit
 pub mod Sets
 pub mod Fitting
 pub mod Allowing
 pub mod Places
 pub mod Signatures
-pub mod Ignoring
 pub mod OneVerdict

@@ -6,8 +6,6 @@ mod entry;
 mod judging;
 mod laws;
 mod standing;
-#[cfg(test)]
-mod tests;
 mod verdict;
 
 pub use crate::entry::Entry;

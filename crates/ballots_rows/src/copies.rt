@@ -23,8 +23,9 @@ fn copies_bodies(rt: HostRuntime) -> Result<(), Fail> {
 }
 
 /// The record of host 3, with one file that holds `abc`.
-static TEXT: &str =
-    "@dpb 1\n@name b-1.0\n@comment pkgpath=a/b\n@host 3\n@claim 1.0\nx\n@sha ba7816bf8f01cfea414140de5dae2223b00361a396177a9cb410ff61f20015ad\n@size 3\n\nabc";
+static TEXT: &str = "@dpb 1\n@name b-1.0\n@comment pkgpath=a/b\n@host 3\n@claim 1.0\nx\n\
+     @sha ba7816bf8f01cfea414140de5dae2223b00361a396177a9cb410ff61f20015ad\n\
+     @size 3\n\nabc";
 
 fn record(alloc: Global) -> Result<Record, Fail> {
     Ok(Record::parse(alloc, TEXT.as_bytes())?)
@@ -34,28 +35,63 @@ fn path(alloc: Global) -> Result<PkgPath, Fail> {
     Ok(PkgPath::parse(alloc, b"a/b")?)
 }
 
-#[test]
-fn copies_messages(rt: HostRuntime) -> Result<(), Fail> {
-    let message = Message {
+/// The host of what the body proposes.
+fn proposed_by(body: &Body) -> Option<u16> {
+    match body {
+        Body::Propose(_, record) => Some(record.host()),
+        _ => None,
+    }
+}
+
+fn message(alloc: Global) -> Result<Message, Fail> {
+    let path = path(alloc)?;
+    let record = record(alloc)?;
+    Ok(Message {
         sender: 1,
         tree: [2; 32],
-        path: path(rt.alloc())?,
-        body: Body::Propose(claim(1, 0), record(rt.alloc())?),
-    };
+        path,
+        body: Body::Propose(claim(1, 0), record),
+    })
+}
+
+/// What a copy of the message says: the sender, whether the path is the same, and the host.
+fn heard(message: &Message) -> Result<(u8, bool, Option<u16>), Memory> {
     let copy = message.copy()?;
-    assert!(rt; copy.sender == 1 && copy.tree == [2; 32] && copy.path == message.path);
-    assert!(rt; matches!(&copy.body, Body::Propose(_, record) if record.host() == 3));
+    let same = copy.path == message.path && copy.tree == message.tree;
+    Ok((copy.sender, same, proposed_by(&copy.body)))
+}
+
+#[test]
+fn copies_messages(rt: HostRuntime) -> Result<(), Fail> {
+    let message = message(rt.alloc())?;
+    let heard = heard(&message)?;
+    assert!(rt; heard == (1, true, Some(3)));
     Ok(())
+}
+
+fn note(alloc: Global) -> Result<Note, Fail> {
+    let path = path(alloc)?;
+    let record = record(alloc)?;
+    Ok(Note {
+        path,
+        fact: Fact::Held(record),
+    })
+}
+
+/// What a copy of the note says: whether the path is the same, and the host.
+fn noted(note: &Note) -> Result<(bool, Option<u16>), Memory> {
+    let copy = note.copy()?;
+    let same = copy.path == note.path;
+    match &copy.fact {
+        Fact::Held(record) => Ok((same, Some(record.host()))),
+        _ => Ok((same, None)),
+    }
 }
 
 #[test]
 fn copies_notes(rt: HostRuntime) -> Result<(), Fail> {
-    let note = Note {
-        path: path(rt.alloc())?,
-        fact: Fact::Held(record(rt.alloc())?),
-    };
-    let copy = note.copy()?;
-    assert!(rt; copy.path == note.path);
-    assert!(rt; matches!(&copy.fact, Fact::Held(record) if record.host() == 3));
+    let note = note(rt.alloc())?;
+    let noted = noted(&note)?;
+    assert!(rt; noted == (true, Some(3)));
     Ok(())
 }

@@ -5,8 +5,9 @@ use Rattle.std.proofs.lemmas.List.Elements.{Contains-get_or}
 use Rattle.std.proofs.lemmas.Bool.{both_ways, cases_eq, true≢false}
 use Rattle.listing.specs.Tree.{Tree, run_at}
 use Rattle.engine.specs.Letters.{IsInstallable}
-use Rattle.engine.specs.Marks.{AreKnown, IsClosed, MayBeInstallable, has_mark}
-use Rattle.engine.proofs.Marked.{has_mark-other, marked_still, marked_within, one_less_marked}
+use Rattle.engine.specs.Marks.{AreKnown, IsClosed, MayBeInstallable}
+use Rattle.units.specs.inside.Marks.{has_mark}
+use Rattle.units.proofs.Marked.{has_mark-other, marked_still, marked_within, one_less_marked}
 
 pub MayBeInstallable-start : (tree : Tree) (held : List Bool) → MayBeInstallable tree held held
 MayBeInstallable-start tree held = record {

@@ -1,13 +1,11 @@
 -- Marks by position, as the engine keeps them, and what they tell of a tree.
-use Rattle.std.specs.Prelude.{◌≡◌, ◌<◌, ◌⊎◌, ℕ, Bool, true, false, cond, List, Contains, length, slice_index_or, zero, suc}
+use Rattle.std.specs.Prelude.{◌≡◌, ℕ, Bool, true, cond, List, Contains, length, zero, suc}
 use Rattle.std.specs.FinSet as set
 use Rattle.std.specs.Ordering.{nat_cmp}
-use Rattle.listing.specs.Tree.{Tree, IsTree, build_at, is_marked_at, run_at}
-use Rattle.engine.specs.Letters.{HoldsTheMarked, IsIgnored, IsInstallable}
-
--- the marks as a set of positions: nothing past their end is in it
-abbrev pub has_mark : List Bool → ℕ → Bool
-has_mark marks p = slice_index_or marks p false
+use Rattle.listing.specs.Tree.{Tree, IsTree, run_at}
+use Rattle.units.specs.Ignored.{IsIgnored}
+use Rattle.units.specs.inside.Marks.{has_mark}
+use Rattle.engine.specs.Letters.{IsInstallable}
 
 -- the positions below n that pass the test
 unfoldable pub set_below : (ℕ → Bool) → ℕ → set.FinSet nat_cmp
@@ -17,23 +15,6 @@ set_below test (suc n) = cond (test n) (set.insert (set_below test n) n) (set_be
 -- the marked positions
 abbrev pub marked_set : List Bool → set.FinSet nat_cmp
 marked_set marks = set_below (has_mark marks) (length marks)
-
--- a dependency of the package is marked
-abbrev pub DependsOnMarked : Tree → List Bool → ℕ → Type 0
-DependsOnMarked tree marks p =
-    (d : ℕ) × (Contains (build_at tree p) d ⊎ Contains (run_at tree p) d) × (has_mark marks d ≡ true)
-
--- Marks of ignored packages, not yet of all: each of the tree's own marks is among them.
-pub record AreIgnoredSoFar (tree : Tree) (marks : List Bool) : Type 0 where
-  pub each : length marks ≡ length tree
-  pub first : (p : ℕ) → p < length tree → is_marked_at tree p ≡ true → has_mark marks p ≡ true
-  pub ignored : (p : ℕ) → has_mark marks p ≡ true → IsIgnored tree p
-
--- the marks of the ignored packages
-pub record AreIgnored (tree : Tree) (marks : List Bool) : Type 0 where
-  pub each : length marks ≡ length tree
-  pub spread : HoldsTheMarked tree (has_mark marks)
-  pub ignored : (p : ℕ) → has_mark marks p ≡ true → IsIgnored tree p
 
 -- what these packages need to run is among them
 abbrev pub IsClosed : Tree → List Bool → Type 0
@@ -57,10 +38,9 @@ pub record AreKnown (tree : Tree) (known candidates : List Bool) : Type 0 where
   pub closed : IsClosed tree known
 
 -- what holds of the marks that an engine keeps of its tree
-pub record AreMarks (tree : Tree) (held installable ignored candidates : List Bool) : Type 0 where
+pub record AreMarks (tree : Tree) (held installable candidates : List Bool) : Type 0 where
   pub is_tree : IsTree tree
   pub each : length held ≡ length tree
   pub each_candidate : length candidates ≡ length tree
   pub are_installable : AreInstallable tree held installable
-  pub are_ignored : AreIgnored tree ignored
-  pub none_ignored : (p : ℕ) → has_mark held p ≡ true → has_mark ignored p ≡ false
+  pub none_ignored : (p : ℕ) → has_mark held p ≡ true → ¬ IsIgnored tree p

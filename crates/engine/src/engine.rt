@@ -3,7 +3,6 @@ ghost use Rattle.std.specs.Prelude.{◌≡◌, ◌<◌, length, IfOk};
 ghost use Rattle.std.specs.FinSet as set;
 ghost use Rattle.engine.specs.State.{AreCounts, HasLetter, IsEngine, IsNextQueued};
 
-use crate::ignored::ignored_marks;
 use crate::installable::keep_installable;
 use crate::marks::are_all_marked;
 use crate::{Counts, Letter};
@@ -11,6 +10,7 @@ use faults::Memory;
 use listing::Tree;
 use std::alloc::Global;
 use std::marker::Model;
+use units::Units;
 
 /// Which packages of a tree are agreed, and what follows for the letters of all.
 #[derive(Drop)]
@@ -18,11 +18,12 @@ pub struct Engine<'a> {
     tree: &'a Tree,
     held: Vec<bool>,
     installable: Vec<bool>,
-    ignored: Vec<bool>,
+    units: Units<'a>,
     candidates: Vec<bool>,
 }
 
 impl<'a> Model for Engine<'a> {
+    ghost use Rattle.std.specs.Prelude.{◌≡◌};
     ghost use Rattle.engine.specs.State.{State, state_code};
     ghost use Rattle.engine.specs.Marks.{AreMarks, marked_set};
 
@@ -32,7 +33,7 @@ impl<'a> Model for Engine<'a> {
 
     ghost view = { λ e. record { tree = e.tree.now; agreed = marked_set e.held.items } };
 
-    ghost invariant = { λ e. AreMarks e.tree.now e.held.items e.installable.items e.ignored.items e.candidates.items };
+    ghost invariant = { λ e. AreMarks e.tree.now e.held.items e.installable.items e.candidates.items × (e.units.tree ≡ e.tree.now) };
 }
 
 impl<'a> Engine<'a> {
@@ -45,12 +46,12 @@ impl<'a> Engine<'a> {
         let held = vec![in alloc; false; len]?;
         let installable = vec![in alloc; false; len]?;
         let candidates = vec![in alloc; false; len]?;
-        let ignored = ignored_marks(alloc, tree)?;
+        let units = Units::new(alloc, tree)?;
         Ok(Engine {
             tree,
             held,
             installable,
-            ignored,
+            units,
             candidates,
         })
     }
@@ -88,13 +89,26 @@ impl<'a> Engine<'a> {
             Letter::I
         } else if self.held[place] {
             Letter::B
-        } else if self.ignored[place] {
-            Letter::Ignored
-        } else if are_all_marked(self.installable.as_slice(), self.tree.build_deps(position)) {
-            Letter::Q
         } else {
-            Letter::T
+            match self.units.unit_of(position) {
+                None => Letter::Ignored,
+                Some(unit) => {
+                    let needs = self.units.build_deps(unit);
+                    if are_all_marked(self.installable.as_slice(), needs) {
+                        Letter::Q
+                    } else {
+                        Letter::T
+                    }
+                }
+            }
         }
+    }
+
+    /// The tree's units, by which builds are queued and ignored packages are told.
+    pub fn units(&self) -> &Units<'a>
+        ensures { result.now.tree ≡ self.now.tree }
+    {
+        &self.units
     }
 
     /// How many packages have each letter, where the agreed packages are held.

@@ -3,23 +3,22 @@
 
 mod counting;
 mod engine;
-mod ignored;
 mod installable;
 mod laws;
 mod marks;
 
 pub use crate::engine::Engine;
 pub use crate::laws::{
-    each_is_counted_once, ignored_spreads, ignored_whatever_is_agreed, only_one_letter_applies,
+    each_is_counted_once, ignored_whatever_is_agreed, only_one_letter_applies, queued_together,
     run_closure_is_held, same_held_same_letters, stays_installable,
 };
 
 /// How far a package is, in the letters of dpb(1)'s status line. One letter applies, and only one.
 #[derive(Clone, Copy, Debug, PartialEq, Eq, Hash)]
 pub enum Letter {
-    /// To build: neither held nor ignored, and not all its build dependencies are installable.
+    /// To build: neither held nor ignored, and not all that its unit needs to be built is installable.
     T,
-    /// In the queue, to be built now: neither held nor ignored, and all its build dependencies are installable.
+    /// In the queue, to be built now: neither held nor ignored, and all that its unit needs to be built is installable.
     Q,
     /// Built: held, but not installable.
     B,
@@ -39,6 +38,3 @@ pub struct Counts {
     pub t: u32,
     pub ignored: u32,
 }
-
-#[cfg(test)]
-mod tests;

@@ -6,7 +6,7 @@ use Rattle.std.proofs.lemmas.Bool.Decides.{nat_tests}
 use Rattle.std.proofs.lemmas.List.{map-append}
 use Rattle.faults.specs.Bytes.{Text, colon, has_byte, is_empty, slash}
 use Rattle.listing.specs.Dependencies.{are_shaped, fields_before_path, fields_of, is_shaped}
-use Rattle.listing.specs.Parts.{filled}
+use Rattle.listing.specs.inside.Parts.{filled}
 use Rattle.pkgname.specs.Pieces.{pieces_behind}
 use Rattle.pkgspec.specs.Spec.{Alternative, spec_of}
 

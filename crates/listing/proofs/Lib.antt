@@ -12,3 +12,6 @@ pub mod Reading
 pub mod Members
 pub mod NodeLemmas
 pub mod Parsing
+pub mod GroupLines
+pub mod Feeding
+pub mod Counting

@@ -1,5 +1,5 @@
 -- What a node says of a row.
-use Rattle.std.proofs.Common.{◌≡◌, ◌<◌, ◌+◌, ◌++◌, ◌&&◌, ◌||◌, ℕ, Bool, true, false, not, cond, List, [], ◌∷◌, All, length, map, take, get_or, position, is_some, unwrap_or, option_and_then, option_map, IfSome, Option, None, Some, Ok, refl, sym, ap, subst, ◌∙◌, arith, ext_get_or, true≢false, inl, inr}
+use Rattle.std.proofs.Common.{◌≡◌, ◌<◌, ◌+◌, ◌++◌, ◌&&◌, ◌||◌, ◌⊎◌, ℕ, Bool, true, false, not, cond, List, [], ◌∷◌, All, length, map, take, get_or, position, is_some, unwrap_or, option_and_then, option_map, IfSome, Option, None, Some, Ok, refl, sym, ap, subst, ◌∙◌, arith, ext_get_or, true≢false, inl, inr}
 use Rattle.std.specs.List.{list_any, list_all, filter_map, cons_option, IsDistinct, position_from}
 use Rattle.std.specs.Option.{option_map_or}
 use Rattle.std.specs.Str.{bytes_eq}
@@ -14,15 +14,15 @@ use Rattle.faults.specs.Bytes.{Text, is_among, is_empty}
 use Rattle.pkgname.specs.PkgName as pkgname
 use Rattle.pkgname.specs.PkgName.{IsName}
 use Rattle.pkgname.specs.declared.NameFault.{NameFault}
-use Rattle.pkgpath.specs.PkgPath.{IsPath}
+use Rattle.pkgpath.specs.PkgPath.{IsPath, without_subpackage}
 use Rattle.listing.specs.Dependencies.{words_of}
 use Rattle.listing.specs.Lines.{Setting, build_depends, ignore, lib_depends, run_depends}
 use Rattle.listing.specs.Listing.{dependencies_of, dependency_path, dependency_positions, is_met, name_of, package_of, paths_of, positions_of, tree_of_settings, value_of}
-use Rattle.listing.specs.Nodes.{HasNumbersBelow, IsNodeOf, IsSetOf, are_met, listed_positions, numbers_of_value, numbers_read, package_of_node, packages_of, resolution_at, resolution_of_word, text_of_value, unlisted, word_matches}
-use Rattle.listing.specs.Parts.{AreNumbersOf, IsReadAs, has_dependencies, position_of_word}
-use Rattle.listing.specs.Rules.{names_and_specs}
-use Rattle.listing.specs.Table.{AreRowsOf, IsRowOf, name_in, name_read, new_row}
-use Rattle.listing.specs.Tree.{ArePositions, IsTree, Package, no_package, path_at}
+use Rattle.listing.specs.inside.Nodes.{HasNumbersBelow, IsNodeOf, IsSetOf, are_met, listed_positions, numbers_of_value, numbers_read, package_of_node, packages_of, resolution_at, resolution_of_word, text_of_value, unlisted, word_matches}
+use Rattle.listing.specs.inside.Parts.{AreNumbersOf, IsReadAs, has_dependencies, position_of_word}
+use Rattle.listing.specs.Rules.{group_by, names_and_specs, with_groups}
+use Rattle.listing.specs.inside.Table.{AreRowsOf, IsRowOf, name_in, name_read, new_row}
+use Rattle.listing.specs.Tree.{AreGrouped, ArePositions, AreSingle, IsTree, Package, no_package, path_at}
 use Rattle.listing.specs.declared.dependency.Resolution.{Resolution}
 use Rattle.listing.specs.declared.line.Variable.{Variable}
 use Rattle.listing.specs.declared.line.Variable.TheVariants.{FullName, BuildDepends, LibDepends, RunDepends, Ignore}
@@ -255,10 +255,10 @@ three_met ss path u v w a b c e f g =
     ∙ and_assoc (list_all met xs) (list_all met ys) (list_all met zs) in
     sym (ap (list_all met) (λ i. words_of (e i) ++ (words_of (f i) ++ (words_of (g i) ++ []))) ∙ parts)
 
-package_is : (ss : List Setting) (words paths : List Text) (rows : List Row) (resolutions : List Resolution) (path : Text) (row : Row) (n : Node)
+package_is : (g : Text → Text) (ss : List Setting) (words paths : List Text) (rows : List Row) (resolutions : List Resolution) (path : Text) (row : Row) (n : Node)
     → AreRowsOf ss words paths rows → AreNamed rows → resolutions ≡ map (resolution_of_word paths rows) words → IsRowOf ss words path row → IsNodeOf resolutions row n
-    → package_of_node path n ≡ package_of names_and_specs ss path
-package_is ss words paths rows resolutions path row n all named at h node =
+    → package_of_node g path n ≡ package_of (with_groups g) ss path
+package_is g ss words paths rows resolutions path row n all named at h node =
     let text : (o : Option Value) (v : Text) → value_of ss path v ≡ option_map (λ (y : Value). y.text.now) o → unwrap_or (value_of ss path v) [] ≡ text_of_value o =
     λ o v e. ap (λ x. unwrap_or x []) e ∙ text_here o in
     let tb = text row.build build_depends (h.values BuildDepends) in
@@ -281,7 +281,7 @@ package_is ss words paths rows resolutions path row n all named at h node =
     let met = (λ i. mb i && ml i && mr i) ∙ three_met ss path build_depends lib_depends run_depends row.build row.lib row.run tb tl tr in
     let marked : n.is_marked ≡ (not (is_empty (unwrap_or (value_of ss path ignore) [])) || not (list_all (is_met names_and_specs ss) (dependencies_of ss path (build_depends ∷ lib_depends ∷ run_depends ∷ [])))) =
     node.marked ∙ (λ i. not (is_empty (sym ti i)) || not (met i)) in
-    λ i. record { path = path; name = name i; build = build i; run = run i; is_marked = marked i }
+    λ i. record { path = path; group = g path; name = name i; build = build i; run = run i; is_marked = marked i }
 
 -- ---- the tree
 
@@ -291,54 +291,60 @@ pub named_by : (resolutions : List Resolution) (rows : List Row) (nodes : List N
 named_by resolutions rows [] same each k l = absurd (omega (arith, l, same))
 named_by resolutions rows (m ∷ ms) same each k l = ((get_or (m ∷ ms) k m).name, (each k (new_row 0) m l).name)
 
-tree_by : (ss : List Setting) (words paths : List Text) (rows : List Row) (resolutions : List Resolution) (nodes : List Node) (m : Node)
+tree_by : (g : Text → Text) (ss : List Setting) (words paths : List Text) (rows : List Row) (resolutions : List Resolution) (nodes : List Node) (m : Node)
     → AreRowsOf ss words paths rows → resolutions ≡ map (resolution_of_word paths rows) words → length nodes ≡ length rows
     → ((k : ℕ) (d : Row) (e : Node) → k < length rows → IsNodeOf resolutions (get_or rows k d) (get_or nodes k e))
-    → packages_of paths nodes ≡ tree_of_settings names_and_specs ss
-tree_by ss words paths rows resolutions nodes m h at same each =
-    let size = length-packages_of paths nodes (same ∙ h.lengths) in
-    ext_get_or no_package (packages_of paths nodes) (tree_of_settings names_and_specs ss)
-    (size ∙ ap length h.all ∙ sym (length-map (paths_of ss) (package_of names_and_specs ss)))
+    → packages_of g paths nodes ≡ tree_of_settings (with_groups g) ss
+tree_by g ss words paths rows resolutions nodes m h at same each =
+    let size = length-packages_of g paths nodes (same ∙ h.lengths) in
+    ext_get_or no_package (packages_of g paths nodes) (tree_of_settings (with_groups g) ss)
+    (size ∙ ap length h.all ∙ sym (length-map (paths_of ss) (package_of (with_groups g) ss)))
     (λ i l.
     let within : i < length paths = omega (arith, size, l) in
     let n : Node = get_or nodes i m in
     let d : Row = new_row 0 in
-    package_at-packages_of paths nodes i n (same ∙ h.lengths) within (get_or_default nodes i m n (omega (arith, within, same, h.lengths)))
-    ∙ package_is ss words paths rows resolutions (get_or paths i []) (get_or rows i d) n h (named_by resolutions rows nodes same each) at (h.each i d within) (each i d m (omega (arith, within, h.lengths)))
-    ∙ ap (λ ps. package_of names_and_specs ss (get_or ps i [])) h.all
-    ∙ sym (get_or-map (package_of names_and_specs ss) (paths_of ss) i [] no_package (omega (arith, within, ap length h.all))))
+    package_at-packages_of g paths nodes i n (same ∙ h.lengths) within (get_or_default nodes i m n (omega (arith, within, same, h.lengths)))
+    ∙ package_is g ss words paths rows resolutions (get_or paths i []) (get_or rows i d) n h (named_by resolutions rows nodes same each) at (h.each i d within) (each i d m (omega (arith, within, h.lengths)))
+    ∙ ap (λ ps. package_of (with_groups g) ss (get_or ps i [])) h.all
+    ∙ sym (get_or-map (package_of (with_groups g) ss) (paths_of ss) i [] no_package (omega (arith, within, ap length h.all))))
 
-pub tree_is : (ss : List Setting) (words paths : List Text) (rows : List Row) (resolutions : List Resolution) (nodes : List Node)
+pub tree_is : (g : Text → Text) (ss : List Setting) (words paths : List Text) (rows : List Row) (resolutions : List Resolution) (nodes : List Node)
     → AreRowsOf ss words paths rows → resolutions ≡ map (resolution_of_word paths rows) words → length nodes ≡ length rows
     → ((k : ℕ) (d : Row) (e : Node) → k < length rows → IsNodeOf resolutions (get_or rows k d) (get_or nodes k e))
-    → packages_of paths nodes ≡ tree_of_settings names_and_specs ss
-tree_is ss words paths rows resolutions [] h at same each =
+    → packages_of g paths nodes ≡ tree_of_settings (with_groups g) ss
+tree_is g ss words paths rows resolutions [] h at same each =
     let none : paths ≡ [] = nil_from_length paths (omega (arith, same, h.lengths)) in
-    ap (λ ps. packages_of ps []) none ∙ ap (map (package_of names_and_specs ss)) (sym none ∙ h.all)
-tree_is ss words paths rows resolutions (m ∷ ms) h at same each = tree_by ss words paths rows resolutions (m ∷ ms) m h at same each
+    ap (λ ps. packages_of g ps []) none ∙ ap (map (package_of (with_groups g) ss)) (sym none ∙ h.all)
+tree_is g ss words paths rows resolutions (m ∷ ms) h at same each = tree_by g ss words paths rows resolutions (m ∷ ms) m h at same each
 
 -- such a tree has each path once, and positions of its own
-path_here : (ss : List Setting) (p : ℕ) → p < length (tree_of_settings names_and_specs ss) → path_at (tree_of_settings names_and_specs ss) p ≡ get_or (paths_of ss) p []
-path_here ss p l =
-    ap (λ (x : Package). x.path) (get_or-map (package_of names_and_specs ss) (paths_of ss) p [] no_package (omega (arith, l, length-map (paths_of ss) (package_of names_and_specs ss))))
+path_here : (g : Text → Text) (ss : List Setting) (p : ℕ) → p < length (tree_of_settings (with_groups g) ss) → path_at (tree_of_settings (with_groups g) ss) p ≡ get_or (paths_of ss) p []
+path_here g ss p l =
+    ap (λ (x : Package). x.path) (get_or-map (package_of (with_groups g) ss) (paths_of ss) p [] no_package (omega (arith, l, length-map (paths_of ss) (package_of (with_groups g) ss))))
 
 apart_paths : (ps : List Text) (p q : ℕ) → IsDistinct bytes_eq ps → p < q → q < length ps → get_or ps p [] ≡ get_or ps q [] → ⊥
 apart_paths ps p q once lt l e =
     true≢false (sym (eq_self (get_or ps q [])) ∙ ap (λ t. bytes_eq t (get_or ps q [])) (sym e) ∙ apart_from_distinct bytes_eq ps p q [] once lt l)
 
-pub is_tree : (ss : List Setting) (words paths : List Text) (rows : List Row) → AreRowsOf ss words paths rows → AreNamed rows → IsTree (tree_of_settings names_and_specs ss)
-is_tree ss words paths rows h named =
-    let size = length-map (paths_of ss) (package_of names_and_specs ss) in
+grouped : (is_single : Bool) (ss : List Setting) → AreGrouped (tree_of_settings (with_groups (group_by is_single)) ss) ⊎ AreSingle (tree_of_settings (with_groups (group_by is_single)) ss)
+grouped true ss = inr (All-map (λ (x : Package). x.group ≡ x.path) (package_of (with_groups (group_by true)) ss) (paths_of ss) (λ k d l. refl))
+grouped false ss = inl (All-map (λ (x : Package). x.group ≡ without_subpackage x.path) (package_of (with_groups (group_by false)) ss) (paths_of ss) (λ k d l. refl))
+
+pub is_tree : (is_single : Bool) (ss : List Setting) (words paths : List Text) (rows : List Row) → AreRowsOf ss words paths rows → AreNamed rows → IsTree (tree_of_settings (with_groups (group_by is_single)) ss)
+is_tree is_single ss words paths rows h named =
+    let g : Text → Text = group_by is_single in
+    let size = length-map (paths_of ss) (package_of (with_groups g) ss) in
     let once : IsDistinct bytes_eq (paths_of ss) = subst (IsDistinct bytes_eq) h.all h.once in
-    let sets : (qs : List Text) → ArePositions (tree_of_settings names_and_specs ss) (positions_of (paths_of ss) qs) = λ qs. record {
-      within = All-weaker (λ p. p < length (paths_of ss)) (λ p. p < length (tree_of_settings names_and_specs ss)) (λ p l. omega (arith, l, size))
+    let sets : (qs : List Text) → ArePositions (tree_of_settings (with_groups g) ss) (positions_of (paths_of ss) qs) = λ qs. record {
+      within = All-weaker (λ p. p < length (paths_of ss)) (λ p. p < length (tree_of_settings (with_groups g) ss)) (λ p l. omega (arith, l, size))
           (positions_of (paths_of ss) qs) (positions_of-within (paths_of ss) qs);
       rising = positions_of-increasing (paths_of ss) qs;
     } in
     record {
       few = omega (arith, size, ap length h.all, h.few);
-      paths = All-map (λ (x : Package). IsPath x.path) (package_of names_and_specs ss) (paths_of ss) (subst (All IsPath) h.all h.spelled);
-      names = All-map (λ (x : Package). IsName x.name) (package_of names_and_specs ss) (paths_of ss)
+      paths = All-map (λ (x : Package). IsPath x.path) (package_of (with_groups g) ss) (paths_of ss) (subst (All IsPath) h.all h.spelled);
+      groups = grouped is_single ss;
+      names = All-map (λ (x : Package). IsName x.name) (package_of (with_groups g) ss) (paths_of ss)
           (λ k d l.
           let within : k < length paths = omega (arith, l, ap length h.all) in
           let here = named k (omega (arith, within, h.lengths)) in
@@ -346,7 +352,7 @@ is_tree ss words paths rows h named =
           let path : get_or paths k [] ≡ get_or (paths_of ss) k d = ap (λ ps. get_or ps k []) h.all ∙ get_or_default (paths_of ss) k [] d l in
           subst IsName (sym known.0 ∙ ap (name_of ss) path) known.1);
       once = λ p q lp lq e.
-          let same = sym (path_here ss p lp) ∙ e ∙ path_here ss q lq in
+          let same = sym (path_here g ss p lp) ∙ e ∙ path_here g ss q lq in
           elim (cases_lt p q) [
             | inl below ↦ absurd (apart_paths (paths_of ss) p q once below (omega (arith, lq, size)) same)
             | inr above ↦ elim (cases_eq p q) [
@@ -354,9 +360,9 @@ is_tree ss words paths rows h named =
               | inr other ↦ absurd (apart_paths (paths_of ss) q p once (omega arith) (omega (arith, lp, size)) (sym same))
             ]
           ];
-      build = All-map (λ (x : Package). ArePositions (tree_of_settings names_and_specs ss) x.build) (package_of names_and_specs ss) (paths_of ss)
+      build = All-map (λ (x : Package). ArePositions (tree_of_settings (with_groups g) ss) x.build) (package_of (with_groups g) ss) (paths_of ss)
           (λ k d l. sets (map dependency_path (dependencies_of ss (get_or (paths_of ss) k d) (build_depends ∷ lib_depends ∷ []))));
-      run = All-map (λ (x : Package). ArePositions (tree_of_settings names_and_specs ss) x.run) (package_of names_and_specs ss) (paths_of ss)
+      run = All-map (λ (x : Package). ArePositions (tree_of_settings (with_groups g) ss) x.run) (package_of (with_groups g) ss) (paths_of ss)
           (λ k d l. sets (map dependency_path (dependencies_of ss (get_or (paths_of ss) k d) (lib_depends ∷ run_depends ∷ []))));
     }
 

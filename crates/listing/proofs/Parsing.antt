@@ -1,5 +1,5 @@
 -- A listing, line by line.
-use Rattle.std.proofs.Common.{◌≡◌, ◌<◌, ◌+◌, ◌++◌, ◌==◌, ◌⊎◌, ℕ, List, [], ◌∷◌, length, take, get_or, option_to_list, option_and_then, Option, None, Some, Ok, Err, Result, MatchResult, refl, sym, ap, subst, ◌∙◌, arith, inl, inr, zero-add}
+use Rattle.std.proofs.Common.{◌≡◌, ◌<◌, ◌+◌, ◌++◌, ◌==◌, ◌⊎◌, ℕ, Bool, List, [], ◌∷◌, length, take, get_or, option_to_list, option_and_then, Option, None, Some, Ok, Err, Result, MatchResult, refl, sym, ap, subst, ◌∙◌, arith, inl, inr, zero-add}
 use Rattle.std.specs.List.{cons_option, range_with_len, slice_split}
 use Rattle.std.proofs.lemmas.List.{take_more, take_all}
 use Rattle.std.proofs.lemmas.List.Elements.{filter_map-append}
@@ -9,8 +9,8 @@ use Rattle.faults.specs.Answers.{IsRightUnless, first_given, option_or, unless_f
 use Rattle.faults.specs.Bytes.{Text, line_feed}
 use Rattle.listing.specs.Lines.{Setting, lines_of, setting_of, settings_of}
 use Rattle.listing.specs.Listing.{fault_at, fault_of, line_fault, nameless_fault, tree_of, tree_of_settings}
-use Rattle.listing.specs.Rules.{names_and_specs}
-use Rattle.listing.specs.Table.{Stands}
+use Rattle.listing.specs.Rules.{group_by, names_and_specs, with_groups}
+use Rattle.listing.specs.inside.Table.{Stands}
 use Rattle.listing.specs.Tree.{Tree}
 use Rattle.listing.specs.declared.ListingFault.{ListingFault}
 use Rattle.listing.specs.declared.ListingFault.TheVariants.{Memory}
@@ -77,13 +77,13 @@ parsed_more text table now k n line within here same so_far h = record {
 }
 
 -- a faulty line
-pub parse_fault : (text : Text) (table : Table) (k n : ℕ) (line : Text) (e : ListingFault) → k < length (pieces text) → line ≡ get_or (pieces text) k line → n ≡ k
+pub parse_fault : (is_single : Bool) (text : Text) (table : Table) (k n : ℕ) (line : Text) (e : ListingFault) → k < length (pieces text) → line ≡ get_or (pieces text) k line → n ≡ k
     → ParsedSoFar text table k → line_fault names_and_specs (settings_of (take k (lines_of text))) (n + 1, line) ≡ Some e
-    → tree_of names_and_specs text ≡ Err e
-parse_fault text table k n line e within here same so_far bad =
+    → tree_of (with_groups (group_by is_single)) text ≡ Err e
+parse_fault is_single text table k n line e within here same so_far bad =
     let first = given_at (fault_at names_and_specs (lines_of text)) (numbers text) k 0 e (omega (arith, within, numbers_size text)) so_far.faultless
     (ap (fault_at names_and_specs (lines_of text)) (number_at text k within) ∙ fault_here text k n line within here same ∙ bad) in
-    ap (λ o. unless_fault (option_or o (nameless_fault (settings_of (lines_of text)))) (tree_of_settings names_and_specs (settings_of (lines_of text)))) first
+    ap (λ o. unless_fault (option_or o (nameless_fault (settings_of (lines_of text)))) (tree_of_settings (with_groups (group_by is_single)) (settings_of (lines_of text)))) first
 
 -- no faulty line
 pub parsed_all : (text : Text) (table : Table) (k : ℕ) → k ≡ length (pieces text) → ParsedSoFar text table k
@@ -94,10 +94,10 @@ parsed_all text table k all so_far = (
       (none_given_at_all (fault_at names_and_specs (lines_of text)) (numbers text) k (omega (arith, all, numbers_size text)) so_far.faultless),
 )
 
-pub right_tree : (text : Text) (r : Result Tree ListingFault) → fault_of names_and_specs text ≡ nameless_fault (settings_of (lines_of text))
-    → MatchResult r (λ t. (nameless_fault (settings_of (lines_of text)) ≡ None) × (t ≡ tree_of_settings names_and_specs (settings_of (lines_of text))))
+pub right_tree : (is_single : Bool) (text : Text) (r : Result Tree ListingFault) → fault_of names_and_specs text ≡ nameless_fault (settings_of (lines_of text))
+    → MatchResult r (λ t. (nameless_fault (settings_of (lines_of text)) ≡ None) × (t ≡ tree_of_settings (with_groups (group_by is_single)) (settings_of (lines_of text))))
     (λ e. (e ≡ Memory) ⊎ (nameless_fault (settings_of (lines_of text)) ≡ Some e))
-    → IsRightUnless Memory r (tree_of names_and_specs text)
-right_tree text (Ok t) same h = ap (λ o. unless_fault o (tree_of_settings names_and_specs (settings_of (lines_of text)))) (same ∙ h.0) ∙ ap Ok (sym h.1)
-right_tree text (Err e) same (inl m) = inl m
-right_tree text (Err e) same (inr bad) = inr (ap (λ o. unless_fault o (tree_of_settings names_and_specs (settings_of (lines_of text)))) (same ∙ bad))
+    → IsRightUnless Memory r (tree_of (with_groups (group_by is_single)) text)
+right_tree is_single text (Ok t) same h = ap (λ o. unless_fault o (tree_of_settings (with_groups (group_by is_single)) (settings_of (lines_of text)))) (same ∙ h.0) ∙ ap Ok (sym h.1)
+right_tree is_single text (Err e) same (inl m) = inl m
+right_tree is_single text (Err e) same (inr bad) = inr (ap (λ o. unless_fault o (tree_of_settings (with_groups (group_by is_single)) (settings_of (lines_of text)))) (same ∙ bad))

@@ -5,9 +5,9 @@ use Rattle.pkgpath.specs.PkgPath.{path_of}
 use Rattle.pkgpath.specs.declared.PathFault.{PathFault}
 use Rattle.listing.specs.Lines.{Setting, is_cut, is_read, is_skipped, path_text, setting_from, setting_of, value_text, variable_text, variables}
 use Rattle.listing.specs.Listing.{line_fault, path_line_fault, setting_fault}
-use Rattle.listing.specs.Parts.{name_of_variable}
+use Rattle.listing.specs.inside.Parts.{name_of_variable}
 use Rattle.listing.specs.Rules.{names_and_specs}
-use Rattle.listing.specs.Table.{setting}
+use Rattle.listing.specs.inside.Table.{setting}
 use Rattle.listing.specs.declared.ListingFault.{ListingFault}
 use Rattle.listing.specs.declared.ListingFault.TheVariants.{BadLine, BadPath, Memory}
 use Rattle.listing.specs.declared.line.Variable.{Variable}

@@ -16,9 +16,9 @@ use Rattle.pkgpath.specs.PkgPath.{IsPath}
 use Rattle.listing.specs.Dependencies.{words_of}
 use Rattle.listing.specs.Lines.{Setting, full_name}
 use Rattle.listing.specs.Listing.{is_another, is_one_too_many, is_set_anew, nameless_fault, paths_of, setting_fault, value_fault, value_of}
-use Rattle.listing.specs.Parts.{Grows, IsReadAs, name_of_variable}
+use Rattle.listing.specs.inside.Parts.{Grows, IsReadAs, name_of_variable}
 use Rattle.listing.specs.Rules.{names_and_specs}
-use Rattle.listing.specs.Table.{AreRowsOf, IsRowOf, name_in, name_read, new_row, row_fault, setting, text_in, value_in, with_value}
+use Rattle.listing.specs.inside.Table.{AreRowsOf, IsRowOf, name_in, name_read, new_row, row_fault, setting, text_in, value_in, with_value}
 use Rattle.listing.specs.Tree.{most_paths}
 use Rattle.listing.specs.declared.ListingFault.{ListingFault}
 use Rattle.listing.specs.declared.ListingFault.TheVariants.{NoName, TooMany, TwiceSet}

@@ -1,10 +1,10 @@
 -- The text whose SHA-256 is a tree's digest.
-use Rattle.std.specs.Prelude.{ℕ, List, [], ◌∷◌, ◌++◌, codes, if◌then◌else◌}
+use Rattle.std.specs.Prelude.{ℕ, List, [], ◌∷◌, ◌++◌, codes, count_by, map, nat_le, if◌then◌else◌}
 use Rattle.std.specs.List.{flat_map}
+use Rattle.std.specs.Str.{bytes_eq}
 use Rattle.faults.specs.Bytes.{Text, line_feed}
+use Rattle.faults.specs.Pieces.{in_order_of_appearance}
 use Rattle.listing.specs.Tree.{Package, Tree, path_at}
-use Rattle.sha2.specs.Hashers.{Holds256}
-use Rattle.sha2.specs.declared.Sha256.{Sha256}
 
 -- the text and the byte that ends a line
 abbrev pub line : Text → Text
@@ -23,10 +23,22 @@ package_lines tree x =
     ++ path_lines tree (codes "B ") x.build
     ++ path_lines tree (codes "R ") x.run
 
--- the lines of each package, in order of position
-unfoldable pub digest_text : Tree → Text
-digest_text tree = flat_map (package_lines tree) tree
+-- the groups, in the order of their least positions
+abbrev pub groups_of : Tree → List Text
+groups_of tree = in_order_of_appearance (map (λ x. x.group) tree)
 
--- the hasher's message has grown by the text, at its end
-pub record Takes (old new : Sha256) (text : Text) : Type 0 where
-  pub more : (message : Text) → Holds256 old message → Holds256 new (message ++ text)
+-- how many packages are of the group
+abbrev pub size_of_group : Tree → Text → ℕ
+size_of_group tree group = count_by (λ x. bytes_eq x.group group) tree
+
+-- a line with the group's path, where two or more packages are of it
+abbrev pub group_line : Tree → Text → Text
+group_line tree group = if nat_le 2 (size_of_group tree group) then line (codes "G " ++ group) else []
+
+-- the lines of each package, in order of position
+abbrev pub packages_text : Tree → Text
+packages_text tree = flat_map (package_lines tree) tree
+
+-- the lines of each package, and then a line for each group of two or more, in order of position
+unfoldable pub digest_text : Tree → Text
+digest_text tree = packages_text tree ++ flat_map (group_line tree) (groups_of tree)

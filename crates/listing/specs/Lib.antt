@@ -4,8 +4,6 @@ pub mod Dependencies
 pub mod Listing
 pub mod Rules
 pub mod Refusals
-pub mod Parts
-pub mod Entries
-pub mod Table
-pub mod Nodes
 pub mod Digest
+pub mod Laws
+pub mod inside

@@ -7,12 +7,12 @@ ghost use Rattle.indexmap.specs.IndexSet.{index_set_len};
 ghost use Rattle.pkgpath.specs.PkgPath.{path_of};
 ghost use Rattle.pkgspec.specs.Spec.{spec_of};
 ghost use Rattle.listing.specs.Dependencies.{is_operator_byte, is_shaped, words_of};
-ghost use Rattle.listing.specs.Entries.{IsRead};
+ghost use Rattle.listing.specs.inside.Entries.{IsRead};
 ghost use Rattle.listing.specs.Listing.{dependencies_fault, word_fault};
-ghost use Rattle.listing.specs.Nodes.{all_match, resolution_of, resolution_of_word};
-ghost use Rattle.listing.specs.Parts.{AreFieldsOf, AreNumbersOf, Grows, IsNumberOf, IsPathField, specs_from};
+ghost use Rattle.listing.specs.inside.Nodes.{all_match, resolution_of, resolution_of_word};
+ghost use Rattle.listing.specs.inside.Parts.{AreFieldsOf, AreNumbersOf, Grows, IsNumberOf, IsPathField, specs_from};
 ghost use Rattle.listing.specs.Rules.{names_and_specs};
-ghost use Rattle.listing.specs.Table.{name_in};
+ghost use Rattle.listing.specs.inside.Table.{name_in};
 ghost use Rattle.listing.specs.Tree.{most_paths};
 
 use crate::ListingFault;
@@ -216,7 +216,7 @@ pub struct Dependencies<'a> {
 
 impl<'a> Model for Dependencies<'a> {
     ghost use Rattle.std.specs.Prelude.{ℕ, List, All, map};
-    ghost use Rattle.listing.specs.Entries.{IsReadEntry, words_of_entries};
+    ghost use Rattle.listing.specs.inside.Entries.{IsReadEntry, words_of_entries};
 
     ghost Value = { List (List ℕ) };
 

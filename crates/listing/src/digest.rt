@@ -1,15 +1,18 @@
 //! The digest of a tree.
 ghost use Rattle.std.specs.Prelude.{◌≡◌, ◌<◌, ◌++◌, length};
 ghost use Rattle.sha2.specs.Sha256.{sha256};
-ghost use Rattle.listing.specs.Digest.{Takes, digest_text, line, package_lines, path_lines};
+ghost use Rattle.listing.specs.Digest.{digest_text, line, package_lines, path_lines};
 ghost use Rattle.listing.specs.Tree.{ArePositions, package_at};
+ghost use Rattle.listing.specs.inside.Hashing.{Takes};
 
 use crate::tree::Tree;
 use sha2::{Digest, Sha256};
 
 impl Tree {
-    /// SHA-256 (FIPS 180-4) of the tree as lines, each ended by LF: for each package, by position, `P PATH`, `N NAME`,
-    /// `X` if it is marked, `B PATH` for each build dependency and `R PATH` for each run dependency, by position.
+    /// SHA-256 (FIPS 180-4) of the tree as lines, each ended by LF: for each package, by position,
+    /// `P PATH`, `N NAME`, `X` if it is marked, `B PATH` for each build dependency and `R PATH` for
+    /// each run dependency, by position; and then, for each group of two or more packages, by its
+    /// least position, `G PATH`, the path that names it.
     #[tactic(auto, unfolding(crate::specs::Digest::digest_text))]
     pub fn digest(&self) -> [u8; 32]
         ensures { result ≡ sha256 (digest_text self.now) }
@@ -18,6 +21,7 @@ impl Tree {
         for position in 0..self.len() {
             put_package(&mut hasher, self, position);
         }
+        self.groups().put_lines(&mut hasher);
         hasher.finalize()
     }
 }
@@ -47,7 +51,7 @@ fn put_paths(hasher: &mut Sha256, word: &[u8], tree: &Tree, positions: &[u32])
 }
 
 /// Feeds a line: the word, then the bytes.
-fn put(hasher: &mut Sha256, word: &[u8], bytes: &[u8])
+pub fn put(hasher: &mut Sha256, word: &[u8], bytes: &[u8])
     ensures { Takes hasher.old hasher.new (line (word.now ++ bytes.now)) }
 {
     hasher.update(word);

@@ -11,11 +11,14 @@ use thiserror::Error;
 
 mod dependency;
 mod digest;
+mod groups;
+mod laws;
 mod line;
 mod node;
 mod table;
 mod tree;
 
+pub use crate::laws::lone_packages_have_no_groups;
 pub use crate::tree::Tree;
 
 /// Why a text is no listing. Of several faulty lines the first counts. A line is tested for its form,

@@ -2,7 +2,7 @@
 ghost use Rattle.std.specs.Prelude.{◌≡◌, ℕ, ◌<◌, ◌≤◌, ◌==◌, false, length, slice_index, MatchOption, MatchBool, position};
 ghost use Rattle.faults.specs.Bytes.{dot, is_among};
 ghost use Rattle.listing.specs.Lines.{is_blank, is_cut, is_skipped, trimmed, variables};
-ghost use Rattle.listing.specs.Parts.{AreParts, name_of_variable};
+ghost use Rattle.listing.specs.inside.Parts.{AreParts, name_of_variable};
 
 /// The variables that are read.
 #[derive(Clone, Copy, Debug, PartialEq, Eq)]

@@ -1,7 +1,7 @@
 //! A package of a tree, without its path.
 ghost use Rattle.std.specs.Prelude.{◌≡◌, ◌⊎◌, ◌<◌, ◌++◌, All, Some, length, MatchResult};
-ghost use Rattle.listing.specs.Nodes.{HasNumbersBelow, IsNodeOf, IsSetOf, are_met, is_marked_by, listed_positions, numbers_of_value, text_of_value};
-ghost use Rattle.listing.specs.Table.{row_fault};
+ghost use Rattle.listing.specs.inside.Nodes.{HasNumbersBelow, IsNodeOf, IsSetOf, are_met, is_marked_by, listed_positions, numbers_of_value, text_of_value};
+ghost use Rattle.listing.specs.inside.Table.{row_fault};
 
 use crate::ListingFault;
 use crate::dependency::Resolution;

@@ -6,9 +6,9 @@ ghost use Rattle.faults.specs.Answers.{option_or};
 ghost use Rattle.pkgname.specs.PkgName.{name_of};
 ghost use Rattle.listing.specs.Lines.{Setting, setting_of};
 ghost use Rattle.listing.specs.Listing.{is_another, line_fault, setting_fault, value_fault};
-ghost use Rattle.listing.specs.Parts.{Grows, IsReadAs, name_of_variable};
+ghost use Rattle.listing.specs.inside.Parts.{Grows, IsReadAs, name_of_variable};
 ghost use Rattle.listing.specs.Rules.{names_and_specs};
-ghost use Rattle.listing.specs.Table.{Stands, name_in, new_row, setting, text_in, with_value};
+ghost use Rattle.listing.specs.inside.Table.{Stands, name_in, new_row, setting, text_in, with_value};
 
 use crate::ListingFault;
 use crate::dependency::{Dependencies, read_path};

@@ -1,9 +1,18 @@
-//! Appends notes to a log: `log_probe PATH COUNT LENGTH`, where the path `-` stands for a disk in memory. It tells how many
-//! notes it found, how many of COUNT notes of LENGTH bytes were appended, and the number of the refusal that came, if one
-//! came. Of a disk in memory it tells at last how many notes are left after a crash.
+//! Opens logs and appends to them, and tells what it meets.
+//!
+//! `log_probe PATH COUNT LENGTH` tells how many notes it found, how many of COUNT notes of LENGTH
+//! bytes were appended, and the number of the refusal that came, if one came. The path `-` stands
+//! for a disk in memory; of that it tells at last how many notes are left after a crash.
+//!
+//! `log_probe PATH TREE WEIGHTS ME` opens the log of a member, by the digest of the tree and the
+//! weights in hexadecimal and the own number, and tells each note in hexadecimal, or the number of
+//! the refusal.
 #![tactic(auto)]
 
+mod own;
+
 use faults::Fault;
+use own::{owner, same_weights};
 use stable_record::{Disk, FileDisk, Identity, Left, Log, MemDisk};
 use std::process::ExitCode;
 use std::{env, io};
@@ -13,27 +22,52 @@ const UNREADABLE: u32 = 2;
 
 fn main(rt: HostRuntime) -> io::Result<ExitCode> {
     let words: Vec<String> = env::args(&rt)?.collect(rt.alloc())?;
-    let [_program, path, count, length] = words.as_slice() else {
-        eprintln!(rt; "usage: log_probe PATH COUNT LENGTH")?;
-        return Ok(ExitCode::from(2));
-    };
-    let count: u32 = count.parse().unwrap_or(0);
-    let length: u32 = length.parse().unwrap_or(0);
-    let note = vec![in rt.alloc(); 7u8; length as usize]?;
-    if path.as_str() == "-" {
-        in_memory(&rt, note.as_slice(), count)
-    } else {
-        in_file(&rt, path, note.as_slice(), count)
+    match words.as_slice() {
+        [_program, path, count, length] => appending(&rt, path, count, length),
+        [_program, path, tree, weights, me] => match owner(rt.alloc(), tree, weights, me) {
+            Some(identity) => told(&rt, path, &identity),
+            None => usage(&rt),
+        },
+        _ => usage(&rt),
     }
 }
 
-/// Whose the logs are.
-fn who() -> Identity {
-    Identity {
-        tree: [7; 32],
-        members: 3,
-        me: 0,
+fn usage(rt: &HostRuntime) -> io::Result<ExitCode> {
+    eprintln!(rt; "usage: log_probe PATH COUNT LENGTH | log_probe PATH TREE WEIGHTS ME")?;
+    Ok(ExitCode::from(2))
+}
+
+/// Appends so many notes of a length.
+fn appending(rt: &HostRuntime, path: &str, count: &str, length: &str) -> io::Result<ExitCode> {
+    let count: u32 = count.parse().unwrap_or(0);
+    let length: u32 = length.parse().unwrap_or(0);
+    let note = vec![in rt.alloc(); 7u8; length as usize]?;
+    if path == "-" {
+        in_memory(rt, note.as_slice(), count)
+    } else {
+        in_file(rt, path, note.as_slice(), count)
     }
+}
+
+/// Opens the log of a member, and tells its notes.
+fn told(rt: &HostRuntime, path: &str, identity: &Identity) -> io::Result<ExitCode> {
+    let Ok(disk) = disk_at(rt, path) else {
+        return refused(rt, UNREADABLE);
+    };
+    match Log::open(rt.alloc(), disk, identity) {
+        Ok((_log, notes)) => {
+            for note in &notes {
+                tell(rt, note)?;
+            }
+            Ok(ExitCode::from(0))
+        }
+        Err((fault, _disk)) => refused(rt, fault.number()),
+    }
+}
+
+fn tell(rt: &HostRuntime, note: &[u8]) -> io::Result<()> {
+    let text = hex::encode(rt.alloc(), note)?;
+    println!(rt; "note {text}")
 }
 
 /// Appends to the log of a file.
@@ -41,7 +75,7 @@ fn in_file(rt: &HostRuntime, path: &str, note: &[u8], count: u32) -> io::Result<
     let Ok(disk) = disk_at(rt, path) else {
         return refused(rt, UNREADABLE);
     };
-    match Log::open(rt.alloc(), disk, who()) {
+    match Log::open(rt.alloc(), disk, &same_weights()) {
         Ok((log, notes)) => {
             let _disk = appended(rt, log, notes.len(), note, count)?;
             Ok(ExitCode::from(0))
@@ -61,11 +95,11 @@ fn in_memory(rt: &HostRuntime, note: &[u8], count: u32) -> io::Result<ExitCode> 
         Ok(disk) => disk,
         Err(fault) => return refused(rt, fault.number()),
     };
-    let disk = match Log::open(rt.alloc(), disk, who()) {
+    let disk = match Log::open(rt.alloc(), disk, &same_weights()) {
         Ok((log, notes)) => appended(rt, log, notes.len(), note, count)?,
         Err((fault, _disk)) => return refused(rt, fault.number()),
     };
-    match Log::open(rt.alloc(), disk.crash(Left::Before), who()) {
+    match Log::open(rt.alloc(), disk.crash(Left::Before), &same_weights()) {
         Ok((_log, notes)) => {
             println!(rt; "left {}", notes.len())?;
             Ok(ExitCode::from(0))
@@ -74,8 +108,8 @@ fn in_memory(rt: &HostRuntime, note: &[u8], count: u32) -> io::Result<ExitCode> 
     }
 }
 
-/// Tells how many notes were found, appends a note so many times or up to the first refusal, and tells that. Gives the
-/// disk.
+/// Tells how many notes were found, appends a note so many times or up to the first refusal, and
+/// tells that. Gives the disk.
 fn appended<D: Disk>(
     rt: &HostRuntime,
     mut log: Log<D>,

@@ -25,7 +25,7 @@ enum Met {
 /// Opens a file on a disk that fails, and appends a note. Gives what it met, and the disk.
 fn run(alloc: Global, file: &[u8], failing: Failing) -> Result<(Met, MemDisk), LogFault> {
     let disk = FaultDisk::new(MemDisk::new(alloc, file)?, failing);
-    let mut log = match Log::open(alloc, disk, who()) {
+    let mut log = match Log::open(alloc, disk, &who()) {
         Ok((log, _notes)) => log,
         Err((LogFault::Device, disk)) => return Ok((Met::AtOpen, disk.into_inner())),
         Err((fault, _disk)) => return Err(fault),
@@ -103,7 +103,7 @@ fn what_an_opening_gave_stays(rt: HostRuntime) -> Result<(), Fail> {
             // The note failed, and no crash came before the log was opened again.
             let (met, disk) = run(alloc, &file, Failing::Once(call))?;
             assert_eq!(rt; met, Met::AtAppend);
-            let Ok((log, given)) = Log::open(alloc, disk, who()) else {
+            let Ok((log, given)) = Log::open(alloc, disk, &who()) else {
                 return Err(Fail::from(LogFault::NotALog));
             };
             let disk = log.into_disk().crash(left);

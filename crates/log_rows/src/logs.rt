@@ -1,14 +1,20 @@
 //! Logs to test with.
+use arrayvec::ArrayVec;
 use stable_record::{Disk, Identity, Log, LogFault, MemDisk};
 use std::alloc::Global;
 
 /// A note that opens round 1 of the path `a/b`.
 pub const NOTE: [u8; 14] = [1, 0, 3, 97, 47, 98, 0, 0, 0, 0, 0, 0, 0, 1];
 
+/// The first of three members that weigh the same.
 pub fn who() -> Identity {
+    let mut weights = ArrayVec::new();
+    for _member in 0..3 {
+        let _added = weights.try_push(1);
+    }
     Identity {
         tree: [7; 32],
-        members: 3,
+        weights,
         me: 0,
     }
 }
@@ -16,7 +22,7 @@ pub fn who() -> Identity {
 /// The log of a file in memory, and its notes.
 pub fn opened(alloc: Global, file: &[u8]) -> Result<(Log<MemDisk>, Vec<Vec<u8>>), LogFault> {
     let disk = MemDisk::new(alloc, file)?;
-    match Log::open(alloc, disk, who()) {
+    match Log::open(alloc, disk, &who()) {
         Ok(log) => Ok(log),
         Err((fault, _disk)) => Err(fault),
     }

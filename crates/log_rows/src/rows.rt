@@ -1,128 +1,7 @@
-use crate::logs::{NOTE, are_same, file_of, opened, who};
-use stable_record::{Disk, DiskFault, Failing, FaultDisk, Identity, Left, Log, LogFault, MemDisk};
+use crate::logs::{NOTE, file_of, opened, who};
+use stable_record::{Disk, DiskFault, Failing, FaultDisk, Left, Log, LogFault, MemDisk};
 use std::alloc::Global;
 use std::test::Fail;
-
-/// Four notes make a log of 44, 63, 83, 250 and 408 bytes.
-fn four(alloc: Global) -> Result<Vec<u8>, LogFault> {
-    file_of(alloc, &[&[2; 14], &[2; 15], &[2; 162], &[2; 153]])
-}
-
-#[test]
-fn notes_make_a_log_of_known_length(rt: HostRuntime) -> Result<(), Fail> {
-    let alloc = rt.alloc();
-    assert_eq!(rt; file_of(alloc, &[])?.len(), 44);
-    assert_eq!(rt; file_of(alloc, &[&NOTE])?.len(), 63);
-    let file = four(alloc)?;
-    assert_eq!(rt; file.len(), 408);
-    let (log, notes) = opened(alloc, &file)?;
-    assert!(rt; are_same(&notes, &[&[2; 14], &[2; 15], &[2; 162], &[2; 153]]));
-    assert!(rt; log.into_disk().bytes() == file.as_slice());
-    Ok(())
-}
-
-#[test]
-fn a_closed_gate_ends_the_notes(rt: HostRuntime) -> Result<(), Fail> {
-    let alloc = rt.alloc();
-    for (place, count) in [(43, 0), (62, 1), (82, 2), (249, 3), (407, 4)] {
-        for closed in [0, 2, 255] {
-            let mut file = four(alloc)?;
-            assert!(rt; place < file.len());
-            file[place] = closed;
-            let (log, notes) = opened(alloc, &file)?;
-            assert_eq!(rt; notes.len(), count);
-            assert_eq!(rt; log.into_disk().bytes().len(), place + 1);
-        }
-    }
-    Ok(())
-}
-
-#[test]
-fn a_log_cut_short_is_no_log(rt: HostRuntime) -> Result<(), Fail> {
-    let alloc = rt.alloc();
-    let file = four(alloc)?;
-    for len in 0..file.len() {
-        let disk = MemDisk::new(alloc, &file[..len])?;
-        match Log::open(alloc, disk, who()) {
-            Ok((log, notes)) => {
-                assert!(rt; len < 2, "cut to {len}");
-                assert_eq!(rt; notes.len(), 0);
-                assert_eq!(rt; log.into_disk().bytes().len(), 44);
-            }
-            Err((fault, disk)) => {
-                assert!(rt; len >= 2, "cut to {len}");
-                assert_eq!(rt; fault, LogFault::NotALog);
-                assert!(rt; disk.bytes() == &file[..len]);
-            }
-        }
-    }
-    Ok(())
-}
-
-#[test]
-fn a_log_in_making_is_made_anew(rt: HostRuntime) -> Result<(), Fail> {
-    let alloc = rt.alloc();
-    let file = file_of(alloc, &[])?;
-    for len in 0..=file.len() {
-        for gate in [0, 255] {
-            let mut begun = file.as_slice().to_vec(alloc)?;
-            assert!(rt; 0 < begun.len());
-            begun[0] = gate;
-            begun.truncate(len);
-            let is_made = gate == 0 || len < 2 || len == file.len();
-            match opened(alloc, &begun) {
-                Ok((log, notes)) => {
-                    assert!(rt; is_made, "{len} bytes, gate {gate}");
-                    assert_eq!(rt; notes.len(), 0);
-                    assert!(rt; log.into_disk().bytes() == file.as_slice());
-                }
-                Err(fault) => {
-                    assert!(rt; !is_made, "{len} bytes, gate {gate}");
-                    assert_eq!(rt; fault, LogFault::NotALog);
-                }
-            }
-        }
-    }
-    let mut file = four(alloc)?;
-    assert!(rt; 0 < file.len());
-    file[0] = 0;
-    assert!(rt; matches!(opened(alloc, &file), Err(LogFault::NotALog)));
-    Ok(())
-}
-
-#[test]
-fn a_log_of_others_is_left_alone(rt: HostRuntime) -> Result<(), Fail> {
-    let alloc = rt.alloc();
-    let file = four(alloc)?;
-    let others = [
-        Identity {
-            tree: [8; 32],
-            members: 3,
-            me: 0,
-        },
-        Identity {
-            tree: [7; 32],
-            members: 4,
-            me: 0,
-        },
-        Identity {
-            tree: [7; 32],
-            members: 3,
-            me: 1,
-        },
-    ];
-    for other in others {
-        let disk = MemDisk::new(alloc, &file)?;
-        match Log::open(alloc, disk, other) {
-            Ok(_log) => return Err(Fail::from(LogFault::OtherCluster)),
-            Err((fault, disk)) => {
-                assert_eq!(rt; fault, LogFault::OtherCluster);
-                assert!(rt; disk.bytes() == file.as_slice());
-            }
-        }
-    }
-    Ok(())
-}
 
 #[test]
 fn a_write_of_nothing_does_nothing(rt: HostRuntime) -> Result<(), Fail> {
@@ -142,7 +21,7 @@ fn a_write_of_nothing_does_nothing(rt: HostRuntime) -> Result<(), Fail> {
 fn torn(alloc: Global, left: Left) -> Result<(usize, usize), LogFault> {
     let disk = MemDisk::new(alloc, &file_of(alloc, &[])?)?;
     // Opening syncs once and reads once. The fourth call of the note is the sixth.
-    let Ok((mut log, _none)) = Log::open(alloc, FaultDisk::new(disk, Failing::Once(6)), who())
+    let Ok((mut log, _none)) = Log::open(alloc, FaultDisk::new(disk, Failing::Once(6)), &who())
     else {
         return Err(LogFault::NotALog);
     };

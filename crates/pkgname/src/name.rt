@@ -138,7 +138,7 @@ fn flavors_of(alloc: Global, behind: Option<&[u8]>) -> Result<Vec<Vec<u8>>, Name
         × (list_any is_empty (pieces_behind dash (option_copied behind.entry)) ≡ false)) }
     ensures err { IfErr result (λ e. (e ≡ NameFault.Memory)
         ⊎ ((e ≡ NameFault.BadByte)
-            × (list_any is_empty (pieces_behind dash (option_copied behind.entry)) ≡ true))) }
+        × (list_any is_empty (pieces_behind dash (option_copied behind.entry)) ≡ true))) }
 {
     let mut flavors = Vec::new(alloc);
     let mut left = behind;

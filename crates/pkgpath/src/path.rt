@@ -7,10 +7,10 @@ ghost use Rattle.std.specs.Cmp.Rules.{comparing, hashing};
 ghost use Rattle.std.specs.Hash as fed;
 ghost use Rattle.faults.specs.Answers.{IsRightUnless};
 ghost use Rattle.faults.specs.Pieces.{text_cmp};
-ghost use Rattle.pkgpath.specs.PkgPath.{IsPath, path_of};
+ghost use Rattle.pkgpath.specs.PkgPath.{IsPath, path_of, without_subpackage};
 
 use crate::PathFault;
-use crate::spelling::canonical_text;
+use crate::spelling::{canonical_text, len_without_subpackage};
 use faults::Memory;
 use std::alloc::Global;
 use std::cmp::Ordering;
@@ -67,6 +67,15 @@ impl PkgPath {
         ensures canonical { IsPath self.now }
     {
         self.text.as_slice()
+    }
+
+    /// The path without its subpackage, which is an equal path where it has none.
+    pub fn without_subpackage(&self) -> Result<PkgPath, Memory>
+        ensures { IfOk result (λ path. path ≡ without_subpackage self.now) }
+    {
+        let mut text = self.text.clone()?;
+        text.truncate(len_without_subpackage(self.as_bytes()));
+        Ok(PkgPath { text })
     }
 
     /// A path that is equal to this one, with room of its own.

@@ -1,5 +1,5 @@
 //! What a text spells, and the canonical text of that.
-ghost use Rattle.std.specs.Prelude.{◌≡◌, ◌<◌, ◌≤◌, ◌++◌, ◌∷◌, [], not, filter, length, nat_lt, option_to_list, ◌&&◌, ◌==◌, if◌then◌else◌, IfOk, MatchOption, OnOk};
+ghost use Rattle.std.specs.Prelude.{◌≡◌, ◌<◌, ◌≤◌, ◌++◌, ◌∷◌, [], not, filter, length, nat_lt, option_to_list, take, ◌&&◌, ◌==◌, if◌then◌else◌, IfOk, MatchOption, OnOk};
 ghost use Rattle.std.specs.List.{flat_map};
 ghost use Rattle.std.specs.Option.{option_copied};
 ghost use Rattle.faults.specs.Answers.{IsRightUnless, first_that_applies, map_ok};
@@ -175,5 +175,22 @@ pub(crate) fn canonical_text(alloc: Global, text: &[u8]) -> Result<Vec<u8>, Path
     match split_at_comma(text) {
         None => read_directory(alloc, text),
         Some((directory, parts)) => read_parts(alloc, text, directory, parts),
+    }
+}
+
+/// How many bytes of a path stand before the comma and its subpackage: all, where it has none.
+pub(crate) fn len_without_subpackage(text: &[u8]) -> usize
+    requires { grammar.IsPath text.now }
+    ensures { take result text.now ≡ grammar.without_subpackage text.now }
+{
+    match text.iter().rposition(|byte| *byte == b',') {
+        None => text.len(),
+        Some(last_comma) => {
+            if text[last_comma + 1..].starts_with(b"-") {
+                last_comma
+            } else {
+                text.len()
+            }
+        }
     }
 }

@@ -90,7 +90,9 @@ is_denied text = begins_with (codes "!") text
 -- the flavor that a text is about, and whether it has to be there
 abbrev pub demand_of : Text → Demand
 demand_of text = record {
-    flavor = if is_denied text then drop 1 text else text; is_present = not (is_denied text) }
+  flavor = if is_denied text then drop 1 text else text;
+  is_present = not (is_denied text);
+}
 
 -- the flavor that the text is about is not empty and has bytes of a name alone
 abbrev pub is_demand : Text → Bool
@@ -122,7 +124,7 @@ alternative_of text = record {
 abbrev pub fault_of : Text → Option SpecFault
 fault_of text =
     option_or
-        (first_that_applies ((is_empty text, Empty) ∷ (nat_lt 1024 (length text), TooLong) ∷ []))
+    (first_that_applies ((is_empty text, Empty) ∷ (nat_lt 1024 (length text), TooLong) ∷ []))
     (first_given alternative_fault (pieces_at bar text))
 
 -- the alternatives that a text spells, which stand between bars, or its fault

@@ -30,7 +30,10 @@ impl Model for Alternative {
     ghost Value = { Alternative };
 
     ghost view = { λ a. record {
-        stem = a.stem.items; bounds = a.bounds.items; demands = a.demands.items } };
+      stem = a.stem.items;
+      bounds = a.bounds.items;
+      demands = a.demands.items;
+    } };
 }
 
 impl Alternative {

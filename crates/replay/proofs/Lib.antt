@@ -8,5 +8,7 @@ pub mod NumberedLines
 pub mod OneList
 pub mod PackageLines
 pub mod Positions
+pub mod Refusing
 pub mod Saying
 pub mod Slices
+pub mod Stopping

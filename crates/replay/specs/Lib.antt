@@ -6,4 +6,7 @@ pub mod ListLaws
 pub mod ListRefusals
 pub mod Listed
 pub mod Printed
+pub mod Refusals
+pub mod Rules
 pub mod Status
+pub mod Stopped

@@ -1,45 +1,41 @@
 -- What the program prints, and the status with which it then ends.
-use Rattle.std.specs.Prelude.{◌≡◌, ◌⊎◌, ℕ, List, Ok, Option, take}
-use Rattle.std.specs.Io.KnownBytes.{Appends, Keeps}
+use Rattle.std.specs.Prelude.{◌≡◌, ℕ, Bool, List, Ok, Option, take}
+use Rattle.std.specs.Io.KnownBytes.{Appends}
 use Rattle.auditing.specs.declared.verdict.Verdict.{Verdict}
-use Rattle.clap.specs.Words.{Row}
+use Rattle.clap.specs.Words.{Text as Word}
 use Rattle.faults.specs.Bytes.{Text}
-use Rattle.listing.specs.Listing.{Rules, tree_of}
-use Rattle.listing.specs.Rules.{names_and_specs}
+use Rattle.listing.specs.Listing.{tree_of}
 use Rattle.listing.specs.Tree.{Tree}
 use Rattle.replay.specs.Audit.{IsVerdictOnListing, status_of, verdict_line}
+use Rattle.replay.specs.Rules.{rules_for}
 use Rattle.replay.specs.Status.{IsStatusOfListing}
-use Rattle.words.specs.Calls.{IsCallOf}
+use Rattle.words.specs.Calls.{AreTaken, IsCallOf, matched}
 use Rattle.words.specs.declared.Call.{Call}
 use Rattle.words.specs.declared.Call.TheVariants.{Audit, Status}
 
--- how the program reads listings
-abbrev pub rules : Rules
-rules = names_and_specs
-
--- a listing, as the program reads it, describes the tree
-abbrev pub IsDescribed : Tree → Type 0
-IsDescribed tree = (listing : Text) × (tree_of rules listing ≡ Ok tree)
+-- a listing describes the tree, where each path is a group of its own or not
+abbrev pub IsDescribed : Bool → Tree → Type 0
+IsDescribed is_single tree = (listing : Text) × (tree_of (rules_for is_single) listing ≡ Ok tree)
 
 -- the status that a listing and a text of held package paths describe
-pub record IsStatus (text : Text) : Type 0 where
+pub record IsStatus (is_single : Bool) (text : Text) : Type 0 where
   pub listing : Text
   pub held : Text
-  pub is_status : IsStatusOfListing rules listing held text
+  pub is_status : IsStatusOfListing (rules_for is_single) listing held text
 
 -- the verdict on a list of packages, by a listing, and the status that goes with it
-pub record IsAudit (status : ℕ) (text : Text) : Type 0 where
+pub record IsAudit (is_single : Bool) (status : ℕ) (text : Text) : Type 0 where
   pub listing : Text
   pub list : Text
   pub verdict : Verdict
-  pub is_verdict : IsVerdictOnListing rules listing list verdict
+  pub is_verdict : IsVerdictOnListing (rules_for is_single) listing list verdict
   pub text_is : text ≡ verdict_line verdict
   pub status_is : status ≡ status_of verdict
 
 -- what a call prints, and its status
 abbrev pub IsOutputOf : Call → ℕ → Text → Type 0
-IsOutputOf (Status listing held) status text = (status ≡ 0) × IsStatus text
-IsOutputOf (Audit listing list) status text = IsAudit status text
+IsOutputOf (Status listing held is_single) status text = (status ≡ 0) × IsStatus is_single text
+IsOutputOf (Audit listing list is_single) status text = IsAudit is_single status text
 
 -- what was written since, where it is known, is one such text, and the status is the one that goes with it
 pub record HasPrinted (call : Call) (status : ℕ) (before after : Option (List ℕ)) : Type 0 where
@@ -47,10 +43,11 @@ pub record HasPrinted (call : Call) (status : ℕ) (before after : Option (List 
   pub is_output : IsOutputOf call status text
   pub appended : Appends before after text
 
--- the same for the call that clap matched
-pub record HasCarriedOut (matched : Option (Text × List Row)) (status : ℕ) (before after : Option (List ℕ)) : Type 0 where
+-- clap takes the words, and what the call prints that it matches was written
+pub record HasCarriedOut (words : List Word) (status : ℕ) (before after : Option (List ℕ)) : Type 0 where
+  pub taken : AreTaken words
   pub call : Call
-  pub is_call : IsCallOf matched call
+  pub is_call : IsCallOf (matched words) call
   pub printed : HasPrinted call status before after
 
 -- known bytes grow by a beginning of the text: by nothing, a part of it or the whole
@@ -63,7 +60,3 @@ pub record HasBegun (call : Call) (before after : Option (List ℕ)) : Type 0 wh
   pub text : Text
   pub is_output : IsOutputOf call status text
   pub begun : AppendsBeginning before after text
-
--- nothing is known to be written since, or what was is a beginning of what the call that clap matched prints
-abbrev pub HasStopped : Option (Text × List Row) → Option (List ℕ) → Option (List ℕ) → Type 0
-HasStopped matched before after = Keeps before after ⊎ ((call : Call) × IsCallOf matched call × HasBegun call before after)

@@ -1,15 +1,16 @@
 //! The program `dpbr`.
-ghost use Rattle.std.specs.Prelude.{◌≡◌, ◌≢◌, ◌≤◌, ◌⊎◌, IfOk, OnErr, map, string_bytes, true};
+ghost use Rattle.std.specs.Prelude.{◌≡◌, ◌≤◌, ◌⊎◌, IfErr, IfOk, map, string_bytes};
 ghost use Rattle.std.specs.Io.KnownBytes.{Keeps};
-ghost use Rattle.replay.specs.Printed.{HasBegun, HasCarriedOut, HasPrinted, HasStopped, IsAudit, IsDescribed, IsOutputOf, IsStatus};
-ghost use Rattle.words.specs.Calls.{are_taken, matched};
+ghost use Rattle.replay.specs.Printed.{HasCarriedOut, HasPrinted, IsAudit, IsDescribed, IsOutputOf, IsStatus};
+ghost use Rattle.replay.specs.Stopped.{CannotCarryOut, HasFailed, HasStopped, RefusesAuditFiles, RefusesCall, RefusesListingFile, RefusesStatusFiles};
+ghost use Rattle.words.specs.Calls.{AreTaken};
 
 use crate::printing::print;
 use crate::refusal::Refusal;
 use crate::report::status;
+use crate::stop::Stop;
+use crate::texts::tree_of_text;
 use crate::verdict::{audit_list, status_after, verdict_text};
-use clap::error::ErrorKind;
-use faults::Memory;
 use listing::Tree;
 use std::fs;
 use std::io::Write;
@@ -29,27 +30,38 @@ pub fn dpbr_main<R: Files + AllocGlobal, O: Write, E: Write>(
     err: &mut E,
 ) -> u8
     ensures status { result ≤ 3 }
-    ensures done { result ≡ 0 → HasCarriedOut (matched (map string_bytes words.now)) 0 (O.contents out.old) (O.contents out.new) }
-    ensures denied { result ≡ 3 → HasCarriedOut (matched (map string_bytes words.now)) 3 (O.contents out.old) (O.contents out.new) }
-    // Words that clap takes are no wrong words.
-    ensures wrong_words { result ≡ 2 → are_taken (map string_bytes words.now) ≢ true }
-    // After a fault nothing was written, or no more than a beginning of what the call prints.
-    ensures fault { result ≡ 1 → HasStopped (matched (map string_bytes words.now)) (O.contents out.old) (O.contents out.new) }
+    ensures done { result ≡ 0 → HasCarriedOut (map string_bytes words.now) 0 (O.contents out.old) (O.contents out.new) }
+    ensures denied { result ≡ 3 → HasCarriedOut (map string_bytes words.now) 3 (O.contents out.old) (O.contents out.new) }
+    ensures fault { result ≡ 1 → HasFailed (map string_bytes words.now) (O.contents out.old) (O.contents out.new) }
+    ensures wrong_words { result ≡ 2 → ¬ AreTaken (map string_bytes words.now) }
     ensures quiet { result ≡ 2 → Keeps (O.contents out.old) (O.contents out.new) }
 {
-    let refusal = match dpbr_words(rt.alloc(), words) {
-        Ok(call) => match carry_out(rt, &call, out) {
-            Ok(status) => return status,
-            Err(refusal) => refusal,
-        },
-        Err(error) if error.kind() == ErrorKind::OutOfMemory => Refusal::of(&Memory),
-        Err(error) => {
-            let _ = write!(err, "{error}");
-            return 2;
-        }
-    };
-    let _ = writeln!(err, "dpbr: {refusal}");
-    1
+    match dpbr_call(rt, words, out) {
+        Ok(status) => status,
+        Err(stop) => stop.tell(err),
+    }
+}
+
+/// Carries out the call that the words make, the first of which is the program's name, and gives the status with which
+/// the program then ends: 0, or 3 after an audit that answers no.
+///
+/// The listing is read before the other file of the call is opened, and all that is printed is made before it is written.
+///
+/// # Errors
+///
+/// `WrongWords`, where clap takes the words for no call; `Refused`, where a file can't be read, its text has a fault, or
+/// memory was refused; `Unwritten`, where a write to `out` failed.
+pub fn dpbr_call<R: Files + AllocGlobal, O: Write>(
+    rt: &R,
+    words: &[String],
+    out: &mut O,
+) -> Result<u8, Stop>
+    ensures status { IfOk result (λ status. (status ≡ 0) ⊎ (status ≡ 3)) }
+    ensures done { IfOk result (λ status. HasCarriedOut (map string_bytes words.now) status (O.contents out.old) (O.contents out.new)) }
+    ensures stopped { IfErr result (λ stop. HasStopped (map string_bytes words.now) stop (O.contents out.old) (O.contents out.new)) }
+{
+    let call = dpbr_words(rt.alloc(), words)?;
+    carry_out(rt, &call, out)
 }
 
 /// Prints what the call asks for, and gives the status that goes with it.
@@ -57,14 +69,16 @@ fn carry_out<R: Files + AllocGlobal, O: Write>(
     rt: &R,
     call: &Call<'_>,
     out: &mut O,
-) -> Result<u8, Refusal>
-    ensures printed { IfOk result (λ status. HasPrinted call.now status (O.contents out.old) (O.contents out.new)) }
+) -> Result<u8, Stop>
     ensures status { IfOk result (λ status. (status ≡ 0) ⊎ (status ≡ 3)) }
-    ensures stopped { OnErr result (Keeps (O.contents out.old) (O.contents out.new) ⊎ HasBegun call.now (O.contents out.old) (O.contents out.new)) }
+    ensures printed { IfOk result (λ status. HasPrinted call.now status (O.contents out.old) (O.contents out.new)) }
+    ensures stopped { IfErr result (λ stop. CannotCarryOut call.now stop (O.contents out.old) (O.contents out.new)) }
 {
-    let output = output(rt, call)?;
-    print(out, output.text.as_slice())?;
-    Ok(output.status)
+    let answer = answer_of_files(rt, call)?;
+    match print(out, answer.text.as_slice()) {
+        Ok(()) => Ok(answer.status),
+        Err(error) => Err(Stop::Unwritten(Refusal::from(error))),
+    }
 }
 
 /// What a call prints, and the status with which the program then ends.
@@ -74,25 +88,36 @@ struct Answer {
     status: u8,
 }
 
-fn output<R: Files + AllocGlobal>(rt: &R, call: &Call<'_>) -> Result<Answer, Refusal>
-    ensures output { IfOk result (λ output. IsOutputOf call.now output.status output.text.items) }
-    ensures status { IfOk result (λ output. (output.status ≡ 0) ⊎ (output.status ≡ 3)) }
+fn answer_of_files<R: Files + AllocGlobal>(rt: &R, call: &Call<'_>) -> Result<Answer, Refusal>
+    ensures output { IfOk result (λ answer. IsOutputOf call.now answer.status answer.text.items) }
+    ensures status { IfOk result (λ answer. (answer.status ≡ 0) ⊎ (answer.status ≡ 3)) }
+    ensures refused { IfErr result (RefusesCall call.now) }
 {
     match call {
-        Call::Status { listing, held } => {
-            let text = status_of_files(rt, listing, held)?;
-            Ok(Answer { text, status: 0 })
-        }
-        Call::Audit { listing, list } => audit_of_files(rt, listing, list),
+        Call::Status {
+            listing,
+            held,
+            is_single,
+        } => status_of_files(rt, listing, held, *is_single),
+        Call::Audit {
+            listing,
+            list,
+            is_single,
+        } => audit_of_files(rt, listing, list, *is_single),
     }
 }
 
 /// The tree that the listing in a file describes.
-fn tree_of_file<R: Files + AllocGlobal>(rt: &R, listing: &str) -> Result<Tree, Refusal>
-    ensures { IfOk result IsDescribed }
+fn tree_of_file<R: Files + AllocGlobal>(
+    rt: &R,
+    listing: &str,
+    is_single: bool,
+) -> Result<Tree, Refusal>
+    ensures ok { IfOk result (IsDescribed is_single) }
+    ensures refused { IfErr result (RefusesListingFile is_single) }
 {
     let listing = fs::read(rt, listing)?;
-    let tree = Tree::parse(rt.alloc(), listing.as_slice())?;
+    let tree = tree_of_text(rt.alloc(), listing.as_slice(), is_single)?;
     Ok(tree)
 }
 
@@ -100,24 +125,28 @@ fn status_of_files<R: Files + AllocGlobal>(
     rt: &R,
     listing: &str,
     held: &str,
-) -> Result<Vec<u8>, Refusal>
-    ensures { IfOk result (λ text. IsStatus text.items) }
+    is_single: bool,
+) -> Result<Answer, Refusal>
+    ensures ok { IfOk result (λ answer. (answer.status ≡ 0) × IsStatus is_single answer.text.items) }
+    ensures refused { IfErr result (RefusesStatusFiles is_single) }
 {
-    let tree = tree_of_file(rt, listing)?;
+    let tree = tree_of_file(rt, listing, is_single)?;
     let held = fs::read(rt, held)?;
     let text = status(rt.alloc(), &tree, held.as_slice())?;
-    Ok(text)
+    Ok(Answer { text, status: 0 })
 }
 
 fn audit_of_files<R: Files + AllocGlobal>(
     rt: &R,
     listing: &str,
     list: &str,
+    is_single: bool,
 ) -> Result<Answer, Refusal>
-    ensures audit { IfOk result (λ output. IsAudit output.status output.text.items) }
-    ensures status { IfOk result (λ output. (output.status ≡ 0) ⊎ (output.status ≡ 3)) }
+    ensures ok { IfOk result (λ answer. IsAudit is_single answer.status answer.text.items) }
+    ensures status { IfOk result (λ answer. (answer.status ≡ 0) ⊎ (answer.status ≡ 3)) }
+    ensures refused { IfErr result (RefusesAuditFiles is_single) }
 {
-    let tree = tree_of_file(rt, listing)?;
+    let tree = tree_of_file(rt, listing, is_single)?;
     let list = fs::read(rt, list)?;
     let verdict = audit_list(rt.alloc(), &tree, list.as_slice())?;
     let text = verdict_text(rt.alloc(), verdict)?;

@@ -1,8 +1,6 @@
-//! Why a call of the program was not carried out, as it is printed.
-ghost use Rattle.std.specs.Prelude.{◌≡◌, ◌⊎◌, None};
-ghost use Rattle.listing.specs.Refusals as listings;
-ghost use Rattle.replay.specs.ListRefusals as lists;
-ghost use Rattle.replay.specs.HeldRefusals as held;
+//! How a refusal is told.
+ghost use Rattle.std.specs.Prelude.{◌≡◌};
+ghost use Rattle.replay.specs.Refusals.{IsSystemRefusal, device_refusal, held_refusal, list_refusal, listing_refusal, memory_refusal};
 
 use crate::held::HeldFault;
 use crate::list::ListFault;
@@ -12,11 +10,11 @@ use std::alloc::AllocError;
 use std::io::ErrorKind;
 use std::{fmt, io};
 
-/// The number of a fault, and the line where it came up, if it has one.
+/// The number of a fault, and the line where it came up, counted from 1, if it has one.
 #[derive(Clone, Copy, Debug, PartialEq, Eq)]
-pub(crate) struct Refusal {
-    number: u32,
-    place: Option<u64>,
+pub struct Refusal {
+    pub number: u32,
+    pub place: Option<u64>,
 }
 
 impl Refusal {
@@ -30,10 +28,19 @@ impl Refusal {
         }
     }
 
-    /// A file could not be read or written.
-    fn unreadable() -> Refusal
-        ensures number { result.number ≡ 2 }
-        ensures place { result.place ≡ None }
+    /// Memory was refused.
+    pub(crate) fn memory() -> Refusal
+        ensures { result ≡ memory_refusal }
+    {
+        Refusal {
+            number: 1,
+            place: None,
+        }
+    }
+
+    /// A file can't be read or written.
+    fn device() -> Refusal
+        ensures { result ≡ device_refusal }
     {
         Refusal {
             number: 2,
@@ -52,7 +59,7 @@ impl fmt::Display for Refusal {
 }
 
 impl From<ListingFault> for Refusal {
-    ghost from_gives = { λ f r. (r.number ≡ listings.number_of f) × (r.place ≡ listings.place_of f) };
+    ghost from_gives = { λ fault refusal. refusal ≡ listing_refusal fault };
 
     fn from(fault: ListingFault) -> Refusal {
         Refusal::of(&fault)
@@ -60,7 +67,7 @@ impl From<ListingFault> for Refusal {
 }
 
 impl From<HeldFault> for Refusal {
-    ghost from_gives = { λ f r. (r.number ≡ held.number_of f) × (r.place ≡ held.place_of f) };
+    ghost from_gives = { λ fault refusal. refusal ≡ held_refusal fault };
 
     fn from(fault: HeldFault) -> Refusal {
         Refusal::of(&fault)
@@ -68,7 +75,7 @@ impl From<HeldFault> for Refusal {
 }
 
 impl From<ListFault> for Refusal {
-    ghost from_gives = { λ f r. (r.number ≡ lists.number_of f) × (r.place ≡ lists.place_of f) };
+    ghost from_gives = { λ fault refusal. refusal ≡ list_refusal fault };
 
     fn from(fault: ListFault) -> Refusal {
         Refusal::of(&fault)
@@ -76,21 +83,21 @@ impl From<ListFault> for Refusal {
 }
 
 impl From<AllocError> for Refusal {
-    ghost from_gives = { λ _ r. (r.number ≡ 1) × (r.place ≡ None) };
+    ghost from_gives = { λ _ refusal. refusal ≡ memory_refusal };
 
     fn from(_e: AllocError) -> Refusal {
-        Refusal::of(&Memory)
+        Refusal::memory()
     }
 }
 
 impl From<io::Error> for Refusal {
-    ghost from_gives = { λ _ r. ((r.number ≡ 1) ⊎ (r.number ≡ 2)) × (r.place ≡ None) };
+    ghost from_gives = { λ _ refusal. IsSystemRefusal refusal };
 
     fn from(error: io::Error) -> Refusal {
         if error.kind() == ErrorKind::OutOfMemory {
-            Refusal::of(&Memory)
+            Refusal::memory()
         } else {
-            Refusal::unreadable()
+            Refusal::device()
         }
     }
 }

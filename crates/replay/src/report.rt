@@ -1,9 +1,7 @@
 //! The text of `dpbr status`.
-ghost use Rattle.std.specs.Prelude.{◌≡◌, ◌∷◌, ◌++◌, ◌⊎◌, [], IfErr, IfOk, Ok, OnOk, string_bytes};
-ghost use Rattle.faults.specs.Bytes.{Text};
-ghost use Rattle.listing.specs.Listing.{Rules, tree_of};
+ghost use Rattle.std.specs.Prelude.{◌≡◌, ◌∷◌, ◌++◌, ◌⊎◌, [], IfErr, IfOk, OnOk, string_bytes};
 ghost use Rattle.replay.specs.Held.{IsFirstFault};
-ghost use Rattle.replay.specs.Status.{IsStatusOf, IsStatusOfListing, IsStatusText, counts_line, letter_text, package_line};
+ghost use Rattle.replay.specs.Status.{IsStatusOf, IsStatusText, counts_line, letter_text, package_line};
 
 use crate::held::{HeldFault, held_engine};
 use engine::{Counts, Engine, Letter};
@@ -17,9 +15,6 @@ use std::alloc::{AllocError, Global};
 /// many have each letter, a line each.
 pub fn status(alloc: Global, tree: &Tree, held: &[u8]) -> Result<Vec<u8>, HeldFault>
     ensures ok { IfOk result (λ text. IsStatusOf tree.now held.now text.items) }
-    // From the bytes of a listing that describes the tree, and of the text.
-    ensures listing { (rules : Rules) (listing : Text) → tree_of rules listing ≡ Ok tree.now
-        → IfOk result (λ text. IsStatusOfListing rules listing held.now text.items) }
     ensures refused { IfErr result (λ e. (e ≡ HeldFault.Memory) ⊎ IsFirstFault tree.now held.now e) }
 {
     let engine = held_engine(alloc, tree, held)?;

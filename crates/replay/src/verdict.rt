@@ -1,9 +1,7 @@
 //! The text of `dpbr audit`.
-ghost use Rattle.std.specs.Prelude.{◌≡◌, ◌⊎◌, IfErr, IfOk, Ok, string_bytes};
-ghost use Rattle.faults.specs.Bytes.{Text};
-ghost use Rattle.listing.specs.Listing.{Rules, tree_of};
+ghost use Rattle.std.specs.Prelude.{◌≡◌, ◌⊎◌, IfErr, IfOk, string_bytes};
 ghost use Rattle.replay.specs.List.{IsFirstBadLine};
-ghost use Rattle.replay.specs.Audit.{IsVerdictOn, IsVerdictOnListing, no_line, reason_text, status_of, verdict_line};
+ghost use Rattle.replay.specs.Audit.{IsVerdictOn, no_line, reason_text, status_of, verdict_line};
 
 use crate::list::{ListFault, read_list};
 use auditing::{Reason, Verdict, audit};
@@ -13,9 +11,6 @@ use std::alloc::{AllocError, Global};
 /// The verdict on the list of packages that the text is.
 pub fn audit_list(alloc: Global, tree: &Tree, list: &[u8]) -> Result<Verdict, ListFault>
     ensures ok { IfOk result (IsVerdictOn tree.now list.now) }
-    // From the bytes of a listing that describes the tree, and of the list.
-    ensures listing { (rules : Rules) (listing : Text) → tree_of rules listing ≡ Ok tree.now
-        → IfOk result (IsVerdictOnListing rules listing list.now) }
     ensures refused { IfErr result (λ e. (e ≡ ListFault.Memory) ⊎ IsFirstBadLine list.now e) }
 {
     let entries = read_list(alloc, list)?;

@@ -6,8 +6,14 @@ mod audits;
 #[cfg(test)]
 mod digests;
 #[cfg(test)]
+mod listings;
+#[cfg(test)]
 mod paths;
 #[cfg(test)]
 mod runs;
 #[cfg(test)]
+mod texts;
+#[cfg(test)]
 mod trees;
+#[cfg(test)]
+mod words;

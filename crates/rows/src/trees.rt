@@ -4,7 +4,7 @@ use engine::{Counts, Engine, Letter};
 use faults::{Fault, Memory};
 use listing::{ListingFault, Tree};
 use pkgpath::PkgPath;
-use replay::{Call, HeldFault, dpbr_words, held_engine, status};
+use replay::{HeldFault, held_engine, status};
 use std::test::Fail;
 
 static CHAIN: &[u8] =
@@ -77,52 +77,6 @@ fn held_paths_are_read(rt: HostRuntime) -> Result<(), Fail> {
     );
     let refused = status(alloc, &tree, b"a/p\na/s\n");
     assert!(rt; matches!(&refused, Err(HeldFault::Ignored(2))));
-    Ok(())
-}
-
-#[test]
-fn words_make_calls(rt: HostRuntime) -> Result<(), Fail> {
-    let words = ["dpbr", "status", "t", "h"];
-    let call = dpbr_words(rt.alloc(), &words)?;
-    assert!(rt; matches!(&call, Call::Status { .. }));
-    if let Call::Status { listing, held } = call {
-        assert!(rt; listing == "t" && held == "h");
-    }
-    let words = ["dpbr", "audit", "t", "l"];
-    let call = dpbr_words(rt.alloc(), &words)?;
-    assert!(rt; matches!(&call, Call::Audit { .. }));
-    if let Call::Audit { listing, list } = call {
-        assert!(rt; listing == "t" && list == "l");
-    }
-    Ok(())
-}
-
-static SPEC_BEFORE: &[u8] =
-    b"a/p.FULLPKGNAME=p-1\na/p.BUILD_DEPENDS=q->=2:a/q:patch\na/q.FULLPKGNAME=q-";
-
-static BOUNDS_BEHIND: &[u8] = b"a/p.FULLPKGNAME=p-1\na/p.BUILD_DEPENDS=a/q>=2\na/q.FULLPKGNAME=q-";
-
-#[test]
-fn a_spec_that_the_name_does_not_match_marks(rt: HostRuntime) -> Result<(), Fail> {
-    let alloc = rt.alloc();
-    for listing in [SPEC_BEFORE, BOUNDS_BEHIND] {
-        for (version, want) in [
-            (
-                b"1",
-                b"! a/p p-1\nQ a/q q-1\nI=0 B=0 Q=1 T=0 !=1\n".as_slice(),
-            ),
-            (
-                b"2",
-                b"T a/p p-1\nQ a/q q-2\nI=0 B=0 Q=1 T=1 !=0\n".as_slice(),
-            ),
-        ] {
-            let mut text = Vec::from_slice(alloc, listing)?;
-            text.extend_from_slice(version.as_slice())?;
-            let tree = Tree::parse(alloc, text.as_slice())?;
-            let letters = status(alloc, &tree, b"")?;
-            assert!(rt; letters.as_slice() == want);
-        }
-    }
     Ok(())
 }
 

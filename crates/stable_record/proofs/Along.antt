@@ -3,8 +3,8 @@ use Rattle.std.proofs.Common.{⊎_elim, inr, ℕ, List, [], ◌∷◌, length, t
 use Rattle.stable_record.specs.declared.disk_fault.DiskFault.{DiskFault}
 use Rattle.stable_record.specs.History.{History, IsBytes, written, cut_to, synced, seen, overwritten}
 use Rattle.stable_record.specs.Crash.{MayLeave, Leaves, Torn, AllAlong, at_first, and_then}
-use Rattle.stable_record.specs.Faults.{WritesDown, CutsDown}
-use Rattle.stable_record.specs.Possible.{overwritten_is_torn}
+use Rattle.stable_record.specs.inside.Down.{WritesDown, CutsDown}
+use Rattle.stable_record.specs.inside.Possible.{overwritten_is_torn}
 
 -- a write and a sync more, where all that the write may leave has P
 pub wrote_down : {T : Type 0} (P : List ℕ → Type 0) (start old new : History) (at : ℕ) (bytes : List ℕ) (r : Result T DiskFault)

@@ -1,5 +1,5 @@
 -- What a crash leaves while a file is opened opens as what it left at the start.
-use Rattle.std.proofs.Common.{◌≡◌, ◌⊎◌, ⊎_elim, inl, inr, ℕ, List, ◌∷◌, map, Vec, Ok, Err, sym, ◌∙◌, subst}
+use Rattle.std.proofs.Common.{◌≡◌, ◌⊎◌, ⊎_elim, inl, inr, ℕ, List, ◌∷◌, length, map, Vec, Ok, Err, sym, ◌∙◌, subst}
 use Rattle.std.specs.declared.alloc.Global.{Global}
 use Rattle.stable_record.specs.declared.identity.Identity.{Identity}
 use Rattle.stable_record.specs.declared.log_fault.LogFault.{LogFault}
@@ -9,7 +9,8 @@ use Rattle.stable_record.specs.declared.reading.Opening.TheVariants.{Blank, Note
 use Rattle.stable_record.specs.Crash.{MayLeave, IsOnDisk, AllAlong, at_first, and_then, OnlySyncs, no_call, one_more}
 use Rattle.stable_record.specs.History.{History, synced, seen}
 use Rattle.stable_record.specs.Log.{Note, HasNotes, gate_place, note_of}
-use Rattle.stable_record.specs.Opening.{IsBlank, Opens, OpensAsLeft, OpensTo, StaysAs}
+use Rattle.stable_record.specs.Opening.{IsBlank, Opens, OpensAsLeft}
+use Rattle.stable_record.specs.inside.Reading.{OpensTo, StaysAs}
 use Rattle.stable_record.proofs.Along.{along_on}
 use Rattle.stable_record.proofs.Bytes.{left_are_bytes}
 use Rattle.stable_record.proofs.Opens.{opens_once}
@@ -22,12 +23,12 @@ module _ (i : Identity) (start : History) (possible : MayLeave start (seen start
   Along = AllAlong P start
 
   -- a file that opens as what is read at the start
-  as_seen : (notes : List Note) (c : List ℕ) → Opens i (seen start) (Ok notes) → Opens i c (Ok notes) → P c
-  as_seen notes c here there = record {
+  as_seen : length i.tree ≡ 32 → (notes : List Note) (c : List ℕ) → Opens i (seen start) (Ok notes) → Opens i c (Ok notes) → P c
+  as_seen size notes c here there = record {
     left = seen start;
     are_bytes = left_are_bytes start (seen start) possible;
     could_be = possible;
-    same = λ answer. (λ is. subst (Opens i c) (opens_once i (seen start) (Ok notes) answer here is) there, λ is. subst (Opens i (seen start)) (opens_once i c (Ok notes) answer there is) here);
+    same = λ answer. (λ is. subst (Opens i c) (opens_once i size (seen start) (Ok notes) answer here is) there, λ is. subst (Opens i (seen start)) (opens_once i size c (Ok notes) answer there is) here);
   }
 
   not_begun : Along start
@@ -49,9 +50,9 @@ module _ (i : Identity) (start : History) (possible : MayLeave start (seen start
   synced_or_not new is = ⊎_elim (λ same. subst Along (sym same) not_begun) (synced_along new) is
 
   -- while the end is repaired or a log is made
-  pub repaired_along : (notes : List Note) (mid new : History) → mid ≡ synced ∷ start → Opens i (seen start) (Ok notes) → StaysAs i notes mid new → Along new
-  repaired_along notes mid new is here stays =
-      along_on P (λ c. Opens i c (Ok notes)) start mid new (λ c there. as_seen notes c here there) (synced_along mid is) stays
+  pub repaired_along : length i.tree ≡ 32 → (notes : List Note) (mid new : History) → mid ≡ synced ∷ start → Opens i (seen start) (Ok notes) → StaysAs i notes mid new → Along new
+  repaired_along size notes mid new is here stays =
+      along_on P (λ c. Opens i c (Ok notes)) start mid new (λ c there. as_seen size notes c here there) (synced_along mid is) stays
 
 -- what is read is on the disk
 pub synced_on_disk : (h new : History) → new ≡ synced ∷ h → IsOnDisk new

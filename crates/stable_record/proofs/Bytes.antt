@@ -3,7 +3,8 @@ use Rattle.std.proofs.Common.{◌≡◌, ⊎_elim, inl, inr, ℕ, zero, suc, ◌
 use Rattle.std.proofs.lemmas.Bool.{cases_lt}
 use Rattle.std.proofs.lemmas.List.{get_or_append_left, get_or-append_right, get_or-take, get_or-drop, get_or_past, get_or-replicate, length-replicate}
 use Rattle.stable_record.specs.Crash.{MayLeave}
-use Rattle.stable_record.specs.Events.{Event, WereBytes, replay, writes, cuts}
+use Rattle.stable_record.specs.Events.{Event, replay, writes, cuts}
+use Rattle.stable_record.specs.inside.Noted.{WereBytes}
 use Rattle.stable_record.specs.History.{History, IsBytes, stands, found, written, cut_to, synced, seen, overwritten}
 
 pub no_bytes : IsBytes []

@@ -6,7 +6,8 @@ use Rattle.std.proofs.lemmas.List.Elements.{All-append}
 use Rattle.std.proofs.lemmas.Grind.{flat_map-append}
 use Rattle.std.specs.Int.{w32, to_be_bytes}
 use Rattle.stable_record.specs.declared.identity.Identity.{Identity}
-use Rattle.stable_record.specs.Log.{Note, open_gate, closed_gate, header, entry, entries, log_file, gate_place, HasBeforeOrAfter, staged}
+use Rattle.stable_record.specs.Log.{Note, open_gate, closed_gate, header, entry, entries, log_file, gate_place, HasBeforeOrAfter}
+use Rattle.stable_record.specs.inside.Staged.{staged}
 
 -- what stands in front of the closed gate
 abbrev pub front : Identity → List Note → List ℕ

@@ -5,10 +5,11 @@ use Rattle.std.proofs.lemmas.List.{take_at, drop_all, drop_at, length-replicate}
 use Rattle.stable_record.specs.declared.mem_disk.Left.{Left}
 use Rattle.stable_record.specs.declared.mem_disk.Left.TheVariants.{Before, Written, Fill}
 use Rattle.stable_record.specs.Crash.{MayLeave, Torn}
-use Rattle.stable_record.specs.Events.{Event, WereBytes, replay, holds, was_there, writes, cuts, syncs, reads, measures, fails}
+use Rattle.stable_record.specs.Events.{Event, replay, holds, was_there, writes, cuts, syncs, reads, measures, fails}
+use Rattle.stable_record.specs.inside.Noted.{WereBytes}
 use Rattle.stable_record.specs.History.{History, IsBytes, written, seen, overwritten}
 use Rattle.stable_record.specs.Memory.{on_disk, unsynced, blanked, filled, left_file}
-use Rattle.stable_record.specs.Possible.{replay_possible, unchanged}
+use Rattle.stable_record.specs.inside.Possible.{replay_possible, unchanged}
 use Rattle.stable_record.proofs.Bytes.{bytes-append, bytes-take, bytes-drop, bytes-replicate}
 
 -- one range, place by place

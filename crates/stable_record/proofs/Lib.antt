@@ -6,6 +6,7 @@ mod Entries
 mod Examples
 mod Files
 mod Filled
+mod Headers
 mod NewLog
 mod NotesRead
 mod Steps

@@ -1,16 +1,18 @@
 -- A log in making: what a crash leaves of it opens without notes.
-use Rattle.std.proofs.Common.{◌≡◌, ⊎_elim, inl, inr, ℕ, ◌+◌, ◌≤◌, List, [], ◌∷◌, ◌++◌, length, take, drop, Result, Ok, Err, OnOk, Some, refl, sym, ◌∙◌, ap, subst, arith, length-append}
+use Rattle.std.proofs.Common.{◌≡◌, ⊎_elim, inl, inr, ℕ, zero, suc, ◌+◌, ◌≤◌, List, [], ◌∷◌, ◌++◌, length, take, drop, Result, Ok, Err, OnOk, Some, refl, sym, ◌∙◌, ap, subst, arith, length-append}
 use Rattle.std.specs.Prelude.{slice_get}
 use Rattle.std.proofs.lemmas.Bool.{cases_eq}
 use Rattle.std.proofs.lemmas.List.{append-nil}
 use Rattle.stable_record.specs.declared.disk_fault.DiskFault.{DiskFault}
 use Rattle.stable_record.specs.declared.identity.Identity.{Identity}
-use Rattle.stable_record.specs.Crash.{MayLeave, Leaves, IsOnDisk, Torn, at_first}
-use Rattle.stable_record.specs.Faults.{WritesDown, CutsDown}
+use Rattle.stable_record.specs.Crash.{MayLeave, Leaves, IsOnDisk, Torn, at_first, range_end}
+use Rattle.stable_record.specs.inside.Down.{WritesDown, CutsDown}
 use Rattle.stable_record.specs.History.{History, written, synced, seen, overwritten}
 use Rattle.stable_record.specs.Log.{open_gate, closed_gate, header, IsSettled}
-use Rattle.stable_record.specs.Opening.{IsBlank, no_more_than_a_gate, begun, not_opened, Opens, StaysAs}
+use Rattle.stable_record.specs.Opening.{IsBlank, no_more_than_a_gate, begun, not_opened, Opens}
+use Rattle.stable_record.specs.inside.Reading.{StaysAs}
 use Rattle.stable_record.proofs.Along.{wrote_down, cut_along, along_on}
+use Rattle.stable_record.proofs.Headers.{magic_in_front}
 use Rattle.stable_record.proofs.Torn.{overwritten_end, torn_end, overwritten_byte, torn_byte}
 
 -- the first byte and the header, with a closed gate behind it
@@ -20,6 +22,11 @@ with_gate gate i = gate ∷ header i ++ closed_gate ∷ []
 -- a synced history is on the disk
 pub on_disk_after : (h new : History) → new ≡ synced ∷ h → IsOnDisk new
 on_disk_after h new is = subst IsOnDisk (sym is) (λ c e. e.0)
+
+-- where a range ends
+range_within : (at count : ℕ) → range_end at count ≤ at + count
+range_within at zero = omega arith
+range_within at (suc more) = omega arith
 
 module _ (i : Identity) where
   abbrev IsNew : List ℕ → Type 0
@@ -39,7 +46,7 @@ module _ (i : Identity) where
       lengths = λ k d lt. absurd (omega (arith, lt));
     }
     | inr shut ↦ inl (
-      not_opened (omega (arith, ap length is, length-append (header i) (closed_gate ∷ []))) (λ opened. shut (let e : Some gate ≡ Some open_gate = sym (ap (λ f. slice_get f 0) is) ∙ opened in cc)) (ap (λ f. take 8 (drop 1 f)) is),
+      not_opened (omega (arith, ap length is, length-append (header i) (closed_gate ∷ []))) (λ opened. shut (let e : Some gate ≡ Some open_gate = sym (ap (λ f. slice_get f 0) is) ∙ opened in cc)) (ap (λ f. take 8 (drop 1 f)) is ∙ magic_in_front i (closed_gate ∷ [])),
       refl,
     )
   ]
@@ -66,7 +73,7 @@ module _ (i : Identity) where
         wrote_down IsNew h h new 1 (header i ++ closed_gate ∷ []) r (at_first (stays (closed_gate ∷ []) gate (few (closed_gate ∷ []) (omega arith)))) (λ c (d, left, torn).
         let file : d ≡ closed_gate ∷ [] = on_disk d left ∙ gate in
         let parts = torn_end 1 (length (header i ++ closed_gate ∷ [])) (closed_gate ∷ []) c refl (subst (λ f. Torn 1 (length (header i ++ closed_gate ∷ [])) f c) file torn) in
-        inl (begun (omega (arith, torn.no_longer, ap length file, length-append (header i) (closed_gate ∷ []))) (ap (λ f. slice_get f 0) parts.1), refl)) possible down
+        inl (begun (omega (arith, torn.no_longer, ap length file, length-append (header i) (closed_gate ∷ []), range_within 1 (length (header i ++ closed_gate ∷ [])))) (ap (λ f. slice_get f 0) parts.1), refl)) possible down
 
     -- and the gate in front of it is opened
     pub gate_opened : {T : Type 0} (start new : History) (r : Result T DiskFault) → seen h ≡ with_gate closed_gate i → StaysAs i [] start h → WritesDown 0 (open_gate ∷ []) h new r → StaysAs i [] start new

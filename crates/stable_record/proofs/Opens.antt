@@ -1,14 +1,16 @@
 -- A file opens to one thing.
 use Rattle.std.proofs.Common.{◌≡◌, ◌≢◌, inl, inr, ℕ, suc, ◌+◌, ◌<◌, ◌^◌, List, [], ◌∷◌, ◌++◌, length, take, drop, All, Result, Ok, Err, Some, refl, sym, ◌∙◌, ap, subst, arith, append_assoc, length-append}
 use Rattle.std.specs.Int.{w32, to_be_bytes, from_be_bytes}
-use Rattle.std.specs.Prelude.{slice_get}
+use Rattle.std.specs.Prelude.{slice_get, slice_index}
 use Rattle.std.proofs.lemmas.List.{append_cancel_left, take_at, drop_at}
 use Rattle.std.proofs.lemmas.Nat.{from_be_bytes-to_be_bytes_4}
 use Rattle.stable_record.specs.declared.identity.Identity.{Identity}
 use Rattle.stable_record.specs.declared.log_fault.LogFault.{LogFault}
 use Rattle.stable_record.specs.declared.log_fault.LogFault.TheVariants.{Memory, Device, Full, MustReopen, NotALog, OtherCluster}
 use Rattle.stable_record.specs.Log.{Note, open_gate, closed_gate, header, magic, entry, entries, log_file, HasNotes}
-use Rattle.stable_record.specs.Opening.{IsBlank, no_more_than_a_gate, begun, not_opened, IsLog, IsAsOwner, IsCutShort, Opens}
+use Rattle.stable_record.specs.Opening.{IsBlank, no_more_than_a_gate, begun, not_opened, IsLog, LacksWeights, IsAsOwner, IsCutShort, IsNoLog, neither, lacks_weights, broken, IsOfOthers, Opens}
+use Rattle.stable_record.specs.Magic.{HasMagic, weighted_magic}
+use Rattle.stable_record.proofs.Headers.{magic_in_front, header_len, header_no_less, count_in_place, weights_there, either_magic}
 
 abbrev Fit : List Note → Type 0
 Fit notes = All (λ note. length note < 2 ^ 32) notes
@@ -66,8 +68,8 @@ module _ (i : Identity) (notes : List Note) (end file : List ℕ) (is : file ≡
   first_byte : slice_get file 0 ≡ Some open_gate
   first_byte = ap (λ f. slice_get f 0) is
 
-  has_magic : take 8 (drop 1 file) ≡ magic i
-  has_magic = ap (λ f. take 8 (drop 1 f)) is
+  has_magic : HasMagic (magic i) file
+  has_magic = ap (λ f. take 8 (drop 1 f)) body ∙ magic_in_front i (entries notes ++ end)
 
   as_owner : IsAsOwner i file
   as_owner = ap (λ f. take (length (header i)) (drop 1 f)) body ∙ take_at (header i) (entries notes ++ end) (length (header i)) refl
@@ -77,27 +79,34 @@ module _ (i : Identity) (notes : List Note) (end file : List ℕ) (is : file ≡
 
   -- it isn't blank
   pub blank_no_log : IsBlank i file → ⊥
-  blank_no_log (no_more_than_a_gate few) = omega (arith, few, long)
+  blank_no_log (no_more_than_a_gate few) = omega (arith, few, long, header_no_less i)
   blank_no_log (begun few shut) = absurd (let e : Some open_gate ≡ Some closed_gate = sym first_byte ∙ shut in cc)
   blank_no_log (not_opened few shut right) = shut first_byte
 
   -- with a gate it is as long as a log
-  pub log_no_less : 0 < length end → IsLog i file
-  log_no_less some = record {
-    long_enough = omega (arith, long, some);
+  pub log_no_less : length i.tree ≡ 32 → 0 < length end → IsLog file
+  log_no_less size some = record {
+    long_enough = omega (arith, long, some, header_len i size);
     is_open = first_byte;
-    is_magic = has_magic;
+    is_magic = either_magic i file has_magic;
   }
 
-open_no_blank : (i : Identity) (file : List ℕ) → IsLog i file → IsBlank i file → ⊥
+  -- and its weights are there
+  pub weights_no_less : length i.tree ≡ 32 → 0 < length end → LacksWeights file → ⊥
+  weights_no_less size some lacks =
+      let own : magic i ≡ weighted_magic = sym has_magic ∙ lacks.is_weighted in
+      let count : slice_index file 41 ≡ length i.weights.items = ap (λ f. slice_index f 41) body ∙ count_in_place i size (entries notes ++ end) in
+      omega (arith, lacks.too_short, count, long, some, header_len i size, ap length (weights_there i own))
+
+open_no_blank : (i : Identity) (file : List ℕ) → IsLog file → IsBlank i file → ⊥
 open_no_blank i file log (no_more_than_a_gate few) = omega (arith, few, log.long_enough)
 open_no_blank i file log (begun few shut) = absurd (let e : Some open_gate ≡ Some closed_gate = sym log.is_open ∙ shut in cc)
 open_no_blank i file log (not_opened few shut right) = shut log.is_open
 
 -- with notes, of another owner, and no log: two at a time
-module _ (i : Identity) (file : List ℕ) where
-  found_is_log : (notes : List Note) → HasNotes i notes file → IsLog i file
-  found_is_log notes has = log_no_less i notes (has.gate ∷ has.behind) file has.parts (omega arith)
+module _ (i : Identity) (size : length i.tree ≡ 32) (file : List ℕ) where
+  found_is_log : (notes : List Note) → HasNotes i notes file → IsLog file
+  found_is_log notes has = log_no_less i notes (has.gate ∷ has.behind) file has.parts size (omega arith)
 
   two_notes : (ns ms : List Note) → Opens i file (Ok ns) → Opens i file (Ok ms) → ns ≡ ms
   two_notes ns ms (inl p) (inl q) = p.1 ∙ sym q.1
@@ -106,20 +115,23 @@ module _ (i : Identity) (file : List ℕ) where
   two_notes ns ms (inr p) (inr q) = notes_once ns ms p.gate q.gate p.behind q.behind p.lengths q.lengths p.closed q.closed
       (append_cancel_left (open_gate ∷ header i) (entries ns ++ p.gate ∷ p.behind) (entries ms ++ q.gate ∷ q.behind) (sym (body i ns (p.gate ∷ p.behind) file p.parts) ∙ body i ms (q.gate ∷ q.behind) file q.parts))
 
-  notes_not_others : (ns : List Note) → Opens i file (Ok ns) → Opens i file (Err OtherCluster) → ⊥
-  notes_not_others ns (inl p) (log, other) = open_no_blank i file log p.0
-  notes_not_others ns (inr p) (log, other) = other (as_owner i ns (p.gate ∷ p.behind) file p.parts)
+  notes_not_others : (ns : List Note) → Opens i file (Ok ns) → IsOfOthers i file → ⊥
+  notes_not_others ns (inl p) other = open_no_blank i file other.is_log p.0
+  notes_not_others ns (inr p) other = other.differs (as_owner i ns (p.gate ∷ p.behind) file p.parts)
 
-  notes_not_none : (ns : List Note) → Opens i file (Ok ns) → Opens i file (Err NotALog) → ⊥
-  notes_not_none ns (inl p) (inl q) = q.0 p.0
-  notes_not_none ns (inl p) (inr q) = blank_no_log i q.whole q.end file q.parts p.0
-  notes_not_none ns (inr p) (inl q) = q.1 (found_is_log ns p)
-  notes_not_none ns (inr p) (inr q) = not_broken ns q.whole p.gate p.behind q.end p.lengths q.lengths p.closed q.cut_short
+  notes_not_none : (ns : List Note) → Opens i file (Ok ns) → IsNoLog i file → ⊥
+  notes_not_none ns (inl p) (neither no_blank no_log) = no_blank p.0
+  notes_not_none ns (inl p) (lacks_weights log lacks) = open_no_blank i file log p.0
+  notes_not_none ns (inl p) (broken q) = blank_no_log i q.whole q.end file q.parts p.0
+  notes_not_none ns (inr p) (neither no_blank no_log) = no_log (found_is_log ns p)
+  notes_not_none ns (inr p) (lacks_weights log lacks) = weights_no_less i ns (p.gate ∷ p.behind) file p.parts size (omega arith) lacks
+  notes_not_none ns (inr p) (broken q) = not_broken ns q.whole p.gate p.behind q.end p.lengths q.lengths p.closed q.cut_short
       (append_cancel_left (open_gate ∷ header i) (entries ns ++ p.gate ∷ p.behind) (entries q.whole ++ q.end) (sym (body i ns (p.gate ∷ p.behind) file p.parts) ∙ body i q.whole q.end file q.parts))
 
-  others_not_none : Opens i file (Err OtherCluster) → Opens i file (Err NotALog) → ⊥
-  others_not_none (log, other) (inl q) = q.1 log
-  others_not_none (log, other) (inr q) = other (as_owner i q.whole q.end file q.parts)
+  others_not_none : IsOfOthers i file → IsNoLog i file → ⊥
+  others_not_none other (neither no_blank no_log) = no_log other.is_log
+  others_not_none other (lacks_weights log lacks) = other.has_weights lacks
+  others_not_none other (broken q) = other.differs (as_owner i q.whole q.end file q.parts)
 
   pub opens_once : (a b : Result (List Note) LogFault) → Opens i file a → Opens i file b → a ≡ b
   opens_once (Ok ns) (Ok ms) p q = ap Ok (two_notes ns ms p q)

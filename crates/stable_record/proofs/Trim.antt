@@ -4,10 +4,11 @@ use Rattle.std.proofs.lemmas.List.{take_at, nil_from_length}
 use Rattle.stable_record.specs.declared.disk_fault.DiskFault.{DiskFault}
 use Rattle.stable_record.specs.declared.identity.Identity.{Identity}
 use Rattle.stable_record.specs.Crash.{MayLeave, IsOnDisk, at_first}
-use Rattle.stable_record.specs.Faults.{CutsDown}
+use Rattle.stable_record.specs.inside.Down.{CutsDown}
 use Rattle.stable_record.specs.History.{History, cut_to, seen}
 use Rattle.stable_record.specs.Log.{Note, log_file, gate_place, HasNotes, IsSettled}
-use Rattle.stable_record.specs.Opening.{Opens, StaysAs}
+use Rattle.stable_record.specs.Opening.{Opens}
+use Rattle.stable_record.specs.inside.Reading.{StaysAs}
 use Rattle.stable_record.proofs.Along.{cut_along}
 use Rattle.stable_record.proofs.Files.{front, length-front}
 use Rattle.stable_record.proofs.NewLog.{on_disk_after}

@@ -1,32 +1,33 @@
 -- What a disk does that fails as it was told.
-use Rattle.std.specs.Prelude.{◌≡◌, ◌↔◌, ◌-◌, min, length, Result, IsErrOf, IsTrue, vec_capacity}
+use Rattle.std.specs.Prelude.{◌≡◌, ◌↔◌, Result, IsErrOf, IsTrue}
 use Rattle.stable_record.specs.declared.disk_fault.DiskFault.{DiskFault}
 use Rattle.stable_record.specs.declared.disk_fault.DiskFault.TheVariants.{Device}
 use Rattle.stable_record.specs.declared.fault_disk.FaultDisk.{FaultDisk}
-use Rattle.stable_record.specs.Events.{replay}
 use Rattle.stable_record.specs.Faults.{is_due, one_more}
 use Rattle.stable_record.specs.History.{History}
+use Rattle.stable_record.specs.InMemory.{mem_history, mem_room}
 use Rattle.stable_record.specs.Room.{Room}
 
 -- what the disk in memory within went through
 abbrev pub history_of : FaultDisk → History
-history_of disk = replay disk.inner.noted.events
+history_of disk = mem_history disk.inner
 
 -- what may be written to it without want of memory
 abbrev pub room_of : FaultDisk → Room
-room_of disk =
-    let within = disk.inner in
-    record { bytes = min (vec_capacity within.file) (vec_capacity within.before) - length within.file.items; calls = vec_capacity within.ranges - length within.ranges.items }
+room_of disk = mem_room disk.inner
 
--- The call is one more, and the device fails exactly if that call is one that is to fail; then nothing was done.
-pub record FailsAsTold {T : Type 0} (old new : FaultDisk) (result : Result T DiskFault) : Type 0 where
+-- The call is one more, and the device fails exactly if that call is one that is to fail; then
+-- nothing was done.
+pub record FailsAsTold {T : Type 0} (old new : FaultDisk) (result : Result T DiskFault)
+    : Type 0 where
   pub counted : new.calls ≡ one_more old.calls
   pub due : IsErrOf result Device ↔ IsTrue (is_due old.failing new.calls)
   pub no_effect : IsErrOf result Device → new.inner ≡ old.inner
   pub same_plan : new.failing ≡ old.failing
 
 -- The call isn't counted, and the device doesn't fail.
-pub record IsNotCounted {T : Type 0} (old new : FaultDisk) (result : Result T DiskFault) : Type 0 where
+pub record IsNotCounted {T : Type 0} (old new : FaultDisk) (result : Result T DiskFault)
+    : Type 0 where
   pub same_calls : new.calls ≡ old.calls
   pub never : ¬ (IsErrOf result Device)
   pub same_plan : new.failing ≡ old.failing

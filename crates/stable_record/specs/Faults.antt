@@ -6,7 +6,6 @@ use Rattle.stable_record.specs.declared.fault_disk.Failing.{Failing}
 use Rattle.stable_record.specs.declared.fault_disk.Failing.TheVariants.{Once, From}
 use Rattle.stable_record.specs.History.{History, Call, written, cut_to, synced, seen, overwritten}
 use Rattle.stable_record.specs.Crash.{Torn, CutOrNot}
-use Rattle.stable_record.specs.Room.{Room}
 
 -- one failure more: the greatest count stays
 abbrev pub one_more : ℕ → ℕ
@@ -27,16 +26,21 @@ is_due (From call) number = nat_le call number
 abbrev pub HasRisen : ℕ → ℕ → Type 0
 HasRisen before now = one_more before ≤ now
 
--- The call went on with what it did. If the device failed, it may have been done in part or not at all, and what a
--- read gives is what such a call may leave. If memory was wanting, it was not done.
-pub record Does {T : Type 0} (call : List ℕ → Call) (right : List ℕ) (partly : List ℕ → List ℕ → Type 0) (old new : History) (result : Result T DiskFault) : Type 0 where
+-- The call went on with what it did. If the device failed, it may have been done in part or not at
+-- all, and what a read gives is what such a call may leave. If memory was wanting, it was not done.
+pub record Does {T : Type 0} (call : List ℕ → Call) (right : List ℕ)
+    (partly : List ℕ → List ℕ → Type 0) (old new : History) (result : Result T DiskFault)
+    : Type 0 where
   pub done : OnOk result (new ≡ call right ∷ old)
-  pub failed : IsErrOf result Device → (new ≡ old) ⊎ ((after : List ℕ) × partly (seen old) after × (new ≡ call after ∷ old))
+  pub failed : IsErrOf result Device
+      → (new ≡ old) ⊎ ((after : List ℕ) × partly (seen old) after × (new ≡ call after ∷ old))
   pub refused : IsErrOf result Memory → new ≡ old
 
 -- a write of these bytes
 abbrev pub Writes : {T : Type 0} → ℕ → List ℕ → History → History → Result T DiskFault → Type 0
-Writes at bytes old new result = Does (written at (length bytes)) (overwritten at bytes (seen old)) (Torn at (length bytes)) old new result
+Writes at bytes old new result =
+    Does (written at (length bytes)) (overwritten at bytes (seen old))
+    (Torn at (length bytes)) old new result
 
 -- a cut to this length
 abbrev pub Cuts : {T : Type 0} → ℕ → History → History → Result T DiskFault → Type 0
@@ -46,23 +50,8 @@ Cuts len old new result = Does (cut_to len) (take len (seen old)) (CutOrNot len)
 abbrev pub Syncs : {T : Type 0} → History → History → Result T DiskFault → Type 0
 Syncs old new result = OnOk result (new ≡ synced ∷ old) × OnErr result (new ≡ old)
 
--- the first count bytes of the buffer are those at this place, and they are all that fit or that there are
+-- the first count bytes of the buffer are those at this place, and they are all that fit or that
+-- there are
 pub record ReadsAt (file : List ℕ) (at count : ℕ) (buf : List ℕ) : Type 0 where
   pub bytes : take count buf ≡ take count (drop at file)
   pub all : count ≡ min (length buf) (length file - at)
-
--- A write, and then a sync. On Ok both were done. Else neither was, or the write alone, of which a read gives anything.
-pub record WritesDown {T : Type 0} (at : ℕ) (bytes : List ℕ) (old new : History) (result : Result T DiskFault) : Type 0 where
-  pub done : OnOk result (new ≡ synced ∷ written at (length bytes) (overwritten at bytes (seen old)) ∷ old)
-  pub failed : OnErr result ((new ≡ old) ⊎ ((after : List ℕ) × (new ≡ written at (length bytes) after ∷ old)))
-
--- A cut, and then a sync. On Ok both were done. Else neither was, or the cut alone, of which a read gives anything.
-pub record CutsDown {T : Type 0} (len : ℕ) (old new : History) (result : Result T DiskFault) : Type 0 where
-  pub done : OnOk result (new ≡ synced ∷ cut_to len (take len (seen old)) ∷ old)
-  pub failed : OnErr result ((new ≡ old) ⊎ ((after : List ℕ) × (new ≡ cut_to len after ∷ old)))
-
--- memory was wanting only where the disk had not room for so many calls and bytes, and no more than that was used up
-pub record UsesRoomFor {T : Type 0} (bytes calls : ℕ) (old new : Room) (result : Result T DiskFault) : Type 0 where
-  pub enough : bytes ≤ old.bytes → calls ≤ old.calls → ¬ (IsErrOf result Memory)
-  pub bytes_left : old.bytes ≤ new.bytes + bytes
-  pub calls_left : old.calls ≤ new.calls + calls

@@ -3,7 +3,7 @@ ghost use Rattle.std.specs.Prelude.{◌≡◌, ◌≤◌, ⊤, if◌then◌else�
 ghost use Rattle.stable_record.specs.Faults.{Cuts, ReadsAt, Syncs, Writes, counted, is_due, one_more};
 ghost use Rattle.stable_record.specs.History.{seen};
 ghost use Rattle.stable_record.specs.Room.{UsesRoom};
-ghost use Rattle.stable_record.specs.Possible.{replay_possible};
+ghost use Rattle.stable_record.specs.inside.Possible.{replay_possible};
 
 use crate::{Disk, DiskFault, MemDisk};
 use faults::Memory;
@@ -17,9 +17,9 @@ pub enum Failing {
     From(u64),
 }
 
-/// A disk in memory whose device fails at the calls that it was told, and at no others. A call that fails answers
-/// `DiskFault::Device` and has no effect but that it is counted. `len` and `reserve` are not counted, and the device
-/// doesn't fail at them.
+/// A disk in memory whose device fails at the calls that it was told, and at no others. A call that
+/// fails answers `DiskFault::Device` and has no effect but that it is counted. `len` and `reserve`
+/// are not counted, and the device doesn't fail at them.
 #[derive(Drop)]
 pub struct FaultDisk {
     inner: MemDisk,
@@ -56,7 +56,8 @@ impl FaultDisk {
         ensures due { result ≡ is_due self.old.failing self.new.calls }
         ensures calls { self.new.calls ≡ one_more self.old.calls }
         ensures same { (self.new.inner ≡ self.old.inner) × (self.new.failing ≡ self.old.failing) }
-        ensures failures { self.new.failures ≡ (if result then one_more self.old.failures else self.old.failures) }
+        ensures failures { self.new.failures ≡
+            (if result then one_more self.old.failures else self.old.failures) }
     {
         self.calls = self.calls.saturating_add(1);
         let fails = match self.failing {
@@ -111,7 +112,8 @@ impl Disk for FaultDisk {
         ensures as_told { FailsAsTold self.old self.new result }
         ensures effect { Writes at bytes.now (history_of self.old) (history_of self.new) result }
         ensures cause { self.new.failures ≡ counted result self.old.failures }
-        ensures room { at ≤ length (seen (history_of self.old)) → UsesRoom (length bytes.now) (room_of self.old) (room_of self.new) result }
+        ensures room { at ≤ length (seen (history_of self.old))
+            → UsesRoom (length bytes.now) (room_of self.old) (room_of self.new) result }
     {
         if self.fails() {
             return Err(DiskFault::Device);

@@ -1,10 +1,11 @@
 //! A file of the operating system. Each call is noted with its answer, for clauses alone.
 ghost use Rattle.std.specs.Prelude.{◌≡◌, ◌≢◌, ◌≤◌, ◌^◌, ◌∷◌, [], ℕ, List, true, length, IfOk, IfSome};
 ghost use Rattle.std.specs.Path.{path_parent};
-ghost use Rattle.stable_record.specs.Events.{WereBytes, agrees, replay};
+ghost use Rattle.stable_record.specs.Events.{agrees, replay};
+ghost use Rattle.stable_record.specs.inside.Noted.{WereBytes};
 ghost use Rattle.stable_record.specs.Faults.{one_more};
 ghost use Rattle.stable_record.specs.History.{Bytes, found};
-ghost use Rattle.stable_record.specs.Possible.{replay_possible};
+ghost use Rattle.stable_record.specs.inside.Possible.{replay_possible};
 ghost use Rattle.stable_record.specs.Room.{Room};
 
 use crate::record::Record;
@@ -27,9 +28,10 @@ const MEASURED: u64 = 5;
 
 const FAILED: u64 = 6;
 
-/// A file of the operating system. What contracts say of its bytes, and of what a crash leaves, holds as long as each
-/// read so far gave what the history says. A write or cut that failed counts as made, so that what is said of a crash
-/// stands; once something was read or synced after it, nothing is said until the file is opened again.
+/// A file of the operating system. What contracts say of its bytes, and of what a crash leaves,
+/// holds as long as each read so far gave what the history says. A write or cut that failed counts
+/// as made, so that what is said of a crash stands; once something was read or synced after it,
+/// nothing is said until the file is opened again.
 #[derive(Drop)]
 pub struct FileDisk {
     file: File,
@@ -39,9 +41,9 @@ pub struct FileDisk {
 }
 
 impl FileDisk {
-    /// Opens the file at a path to read and write it, and makes an empty one where there is none. It then syncs the
-    /// folder, so that a crash doesn't take a new file away, and fails where that can't be done. It has no contract:
-    /// std's call to open a file says nothing of what it gives.
+    /// Opens the file at a path to read and write it, and makes an empty one where there is none.
+    /// It then syncs the folder, so that a crash doesn't take a new file away, and fails where that
+    /// can't be done. It has no contract: std's call to open a file says nothing of what it gives.
     pub fn open_file(rt: &HostRuntime, path: &str) -> io::Result<File> {
         let mut options = OpenOptions::new();
         options.read(true).write(true).create(true);
@@ -50,8 +52,8 @@ impl FileDisk {
         Ok(file)
     }
 
-    /// A disk over an open file. Whatever the file has is taken to be what a read gives, and nothing is known of what
-    /// a crash leaves of it.
+    /// A disk over an open file. Whatever the file has is taken to be what a read gives, and
+    /// nothing is known of what a crash leaves of it.
     pub fn new(file: File) -> FileDisk
         ghost content: { Bytes }
         ensures history { replay result.noted.events ≡ found content.list ∷ [] }

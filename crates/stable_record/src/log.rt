@@ -1,10 +1,13 @@
-//! Notes behind gates. The closed gate is on the disk before anything is written behind it, and is opened by a
-//! write of its own, once what stands behind it is on the disk.
-ghost use Rattle.std.specs.Prelude.{◌≡◌, ◌<◌, ◌≤◌, ◌+◌, ◌∷◌, [], ◌++◌, ◌⊎◌, ℕ, List, length, IsTrue, IsErrOf, IfOk, OnOk, OnErr, true};
+//! Notes behind gates. The closed gate is on the disk before anything is written behind it, and is
+//! opened by a write of its own, once what stands behind it is on the disk.
+ghost use Rattle.std.specs.Prelude.{◌≡◌, ◌<◌, ◌≤◌, ◌↔◌, ◌+◌, ◌^◌, ◌∷◌, [], ◌++◌, ◌⊎◌};
+ghost use Rattle.std.specs.Prelude.{List, length, IsErrOf, IfOk, IsTrue, OnOk, OnErr, false, true};
 ghost use Rattle.stable_record.specs.Crash.{AllAlong};
-ghost use Rattle.stable_record.specs.Faults.{HasRisen, UsesRoomFor};
+ghost use Rattle.stable_record.specs.Faults.{HasRisen};
+ghost use Rattle.stable_record.specs.inside.Down.{UsesRoomFor};
 ghost use Rattle.stable_record.specs.History.{History, seen};
-ghost use Rattle.stable_record.specs.Log.{Holds, HasBeforeOrAfter, IsSettled, Note, most_bytes, staged};
+ghost use Rattle.stable_record.specs.Log.{HasBeforeOrAfter, IsSettled, Note, most_bytes};
+ghost use Rattle.stable_record.specs.inside.Staged.{staged};
 
 use crate::down::write_down;
 use crate::{Disk, DiskFault, Identity, LogFault};
@@ -15,7 +18,7 @@ const MAX_LEN: u64 = 2_147_483_648;
 
 /// An open log of notes in a file.
 #[derive(Drop)]
-pub struct Log<D: Disk> {
+pub struct Log<D> {
     pub(crate) alloc: Global,
     pub(crate) disk: D,
     pub(crate) identity: Identity,
@@ -23,52 +26,93 @@ pub struct Log<D: Disk> {
     pub(crate) end: u64,
     /// The device failed in `append`.
     pub(crate) stopped: bool,
+    ghost end_fits: { end + 1 < 2 ^ 64 },
 }
 
 impl<D: Disk> Log<D> {
-    /// Adds a note. At `Ok` it is on the disk, so that each crash leaves it from then on. After `Device` a crash leaves
-    /// the notes from before, with the new one or without, and each further call is `MustReopen`. `Full` and `Memory`
-    /// change nothing.
+    ghost use Rattle.stable_record.specs.OpenLog.{Holds, WouldPassLimit, file_len};
+
+    /// Adds a note. At `Ok` it is on the disk, so that each crash leaves it from then on. After
+    /// `Device` a crash leaves the notes from before, with the new one or without, and each further
+    /// call is `MustReopen`. `Full` and `Memory` change nothing.
     pub fn append(&mut self, note: &[u8]) -> Result<(), LogFault>
-        ensures acknowledged { D.is_kept self.new.disk → (notes : List Note) → Holds D.history self.old notes
+        ensures acknowledged { D.is_kept self.new.disk → (notes : List Note)
+            → Holds D.history self.old notes
             → OnOk result (Holds D.history self.new (notes ++ note.now ∷ [])) }
 
-        // A crash at any moment of the call leaves the notes from before it, with the new one or without.
-        ensures any_moment { D.is_kept self.new.disk → (notes : List Note) → Holds D.history self.old notes
-            → AllAlong (HasBeforeOrAfter self.old.identity notes note.now) (D.history self.old.disk) (D.history self.new.disk) }
+        // A crash at any moment of the call leaves the notes from before it, with the new one or
+        // without.
+        ensures any_moment { D.is_kept self.new.disk → (notes : List Note)
+            → Holds D.history self.old notes
+            → AllAlong (HasBeforeOrAfter self.old.identity notes note.now) (D.history self.old.disk)
+            (D.history self.new.disk) }
 
-        // Each refusal has its cause.
-        ensures device { IsErrOf result LogFault.Device → HasRisen (D.failures_of self.old.disk) (D.failures_of self.new.disk) }
-        ensures full { IsErrOf result LogFault.Full → most_bytes < self.old.end + 6 + length note.now }
-        ensures within { OnOk result (self.old.end + 6 + length note.now ≤ most_bytes) }
+        // What was said of the disk before still stands, so that calls can follow one another.
+        ensures kept { D.is_kept self.new.disk → D.is_kept self.old.disk }
+        ensures later { D.failures_of self.old.disk ≤ D.failures_of self.new.disk }
+        ensures owner { self.new.identity ≡ self.old.identity }
+
+        // Where the log ends.
+        ensures end { OnOk result (self.new.end ≡ self.old.end + 5 + length note.now) }
+        ensures same_end { OnErr result (self.new.end ≡ self.old.end) }
+
+        // It is full just where the file would get too long.
+        ensures full { IsErrOf result LogFault.Full
+            ↔ (self.old.stopped ≡ false) × WouldPassLimit self.old note.now }
+        ensures within { OnOk result (file_len self.old + 5 + length note.now ≤ most_bytes) }
+
+        // Each other refusal has its cause.
+        ensures device { IsErrOf result LogFault.Device
+            → HasRisen (D.failures_of self.old.disk) (D.failures_of self.new.disk) }
         ensures stopped { IsErrOf result LogFault.MustReopen → self.old.stopped ≡ true }
-        ensures no_opening { IsErrOf result LogFault.NotALog ⊎ IsErrOf result LogFault.OtherCluster → ⊥ }
+        ensures no_opening { IsErrOf result LogFault.NotALog ⊎ IsErrOf result LogFault.OtherCluster
+            → ⊥ }
 
-        // After a failure of the device it goes on only once it was opened again.
+        // After a failure of the device, and of nothing else, it goes on only once it was opened
+        // again.
         ensures stops { IsErrOf result LogFault.Device → self.new.stopped ≡ true }
-        ensures must_reopen { self.old.stopped ≡ true → IsErrOf result LogFault.MustReopen × (self.new ≡ self.old) }
+        ensures goes_on { self.new.stopped ≡ true
+            → self.old.stopped ≡ true ⊎ IsErrOf result LogFault.Device }
+        ensures must_reopen { self.old.stopped ≡ true
+            → IsErrOf result LogFault.MustReopen × (self.new ≡ self.old) }
 
         // Where memory was wanting or the log is full, nothing happened.
-        ensures refused { D.is_kept self.new.disk → (notes : List Note) → Holds D.history self.old notes
+        ensures refused { D.is_kept self.new.disk → (notes : List Note)
+            → Holds D.history self.old notes
             → IsErrOf result LogFault.Memory ⊎ IsErrOf result LogFault.Full
             → Holds D.history self.new notes × (D.history self.new.disk ≡ D.history self.old.disk) }
-        ensures owner { self.new.identity ≡ self.old.identity }
     {
         if self.stopped {
             return Err(LogFault::MustReopen);
         }
         let len = note.len() as u64;
-        if self.end > MAX_LEN || len > MAX_LEN || self.end + 6 + len > MAX_LEN {
+        if !has_room(self.end, len) {
             return Err(LogFault::Full);
         }
         let bytes = behind_the_gate(self.alloc, note)?;
         self.disk.reserve(len + 6, 4)?;
         if let Err(fault) = write_note(&mut self.disk, self.end, &bytes) {
-            self.stopped = true;
+            self.stopped = fault == DiskFault::Device;
             return Err(fault.into());
         }
         self.end += len + 5;
         Ok(())
+    }
+
+    /// The length of the log's file in bytes.
+    pub fn len(&self) -> u64
+        ensures len { result ≡ file_len self.now }
+        ensures file { (notes : List Note) → Holds D.history self.now notes
+            → result ≡ length (seen (D.history self.now.disk)) }
+    {
+        self.end + 1
+    }
+
+    /// The disk that the log stands on.
+    pub fn disk(&self) -> &D
+        ensures { result.now ≡ self.now.disk }
+    {
+        &self.disk
     }
 
     /// The disk that the log stands on, as it is.
@@ -77,6 +121,13 @@ impl<D: Disk> Log<D> {
     {
         self.disk
     }
+}
+
+/// Whether a note of this length fits behind the closed gate at a place.
+fn has_room(end: u64, len: u64) -> bool
+    ensures { IsTrue result ↔ (end + 6 + len ≤ most_bytes) }
+{
+    end <= MAX_LEN && len <= MAX_LEN && end + 6 + len <= MAX_LEN
 }
 
 /// The note's length, the note and a closed gate.
@@ -95,11 +146,14 @@ fn behind_the_gate(alloc: Global, note: &[u8]) -> Result<Vec<u8>, Memory>
 fn write_note<D: Disk>(disk: &mut D, gate: u64, bytes: &[u8]) -> Result<(), DiskFault>
     requires { gate ≤ MAX_LEN }
 
-    ensures settled { D.is_kept disk.new → (i : Identity) (notes : List Note) (note : Note) → bytes.now ≡ staged note → length note ≤ MAX_LEN
+    ensures settled { D.is_kept disk.new → (i : Identity) (notes : List Note) (note : Note)
+        → bytes.now ≡ staged note → length note ≤ MAX_LEN
         → IsSettled (D.history disk.old) i notes gate
-        → OnOk result (IsSettled (D.history disk.new) i (notes ++ note ∷ []) (gate + (length note + 5))) }
+        → OnOk result (IsSettled (D.history disk.new) i (notes ++ note ∷ [])
+        (gate + (length note + 5))) }
 
-    ensures any_moment { D.is_kept disk.new → (i : Identity) (notes : List Note) (note : Note) → bytes.now ≡ staged note → length note ≤ MAX_LEN
+    ensures any_moment { D.is_kept disk.new → (i : Identity) (notes : List Note) (note : Note)
+        → bytes.now ≡ staged note → length note ≤ MAX_LEN
         → IsSettled (D.history disk.old) i notes gate
         → AllAlong (HasBeforeOrAfter i notes note) (D.history disk.old) (D.history disk.new) }
 
@@ -107,7 +161,8 @@ fn write_note<D: Disk>(disk: &mut D, gate: u64, bytes: &[u8]) -> Result<(), Disk
         → UsesRoomFor (length bytes.now + 1) 4 (D.room disk.old) (D.room disk.new) result }
     ensures kept { D.is_kept disk.new → D.is_kept disk.old }
     ensures later { D.failures_of disk.old ≤ D.failures_of disk.new }
-    ensures cause { IsErrOf result DiskFault.Device → HasRisen (D.failures_of disk.old) (D.failures_of disk.new) }
+    ensures cause { IsErrOf result DiskFault.Device
+        → HasRisen (D.failures_of disk.old) (D.failures_of disk.new) }
 {
     write_down(disk, gate + 1, bytes)?;
     write_down(disk, gate, &[1])

@@ -1,10 +1,12 @@
-//! Making a log in a file that counts as nothing, so that what a crash leaves of it counts as nothing still.
-ghost use Rattle.std.specs.Prelude.{◌≡◌, ◌≤◌, ◌+◌, ◌∷◌, [], ◌++◌, length, IsErrOf, IfOk, OnOk};
+//! Making a log in a file that counts as nothing, so that what a crash leaves of it counts as
+//! nothing still.
+ghost use Rattle.std.specs.Prelude.{◌≡◌, ◌≤◌, ◌<◌, ◌+◌, ◌^◌, ◌∷◌, [], ◌++◌, length, IsErrOf, IfOk, OnOk};
 ghost use Rattle.stable_record.specs.Crash.{IsOnDisk};
 ghost use Rattle.stable_record.specs.Faults.{HasRisen};
 ghost use Rattle.stable_record.specs.History.{seen};
 ghost use Rattle.stable_record.specs.Log.{IsSettled, closed_gate, header};
-ghost use Rattle.stable_record.specs.Opening.{IsBlank, StaysAs};
+ghost use Rattle.stable_record.specs.Opening.{IsBlank};
+ghost use Rattle.stable_record.specs.inside.Reading.{StaysAs};
 
 use crate::down::{cut_down, write_down};
 use crate::{Disk, DiskFault, Identity};
@@ -14,10 +16,13 @@ pub(crate) fn make<D: Disk>(disk: &mut D, owner: Vec<u8>) -> Result<u64, DiskFau
     ensures any_moment { D.is_kept disk.new → (i : Identity) → owner.items ≡ header i
         → IsOnDisk (D.history disk.old) → IsBlank i (seen (D.history disk.old))
         → StaysAs i [] (D.history disk.old) (D.history disk.new) }
-    ensures made { D.is_kept disk.new → (i : Identity) → owner.items ≡ header i → IfOk result (IsSettled (D.history disk.new) i []) }
+    ensures made { D.is_kept disk.new → (i : Identity) → owner.items ≡ header i
+        → IfOk result (IsSettled (D.history disk.new) i []) }
+    ensures place { IfOk result (λ place. (place ≡ 1 + length owner.items) × (place + 1 < 2 ^ 64)) }
     ensures kept { D.is_kept disk.new → D.is_kept disk.old }
     ensures later { D.failures_of disk.old ≤ D.failures_of disk.new }
-    ensures cause { IsErrOf result DiskFault.Device → HasRisen (D.failures_of disk.old) (D.failures_of disk.new) }
+    ensures cause { IsErrOf result DiskFault.Device
+        → HasRisen (D.failures_of disk.old) (D.failures_of disk.new) }
 {
     let mut owner = owner;
     let place = owner.len() as u64 + 1;
@@ -30,12 +35,16 @@ pub(crate) fn make<D: Disk>(disk: &mut D, owner: Vec<u8>) -> Result<u64, DiskFau
 
 /// Leaves nothing of the file but one closed gate.
 fn begin<D: Disk>(disk: &mut D) -> Result<(), DiskFault>
-    ensures any_moment { D.is_kept disk.new → (i : Identity) → IsOnDisk (D.history disk.old) → IsBlank i (seen (D.history disk.old))
+    ensures any_moment { D.is_kept disk.new → (i : Identity) → IsOnDisk (D.history disk.old)
+        → IsBlank i (seen (D.history disk.old))
         → StaysAs i [] (D.history disk.old) (D.history disk.new) }
-    ensures begun { D.is_kept disk.new → OnOk result (IsOnDisk (D.history disk.new) × (seen (D.history disk.new) ≡ closed_gate ∷ [])) }
+    ensures begun { D.is_kept disk.new
+        → OnOk result (IsOnDisk (D.history disk.new)
+        × (seen (D.history disk.new) ≡ closed_gate ∷ [])) }
     ensures kept { D.is_kept disk.new → D.is_kept disk.old }
     ensures later { D.failures_of disk.old ≤ D.failures_of disk.new }
-    ensures cause { IsErrOf result DiskFault.Device → HasRisen (D.failures_of disk.old) (D.failures_of disk.new) }
+    ensures cause { IsErrOf result DiskFault.Device
+        → HasRisen (D.failures_of disk.old) (D.failures_of disk.new) }
 {
     cut_down(disk, 0)?;
     write_down(disk, 0, &[0])
@@ -43,7 +52,8 @@ fn begin<D: Disk>(disk: &mut D) -> Result<(), DiskFault>
 
 /// Writes the header with a closed gate behind it, and opens the gate in front of it.
 fn finish<D: Disk>(disk: &mut D, bytes: &[u8]) -> Result<(), DiskFault>
-    ensures any_moment { D.is_kept disk.new → (i : Identity) → bytes.now ≡ header i ++ closed_gate ∷ []
+    ensures any_moment { D.is_kept disk.new → (i : Identity)
+        → bytes.now ≡ header i ++ closed_gate ∷ []
         → IsOnDisk (D.history disk.old) → seen (D.history disk.old) ≡ closed_gate ∷ []
         → StaysAs i [] (D.history disk.old) (D.history disk.new) }
     ensures made { D.is_kept disk.new → (i : Identity) → bytes.now ≡ header i ++ closed_gate ∷ []
@@ -51,7 +61,8 @@ fn finish<D: Disk>(disk: &mut D, bytes: &[u8]) -> Result<(), DiskFault>
         → OnOk result (IsSettled (D.history disk.new) i [] (1 + length (header i))) }
     ensures kept { D.is_kept disk.new → D.is_kept disk.old }
     ensures later { D.failures_of disk.old ≤ D.failures_of disk.new }
-    ensures cause { IsErrOf result DiskFault.Device → HasRisen (D.failures_of disk.old) (D.failures_of disk.new) }
+    ensures cause { IsErrOf result DiskFault.Device
+        → HasRisen (D.failures_of disk.old) (D.failures_of disk.new) }
 {
     write_down(disk, 1, bytes)?;
     write_down(disk, 0, &[1])

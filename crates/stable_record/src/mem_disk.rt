@@ -1,10 +1,11 @@
 //! A disk in memory.
 ghost use Rattle.std.specs.Prelude.{◌≡◌, ◌-◌, ◌+◌, ◌≤◌, ◌<◌, ◌^◌, ℕ, [], ◌∷◌, ◌++◌, length, map, min, take, drop, replicate, IfOk, IsOk, OnOk, false, if◌then◌else◌, ⊤, vec_len, vec_capacity};
 ghost use Rattle.stable_record.specs.Crash.{MayLeave};
-ghost use Rattle.stable_record.specs.Events.{WereBytes, replay};
+ghost use Rattle.stable_record.specs.Events.{replay};
+ghost use Rattle.stable_record.specs.inside.Noted.{WereBytes};
 ghost use Rattle.stable_record.specs.History.{History, overwritten, seen, stands};
-ghost use Rattle.stable_record.specs.Memory.{blanked, filled, left_file, on_disk, unsynced};
-ghost use Rattle.stable_record.specs.Possible.{replay_possible};
+ghost use Rattle.stable_record.specs.Memory.{after_crash, blanked, filled, left_file, on_disk, unsynced};
+ghost use Rattle.stable_record.specs.inside.Possible.{replay_possible};
 ghost use Rattle.stable_record.specs.Room.{Room};
 
 use crate::record::Record;
@@ -31,8 +32,9 @@ pub enum Left {
     Fill(u8),
 }
 
-/// A file in memory, and what a crash would leave of it. Its device never fails. A write that would end past 2^64 is
-/// refused as `Memory`, like one that the allocator has no room for: no file in memory is that long.
+/// A file in memory, and what a crash would leave of it. Its device never fails. A write that would
+/// end past 2^64 is refused as `Memory`, like one that the allocator has no room for: no file in
+/// memory is that long.
 #[derive(Drop)]
 pub struct MemDisk {
     file: Vec<u8>,
@@ -44,7 +46,8 @@ pub struct MemDisk {
     ranges: Vec<(usize, usize)>,
     noted: Record,
     ghost file_is: { file.items ≡ seen (replay noted.events) },
-    ghost before_is: { (if is_synced then file.items else before.items) ≡ on_disk (replay noted.events) },
+    ghost before_is: { (if is_synced then file.items else before.items)
+        ≡ on_disk (replay noted.events) },
     ghost ranges_are: { ranges.items ≡ unsynced (replay noted.events) },
     ghost fits: { length file.items ≤ vec_capacity before },
     ghost fits_back: { length before.items ≤ vec_capacity file },
@@ -52,9 +55,11 @@ pub struct MemDisk {
 }
 
 impl MemDisk {
+    ghost use Rattle.stable_record.specs.InMemory.{mem_history};
+
     /// A file with these bytes, all of them on the disk.
     pub fn new(alloc: Global, bytes: &[u8]) -> Result<MemDisk, Memory>
-        ensures { IfOk result (λ disk. replay disk.noted.events ≡ stands bytes.now ∷ []) }
+        ensures { IfOk result (λ disk. mem_history disk ≡ stands bytes.now ∷ []) }
     {
         let file = bytes.to_vec(alloc)?;
         let before = Vec::with_capacity(alloc, bytes.len())?;
@@ -71,17 +76,19 @@ impl MemDisk {
 
     /// What a read gives.
     pub fn bytes(&self) -> &[u8]
-        ensures { result.now ≡ seen (replay self.now.noted.events) }
+        ensures { result.now ≡ seen (mem_history self.now) }
     {
         &self.file
     }
 }
 
 impl MemDisk {
+    ghost use Rattle.stable_record.specs.InMemory.{mem_history};
+
     /// The disk after a crash, which left the file as told, all of it on the disk.
     pub fn crash(self, left: Left) -> MemDisk
-        ensures left { replay result.noted.events ≡ stands (left_file left (replay self.noted.events)) ∷ [] }
-        ensures possible { MayLeave (replay self.noted.events) (left_file left (replay self.noted.events)) }
+        ensures left { mem_history result ≡ after_crash left (mem_history self) }
+        ensures possible { MayLeave (mem_history self) (left_file left (mem_history self)) }
     {
         let MemDisk {
             file,
@@ -114,12 +121,19 @@ impl MemDisk {
 impl MemDisk {
     /// Makes room for a file that ends here, and for one range more.
     fn make_room(&mut self, end: usize) -> Result<(), Memory>
-        ensures same { (self.new.noted ≡ self.old.noted) × (self.new.is_synced ≡ self.old.is_synced) }
-        ensures items { (self.new.file.items ≡ self.old.file.items) × (self.new.before.items ≡ self.old.before.items) × (self.new.ranges.items ≡ self.old.ranges.items) }
-        ensures room { OnOk result ((end ≤ vec_capacity self.new.file) × (end ≤ vec_capacity self.new.before) × (length self.new.ranges.items < vec_capacity self.new.ranges)) }
-        ensures grown { (vec_capacity self.old.file ≤ vec_capacity self.new.file) × (vec_capacity self.old.before ≤ vec_capacity self.new.before)
+        ensures same { (self.new.noted ≡ self.old.noted)
+            × (self.new.is_synced ≡ self.old.is_synced) }
+        ensures items { (self.new.file.items ≡ self.old.file.items)
+            × (self.new.before.items ≡ self.old.before.items)
+            × (self.new.ranges.items ≡ self.old.ranges.items) }
+        ensures room { OnOk result
+            ((end ≤ vec_capacity self.new.file) × (end ≤ vec_capacity self.new.before)
+            × (length self.new.ranges.items < vec_capacity self.new.ranges)) }
+        ensures grown { (vec_capacity self.old.file ≤ vec_capacity self.new.file)
+            × (vec_capacity self.old.before ≤ vec_capacity self.new.before)
             × (vec_capacity self.old.ranges ≤ vec_capacity self.new.ranges) }
-        ensures needed { end ≤ min (vec_capacity self.old.file) (vec_capacity self.old.before) → length self.old.ranges.items < vec_capacity self.old.ranges → IsOk result }
+        ensures needed { end ≤ min (vec_capacity self.old.file) (vec_capacity self.old.before)
+            → length self.old.ranges.items < vec_capacity self.old.ranges → IsOk result }
     {
         if end > self.file.capacity() {
             self.file.reserve(end - self.file.len())?;
@@ -133,7 +147,8 @@ impl MemDisk {
 
     /// Keeps the file as of the last sync, before it is changed.
     fn keep_before(&mut self)
-        ensures same { (self.new.noted ≡ self.old.noted) × (self.new.file ≡ self.old.file) × (self.new.ranges ≡ self.old.ranges) }
+        ensures same { (self.new.noted ≡ self.old.noted) × (self.new.file ≡ self.old.file)
+            × (self.new.ranges ≡ self.old.ranges) }
         ensures unsynced { self.new.is_synced ≡ false }
         ensures capacity { vec_capacity self.old.before ≤ vec_capacity self.new.before }
     {
@@ -199,7 +214,8 @@ fn put(file: &mut Vec<u8>, at: usize, bytes: &[u8])
     requires within { at ≤ length file.old.items }
     requires far { at + length bytes.now < 2 ^ 64 }
     requires room { at + length bytes.now ≤ vec_capacity file.old }
-    ensures items { file.new.items ≡ take at file.old.items ++ bytes.now ++ drop (at + length bytes.now) file.old.items }
+    ensures items { file.new.items ≡ take at file.old.items ++ bytes.now
+        ++ drop (at + length bytes.now) file.old.items }
     ensures capacity { vec_capacity file.old ≤ vec_capacity file.new }
 {
     let over = bytes.len().min(file.len() - at);
@@ -208,13 +224,15 @@ fn put(file: &mut Vec<u8>, at: usize, bytes: &[u8])
 }
 
 impl Disk for MemDisk {
-    ghost history = { λ d. replay d.noted.events };
+    ghost use Rattle.stable_record.specs.InMemory.{mem_history, mem_room};
+
+    ghost history = { mem_history };
 
     ghost is_kept = { λ _. ⊤ };
 
     ghost failures_of = { λ _. 0 };
 
-    ghost room = { λ d. record { bytes = min (vec_capacity d.file) (vec_capacity d.before) - length d.file.items; calls = vec_capacity d.ranges - length d.ranges.items } };
+    ghost room = { mem_room };
 
     ghost stays_possible = { λ d. replay_possible d.noted.events d.were_bytes };
 

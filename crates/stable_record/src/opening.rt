@@ -1,10 +1,13 @@
 //! Opening a file that a crash may have left.
-ghost use Rattle.std.specs.Prelude.{◌≡◌, ◌≢◌, ◌⊎◌, ◌≤◌, ◌∷◌, List, Result, length, map, IsErrOf, IfOk, IfErr, OnOk, OnErr, Ok, Err};
+ghost use Rattle.std.specs.Prelude.{◌≡◌, ◌≢◌, ◌⊎◌, ◌+◌, ◌^◌, ◌<◌, ◌≤◌, ◌∷◌, List, Result, length, map, false};
+ghost use Rattle.std.specs.Prelude.{IsErrOf, IfOk, IfErr, MatchResult, OnOk, OnErr, Ok, Err};
 ghost use Rattle.stable_record.specs.Crash.{AllAlong, IsOnDisk, OnlySyncs};
 ghost use Rattle.stable_record.specs.Faults.{HasRisen};
 ghost use Rattle.stable_record.specs.History.{seen, synced};
-ghost use Rattle.stable_record.specs.Log.{HasNotes, Holds, IsSettled, Note, gate_place, note_of};
-ghost use Rattle.stable_record.specs.Opening.{HasOneAnswer, Opens, OpensAsLeft, StaysAs};
+ghost use Rattle.stable_record.specs.Log.{HasNotes, IsSettled, Note, gate_place, note_of};
+ghost use Rattle.stable_record.specs.OpenLog.{Holds};
+ghost use Rattle.stable_record.specs.Opening.{HasOneAnswer, Opens, OpensAsLeft};
+ghost use Rattle.stable_record.specs.inside.Reading.{StaysAs};
 
 use crate::down::cut_down;
 use crate::making::make;
@@ -13,41 +16,63 @@ use crate::{Disk, DiskFault, Identity, Log, LogFault};
 use std::alloc::Global;
 
 impl<D: Disk> Log<D> {
-    /// Opens a file that a crash may have left, repairs its end, and gives its notes in order. Of an empty file, or of
-    /// one whose making a crash broke off, it makes a log. A crash may come at any moment of it. An `Err` hands the
-    /// disk back, and `NotALog` and `OtherCluster` leave the file as it is.
+    /// Opens a file that a crash may have left, repairs its end, and gives its notes in order. Of
+    /// an empty file, or of one whose making a crash broke off, it makes a log. A crash may come at
+    /// any moment of it. An `Err` hands the disk back, and `NotALog` and `OtherCluster` leave the
+    /// file as it is.
     pub fn open(
         alloc: Global,
         disk: D,
-        identity: Identity,
+        identity: &Identity,
     ) -> Result<(Log<D>, Vec<Vec<u8>>), (LogFault, D)>
         // What is read is what the file's notes are, and they are on the disk.
-        ensures notes { IfOk result (λ r. D.is_kept r.0.disk → Opens identity (seen (D.history disk)) (Ok (map note_of r.1.items))) }
-        ensures holds { IfOk result (λ r. D.is_kept r.0.disk → Holds D.history r.0 (map note_of r.1.items)) }
-        ensures owner { IfOk result (λ r. r.0.identity ≡ identity) }
+        ensures notes { IfOk result
+            (λ r. D.is_kept r.0.disk
+            → Opens identity.now (seen (D.history disk)) (Ok (map note_of r.1.items))) }
+        ensures holds { IfOk result
+            (λ r. D.is_kept r.0.disk → Holds D.history r.0 (map note_of r.1.items)) }
+        ensures owner { IfOk result (λ r. r.0.identity ≡ identity.now) }
+
+        // It takes notes, behind those.
+        ensures end { IfOk result (λ r. r.0.end ≡ gate_place identity.now (map note_of r.1.items)) }
+        ensures takes_notes { IfOk result (λ r. r.0.stopped ≡ false) }
+
+        // What was said of the disk before still stands.
+        ensures kept { MatchResult result (λ r. D.is_kept r.0.disk → D.is_kept disk)
+            (λ e. D.is_kept e.1 → D.is_kept disk) }
+        ensures later { MatchResult result (λ r. D.failures_of disk ≤ D.failures_of r.0.disk)
+            (λ e. D.failures_of disk ≤ D.failures_of e.1) }
 
         // A file of bytes has one answer.
-        ensures one_answer { HasOneAnswer identity }
+        ensures one_answer { HasOneAnswer identity.now }
 
         // A crash at any moment leaves notes that a crash at the start could leave.
-        ensures any_moment { IfOk result (λ r. D.is_kept r.0.disk → AllAlong (OpensAsLeft identity (D.history disk)) (D.history disk) (D.history r.0.disk)) }
-        ensures any_moment_err { IfErr result (λ e. D.is_kept e.1 → AllAlong (OpensAsLeft identity (D.history disk)) (D.history disk) (D.history e.1)) }
+        ensures any_moment { IfOk result (λ r. D.is_kept r.0.disk
+            → AllAlong (OpensAsLeft identity.now (D.history disk)) (D.history disk)
+            (D.history r.0.disk)) }
+        ensures any_moment_err { IfErr result (λ e. D.is_kept e.1
+            → AllAlong (OpensAsLeft identity.now (D.history disk)) (D.history disk)
+            (D.history e.1)) }
 
         // A file that is no log of this member is left as it is.
-        ensures refused { IfErr result (λ e. D.is_kept e.1 → e.0 ≡ LogFault.NotALog ⊎ (e.0 ≡ LogFault.OtherCluster)
-            → Opens identity (seen (D.history disk)) (Err e.0) × OnlySyncs (D.history disk) (D.history e.1)) }
+        ensures refused { IfErr result (λ e. D.is_kept e.1
+            → e.0 ≡ LogFault.NotALog ⊎ (e.0 ≡ LogFault.OtherCluster)
+            → Opens identity.now (seen (D.history disk)) (Err e.0)
+            × OnlySyncs (D.history disk) (D.history e.1)) }
 
         // Each refusal has its cause.
-        ensures device { IfErr result (λ e. e.0 ≡ LogFault.Device → HasRisen (D.failures_of disk) (D.failures_of e.1)) }
+        ensures device { IfErr result
+            (λ e. e.0 ≡ LogFault.Device → HasRisen (D.failures_of disk) (D.failures_of e.1)) }
         ensures no_append { IfErr result (λ e. e.0 ≢ LogFault.Full × (e.0 ≢ LogFault.MustReopen)) }
     {
+        let owner = identity.copy();
         let mut disk = disk;
-        match ready(alloc, &mut disk, &identity) {
+        match ready(alloc, &mut disk, identity) {
             Ok((notes, end)) => Ok((
                 Log {
                     alloc,
                     disk,
-                    identity,
+                    identity: owner,
                     end,
                     stopped: false,
                 },
@@ -58,19 +83,32 @@ impl<D: Disk> Log<D> {
     }
 }
 
-/// Makes the file ready for notes, and gives those that it has and the place of the closed gate behind them.
+/// Makes the file ready for notes, and gives those that it has and the place of the closed gate
+/// behind them.
 fn ready<D: Disk>(
     alloc: Global,
     disk: &mut D,
     identity: &Identity,
 ) -> Result<(Vec<Vec<u8>>, u64), LogFault>
-    ensures notes { D.is_kept disk.new → IfOk result (λ r. Opens identity.now (seen (D.history disk.old)) (Ok (map note_of r.0.items))) }
-    ensures settled { D.is_kept disk.new → IfOk result (λ r. IsSettled (D.history disk.new) identity.now (map note_of r.0.items) r.1) }
-    ensures any_moment { D.is_kept disk.new → AllAlong (OpensAsLeft identity.now (D.history disk.old)) (D.history disk.old) (D.history disk.new) }
-    ensures refused { D.is_kept disk.new → IfErr result (λ e. e ≡ LogFault.NotALog ⊎ (e ≡ LogFault.OtherCluster)
-        → Opens identity.now (seen (D.history disk.old)) (Err e) × OnlySyncs (D.history disk.old) (D.history disk.new)) }
+    ensures notes { D.is_kept disk.new
+        → IfOk result (λ r. Opens identity.now (seen (D.history disk.old))
+        (Ok (map note_of r.0.items))) }
+    ensures settled { D.is_kept disk.new
+        → IfOk result (λ r. IsSettled (D.history disk.new) identity.now
+        (map note_of r.0.items) r.1) }
+    ensures end { IfOk result (λ r. r.1 ≡ gate_place identity.now (map note_of r.0.items)) }
+    ensures fits { IfOk result (λ r. r.1 + 1 < 2 ^ 64) }
+    ensures kept { D.is_kept disk.new → D.is_kept disk.old }
+    ensures any_moment { D.is_kept disk.new
+        → AllAlong (OpensAsLeft identity.now (D.history disk.old)) (D.history disk.old)
+        (D.history disk.new) }
+    ensures refused { D.is_kept disk.new
+        → IfErr result (λ e. e ≡ LogFault.NotALog ⊎ (e ≡ LogFault.OtherCluster)
+        → Opens identity.now (seen (D.history disk.old)) (Err e)
+        × OnlySyncs (D.history disk.old) (D.history disk.new)) }
     ensures later { D.failures_of disk.old ≤ D.failures_of disk.new }
-    ensures device { IsErrOf result LogFault.Device → HasRisen (D.failures_of disk.old) (D.failures_of disk.new) }
+    ensures device { IsErrOf result LogFault.Device
+        → HasRisen (D.failures_of disk.old) (D.failures_of disk.new) }
     ensures no_append { IfErr result (λ e. e ≢ LogFault.Full × (e ≢ LogFault.MustReopen)) }
 {
     let file = synced_bytes(alloc, disk)?;
@@ -88,15 +126,20 @@ fn ready<D: Disk>(
     }
 }
 
-/// The file's bytes, once they are on the disk. What is read is to stay, also where an earlier sync failed and no
-/// crash came since.
+/// The file's bytes, once they are on the disk. What is read is to stay, also where an earlier sync
+/// failed and no crash came since.
 fn synced_bytes<D: Disk>(alloc: Global, disk: &mut D) -> Result<Vec<u8>, DiskFault>
-    ensures bytes { D.is_kept disk.new → IfOk result (λ bytes. bytes.items ≡ seen (D.history disk.old)) }
-    ensures synced { D.is_kept disk.new → OnOk result (D.history disk.new ≡ synced ∷ D.history disk.old) }
-    ensures failed { D.is_kept disk.new → OnErr result ((D.history disk.new ≡ D.history disk.old) ⊎ (D.history disk.new ≡ synced ∷ D.history disk.old)) }
+    ensures bytes { D.is_kept disk.new
+        → IfOk result (λ bytes. bytes.items ≡ seen (D.history disk.old)) }
+    ensures synced { D.is_kept disk.new
+        → OnOk result (D.history disk.new ≡ synced ∷ D.history disk.old) }
+    ensures failed { D.is_kept disk.new
+        → OnErr result ((D.history disk.new ≡ D.history disk.old)
+        ⊎ (D.history disk.new ≡ synced ∷ D.history disk.old)) }
     ensures kept { D.is_kept disk.new → D.is_kept disk.old }
     ensures later { D.failures_of disk.old ≤ D.failures_of disk.new }
-    ensures cause { IsErrOf result DiskFault.Device → HasRisen (D.failures_of disk.old) (D.failures_of disk.new) }
+    ensures cause { IsErrOf result DiskFault.Device
+        → HasRisen (D.failures_of disk.old) (D.failures_of disk.new) }
 {
     disk.reserve(0, 3)?;
     disk.sync()?;
@@ -105,15 +148,19 @@ fn synced_bytes<D: Disk>(alloc: Global, disk: &mut D) -> Result<Vec<u8>, DiskFau
 
 /// Cuts off what stands behind the closed gate at a place.
 fn trim<D: Disk>(disk: &mut D, end: u64, len: u64) -> Result<(), DiskFault>
-    ensures any_moment { D.is_kept disk.new → (i : Identity) (notes : List Note) → IsOnDisk (D.history disk.old)
+    ensures any_moment { D.is_kept disk.new → (i : Identity) (notes : List Note)
+        → IsOnDisk (D.history disk.old)
         → HasNotes i notes (seen (D.history disk.old)) → end ≡ gate_place i notes
         → StaysAs i notes (D.history disk.old) (D.history disk.new) }
-    ensures settled { D.is_kept disk.new → (i : Identity) (notes : List Note) → IsOnDisk (D.history disk.old)
-        → HasNotes i notes (seen (D.history disk.old)) → end ≡ gate_place i notes → len ≡ length (seen (D.history disk.old))
+    ensures settled { D.is_kept disk.new → (i : Identity) (notes : List Note)
+        → IsOnDisk (D.history disk.old)
+        → HasNotes i notes (seen (D.history disk.old)) → end ≡ gate_place i notes
+        → len ≡ length (seen (D.history disk.old))
         → OnOk result (IsSettled (D.history disk.new) i notes end) }
     ensures kept { D.is_kept disk.new → D.is_kept disk.old }
     ensures later { D.failures_of disk.old ≤ D.failures_of disk.new }
-    ensures cause { IsErrOf result DiskFault.Device → HasRisen (D.failures_of disk.old) (D.failures_of disk.new) }
+    ensures cause { IsErrOf result DiskFault.Device
+        → HasRisen (D.failures_of disk.old) (D.failures_of disk.new) }
 {
     if end >= len.saturating_sub(1) {
         return Ok(());

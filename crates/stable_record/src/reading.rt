@@ -2,9 +2,11 @@
 ghost use Rattle.std.specs.Prelude.{◌≡◌, ◌⊎◌, ◌≤◌, ◌↔◌, ◌∷◌, length, take, IfOk, IfErr, IsErrOf, IsTrue, Err};
 ghost use Rattle.stable_record.specs.Faults.{HasRisen};
 ghost use Rattle.stable_record.specs.History.{seen};
-ghost use Rattle.stable_record.specs.Log.{header, open_gate};
-ghost use Rattle.stable_record.specs.Opening.{IsBlank, IsBroken, IsLog, Opens, OpensTo, StandsAt};
+ghost use Rattle.stable_record.specs.Log.{header, magic, open_gate};
+ghost use Rattle.stable_record.specs.Opening.{IsBlank, IsBroken, IsLog, LacksWeights, Opens, shortest};
+ghost use Rattle.stable_record.specs.inside.Reading.{OpensTo, StandsAt};
 
+use crate::identity::{MAGIC, WEIGHTED_MAGIC};
 use crate::{Disk, DiskFault, Identity, LogFault};
 use std::alloc::Global;
 
@@ -12,7 +14,11 @@ const CLOSED: u8 = 0;
 
 const OPEN: u8 = 1;
 
-const MAGIC_LEN: usize = 8;
+/// The length of a log without notes, and without weights.
+const SHORTEST: usize = 44;
+
+/// Where the number of members stands.
+const COUNT_PLACE: usize = 41;
 
 /// What a file is opened as.
 #[derive(Drop)]
@@ -37,9 +43,11 @@ enum AtGate<'a> {
 pub(crate) fn read_all<D: Disk>(alloc: Global, disk: &mut D) -> Result<Vec<u8>, DiskFault>
     ensures kept { D.is_kept disk.new → D.is_kept disk.old }
     ensures same { D.is_kept disk.new → D.history disk.new ≡ D.history disk.old }
-    ensures bytes { D.is_kept disk.new → IfOk result (λ bytes. bytes.items ≡ seen (D.history disk.old)) }
+    ensures bytes { D.is_kept disk.new
+        → IfOk result (λ bytes. bytes.items ≡ seen (D.history disk.old)) }
     ensures later { D.failures_of disk.old ≤ D.failures_of disk.new }
-    ensures cause { IsErrOf result DiskFault.Device → HasRisen (D.failures_of disk.old) (D.failures_of disk.new) }
+    ensures cause { IsErrOf result DiskFault.Device
+        → HasRisen (D.failures_of disk.old) (D.failures_of disk.new) }
 {
     let len = disk.len()?;
     let mut bytes = vec![in alloc; 0; len as usize]?;
@@ -55,39 +63,55 @@ pub(crate) fn opening_of(
     identity: &Identity,
 ) -> Result<Opening, LogFault>
     ensures ok { IfOk result (OpensTo identity.now file.now) }
-    ensures refused { IfErr result (λ e. (e ≡ LogFault.Memory) ⊎ Opens identity.now file.now (Err e)) }
+    ensures refused { IfErr result
+        (λ e. (e ≡ LogFault.Memory) ⊎ Opens identity.now file.now (Err e)) }
+    ensures tree { length identity.now.tree ≡ 32 }
 {
     let header = identity.header(alloc)?;
-    if is_blank(file, &header) {
+    let size = header.len();
+    if is_blank(file, size + 2, identity.magic()) {
         return Ok(Opening::Blank);
     }
-    if !is_log(file, &header) {
+    if !is_log(file) {
+        return Err(LogFault::NotALog);
+    }
+    if lacks_weights(file) {
         return Err(LogFault::NotALog);
     }
     if !begins_with(&file[1..], &header) {
         return Err(LogFault::OtherCluster);
     }
-    notes_behind(alloc, file, header.len() + 1)
+    notes_behind(alloc, file, size + 1)
 }
 
-/// A crash may have left this of a log in making.
-fn is_blank(file: &[u8], owner: &[u8]) -> bool
-    requires { 8 ≤ length owner.now }
-    ensures { (i : Identity) → owner.now ≡ header i → IsTrue result ↔ IsBlank i file.now }
+/// A crash may have left this of a log in making, which without notes has so many bytes and this
+/// magic.
+fn is_blank(file: &[u8], len: usize, own_magic: &[u8]) -> bool
+    requires { length own_magic.now ≡ 8 }
+    ensures { (i : Identity) → len ≡ shortest i → own_magic.now ≡ magic i → IsTrue result
+        ↔ IsBlank i file.now }
 {
-    let shortest = owner.len() + 2;
-    if file.len() < 2 || file[0] == CLOSED && file.len() <= shortest {
+    if file.len() < 2 || file[0] == CLOSED && file.len() <= len {
         return true;
     }
-    file[0] != OPEN && file.len() == shortest && begins_with(&file[1..], &owner[..MAGIC_LEN])
+    file[0] != OPEN && file.len() == len && begins_with(&file[1..], own_magic)
 }
 
 /// It is a log, whoever owns it.
-fn is_log(file: &[u8], owner: &[u8]) -> bool
-    requires { 8 ≤ length owner.now }
-    ensures { (i : Identity) → owner.now ≡ header i → IsTrue result ↔ IsLog i file.now }
+fn is_log(file: &[u8]) -> bool
+    ensures { IsTrue result ↔ IsLog file.now }
 {
-    file.len() >= owner.len() + 2 && file[0] == OPEN && begins_with(&file[1..], &owner[..MAGIC_LEN])
+    file.len() >= SHORTEST
+        && file[0] == OPEN
+        && (begins_with(&file[1..], MAGIC) || begins_with(&file[1..], WEIGHTED_MAGIC))
+}
+
+/// It tells of weights, and there are not as many bytes.
+fn lacks_weights(file: &[u8]) -> bool
+    requires { 44 ≤ length file.now }
+    ensures { IsTrue result ↔ LacksWeights file.now }
+{
+    begins_with(&file[1..], WEIGHTED_MAGIC) && file.len() < SHORTEST + file[COUNT_PLACE] as usize
 }
 
 fn begins_with(bytes: &[u8], front: &[u8]) -> bool
@@ -99,7 +123,9 @@ fn begins_with(bytes: &[u8], front: &[u8]) -> bool
 /// The notes behind the gates from this place on.
 fn notes_behind(alloc: Global, file: &[u8], first: usize) -> Result<Opening, LogFault>
     requires { first ≤ length file.now }
-    ensures ok { IfOk result (λ opening. (i : Identity) → take first file.now ≡ open_gate ∷ header i → OpensTo i file.now opening) }
+    ensures ok { IfOk result
+        (λ opening. (i : Identity) → take first file.now ≡ open_gate ∷ header i
+        → OpensTo i file.now opening) }
     ensures refused { IfErr result (λ e. (e ≡ LogFault.Memory) ⊎ ((e ≡ LogFault.NotALog)
         × ((i : Identity) → take first file.now ≡ open_gate ∷ header i → IsBroken i file.now))) }
 {

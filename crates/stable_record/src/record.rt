@@ -1,7 +1,8 @@
 //! A list of calls that only clauses read.
 ghost use Rattle.std.specs.Prelude.{◌≡◌, ℕ, List, [], ◌∷◌};
 ghost use Rattle.std.specs.Borrow.{ftrue};
-ghost use Rattle.stable_record.specs.Events.{Event, event_of, was_there};
+ghost use Rattle.stable_record.specs.Events.{Event, was_there};
+ghost use Rattle.stable_record.specs.inside.Noted.{event_of};
 
 use std::marker::{Model, PhantomData};
 
@@ -24,7 +25,8 @@ impl Record {
         }
     }
 
-    /// The record of a file that was there: it begins with the bytes that a read gives then, whatever they are.
+    /// The record of a file that was there: it begins with the bytes that a read gives then,
+    /// whatever they are.
     pub(crate) fn found() -> Record
         ghost content: { List ℕ }
         ensures { result.events ≡ was_there content ∷ [] }

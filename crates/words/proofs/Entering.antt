@@ -1,24 +1,45 @@
--- Words that clap takes name a subcommand, and not that of clap's own which asks for help.
+-- Words in which clap finds no fault name a subcommand, and not that of clap's own which asks for help.
 use Rattle.std.proofs.Common.{◌≡◌, ◌&&◌, ◌||◌, ℕ, Bool, true, false, not, List, [], ◌∷◌, Option, None, Some, IfSome, refl, sym, subst, true≢false, codes}
 use Rattle.std.specs.Prelude.{find, fold, if◌then◌else◌, is_some, option_map}
-use Rattle.std.specs.List.{list_all}
+use Rattle.std.specs.List.{list_any}
 use Rattle.std.specs.Option.{option_map_or}
 use Rattle.std.specs.Str.{bytes_eq}
-use Rattle.clap.proofs.WalkLemmas.{both}
+use Rattle.clap.specs.Faults.{built_fault, check_fault, default_fault, defaults_fault, entered_fault, level_fault, other_fault, settle_fault, step_fault, turn_fault, walk_fault, word_fault}
+use Rattle.clap.specs.Kinds.{Kinds, check_kinds, or_else}
 use Rattle.clap.specs.Lexer.{long_of, short_of}
 use Rattle.clap.specs.Simple.{App, Shape, entered, label_of, names_of, rows_at}
-use Rattle.clap.specs.Takes.{built_takes, default_passes, entered_passes, is_given, level_passes, other_passes, settle_passes, step_passes, turn_passes, walk_passes, word_passes}
+use Rattle.clap.specs.Takes.{is_given}
 use Rattle.clap.specs.Walk.{Held, Names, Outcome, Row, Rule, Step, Text, Waiting, Walk}
 use Rattle.clap.specs.Walk.{done, waits, plain, refused, idle, option, positional, next, trailing, subcommand, value}
-use Rattle.clap.specs.Walk.{after_flag, after_step, answers_to, arg_by_index, finished, long_or_other, nothing_held, plain_word, short_or_plain, subcommand_met, subcommand_or_other}
+use Rattle.clap.specs.Walk.{after_flag, after_step, answers_to, arg_by_index, finished, long_or_other, nothing_held, plain_word, settled, short_or_plain, subcommand_met, subcommand_or_other}
 use Rattle.clap.specs.Walk.{to_positional, walk, walk_from, walked, walked_from, word_met}
+use Rattle.clap.specs.declared.error.kind.ErrorKind.{ErrorKind}
 
--- ---- which subcommands a walk that passes meets
+-- ---- where no fault is found
+
+-- neither of two steps fails
+pub neither : (a b : Kinds) → or_else a b ≡ [] → (a ≡ []) × (b ≡ [])
+neither [] b none = (refl, none)
+neither (k ∷ ks) b none = absurd (let no : k ∷ ks ≡ [] = none in cc)
+
+-- what would be a fault is not so
+untrue : (b : Bool) (k : ErrorKind) (ks : Kinds) → (if b then k ∷ ks else []) ≡ [] → b ≡ false
+untrue true k ks none = absurd (let no : k ∷ ks ≡ [] = none in cc)
+untrue false k ks none = refl
+
+-- none of the last checks fails
+checks_pass : (a b c : Bool) → check_kinds a b c ≡ [] → (b ≡ false) × (c ≡ false)
+checks_pass true b c none = absurd cc
+checks_pass false true c none = absurd cc
+checks_pass false false true none = absurd cc
+checks_pass false false false none = (refl, refl)
+
+-- ---- which subcommands a walk without a fault meets
 
 module _ (s : Shape) (names : Names) where
   -- the name of a subcommand that is met does not ask for help
   abbrev pub IsNoHelp : Text → Type 0
-  IsNoHelp name = (not (bytes_eq name (codes "help")) || s.disable_help_subcommand) ≡ true
+  IsNoHelp name = (bytes_eq name (codes "help") && not s.disable_help_subcommand) ≡ false
 
   abbrev StepsWell : Step → Type 0
   StepsWell (next waiting) = Unit {0}
@@ -40,10 +61,10 @@ module _ (s : Shape) (names : Names) where
   flag_well waiting word h plain = plain_well waiting word h
   flag_well waiting word h refused = plain_well waiting word h
 
-  met_well : (is_trailing : Bool) (waiting : Waiting) (position : ℕ) (word : Text) (h : Held) → word_passes s names is_trailing waiting word h ≡ true
+  met_well : (is_trailing : Bool) (waiting : Waiting) (position : ℕ) (word : Text) (h : Held) → word_fault s names is_trailing waiting word h ≡ []
       → StepsWell (word_met s.rules names is_trailing waiting position word h).1
-  met_well true waiting position word h passes = tt
-  met_well false waiting position word h passes = by (subcommand_met names waiting word) passes
+  met_well true waiting position word h none = tt
+  met_well false waiting position word h none = by (subcommand_met names waiting word) none
     where
       short : (o : Option Text) → StepsWell (short_or_plain s.rules waiting word o h).1
       short (Some flags) = flag_well waiting word _ _
@@ -57,8 +78,8 @@ module _ (s : Shape) (names : Names) where
       dashes true = tt
       dashes false = long (long_of word)
 
-      by : (o : Option Text) → other_passes s o word h ≡ true → StepsWell (subcommand_or_other s.rules o waiting position word h).1
-      by (Some name) e = e
+      by : (o : Option Text) → other_fault s o word h ≡ [] → StepsWell (subcommand_or_other s.rules o waiting position word h).1
+      by (Some name) e = untrue (bytes_eq name (codes "help") && not s.disable_help_subcommand) _ _ e
       by None e = dashes (bytes_eq word (45 ∷ 45 ∷ []))
 
   step_well : (word : Text) (w : Walk) (h : Held) (step : Step) → StopsWell w → StepsWell step → StopsWell (after_step s.rules word w h step)
@@ -71,41 +92,41 @@ module _ (s : Shape) (names : Names) where
       by None = stops
       by (Some a) = tt
 
-  walked_well : (w : Walk) (word : Text) → StopsWell w → turn_passes s names w word ≡ true → StopsWell (walked s.rules names w word)
+  walked_well : (w : Walk) (word : Text) → StopsWell w → turn_fault s names w word ≡ [] → StopsWell (walked s.rules names w word)
   unfolding walked
-  walked_well w word stops passes = by w.stopped stops passes
+  walked_well w word stops none = by w.stopped stops none
     where
       met : Held × Step
       met = word_met s.rules names w.is_trailing w.waiting w.position word w.held
 
       by : (o : Option (Text × List Text)) → IfSome o (λ (p : Text × List Text). IsNoHelp p.0)
-          → (is_some o || (word_passes s names w.is_trailing w.waiting word w.held && step_passes s w.position met.0 met.1)) ≡ true
+          → (if is_some o then [] else or_else (word_fault s names w.is_trailing w.waiting word w.held) (step_fault s w.position met.0 met.1)) ≡ []
           → StopsWell (walked_from s.rules names o w word)
       by (Some p) well e = well
       by None well e =
-          let passing = both (word_passes s names w.is_trailing w.waiting word w.held) _ e in
+          let passing = neither (word_fault s names w.is_trailing w.waiting word w.held) _ e in
           step_well word w met.0 met.1 stops (met_well w.is_trailing w.waiting w.position word w.held passing.0)
 
-  walk_well : (words : List Text) (w : Walk) → StopsWell w → walk_passes s names w words ≡ true → StopsWell (fold (walked s.rules names) w words)
-  unfolding walk_passes
-  walk_well [] w stops passes = stops
-  walk_well (word ∷ words) w stops passes =
-      let parts = both (turn_passes s names w word) _ passes in
+  walk_well : (words : List Text) (w : Walk) → StopsWell w → walk_fault s names w words ≡ [] → StopsWell (fold (walked s.rules names) w words)
+  unfolding walk_fault
+  walk_well [] w stops none = stops
+  walk_well (word ∷ words) w stops none =
+      let parts = neither (turn_fault s names w word) _ none in
       walk_well words (walked s.rules names w word) (walked_well w word stops parts.0) parts.1
 
--- ---- what words that pass name
+-- ---- what words without a fault name
 
-given : (a b : Bool) → (not a || b) ≡ true → a ≡ true → b ≡ true
-given true b e t = e
-given false b e t = absurd (true≢false (sym t))
+given : (a b : Bool) → (not a && b) ≡ false → b ≡ true → a ≡ true
+given true b e t = refl
+given false b e t = absurd (true≢false (subst (λ (x : Bool). x ≡ false) t e))
 
--- the subcommand whose name the words have passes too
+-- the subcommand whose name the words have has no fault either
 pub record Enters (b : App) (words : List Text) : Type 0 where
   pub name : Text
   pub rest : List Text
   pub shape : Shape
   pub found : find (λ s. answers_to name (label_of s)) b.subs ≡ Some shape
-  pub passes : level_passes shape [] nothing_held rest false ≡ true
+  pub faultless : level_fault shape [] nothing_held rest false [] ≡ []
   pub enters : entered b (walk b.top.rules (names_of b) nothing_held words).stopped ≡ Some (rows_at shape rest)
   pub no_help : IsNoHelp b.top (names_of b) name
 
@@ -115,40 +136,37 @@ module _ (b : App) (words : List Text) where
 
   abbrev Goes : Option (Text × List Text) → Type 0
   Goes o = (name : Text) × (rest : List Text) × (shape : Shape) × (find (λ s. answers_to name (label_of s)) b.subs ≡ Some shape)
-      × (level_passes shape [] nothing_held rest false ≡ true) × (entered b o ≡ Some (rows_at shape rest)) × IsNoHelp b.top (names_of b) name
+      × (level_fault shape [] nothing_held rest false [] ≡ []) × (entered b o ≡ Some (rows_at shape rest)) × IsNoHelp b.top (names_of b) name
 
-  goes : (o : Option (Text × List Text)) → entered_passes b o ≡ true → is_some (entered b o) ≡ true → IfSome o (λ (p : Text × List Text). IsNoHelp b.top (names_of b) p.0) → Goes o
-  goes None passes some well = absurd (true≢false (sym some))
-  goes (Some (name, rest)) passes some well = by (find (λ s. answers_to name (label_of s)) b.subs) refl passes some
+  goes : (o : Option (Text × List Text)) → entered_fault b o ≡ [] → is_some (entered b o) ≡ true → IfSome o (λ (p : Text × List Text). IsNoHelp b.top (names_of b) p.0) → Goes o
+  goes None none some well = absurd (true≢false (sym some))
+  goes (Some (name, rest)) none some well = by (find (λ s. answers_to name (label_of s)) b.subs) refl none some
     where
-      by : (f : Option Shape) → find (λ s. answers_to name (label_of s)) b.subs ≡ f → option_map_or (λ s. level_passes s [] nothing_held rest false) f true ≡ true
+      by : (f : Option Shape) → find (λ s. answers_to name (label_of s)) b.subs ≡ f → option_map_or (λ s. level_fault s [] nothing_held rest false []) f [] ≡ []
           → is_some (option_map (λ s. rows_at s rest) f) ≡ true → Goes (Some (name, rest))
-      by None found passes some = absurd (true≢false (sym some))
-      by (Some shape) found passes some = (name, rest, shape, found, passes, (λ i. option_map (λ s. rows_at s rest) (found i)), well)
+      by None found none some = absurd (true≢false (sym some))
+      by (Some shape) found none some = (name, rest, shape, found, none, (λ i. option_map (λ s. rows_at s rest) (found i)), well)
 
-  pub enters_one : b.top.subcommand_required ≡ true → built_takes b nothing_held words ≡ true → Enters b words
-  enters_one required takes =
-      let halves = both (entered_passes b end.stopped) _ takes in
+  pub enters_one : b.top.subcommand_required ≡ true → built_fault b nothing_held words ≡ [] → Enters b words
+  enters_one required none =
       let has : Bool = is_some (entered b end.stopped) in
-      let level = both (walk_passes b.top (names_of b) (walk_from nothing_held) words) _ halves.1 in
-      let settles = both (settle_passes b.top.rules b.top.args_override_self end.held) _ level.1 in
-      let defaults = both (list_all default_passes b.top.rules) _ settles.1 in
-      let valid = both (not b.top.arg_required_else_help || _) _ defaults.1 in
-      let named = both (not b.top.subcommand_required || has) _ valid.1 in
-      let some : has ≡ true = given b.top.subcommand_required has named.0 required in
-      let well = walk_well b.top (names_of b) words (walk_from nothing_held) tt level.0 in
-      let goes = goes end.stopped halves.0 some well in
-      record { name = goes.0; rest = goes.1; shape = goes.2; found = goes.3; passes = goes.4; enters = goes.5; no_help = goes.6 }
+      let walks = neither (walk_fault b.top (names_of b) (walk_from nothing_held) words) _ none in
+      let enters = neither (entered_fault b end.stopped) _ walks.1 in
+      let settles = neither (settle_fault b.top.rules b.top.args_override_self end.held) _ enters.1 in
+      let defaults = neither (defaults_fault (settled b.top.rules end.held).rows b.top.rules) _ settles.1 in
+      let checks = checks_pass _ (not has && b.top.subcommand_required) _ defaults.1 in
+      let some : has ≡ true = given has b.top.subcommand_required checks.0 required in
+      let well = walk_well b.top (names_of b) words (walk_from nothing_held) tt walks.0 in
+      let goes = goes end.stopped enters.0 some well in
+      record { name = goes.0; rest = goes.1; shape = goes.2; found = goes.3; faultless = goes.4; enters = goes.5; no_help = goes.6 }
 
--- what each argument that must be given is given, if the words pass
-pub all_given : (s : Shape) (words : List Text) → s.subcommand_negates_reqs ≡ false → level_passes s [] nothing_held words false ≡ true
-    → list_all (λ a. not a.required || is_given a.id (finished s.rules (walk s.rules [] nothing_held words).held)) s.rules ≡ true
-all_given s words keeps passes =
+-- no argument that must be given lacks, where no fault is found
+pub none_lacks : (s : Shape) (words : List Text) → s.subcommand_negates_reqs ≡ false → level_fault s [] nothing_held words false [] ≡ []
+    → list_any (λ a. a.required && not (is_given a.id (finished s.rules (walk s.rules [] nothing_held words).held))) s.rules ≡ false
+none_lacks s words keeps none =
     let rows : List Row = finished s.rules (walk s.rules [] nothing_held words).held in
-    let level = both (walk_passes s [] (walk_from nothing_held) words) _ passes in
-    let settles = both (settle_passes s.rules s.args_override_self (walk s.rules [] nothing_held words).held) _ level.1 in
-    let defaults = both (list_all default_passes s.rules) _ settles.1 in
-    let valid = both (not s.arg_required_else_help || _) _ defaults.1 in
-    let named = both (not s.subcommand_required || false) _ valid.1 in
-    let free = both (list_all (λ a. a.is_free) s.rules) _ named.1 in
-    subst (λ (n : Bool). ((n && false) || list_all (λ a. not a.required || is_given a.id rows) s.rules) ≡ true) keeps free.1
+    let walks = neither (walk_fault s [] (walk_from nothing_held) words) _ none in
+    let settles = neither (settle_fault s.rules s.args_override_self (walk s.rules [] nothing_held words).held) _ walks.1 in
+    let defaults = neither (defaults_fault (settled s.rules (walk s.rules [] nothing_held words).held).rows s.rules) _ settles.1 in
+    let checks = checks_pass _ _ (not (s.subcommand_negates_reqs && false) && list_any (λ a. a.required && not (is_given a.id rows)) s.rules) defaults.1 in
+    subst (λ (n : Bool). (not (n && false) && list_any (λ a. a.required && not (is_given a.id rows)) s.rules) ≡ false) keeps checks.1

@@ -1,8 +1,9 @@
 -- The calls of `dpbr` at words that are known.
-use Rattle.std.proofs.Common.{◌≡◌, codes, refl, Option, Some, true, false, List, [], ◌∷◌, option_map, option_and_then}
+use Rattle.std.proofs.Common.{◌≡◌, codes, refl, Option, Some, List, [], ◌∷◌, option_map, option_and_then}
 use Rattle.clap.specs.Words.{Row, Text, first_of}
 use Rattle.clap.proofs.OnLiterals.{clap_on_literals}
-use Rattle.words.specs.Calls.{are_taken, dpbr_app, matched}
+use Rattle.clap.specs.declared.error.kind.ErrorKind.TheVariants as kind
+use Rattle.words.specs.Calls.{AreTaken, dpbr_app, faults_of, matched}
 
 abbrev name_at : List Text → Option Text
 name_at words = option_map (λ (p : Text × List Row). p.0) (matched words)
@@ -13,8 +14,8 @@ value_at id words = option_and_then (λ (p : Text × List Row). first_of id p.1)
 abbrev status_words : List Text
 status_words = codes "dpbr" ∷ codes "status" ∷ codes "tree" ∷ codes "held" ∷ []
 
-example_status : are_taken status_words ≡ true
-unfolding are_taken dpbr_app clap_on_literals
+example_status : AreTaken status_words
+unfolding faults_of dpbr_app clap_on_literals
 example_status = refl
 
 example_status_name : name_at status_words ≡ Some (codes "status")
@@ -32,8 +33,8 @@ example_status_held = refl
 abbrev audit_words : List Text
 audit_words = codes "dpbr" ∷ codes "audit" ∷ codes "tree" ∷ codes "packages" ∷ []
 
-example_audit : are_taken audit_words ≡ true
-unfolding are_taken dpbr_app clap_on_literals
+example_audit : AreTaken audit_words
+unfolding faults_of dpbr_app clap_on_literals
 example_audit = refl
 
 example_audit_name : name_at audit_words ≡ Some (codes "audit")
@@ -48,23 +49,49 @@ example_audit_list : value_at (codes "LIST") audit_words ≡ Some (codes "packag
 unfolding matched dpbr_app clap_on_literals
 example_audit_list = refl
 
+-- `--single` stands anywhere behind the subcommand
+example_single : AreTaken (codes "dpbr" ∷ codes "status" ∷ codes "tree" ∷ codes "--single" ∷ codes "held" ∷ [])
+unfolding faults_of dpbr_app clap_on_literals
+example_single = refl
+
+example_is_single : value_at (codes "single") (codes "dpbr" ∷ codes "status" ∷ codes "tree" ∷ codes "--single" ∷ codes "held" ∷ []) ≡ Some (codes "true")
+unfolding matched dpbr_app clap_on_literals
+example_is_single = refl
+
+example_not_single : value_at (codes "single") audit_words ≡ Some (codes "false")
+unfolding matched dpbr_app clap_on_literals
+example_not_single = refl
+
+-- but not twice, with a value, or before the subcommand
+example_single_twice : faults_of (codes "dpbr" ∷ codes "audit" ∷ codes "--single" ∷ codes "t" ∷ codes "l" ∷ codes "--single" ∷ []) ≡ kind.ArgumentConflict ∷ []
+unfolding faults_of dpbr_app clap_on_literals
+example_single_twice = refl
+
+example_single_valued : faults_of (codes "dpbr" ∷ codes "audit" ∷ codes "--single=yes" ∷ codes "t" ∷ codes "l" ∷ []) ≡ kind.TooManyValues ∷ []
+unfolding faults_of dpbr_app clap_on_literals
+example_single_valued = refl
+
+example_single_first : faults_of (codes "dpbr" ∷ codes "--single" ∷ codes "audit" ∷ codes "t" ∷ codes "l" ∷ []) ≡ kind.UnknownArgument ∷ []
+unfolding faults_of dpbr_app clap_on_literals
+example_single_first = refl
+
 -- no subcommand, one that is not there, a word too few, a word too many, help
-example_none : are_taken (codes "dpbr" ∷ []) ≡ false
-unfolding are_taken dpbr_app clap_on_literals
+example_none : faults_of (codes "dpbr" ∷ []) ≡ kind.MissingSubcommand ∷ []
+unfolding faults_of dpbr_app clap_on_literals
 example_none = refl
 
-example_unknown : are_taken (codes "dpbr" ∷ codes "audits" ∷ codes "t" ∷ codes "l" ∷ []) ≡ false
-unfolding are_taken dpbr_app clap_on_literals
+example_unknown : faults_of (codes "dpbr" ∷ codes "audits" ∷ codes "t" ∷ codes "l" ∷ []) ≡ kind.UnknownArgument ∷ kind.InvalidSubcommand ∷ []
+unfolding faults_of dpbr_app clap_on_literals
 example_unknown = refl
 
-example_few : are_taken (codes "dpbr" ∷ codes "status" ∷ codes "t" ∷ []) ≡ false
-unfolding are_taken dpbr_app clap_on_literals
+example_few : faults_of (codes "dpbr" ∷ codes "status" ∷ codes "t" ∷ []) ≡ kind.MissingRequiredArgument ∷ []
+unfolding faults_of dpbr_app clap_on_literals
 example_few = refl
 
-example_many : are_taken (codes "dpbr" ∷ codes "status" ∷ codes "t" ∷ codes "h" ∷ codes "x" ∷ []) ≡ false
-unfolding are_taken dpbr_app clap_on_literals
+example_many : faults_of (codes "dpbr" ∷ codes "status" ∷ codes "t" ∷ codes "h" ∷ codes "x" ∷ []) ≡ kind.UnknownArgument ∷ []
+unfolding faults_of dpbr_app clap_on_literals
 example_many = refl
 
-example_help : are_taken (codes "dpbr" ∷ codes "status" ∷ codes "--help" ∷ []) ≡ false
-unfolding are_taken dpbr_app clap_on_literals
+example_help : faults_of (codes "dpbr" ∷ codes "status" ∷ codes "--help" ∷ []) ≡ kind.DisplayHelp ∷ []
+unfolding faults_of dpbr_app clap_on_literals
 example_help = refl

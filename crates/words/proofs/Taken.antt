@@ -1,16 +1,16 @@
 -- Words that clap takes name a call.
-use Rattle.std.proofs.Common.{◌≡◌, ◌⊎◌, ◌||◌, inl, inr, ℕ, Bool, true, false, cond, List, [], ◌∷◌, None, Some, refl, sym, subst, not, true≢false, codes}
+use Rattle.std.proofs.Common.{arith, ◌≡◌, ◌⊎◌, ◌&&◌, ◌||◌, inl, inr, ℕ, Bool, true, false, cond, List, [], ◌∷◌, None, Some, refl, sym, subst, not, true≢false, codes}
 use Rattle.std.specs.Prelude.{find}
 use Rattle.std.specs.List.{slice_index_or}
 use Rattle.std.specs.Str.{bytes_eq}
 use Rattle.std.proofs.lemmas.Slice.Eq.{bytes_eq-Decides}
-use Rattle.clap.proofs.WalkLemmas.{both}
-use Rattle.clap.specs.Simple.{Shape, argument_words, built, is_simple, label_of, rows_at}
-use Rattle.clap.specs.Takes.{is_given, level_passes}
+use Rattle.clap.specs.Faults.{level_fault}
+use Rattle.clap.specs.Simple.{Shape, argument_words, built, label_of, rows_at}
+use Rattle.clap.specs.Takes.{is_given}
 use Rattle.clap.specs.Walk.{Row, Text, answers_to, nothing_held, rows_after}
-use Rattle.words.proofs.Entering.{Enters, all_given, enters_one}
+use Rattle.words.proofs.Entering.{Enters, enters_one, none_lacks}
 use Rattle.words.proofs.Rows.{AskForHelp, ask_for_help, given_value, rows_filled}
-use Rattle.words.specs.Calls.{NamesCall, are_taken, dpbr_app, matched, status_command}
+use Rattle.words.specs.Calls.{AreTaken, NamesCall, dpbr_app, faults_of, matched, status_command}
 
 found_among : {X : Type 0} (p : X → Bool) (a b c x : X) → find p (a ∷ b ∷ c ∷ []) ≡ Some x → (a ≡ x) ⊎ ((b ≡ x) ⊎ ((c ≡ x) × (p c ≡ true)))
 found_among {X} p a b c x = by (p a) (p b) (p c) refl
@@ -36,36 +36,41 @@ help_is_met name met = sym ((bytes_eq-Decides (codes "help") name).0 (by (bytes_
     by true e = refl
     by false e = e
 
-never_help : (name : Text) → name ≡ codes "help" → (not (bytes_eq name (codes "help")) || false) ≡ true → ⊥
-never_help name is no_help = true≢false (sym (subst (λ (t : Text). (not (bytes_eq t (codes "help")) || false) ≡ true) is no_help))
+never_help : (name : Text) → name ≡ codes "help" → (bytes_eq name (codes "help") && true) ≡ false → ⊥
+never_help name is no_help = true≢false (subst (λ (t : Text). (bytes_eq t (codes "help") && true) ≡ false) is no_help)
+
+-- what does not lack is given
+is_there : (a b : Bool) → (not a || b) ≡ false → (a ≡ true) × (b ≡ false)
+is_there true b e = (refl, e)
+is_there false b e = absurd (true≢false e)
 
 status_asks : AskForHelp (subcommand_at 0).rules
 unfolding dpbr_app
-status_asks = ask_for_help (subcommand_at 0).rules (inl refl, (inl refl, (inr (refl, refl), tt)))
+status_asks = ask_for_help (subcommand_at 0).rules (inl refl, (inl refl, (inr (refl, inr (refl, omega arith)), (inr (refl, inl refl), tt))))
 
 audit_asks : AskForHelp (subcommand_at 1).rules
 unfolding dpbr_app
-audit_asks = ask_for_help (subcommand_at 1).rules (inl refl, (inl refl, (inr (refl, refl), tt)))
+audit_asks = ask_for_help (subcommand_at 1).rules (inl refl, (inl refl, (inr (refl, inr (refl, omega arith)), (inr (refl, inl refl), tt))))
 
 abbrev rows_at_sub : ℕ → List Text → List Row
 rows_at_sub k rest = rows_after (subcommand_at k).rules [] rest
 
-status_values : (rest : List Text) → level_passes (subcommand_at 0) [] nothing_held rest false ≡ true
+status_values : (rest : List Text) → level_fault (subcommand_at 0) [] nothing_held rest false [] ≡ []
     → NamesCall (Some (rows_at (subcommand_at 0) rest))
 unfolding dpbr_app
-status_values rest passes =
+status_values rest none =
     let filled = rows_filled (subcommand_at 0).rules [] rest status_asks in
-    let first = both (is_given (codes "LISTING") (rows_at_sub 0 rest)) _ (all_given (subcommand_at 0) rest refl passes) in
-    let second = both (is_given (codes "HELD") (rows_at_sub 0 rest)) _ first.1 in
+    let first = is_there (is_given (codes "LISTING") (rows_at_sub 0 rest)) _ (none_lacks (subcommand_at 0) rest refl none) in
+    let second = is_there (is_given (codes "HELD") (rows_at_sub 0 rest)) _ first.1 in
     inl (refl, (given_value (codes "LISTING") _ filled first.0, given_value (codes "HELD") _ filled second.0))
 
-audit_values : (rest : List Text) → level_passes (subcommand_at 1) [] nothing_held rest false ≡ true
+audit_values : (rest : List Text) → level_fault (subcommand_at 1) [] nothing_held rest false [] ≡ []
     → NamesCall (Some (rows_at (subcommand_at 1) rest))
 unfolding dpbr_app
-audit_values rest passes =
+audit_values rest none =
     let filled = rows_filled (subcommand_at 1).rules [] rest audit_asks in
-    let first = both (is_given (codes "LISTING") (rows_at_sub 1 rest)) _ (all_given (subcommand_at 1) rest refl passes) in
-    let second = both (is_given (codes "LIST") (rows_at_sub 1 rest)) _ first.1 in
+    let first = is_there (is_given (codes "LISTING") (rows_at_sub 1 rest)) _ (none_lacks (subcommand_at 1) rest refl none) in
+    let second = is_there (is_given (codes "LIST") (rows_at_sub 1 rest)) _ first.1 in
     inr (refl, (given_value (codes "LISTING") _ filled first.0, given_value (codes "LIST") _ filled second.0))
 
 abbrev NamedBy : Shape → List Text → Type 0
@@ -75,16 +80,15 @@ shape_values : (words : List Text) (e : Enters (built dpbr_app) words) → Named
 unfolding dpbr_app
 shape_values words e =
     elim (found_among (λ s. answers_to e.name (label_of s)) (subcommand_at 0) (subcommand_at 1) (subcommand_at 2) e.shape e.found) [
-      | inl is ↦ subst (λ s. NamedBy s e.rest) is (status_values e.rest (subst (λ s. level_passes s [] nothing_held e.rest false ≡ true) (sym is) e.passes))
+      | inl is ↦ subst (λ s. NamedBy s e.rest) is (status_values e.rest (subst (λ s. level_fault s [] nothing_held e.rest false [] ≡ []) (sym is) e.faultless))
       | inr rest ↦ elim rest [
-        | inl is ↦ subst (λ s. NamedBy s e.rest) is (audit_values e.rest (subst (λ s. level_passes s [] nothing_held e.rest false ≡ true) (sym is) e.passes))
+        | inl is ↦ subst (λ s. NamedBy s e.rest) is (audit_values e.rest (subst (λ s. level_fault s [] nothing_held e.rest false [] ≡ []) (sym is) e.faultless))
         | inr own ↦ absurd (never_help e.name (help_is_met e.name own.1) e.no_help)
       ]
     ]
 
-pub taken_names_call : (words : List Text) → are_taken words ≡ true → NamesCall (matched words)
-unfolding are_taken matched dpbr_app
+pub taken_names_call : (words : List Text) → AreTaken words → NamesCall (matched words)
+unfolding faults_of matched dpbr_app
 taken_names_call words taken =
-    let passes = both (is_simple dpbr_app) _ taken in
-    let e = enters_one (built dpbr_app) (argument_words dpbr_app words) refl passes.1 in
+    let e = enters_one (built dpbr_app) (argument_words dpbr_app words) refl taken in
     subst NamesCall (sym e.enters) (shape_values (argument_words dpbr_app words) e)

@@ -1,6 +1,7 @@
 -- The calls of `dpbr`, as clap matches their words.
-use Rattle.std.specs.Prelude.{◌≡◌, ◌⊎◌, codes, fold, List, [], ◌∷◌, Bool, Option, None, Some, true}
-use Rattle.clap.specs.Words.{App, Row, Rule, Shape, Text, first_of, new_app, new_rule, subcommand_of, takes, with_rule, with_subcommand}
+use Rattle.std.specs.Prelude.{◌≡◌, ◌⊎◌, ◌↔◌, codes, fold, List, [], ◌∷◌, Bool, Option, None, Some, true}
+use Rattle.clap.specs.Words.{App, Kinds, Row, Rule, Shape, Text, fault_of, first_of, new_app, new_rule, subcommand_of, with_rule, with_subcommand}
+use Rattle.clap.specs.declared.builder.action.ArgAction.TheVariants.{SetTrue}
 use Rattle.words.specs.declared.Call.{Call}
 use Rattle.words.specs.declared.Call.TheVariants.{Audit, Status}
 
@@ -10,17 +11,25 @@ use Rattle.words.specs.declared.Call.TheVariants.{Audit, Status}
 abbrev pub word : Text → Rule
 word id = record (new_rule id) { required = true }
 
+-- a word that may stand, with two dashes before it
+abbrev pub flag : Text → Rule
+flag id = record (new_rule id) { long = Some id; action = Some SetTrue }
+
+-- each path is to be a group of its own
+abbrev pub single : Rule
+single = flag (codes "single")
+
 -- a subcommand with these words behind it
 abbrev pub command : Text → List Rule → Shape
 command name rules = (fold with_rule (new_app name) rules).top
 
 -- `dpbr status`, which takes a listing and a list of held paths
 abbrev pub status_command : Shape
-status_command = command (codes "status") (word (codes "LISTING") ∷ word (codes "HELD") ∷ [])
+status_command = command (codes "status") (word (codes "LISTING") ∷ word (codes "HELD") ∷ single ∷ [])
 
 -- `dpbr audit`, which takes a listing and a list of packages
 abbrev pub audit_command : Shape
-audit_command = command (codes "audit") (word (codes "LISTING") ∷ word (codes "LIST") ∷ [])
+audit_command = command (codes "audit") (word (codes "LISTING") ∷ word (codes "LIST") ∷ single ∷ [])
 
 -- the program, which has to be given one of its subcommands
 unfoldable pub dpbr_app : App
@@ -29,9 +38,13 @@ dpbr_app =
     fold with_subcommand (record program { top = record program.top { subcommand_required = true } })
     (status_command ∷ audit_command ∷ [])
 
--- clap takes the words
-unfoldable pub are_taken : List Text → Bool
-are_taken words = takes dpbr_app words
+-- the kinds of fault of which clap names one, where it finds any in the words
+unfoldable pub faults_of : List Text → Kinds
+faults_of words = fault_of dpbr_app words
+
+-- clap takes the words: it finds no fault in them
+abbrev pub AreTaken : List Text → Type 0
+AreTaken words = faults_of words ≡ []
 
 -- the subcommand that clap matches of the words, and what it matches under the names of that
 unfoldable pub matched : List Text → Option (Text × List Row)
@@ -43,13 +56,19 @@ matched words = subcommand_of dpbr_app words
 abbrev pub IsWord : List Row → Text → Text → Type 0
 IsWord rows id value = first_of id rows ≡ Some value
 
+-- the flag was given
+abbrev pub IsFlag : List Row → Text → Bool → Type 0
+IsFlag rows id given = (given ≡ true) ↔ (first_of id rows ≡ Some (codes "true"))
+
 -- clap matched the call's subcommand, and the call's values are those of its matches
 abbrev pub IsCallOf : Option (Text × List Row) → Call → Type 0
 IsCallOf None call = ⊥
-IsCallOf (Some (name, rows)) (Status listing held) =
+IsCallOf (Some (name, rows)) (Status listing held is_single) =
     (name ≡ codes "status") × IsWord rows (codes "LISTING") listing.now × IsWord rows (codes "HELD") held.now
-IsCallOf (Some (name, rows)) (Audit listing list) =
+    × IsFlag rows (codes "single") is_single
+IsCallOf (Some (name, rows)) (Audit listing list is_single) =
     (name ≡ codes "audit") × IsWord rows (codes "LISTING") listing.now × IsWord rows (codes "LIST") list.now
+    × IsFlag rows (codes "single") is_single
 
 -- a word was matched under each of two names
 abbrev pub HasBoth : List Row → Text → Text → Type 0

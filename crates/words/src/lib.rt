@@ -1,10 +1,9 @@
 //! The words of `dpbr`: which call of the program they make, as clap matches them.
 #![tactic(auto)]
 
-ghost use Rattle.std.specs.Prelude.{◌≡◌, IfErr, IfNone, IfOk, IfSome, map, true};
-ghost use Rattle.clap.specs.Words.{app_of, kind_of, subcommand_rows_of};
-ghost use Rattle.clap.specs.declared.error.kind.ErrorKind.TheVariants.{OutOfMemory};
-ghost use Rattle.words.specs.Calls.{IsCallOf, NamesCall, are_taken, dpbr_app, matched};
+ghost use Rattle.std.specs.Prelude.{◌≡◌, IfNone, IfOk, IfSome, map};
+ghost use Rattle.clap.specs.Words.{FailsBy, app_of, subcommand_rows_of};
+ghost use Rattle.words.specs.Calls.{IsCallOf, NamesCall, dpbr_app, faults_of, matched};
 
 mod arguments;
 mod audit;
@@ -15,13 +14,21 @@ use clap::{ArgMatches, Command, Error};
 use std::alloc::{AllocError, Global};
 use std::convert::AsStr;
 
-/// A call of the program, with the names of its files.
+/// A call of the program, with the names of its files, and whether each path of the listing is a group of its own.
 #[derive(Debug, Drop)]
 pub enum Call<'a> {
     /// The letters of a listing's packages, where those named in a text of package paths are held.
-    Status { listing: &'a str, held: &'a str },
+    Status {
+        listing: &'a str,
+        held: &'a str,
+        is_single: bool,
+    },
     /// Whether a list of packages is allowed by a listing.
-    Audit { listing: &'a str, list: &'a str },
+    Audit {
+        listing: &'a str,
+        list: &'a str,
+        is_single: bool,
+    },
 }
 
 /// The call that the words make, the first of which is the program's name.
@@ -29,8 +36,8 @@ pub enum Call<'a> {
 /// Words that make no call, and those that ask for help, are refused with clap's text.
 pub fn dpbr_words<'a, S: AsStr>(alloc: Global, words: &'a [S]) -> Result<Call<'a>, Error>
     ensures call { IfOk result (IsCallOf (matched (map S.text words.entry.now))) }
-    // Words that clap takes are refused only for want of memory.
-    ensures refused { IfErr result (λ e. are_taken (map S.text words.entry.now) ≡ true → kind_of e ≡ OutOfMemory) }
+    // Where there is a call clap found no fault in the words, and a refusal is for want of memory or of a kind of their faults.
+    ensures faults { FailsBy (faults_of (map S.text words.entry.now)) result }
 {
     let matches = matches_of(alloc, words)?;
     match call_of(&matches) {
@@ -42,7 +49,7 @@ pub fn dpbr_words<'a, S: AsStr>(alloc: Global, words: &'a [S]) -> Result<Call<'a
 /// What clap matches of the words.
 fn matches_of<'a, S: AsStr>(alloc: Global, words: &'a [S]) -> Result<ArgMatches<'a>, Error>
     ensures matched { IfOk result (λ m. subcommand_rows_of m ≡ matched (map S.text words.entry.now)) }
-    ensures refused { IfErr result (λ e. are_taken (map S.text words.entry.now) ≡ true → kind_of e ≡ OutOfMemory) }
+    ensures faults { FailsBy (faults_of (map S.text words.entry.now)) result }
 {
     let command = dpbr_command(alloc)?;
     command.try_get_matches_from(words)

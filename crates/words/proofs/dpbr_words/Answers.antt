@@ -4,6 +4,6 @@ use Rattle.words.proofs.Taken.{taken_names_call}
 use Rattle.words.specs.Calls.{NamesCall}
 use Rattle.words.proofs.dpbr_words.Goals as goal
 
-pub returns-clause-refused : goal.returns-clause-refused
-returns-clause-refused g c =
-    λ taken. absurd (c.in-None.ensures.none (subst NamesCall (sym c.in_ok-matches.ensures.matched) (taken_names_call (map g.S.AsStr.text c.args.words.now) taken)))
+pub returns-clause-faults : goal.returns-clause-faults
+returns-clause-faults g c =
+    absurd (c.in-None.ensures.none (subst NamesCall (sym c.in_ok-matches.ensures.matched) (taken_names_call (map g.S.AsStr.text c.args.words.now) c.in_ok-matches.ensures.faults)))

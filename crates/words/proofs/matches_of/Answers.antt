@@ -1,13 +1,17 @@
--- What clap says of the command is said of the program, which is simple.
-use Rattle.std.proofs.Common.{◌≡◌, ◌∙◌, ap, map, refl, true, List}
-use Rattle.std.proofs.lemmas.Result.{IfErr-weaker, IfOk-weaker}
-use Rattle.clap.specs.Words.{App, Text, is_simple, subcommand_of, takes}
-use Rattle.words.specs.Calls.{are_taken, dpbr_app, matched}
+-- What clap says of the command is said of the program, which is simple and whose arguments have no rule on one another.
+use Rattle.std.proofs.Common.{◌≡◌, ◌∙◌, ap, map, refl, subst, true, List}
+use Rattle.std.proofs.lemmas.Result.{IfOk-weaker}
+use Rattle.clap.specs.Words.{App, FailsBy, Text, fault_of, is_simple, is_simple_and_free, subcommand_of}
+use Rattle.words.specs.Calls.{dpbr_app, faults_of, matched}
 use Rattle.words.proofs.matches_of.Goals as goal
 
 dpbr_is_simple : is_simple dpbr_app ≡ true
 unfolding dpbr_app
 dpbr_is_simple = refl
+
+dpbr_is_free : is_simple_and_free dpbr_app ≡ true
+unfolding dpbr_app
+dpbr_is_free = refl
 
 pub returns-clause-matched : goal.returns-clause-matched
 unfolding matched
@@ -18,11 +22,10 @@ returns-clause-matched g c =
     (λ m h. (h (ap is_simple same ∙ dpbr_is_simple)).1 ∙ ap (λ (a : App). subcommand_of a words) same)
     c.try_get_matches_from.ensures.matches
 
-pub returns-clause-refused : goal.returns-clause-refused
-unfolding are_taken
-returns-clause-refused g c =
+pub returns-clause-faults : goal.returns-clause-faults
+unfolding faults_of
+returns-clause-faults g c =
     let same = c.in_ok-command.ensures in
     let words : List Text = map g.S.AsStr.text c.args.words.now in
-    IfErr-weaker c.try_get_matches_from.result _ _
-    (λ e h taken. h (ap (λ (a : App). takes a words) same ∙ taken))
-    c.try_get_matches_from.ensures.passes
+    subst (λ (a : App). FailsBy (fault_of a words) c.try_get_matches_from.result) same
+    (c.try_get_matches_from.ensures.kinds (ap is_simple_and_free same ∙ dpbr_is_free))

@@ -1,7 +1,7 @@
 use Rattle.std.proofs.Common.{◌≡◌, ℕ, true, sym}
 use Rattle.std.proofs.lemmas.Bool.{both_ways, iff_false}
 use Rattle.std.proofs.lemmas.List.Elements.{All-contains, All-same}
-use Rattle.engine.specs.Marks.{has_mark}
+use Rattle.units.specs.inside.Marks.{has_mark}
 use Rattle.engine.proofs.TakingOff.{IsTakingOff-keeps, IsTakingOff-takes}
 use Rattle.engine.proofs.installable.take_off.Goals as goal
 use Rattle.engine.proofs.installable.take_off.Goals.{then-candidates-place+then-not-known-place+then-not-are_all_marked, else-candidates-place, else-candidates-place-via-then-candidates-place+then-not-known-place+else-not-are_all_marked, else-candidates-place-via-then-candidates-place+else-not-known-place, else-candidates-place-via-else-candidates-place}

@@ -1,7 +1,7 @@
 use Rattle.std.proofs.Common.{◌≡◌, ◌++◌, ◌∷◌, [], Ok, true, false, map, codes, ap, sym, ◌∙◌}
 use Rattle.std.proofs.lemmas.List.{append-nil}
 use Rattle.pkgspec.specs.Spec.{spec_of}
-use Rattle.listing.specs.Parts.{filled}
+use Rattle.listing.specs.inside.Parts.{filled}
 use Rattle.listing.proofs.Fields.{both_said, filled_by, none_said, one_said}
 use Rattle.listing.proofs.dependency.read_specs.Goals as goal
 use Rattle.listing.proofs.dependency.read_specs.Goals.{then-not-is_empty+in_ok-read_spec+in_ok-push, else-not-is_empty, then-not-is_empty-2+in_ok-read_bounds+in_ok-push-2, else-not-is_empty-2}

@@ -1,5 +1,6 @@
 use Rattle.std.proofs.Common.{take}
-use Rattle.listing.specs.Digest.{Takes, path_lines}
+use Rattle.listing.specs.Digest.{path_lines}
+use Rattle.listing.specs.inside.Hashing.{Takes}
 use Rattle.listing.proofs.digest.put_paths.Given as goal
 
 abbrev pub invariant-loop-position : goal.invariant-loop-position

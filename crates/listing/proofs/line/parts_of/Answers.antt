@@ -3,7 +3,7 @@ use Rattle.std.proofs.lemmas.Iterator.{YieldsList-from_slice}
 use Rattle.std.proofs.lemmas.Iterator.Search.{position_from_yields_List}
 use Rattle.faults.specs.Bytes.{dot, equals_sign}
 use Rattle.listing.specs.Lines.{is_cut}
-use Rattle.listing.specs.Parts.{AreParts}
+use Rattle.listing.specs.inside.Parts.{AreParts}
 use Rattle.listing.proofs.LineLemmas.{cut_at, no_dot, no_equals, path_text_at, value_text_at, variable_text_at}
 use Rattle.listing.proofs.line.parts_of.Goals as goal
 

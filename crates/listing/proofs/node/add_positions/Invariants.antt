@@ -1,5 +1,5 @@
 use Rattle.std.proofs.Common.{◌≡◌, ◌++◌, take}
-use Rattle.listing.specs.Nodes.{listed_positions}
+use Rattle.listing.specs.inside.Nodes.{listed_positions}
 use Rattle.listing.proofs.node.add_positions.Given as goal
 
 abbrev pub invariant-loop-number : goal.invariant-loop-number

@@ -5,7 +5,7 @@ use Rattle.std.proofs.lemmas.List.Filters.{dedup_is}
 use Rattle.std.proofs.lemmas.List.Kept.{Contains-dedup_nat, Contains-from_dedup}
 use Rattle.std.proofs.lemmas.List.Sorted.{Contains-permutation, IsPermutation-sym}
 use Rattle.std.proofs.lemmas.Map.Keys.{IsStrictlyIncreasing-dedup}
-use Rattle.listing.specs.Nodes.{listed_positions}
+use Rattle.listing.specs.inside.Nodes.{listed_positions}
 use Rattle.listing.proofs.Members.{has, has_same}
 use Rattle.listing.proofs.node.positions_of.Goals as goal
 

@@ -7,10 +7,3 @@ returns-clause-ok c = record {
   are_held = c.in_ok-engine.ensures.held;
   status = c.in_ok-text.ensures;
 }
-
-pub returns-clause-listing : goal.returns-clause-listing
-returns-clause-listing c = λ rules listing described. record {
-  tree = c.args.tree.now;
-  described = described;
-  status = returns-clause-ok c;
-}

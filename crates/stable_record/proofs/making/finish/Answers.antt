@@ -1,5 +1,5 @@
 use Rattle.std.proofs.Common.{◌∷◌, ◌++◌, [], Ok, length, ap, subst, ◌∙◌}
-use Rattle.stable_record.specs.Faults.{WritesDown}
+use Rattle.stable_record.specs.inside.Down.{WritesDown}
 use Rattle.stable_record.specs.History.{seen, written, overwritten}
 use Rattle.stable_record.specs.Log.{closed_gate, header}
 use Rattle.stable_record.proofs.NewLog.{header_put, header_file, gate_opened, made_result, on_disk_after}

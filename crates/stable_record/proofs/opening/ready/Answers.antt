@@ -39,8 +39,8 @@ returns-in_err-place-in-Blank-clause-any_moment g c kept =
     let is = c.in_ok-file.ensures.synced kept1 in
     let read = c.deref.ensures.value ∙ c.in_ok-file.ensures.bytes kept1 in
     let blank = opened_blank i c.deref.result.now (seen h) c.in_ok-opening_of.field-0 read c.in_ok-opening_of.ensures.ok c.in-Blank.is in
-    repaired_along i h (g.met.D.Disk.stays_possible c.args.disk.now) [] mid (g.D.Disk.history c.make.new.disk) is (inl (blank, refl))
-    (c.make.ensures.any_moment kept i c.in_ok-owner-in-Blank.ensures (synced_on_disk h mid is) (rw is blank))
+    repaired_along i h (g.met.D.Disk.stays_possible c.args.disk.now) c.opening_of.ensures.tree [] mid (g.D.Disk.history c.make.new.disk) is (inl (blank, refl))
+    (c.make.ensures.any_moment kept i c.in_ok-owner-in-Blank.ensures.bytes (synced_on_disk h mid is) (rw is blank))
 
 pub returns-in-Blank-clause-any_moment : goal.returns-in-Blank-clause-any_moment
 returns-in-Blank-clause-any_moment g c kept =
@@ -51,8 +51,8 @@ returns-in-Blank-clause-any_moment g c kept =
     let is = c.in_ok-file.ensures.synced kept1 in
     let read = c.deref.ensures.value ∙ c.in_ok-file.ensures.bytes kept1 in
     let blank = opened_blank i c.deref.result.now (seen h) c.in_ok-opening_of.field-0 read c.in_ok-opening_of.ensures.ok c.in-Blank.is in
-    repaired_along i h (g.met.D.Disk.stays_possible c.args.disk.now) [] mid (g.D.Disk.history c.make.new.disk) is (inl (blank, refl))
-    (c.make.ensures.any_moment kept i c.in_ok-owner-in-Blank.ensures (synced_on_disk h mid is) (rw is blank))
+    repaired_along i h (g.met.D.Disk.stays_possible c.args.disk.now) c.opening_of.ensures.tree [] mid (g.D.Disk.history c.make.new.disk) is (inl (blank, refl))
+    (c.make.ensures.any_moment kept i c.in_ok-owner-in-Blank.ensures.bytes (synced_on_disk h mid is) (rw is blank))
 
 pub returns-in_err-trim-in-Notes-clause-any_moment : goal.returns-in_err-trim-in-Notes-clause-any_moment
 returns-in_err-trim-in-Notes-clause-any_moment g c kept =
@@ -64,7 +64,7 @@ returns-in_err-trim-in-Notes-clause-any_moment g c kept =
     let read = c.deref.ensures.value ∙ c.in_ok-file.ensures.bytes kept1 in
     let notes = map note_of c.in-Notes.notes.items in
     let found = opened_notes i c.deref.result.now (seen h) c.in_ok-opening_of.field-0 c.in-Notes.notes c.in-Notes.end read c.in_ok-opening_of.ensures.ok c.in-Notes.is in
-    repaired_along i h (g.met.D.Disk.stays_possible c.args.disk.now) notes mid (g.D.Disk.history c.trim.new.disk) is (inr found.0)
+    repaired_along i h (g.met.D.Disk.stays_possible c.args.disk.now) c.opening_of.ensures.tree notes mid (g.D.Disk.history c.trim.new.disk) is (inr found.0)
     (c.trim.ensures.any_moment kept i notes (synced_on_disk h mid is) (rw is found.0) found.1)
 
 pub returns-clause-any_moment : goal.returns-clause-any_moment
@@ -77,5 +77,5 @@ returns-clause-any_moment g c kept =
     let read = c.deref.ensures.value ∙ c.in_ok-file.ensures.bytes kept1 in
     let notes = map note_of c.in-Notes.notes.items in
     let found = opened_notes i c.deref.result.now (seen h) c.in_ok-opening_of.field-0 c.in-Notes.notes c.in-Notes.end read c.in_ok-opening_of.ensures.ok c.in-Notes.is in
-    repaired_along i h (g.met.D.Disk.stays_possible c.args.disk.now) notes mid (g.D.Disk.history c.trim.new.disk) is (inr found.0)
+    repaired_along i h (g.met.D.Disk.stays_possible c.args.disk.now) c.opening_of.ensures.tree notes mid (g.D.Disk.history c.trim.new.disk) is (inr found.0)
     (c.trim.ensures.any_moment kept i notes (synced_on_disk h mid is) (rw is found.0) found.1)

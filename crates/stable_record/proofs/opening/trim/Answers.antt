@@ -1,5 +1,5 @@
 use Rattle.std.proofs.Common.{◌+◌, refl, subst}
-use Rattle.stable_record.specs.Faults.{CutsDown}
+use Rattle.stable_record.specs.inside.Down.{CutsDown}
 use Rattle.stable_record.proofs.Trim.{untouched, trimmed_along, trimmed_result}
 use Rattle.stable_record.proofs.opening.trim.Goals as goal
 

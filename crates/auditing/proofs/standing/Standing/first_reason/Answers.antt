@@ -16,6 +16,21 @@ returns-then-not-is_new c = (
   ),
 )
 
+pub returns-then-not-branch : goal.returns-then-not-branch
+returns-then-not-branch c =
+    let tree = c.args.self.now.tree.now in
+    let built = c.as_slice-built.ensures in (
+      c.in-Some.position,
+      sym c.in-Some.ensures,
+      (
+        iff_false c.is_ignored.ensures c.if-is_ignored.false,
+        same_bytes c.args.entry.now.name (name_at tree c.in-Some.position) (sym c.if-not-is_name_of.ensures),
+        c.is_new.ensures.0 c.if-not-is_new.false,
+        λ are.
+            iff_false c.in_ok-are_its_dependencies.ensures c.if-not-branch.true (subst (AreItsDependencies tree c.in-Some.position) (sym built) are),
+      ),
+    )
+
 pub returns-then-not-stood_earlier : goal.returns-then-not-stood_earlier
 returns-then-not-stood_earlier c =
     let tree = c.args.self.now.tree.now in

@@ -1,9 +1,9 @@
 use Rattle.std.proofs.Common.{◌≡◌, None, sym, subst, ◌∙◌}
 use Rattle.std.proofs.lemmas.List.{length-map}
 use Rattle.indexmap.proofs.CallerLemmas.{insert_entry-new}
-use Rattle.listing.specs.Entries.{Entry}
+use Rattle.listing.specs.inside.Entries.{Entry}
 use Rattle.listing.specs.Listing.{word_fault}
-use Rattle.listing.specs.Parts.{IsNumberOf}
+use Rattle.listing.specs.inside.Parts.{IsNumberOf}
 use Rattle.listing.specs.Rules.{names_and_specs}
 use Rattle.listing.proofs.Numbers.{entries_good, entries_grow, none_from_is_some, number_of_new, number_there, no_word_fault, place_of_new}
 use Rattle.listing.proofs.dependency.Dependencies.number.Goals as goal

@@ -1,7 +1,7 @@
 use Rattle.std.proofs.Common.{◌≡◌, Some, false, option_map, ap, sym, ◌∙◌}
 use Rattle.std.specs.Option.{option_map_or}
-use Rattle.listing.specs.Nodes.{all_match}
-use Rattle.listing.specs.Table.{name_in}
+use Rattle.listing.specs.inside.Nodes.{all_match}
+use Rattle.listing.specs.inside.Table.{name_in}
 use Rattle.listing.proofs.dependency.Dependency.is_met_by.Goals as goal
 
 pub returns-in-Some : goal.returns-in-Some

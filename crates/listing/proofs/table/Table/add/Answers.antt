@@ -1,6 +1,6 @@
 use Rattle.std.proofs.Common.{◌≡◌, false, true≢false, option_map, ap, sym, ◌∙◌}
 use Rattle.listing.specs.Listing.{is_another}
-use Rattle.listing.specs.Table.{text_in}
+use Rattle.listing.specs.inside.Table.{text_in}
 use Rattle.listing.specs.declared.table.Row.{Row}
 use Rattle.listing.specs.declared.table.Value.{Value}
 use Rattle.listing.proofs.Rows.{nothing_in_new}

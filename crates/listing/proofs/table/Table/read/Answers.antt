@@ -1,6 +1,6 @@
 use Rattle.std.proofs.Common.{◌++◌, sym, subst, ◌∙◌, inl, inr}
 use Rattle.std.proofs.lemmas.Result.{MatchResult-weaker, err_from_is_err_and}
-use Rattle.listing.specs.Table.{Stands}
+use Rattle.listing.specs.inside.Table.{Stands}
 use Rattle.listing.proofs.Reading.{accepted_fault, accepted_setting, refused_path}
 use Rattle.listing.proofs.table.Table.read.Goals as goal
 

@@ -2,7 +2,7 @@ use Rattle.std.proofs.Common.{◌≡◌, ◌<◌, ◌++◌, ◌∷◌, ◌⊎◌
 use Rattle.std.specs.List.{list_any}
 use Rattle.std.specs.Str.{bytes_eq}
 use Rattle.std.proofs.lemmas.Result.{MatchResult-weaker, err_from_is_err_and}
-use Rattle.listing.specs.Table.{AreRowsOf, new_row, setting, with_value}
+use Rattle.listing.specs.inside.Table.{AreRowsOf, new_row, setting, with_value}
 use Rattle.listing.specs.Tree.{most_paths}
 use Rattle.pkgpath.specs.PkgPath.{IsPath}
 use Rattle.listing.specs.declared.table.Row.{Row}

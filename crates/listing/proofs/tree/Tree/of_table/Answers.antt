@@ -2,8 +2,9 @@ use Rattle.std.proofs.Common.{◌≡◌, ◌<◌, ℕ, None, Some, is_some, if�
 use Rattle.std.proofs.lemmas.List.{length-map}
 use Rattle.std.proofs.lemmas.Result.{err_from_is_err_and}
 use Rattle.faults.specs.Answers.{first_given}
-use Rattle.listing.specs.Nodes.{HasNumbersBelow, IsNodeOf, resolution_of_word}
-use Rattle.listing.specs.Table.{row_fault}
+use Rattle.listing.specs.inside.Nodes.{HasNumbersBelow, IsNodeOf, resolution_of_word}
+use Rattle.listing.specs.Rules.{group_by}
+use Rattle.listing.specs.inside.Table.{row_fault}
 use Rattle.listing.specs.Tree.{IsTree}
 use Rattle.listing.specs.declared.ListingFault.TheVariants.{NoName}
 use Rattle.listing.specs.declared.node.Node.{Node}
@@ -58,9 +59,10 @@ invariant_of-result c =
     let keys = c.args.table.paths.keys in
     let resolved : resolutions ≡ map (resolution_of_word keys rows) words =
     c.in_ok-resolutions.ensures ∙ ap (λ rs. map (resolution_of_word keys rs) words) c.as_slice.ensures.value in
-    let tree = tree_is c.requires.0 words keys rows resolutions nodes c.requires.1 resolved size every in (
+    let tree = tree_is (group_by c.args.is_single) c.requires.0 words keys rows resolutions nodes c.requires.1 resolved size every in (
       size ∙ c.requires.1.lengths,
-      subst IsTree (sym tree) (is_tree c.requires.0 words keys rows c.requires.1 (named_by resolutions rows nodes size every)),
+      subst IsTree (sym tree) (is_tree c.args.is_single c.requires.0 words keys rows c.requires.1 (named_by resolutions rows nodes size every)),
+      c.in_ok-groups.ensures ∙ ap (map (group_by c.args.is_single)) c.as_slice-listed.ensures.keys,
     )
 
 pub returns-in_err-of_row : goal.returns-in_err-of_row
@@ -93,5 +95,8 @@ returns c = λ settings h.
       sym (nameless_by_rows settings words keys rows h)
           ∙ ap (first_given row_fault) (sym c.deref-row-items.ensures.value)
           ∙ none_given_at_all row_fault c.deref-row-items.result.now c.loop-row.row-index (omega (arith, c.loop-row-test.false)) c.loop-row.invariant.0,
-      tree_is settings words keys rows resolutions nodes h resolved size every,
+      tree_is (group_by c.args.is_single) settings words keys rows resolutions nodes h resolved size every,
     )
+
+pub of-requires : goal.of-requires
+of-requires c = omega (arith, c.requires.1.few, ap length c.as_slice-listed.ensures.keys)

@@ -1,7 +1,7 @@
 use Rattle.std.proofs.Common.{◌≡◌, ◌<◌, ℕ, None, length, get_or, take}
 use Rattle.faults.specs.Answers.{first_given}
-use Rattle.listing.specs.Nodes.{IsNodeOf}
-use Rattle.listing.specs.Table.{row_fault}
+use Rattle.listing.specs.inside.Nodes.{IsNodeOf}
+use Rattle.listing.specs.inside.Table.{row_fault}
 use Rattle.listing.specs.declared.node.Node.{Node}
 use Rattle.listing.specs.declared.table.Row.{Row}
 use Rattle.listing.proofs.tree.Tree.of_table.Given as goal

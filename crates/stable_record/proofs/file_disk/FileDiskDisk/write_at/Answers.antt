@@ -2,7 +2,7 @@ use Rattle.std.proofs.Common.{inr, ap, ◌∙◌, ◌∷◌}
 use Rattle.std.proofs.Math.Facts.{Fits-lt-pow}
 use Rattle.stable_record.specs.Events.{replay, fails}
 use Rattle.stable_record.specs.History.{seen, overwritten}
-use Rattle.stable_record.specs.Possible.{overwritten_is_torn}
+use Rattle.stable_record.specs.inside.Possible.{overwritten_is_torn}
 use Rattle.stable_record.proofs.Bytes.{bytes-overwritten, noted, noted_write}
 use Rattle.stable_record.proofs.file_disk.FileDiskDisk.write_at.Goals as goal
 

@@ -1,0 +1,108 @@
+-- What a contract sees of the nodes of a tree.
+use Rattle.std.specs.Prelude.{ℕ, ◌≡◌, ◌<◌, ◌&&◌, ◌||◌, ◌==◌, Bool, false, not, List, [], All, ◌++◌, map, filter_map, position, Option, None, Some, slice_index_or}
+use Rattle.std.specs.List.{list_all, list_any, zip}
+use Rattle.std.specs.List.Sorted.{IsStrictlyIncreasing}
+use Rattle.std.specs.Option.{option_map_or}
+use Rattle.std.specs.Str.{bytes_eq}
+use Rattle.faults.specs.Bytes.{Text, is_empty}
+use Rattle.pkgspec.specs.Matching.{matches}
+use Rattle.pkgspec.specs.Spec.{Alternative}
+use Rattle.listing.specs.Dependencies.{specs_of}
+use Rattle.listing.specs.inside.Parts.{position_of_word}
+use Rattle.listing.specs.Rules.{names_and_specs}
+use Rattle.listing.specs.inside.Table.{name_in, new_row}
+use Rattle.listing.specs.Tree.{Package, Tree}
+use Rattle.listing.specs.declared.dependency.Dependency.{Dependency}
+use Rattle.listing.specs.declared.dependency.Resolution.{Resolution}
+use Rattle.listing.specs.declared.node.Node.{Node}
+use Rattle.listing.specs.declared.table.Reading.{Reading}
+use Rattle.listing.specs.declared.table.Reading.TheVariants.{Name, Numbers, Unread}
+use Rattle.listing.specs.declared.table.Row.{Row}
+use Rattle.listing.specs.declared.table.Value.{Value}
+
+-- the package that the node of a path stands for, where paths are of such groups
+abbrev pub package_of_node : (Text → Text) → Text → Node → Package
+package_of_node group path n = record {
+  path = path;
+  group = group path;
+  name = n.name;
+  build = n.build.items;
+  run = n.run.items;
+  is_marked = n.is_marked;
+}
+
+-- each path with its node
+abbrev pub packages_of : (Text → Text) → List Text → List Node → Tree
+packages_of group paths nodes = map (λ e. package_of_node group e.0 e.1) (zip paths nodes)
+
+-- what a variable is set to, or the empty text where it isn't set
+abbrev pub text_of_value : Option Value → Text
+text_of_value None = []
+text_of_value (Some v) = v.text.now
+
+-- the numbers of the dependencies, where the value was read as some
+abbrev pub numbers_read : Reading → List ℕ
+numbers_read (Name name) = []
+numbers_read (Numbers numbers) = numbers.items
+numbers_read Unread = []
+
+-- the numbers of the dependencies, or none where nothing is set
+abbrev pub numbers_of_value : Option Value → List ℕ
+numbers_of_value None = []
+numbers_of_value (Some v) = numbers_read v.reading
+
+-- each dependency of the row has a number below n
+pub record HasNumbersBelow (n : ℕ) (row : Row) : Type 0 where
+  pub build : All (λ k. k < n) (numbers_of_value row.build)
+  pub lib : All (λ k. k < n) (numbers_of_value row.lib)
+  pub run : All (λ k. k < n) (numbers_of_value row.run)
+
+-- what becomes of a dependency that isn't listed
+abbrev pub unlisted : Resolution
+unlisted = record { position = None; is_met = false }
+
+-- what becomes of a dependency whose path stands at this position: the name in the row there has to be one that will do
+abbrev pub resolution_at : List Row → (Text → Bool) → Option ℕ → Resolution
+resolution_at rows will_do None = unlisted
+resolution_at rows will_do (Some p) = record { position = Some p; is_met = option_map_or will_do (name_in (slice_index_or rows p (new_row 0))) false }
+
+-- all these specs match the name
+abbrev pub all_match : List (List Alternative) → Text → Bool
+all_match specs name = list_all (λ spec. matches spec name) specs
+
+-- all specs of the word match the name
+abbrev pub word_matches : Text → Text → Bool
+word_matches word name = list_all (λ spec. names_and_specs.matches spec name) (specs_of word)
+
+-- what becomes of a dependency that was read, where these paths with their rows are listed
+abbrev pub resolution_of : List Text → List Row → Dependency → Resolution
+resolution_of listed rows d = resolution_at rows (all_match d.specs.items) (position (bytes_eq d.path) listed)
+
+-- what becomes of a dependency as it is written, where these paths with their rows are listed
+abbrev pub resolution_of_word : List Text → List Row → Text → Resolution
+resolution_of_word listed rows word = resolution_at rows (word_matches word) (position_of_word listed word)
+
+-- the positions of those that are listed, in turn
+abbrev pub listed_positions : List Resolution → List ℕ → List ℕ
+listed_positions resolutions numbers = filter_map (λ n. (slice_index_or resolutions n unlisted).position) numbers
+
+-- all dependencies with these numbers are met
+abbrev pub are_met : List Resolution → List ℕ → Bool
+are_met resolutions numbers = list_all (λ n. (slice_index_or resolutions n unlisted).is_met) numbers
+
+-- the positions in xs, ascending, each once
+pub record IsSetOf (ps xs : List ℕ) : Type 0 where
+  pub rising : IsStrictlyIncreasing ps
+  pub members : (p : ℕ) → list_any (λ q. q == p) ps ≡ list_any (λ q. q == p) xs
+
+-- IGNORE isn't empty in the row, or a dependency in it isn't met
+abbrev pub is_marked_by : List Resolution → Row → Bool
+is_marked_by resolutions row = not (is_empty (text_of_value row.ignore))
+    || not (are_met resolutions (numbers_of_value row.build) && are_met resolutions (numbers_of_value row.lib) && are_met resolutions (numbers_of_value row.run))
+
+-- the node says of a row's package what these resolutions say of its dependencies
+pub record IsNodeOf (resolutions : List Resolution) (row : Row) (n : Node) : Type 0 where
+  pub name : name_in row ≡ Some n.name
+  pub build : IsSetOf n.build.items (listed_positions resolutions (numbers_of_value row.build) ++ listed_positions resolutions (numbers_of_value row.lib))
+  pub run : IsSetOf n.run.items (listed_positions resolutions (numbers_of_value row.lib) ++ listed_positions resolutions (numbers_of_value row.run))
+  pub marked : n.is_marked ≡ is_marked_by resolutions row

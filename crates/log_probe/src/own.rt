@@ -1,0 +1,31 @@
+//! Whose the logs are.
+use arrayvec::ArrayVec;
+use hex::FromHex;
+use stable_record::Identity;
+use std::alloc::Global;
+
+/// The first of three members that weigh the same.
+pub fn same_weights() -> Identity {
+    let mut weights = ArrayVec::new();
+    for _member in 0..3 {
+        let _added = weights.try_push(1);
+    }
+    Identity {
+        tree: [7; 32],
+        weights,
+        me: 0,
+    }
+}
+
+/// The member of these words: the tree's digest and the weights in hexadecimal, and the own number.
+pub fn owner(alloc: Global, tree: &str, weights: &str, me: &str) -> Option<Identity> {
+    let tree = <[u8; 32] as FromHex>::from_hex(tree).ok()?;
+    let weights = weights_of(alloc, weights)?;
+    let me: u8 = me.parse().ok()?;
+    Some(Identity { tree, weights, me })
+}
+
+fn weights_of(alloc: Global, text: &str) -> Option<ArrayVec<u8, 9>> {
+    let bytes = hex::decode(alloc, text).ok()?;
+    ArrayVec::try_from(bytes.as_slice()).ok()
+}

@@ -1,0 +1,5 @@
+pub mod Down
+pub mod Noted
+pub mod Possible
+pub mod Reading
+pub mod Staged

@@ -1,0 +1,20 @@
+-- How calls are noted down.
+use Rattle.std.specs.Prelude.{ℕ, ◌==◌, if◌then◌else◌, List, drop, slice_index}
+use Rattle.stable_record.specs.Events.{Event, holds, writes, cuts, syncs, reads, measures, fails, replay}
+use Rattle.stable_record.specs.History.{IsBytes, seen}
+
+-- at each moment so far a read gives a file of bytes
+abbrev pub WereBytes : List Event → Type 0
+WereBytes events = (later : ℕ) → IsBytes (seen (replay (drop later events)))
+
+-- the event that these numbers and bytes note down
+abbrev pub event_of : List ℕ → List ℕ → Event
+event_of numbers bytes =
+    let kind = slice_index numbers 0 in
+    if kind == 0 then holds bytes else
+    if kind == 1 then writes (slice_index numbers 1) bytes else
+    if kind == 2 then cuts (slice_index numbers 1) else
+    if kind == 3 then syncs else
+    if kind == 4 then reads (slice_index numbers 1) (slice_index numbers 2) bytes else
+    if kind == 5 then measures (slice_index numbers 1) else
+    fails

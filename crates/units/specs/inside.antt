@@ -1,0 +1,4 @@
+-- What only bodies and proofs need.
+pub mod Gathering
+pub mod Keeping
+pub mod Marks
