@@ -10,10 +10,10 @@ mod listings;
 #[cfg(test)]
 mod paths;
 #[cfg(test)]
+mod refused_words;
+#[cfg(test)]
 mod runs;
 #[cfg(test)]
 mod texts;
 #[cfg(test)]
 mod trees;
-#[cfg(test)]
-mod words;
