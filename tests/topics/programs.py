@@ -81,6 +81,28 @@ def limits(tally):
             tally.add(words, difference(answer(words.split(), folder), (b"", f"dpbr: fault 404 at {line}\n".encode(), 1)))
 
 
+def run_chain(tally):
+    """A run chain that is held from both ends: letters are those of a plain search, whatever the order of the held text."""
+    paths = 4096
+    listing = "".join(f"ports/p{n}.FULLPKGNAME=p{n}-1\n" + (f"ports/p{n}.RUN_DEPENDS=ports/p{n + 1}\n" if n + 1 < paths else "") for n in range(paths))
+    order = [n // 2 if n % 2 == 0 else paths - 1 - n // 2 for n in range(paths)]
+    with tempfile.TemporaryDirectory() as folder:
+        with open(f"{folder}/LISTING", "w") as file:
+            file.write(listing)
+        for count in (1, 2, 1001, paths - 1, paths):
+            held = set(order[:count])
+            with open(f"{folder}/HELD", "w") as file:
+                file.writelines(f"ports/p{n}\n" for n in order[:count])
+            letters, can_run = [""] * paths, True
+            for n in reversed(range(paths)):
+                can_run = can_run and n in held
+                letters[n] = "I" if can_run else "B" if n in held else "Q"
+            text = "".join(f"{letter} ports/p{n} p{n}-1\n" for n, letter in enumerate(letters))
+            text += f"I={letters.count('I')} B={letters.count('B')} Q={letters.count('Q')} T=0 !=0\n"
+            got = answer(["status", "LISTING", "HELD"], folder)
+            tally.add(f"a run chain, {count} held", difference(got, (text.encode(), b"", 0)))
+
+
 def wrapper(tally):
     """The command of the README, from another folder, too."""
     wanted = (contents(f"{TESTS}/examples.stdout"), b"", 0)
@@ -96,3 +118,4 @@ def run(tally):
     no_calls(tally)
     faults(tally)
     limits(tally)
+    run_chain(tally)
