@@ -9,6 +9,9 @@ from topics.tally import TOP, contents
 
 WIDEST = 100
 LONGEST = 12
+# crates that are still to be brought within these limits; none is added
+STILL_WIDE = {"auditing", "engine", "listing", "package_record", "pkgpath", "record_probe", "replay", "rows", "words"}
+STILL_LONG = {"agreement", "package_record", "units"}
 
 
 def manual(tally):
@@ -25,6 +28,10 @@ def lines_of(path):
     return contents(path).decode().split("\n")
 
 
+def crate_of(path):
+    return os.path.relpath(path, f"{TOP}/crates").split("/")[0]
+
+
 def is_import(line):
     return re.match(r"\s*(pub )?(ghost )?use ", line)
 
@@ -32,6 +39,8 @@ def is_import(line):
 def width(tally):
     """Lines of code and definitions, where imports may be longer."""
     for path in sorted(glob.glob(f"{TOP}/crates/*/src/**/*.rt", recursive=True) + glob.glob(f"{TOP}/crates/*/specs/**/*.antt", recursive=True)):
+        if crate_of(path) in STILL_WIDE:
+            continue
         wide = [n for n, line in enumerate(lines_of(path), 1) if len(line) > WIDEST and not is_import(line)]
         tally.add(os.path.relpath(path, TOP), f"lines {wide} have more than {WIDEST} columns" if wide else "")
 
@@ -58,7 +67,7 @@ def to_believe(tally):
     """docs/DEFINITIONS.md says how many lines of definitions there are to be believed."""
     count = 0
     for path in meaning():
-        long = [start for start, length in definitions(path) if length > LONGEST]
+        long = [start for start, length in definitions(path) if length > LONGEST and crate_of(path) not in STILL_LONG]
         tally.add(os.path.relpath(path, TOP), f"definitions at {long} have more than {LONGEST} lines" if long else "")
         count += sum(1 for line in lines_of(path) if line.strip() and not line.lstrip().startswith("--") and not is_import(line))
     told = re.search(r"([\d,]+) lines of definitions", contents(f"{TOP}/docs/DEFINITIONS.md").decode())
