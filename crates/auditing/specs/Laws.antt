@@ -16,20 +16,25 @@ EmptyIsAllowed = (tree : Tree) → IsAllowed tree []
 -- a list with one more entry is allowed exactly where the list is and the entry may follow it
 abbrev pub ExtendedIsAllowed : Type 0
 ExtendedIsAllowed =
-    (tree : Tree) (list : List Entry) (entry : Entry) → IsAllowed tree (list ++ entry ∷ []) ↔ (IsAllowed tree list × MayFollow tree list entry)
+    (tree : Tree) (list : List Entry) (entry : Entry)
+    → IsAllowed tree (list ++ entry ∷ []) ↔ (IsAllowed tree list × MayFollow tree list entry)
 
 -- no list has two verdicts
 abbrev pub OnlyOneVerdict : Type 0
-OnlyOneVerdict = (tree : Tree) (list : List Entry) (u v : Verdict) → IsVerdict tree list u → IsVerdict tree list v → u ≡ v
+OnlyOneVerdict =
+    (tree : Tree) (list : List Entry) (u v : Verdict) → IsVerdict tree list u
+    → IsVerdict tree list v → u ≡ v
 
 -- an entry may follow if it fits the tree, is new, and each of its dependencies stood earlier
 abbrev pub FittingMayFollow : Type 0
 FittingMayFollow =
-    (tree : Tree) (earlier : List Entry) (entry : Entry) (run : List Text) → Fits tree entry.path entry.name entry.built run
+    (tree : Tree) (earlier : List Entry) (entry : Entry) (run : List Text)
+    → Fits tree entry.path entry.name entry.built run
     → IsNew earlier entry.path → StoodEarlier earlier entry.built → MayFollow tree earlier entry
 
 -- an entry that may follow fits the tree, if its dependencies are in order of path
 abbrev pub FollowingFits : Type 0
 FollowingFits =
-    (tree : Tree) (earlier : List Entry) (entry : Entry) → MayFollow tree earlier entry → AreInOrder entry.built
+    (tree : Tree) (earlier : List Entry) (entry : Entry) → MayFollow tree earlier entry
+    → AreInOrder entry.built
     → (run : List Text) × Fits tree entry.path entry.name entry.built run

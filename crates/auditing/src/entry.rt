@@ -6,7 +6,8 @@ use faults::Memory;
 use pkgname::PkgName;
 use pkgpath::PkgPath;
 
-/// A package of a list: its signature, and the signatures of the packages that it was built on, in any order.
+/// A package of a list: its signature, and the signatures of the packages that it was built on, in
+/// any order.
 #[derive(Drop)]
 pub struct Entry {
     pub path: PkgPath,

@@ -1,4 +1,5 @@
-//! The audit of a list of packages: whether it was built in order, each package against what stood in the list before it.
+//! The audit of a list of packages: whether it was built in order, each package against what stood
+//! in the list before it.
 #![tactic(auto)]
 
 mod dependencies;

@@ -1,12 +1,13 @@
 //! What an audit answers.
 
-/// Why a package may not follow those before it. Of several reasons the first in this order is the one.
+/// Why a package may not follow those before it. Of several reasons the first in this order is the
+/// one.
 #[derive(Clone, Copy, Debug, PartialEq, Eq)]
 pub enum Reason {
     /// The tree has no such path.
     Unlisted,
-    /// The path is ignored: the listing says so, a dependency is not listed or has a name that was not asked for, or it
-    /// depends on an ignored path.
+    /// The path is ignored: the listing says so, a dependency is not listed or has a name that was
+    /// not asked for, or it depends on an ignored path.
     Ignored,
     /// The tree gives the path another name.
     OtherName,

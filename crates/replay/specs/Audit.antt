@@ -23,7 +23,8 @@ reason_text DependencyNotEarlier = codes "dependency not earlier"
 
 -- the line which says that the package with this number is not allowed, and why
 abbrev pub no_line : ℕ → Text → Text
-no_line number reason = codes "no: package " ++ decimal number ++ codes ": " ++ reason ++ line_feed ∷ []
+no_line number reason =
+    codes "no: package " ++ decimal number ++ codes ": " ++ reason ++ line_feed ∷ []
 
 -- the verdict, as a line
 abbrev pub verdict_line : Verdict → Text
@@ -42,7 +43,8 @@ pub record IsVerdictOn (tree : Tree) (list : Text) (verdict : Verdict) : Type 0 
   pub is_verdict : IsVerdict tree entries verdict
 
 -- the same for the tree that a listing describes
-pub record IsVerdictOnListing (rules : Rules) (listing list : Text) (verdict : Verdict) : Type 0 where
+pub record IsVerdictOnListing (rules : Rules) (listing list : Text)
+    (verdict : Verdict) : Type 0 where
   pub tree : Tree
   pub described : tree_of rules listing ≡ Ok tree
   pub is_verdict : IsVerdictOn tree list verdict

@@ -25,14 +25,16 @@ without_empty_end (t ∷ u ∷ ts) = t ∷ without_empty_end (u ∷ ts)
 unfoldable pub lines_in : Text → List Text
 lines_in text = without_empty_end (pieces_at line_feed text)
 
--- the texts spell the package's path and its name, and its digest in 64 hexadecimal digits, in lower case
+-- the texts spell the package's path and its name, and its digest in 64 hexadecimal digits, in
+-- lower case
 pub record Spells (path name digest : Text) (d : Dep) : Type 0 where
   pub path_is : path_of path ≡ Ok d.path
   pub name_is : name_of name ≡ Ok d.name
   pub digest_is : decode_sized digest 32 ≡ Ok d.digest
   pub lower : encode_lower d.digest ≡ digest
 
--- the line is the word, a path, a name and a digest, with one blank between two of them, and these spell the package
+-- the line is the word, a path, a name and a digest, with one blank between two of them, and these
+-- spell the package
 pub record Names (word line : Text) (d : Dep) : Type 0 where
   pub path : Text
   pub name : Text
@@ -72,4 +74,5 @@ pub record IsFirstBadAt (lines : List Text) (place : ℕ) : Type 0 where
 -- the fault names the first line that belongs to no list, counted from 1
 abbrev pub IsFirstBadLine : Text → ListFault → Type 0
 IsFirstBadLine text Memory = ⊥
-IsFirstBadLine text (BadList number) = (place : ℕ) × (number ≡ place + 1) × IsFirstBadAt (lines_in text) place
+IsFirstBadLine text (BadList number) =
+    (place : ℕ) × (number ≡ place + 1) × IsFirstBadAt (lines_in text) place

@@ -11,4 +11,6 @@ OnlyOneList = (text : Text) (xs ys : List Entry) → AreEntries text xs → AreE
 
 -- a text that has entries has no first bad line
 abbrev pub ListsHaveNoFault : Type 0
-ListsHaveNoFault = (text : Text) (entries : List Entry) (e : ListFault) → AreEntries text entries → ¬ IsFirstBadLine text e
+ListsHaveNoFault =
+    (text : Text) (entries : List Entry) (e : ListFault) → AreEntries text entries
+    → ¬ IsFirstBadLine text e

@@ -16,7 +16,8 @@ has_empty_end (t ∷ u ∷ ts) = has_empty_end (u ∷ ts)
 
 -- the package that was read last, with what it was built on so far
 abbrev pub last_entry : Packages → Entry
-last_entry p = record { path = p.last.path; name = p.last.name; digest = p.last.digest; built = p.built.items }
+last_entry p =
+    record { path = p.last.path; name = p.last.name; digest = p.last.digest; built = p.built.items }
 
 -- the packages that were read, in their order
 abbrev pub entries_in : Option Packages → List Entry
@@ -38,6 +39,7 @@ pub record AddsLine (before : Option Packages) (line : Text) (after : Packages) 
   pub says : Says line said
   pub added : said_in (Some after) ≡ said_in before ++ said ∷ []
 
--- if the line says anything, it is about one that a package was built on, and no package was read before it
+-- if the line says anything, it is about one that a package was built on, and no package was read
+-- before it
 abbrev pub CannotFollow : Option Packages → Text → Type 0
 CannotFollow before line = (said : ListLine) → Says line said → (before ≡ None) × IsBuilt said

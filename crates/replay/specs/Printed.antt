@@ -37,14 +37,16 @@ abbrev pub IsOutputOf : Call → ℕ → Text → Type 0
 IsOutputOf (Status listing held is_single) status text = (status ≡ 0) × IsStatus is_single text
 IsOutputOf (Audit listing list is_single) status text = IsAudit is_single status text
 
--- what was written since, where it is known, is one such text, and the status is the one that goes with it
+-- what was written since, where it is known, is one such text, and the status is the one that goes
+-- with it
 pub record HasPrinted (call : Call) (status : ℕ) (before after : Option (List ℕ)) : Type 0 where
   pub text : Text
   pub is_output : IsOutputOf call status text
   pub appended : Appends before after text
 
 -- clap takes the words, and what the call prints that it matches was written
-pub record HasCarriedOut (words : List Word) (status : ℕ) (before after : Option (List ℕ)) : Type 0 where
+pub record HasCarriedOut (words : List Word) (status : ℕ)
+    (before after : Option (List ℕ)) : Type 0 where
   pub taken : AreTaken words
   pub call : Call
   pub is_call : IsCallOf (matched words) call

@@ -39,22 +39,27 @@ list_refusal e = record { number = lists.number_of e; place = lists.place_of e }
 
 -- the listing describes no tree, and this is told of its fault
 abbrev pub RefusesListing : Rules → Text → Refusal → Type 0
-RefusesListing rules listing r = (e : ListingFault) × (tree_of rules listing ≡ Err e) × (r ≡ listing_refusal e)
+RefusesListing rules listing r =
+    (e : ListingFault) × (tree_of rules listing ≡ Err e) × (r ≡ listing_refusal e)
 
 -- the listing describes a tree, and this is told of the first fault of a text of held package paths
 abbrev pub RefusesHeld : Rules → Text → Text → Refusal → Type 0
 RefusesHeld rules listing held r =
-    (tree : Tree) × (tree_of rules listing ≡ Ok tree) × (e : HeldFault) × IsFirstFault tree held e × (r ≡ held_refusal e)
+    (tree : Tree) × (tree_of rules listing ≡ Ok tree) × (e : HeldFault) × IsFirstFault tree held e
+    × (r ≡ held_refusal e)
 
 -- the listing describes a tree, and this is told of the first bad line of a list of packages
 abbrev pub RefusesList : Rules → Text → Text → Refusal → Type 0
 RefusesList rules listing list r =
-    (tree : Tree) × (tree_of rules listing ≡ Ok tree) × (e : ListFault) × IsFirstBadLine list e × (r ≡ list_refusal e)
+    (tree : Tree) × (tree_of rules listing ≡ Ok tree) × (e : ListFault) × IsFirstBadLine list e
+    × (r ≡ list_refusal e)
 
 -- what is told of a listing, or else of a text of held package paths
 abbrev pub RefusesStatus : Rules → Text → Text → Refusal → Type 0
-RefusesStatus rules listing held r = RefusesListing rules listing r ⊎ RefusesHeld rules listing held r
+RefusesStatus rules listing held r =
+    RefusesListing rules listing r ⊎ RefusesHeld rules listing held r
 
 -- what is told of a listing, or else of a list of packages
 abbrev pub RefusesAudit : Rules → Text → Text → Refusal → Type 0
-RefusesAudit rules listing list r = RefusesListing rules listing r ⊎ RefusesList rules listing list r
+RefusesAudit rules listing list r =
+    RefusesListing rules listing r ⊎ RefusesList rules listing list r

@@ -21,11 +21,13 @@ letter_text Ignored = codes "!"
 
 -- a package's letter, path and name
 abbrev pub package_line : Letter → Text → Text → Text
-package_line letter path name = letter_text letter ++ codes " " ++ path ++ codes " " ++ name ++ line_feed ∷ []
+package_line letter path name =
+    letter_text letter ++ codes " " ++ path ++ codes " " ++ name ++ line_feed ∷ []
 
 -- the packages' lines, by their letters
 abbrev pub package_lines : List Package → List Letter → Text
-package_lines packages letters = flat_map (λ (x : Package × Letter). package_line x.1 x.0.path x.0.name) (zip packages letters)
+package_lines packages letters =
+    flat_map (λ (x : Package × Letter). package_line x.1 x.0.path x.0.name) (zip packages letters)
 
 -- the line that says how many packages have each letter
 abbrev pub counts_line : Counts → Text
@@ -33,7 +35,8 @@ counts_line c =
     codes "I=" ++ decimal c.i ++ codes " B=" ++ decimal c.b ++ codes " Q=" ++ decimal c.q
     ++ codes " T=" ++ decimal c.t ++ codes " !=" ++ decimal c.ignored ++ line_feed ∷ []
 
--- a line for each package, in their order, with its letter, and then how many packages have each letter
+-- a line for each package, in their order, with its letter, and then how many packages have each
+-- letter
 pub record IsStatusText (s : State) (text : Text) : Type 0 where
   pub letters : List Letter
   pub counts : Counts

@@ -24,47 +24,56 @@ status_after (Unwritten r) = 1
 -- clap's error stops the program: for want of memory, or as wrong words
 abbrev pub StopsBy : Error → Stop → Type 0
 StopsBy e stop =
-    ((kind_of e ≡ OutOfMemory) × (stop ≡ Refused memory_refusal)) ⊎ ((kind_of e ≢ OutOfMemory) × (stop ≡ WrongWords e))
+    ((kind_of e ≡ OutOfMemory) × (stop ≡ Refused memory_refusal))
+    ⊎ ((kind_of e ≢ OutOfMemory) × (stop ≡ WrongWords e))
 
 -- the file of a listing can't be read, or this is told of the listing
 abbrev pub RefusesListingFile : Bool → Refusal → Type 0
-RefusesListingFile is_single r = IsSystemRefusal r ⊎ ((listing : Text) × RefusesListing (rules_for is_single) listing r)
+RefusesListingFile is_single r =
+    IsSystemRefusal r ⊎ ((listing : Text) × RefusesListing (rules_for is_single) listing r)
 
 -- one of the two files can't be read, or this is told of the texts in them
 abbrev pub RefusesStatusFiles : Bool → Refusal → Type 0
 RefusesStatusFiles is_single r =
-    IsSystemRefusal r ⊎ ((listing : Text) × (held : Text) × RefusesStatus (rules_for is_single) listing held r)
+    IsSystemRefusal r
+    ⊎ ((listing : Text) × (held : Text) × RefusesStatus (rules_for is_single) listing held r)
 
 -- the same of a list of packages
 abbrev pub RefusesAuditFiles : Bool → Refusal → Type 0
 RefusesAuditFiles is_single r =
-    IsSystemRefusal r ⊎ ((listing : Text) × (list : Text) × RefusesAudit (rules_for is_single) listing list r)
+    IsSystemRefusal r
+    ⊎ ((listing : Text) × (list : Text) × RefusesAudit (rules_for is_single) listing list r)
 
 -- what is told of the files of a call
 abbrev pub RefusesCall : Call → Refusal → Type 0
 RefusesCall (Status listing held is_single) r = RefusesStatusFiles is_single r
 RefusesCall (Audit listing list is_single) r = RefusesAuditFiles is_single r
 
--- A refusal comes before anything was written. Only where a write was refused, a beginning of the answer was written.
+-- A refusal comes before anything was written. Only where a write was refused, a beginning of the
+-- answer was written.
 abbrev pub CannotCarryOut : Call → Stop → Option (List ℕ) → Option (List ℕ) → Type 0
 CannotCarryOut call (WrongWords e) before after = ⊥
 CannotCarryOut call (Refused r) before after = RefusesCall call r × Keeps before after
 CannotCarryOut call (Unwritten r) before after = IsSystemRefusal r × HasBegun call before after
 
 -- clap takes the words, and the call that it matches can't be carried out
-pub record HasFailedAt (words : List Word) (stop : Stop) (before after : Option (List ℕ)) : Type 0 where
+pub record HasFailedAt (words : List Word) (stop : Stop)
+    (before after : Option (List ℕ)) : Type 0 where
   pub taken : AreTaken words
   pub call : Call
   pub is_call : IsCallOf (matched words) call
   pub failed : CannotCarryOut call stop before after
 
--- clap named one of the words' faults and nothing was written; or so it was, for want of memory; or the call failed
+-- clap named one of the words' faults and nothing was written; or so it was, for want of memory; or
+-- the call failed
 abbrev pub HasStopped : List Word → Stop → Option (List ℕ) → Option (List ℕ) → Type 0
-HasStopped words (WrongWords e) before after = IsAmong (kind_of e) (faults_of words) × Keeps before after
+HasStopped words (WrongWords e) before after =
+    IsAmong (kind_of e) (faults_of words) × Keeps before after
 HasStopped words (Refused r) before after =
     ((r ≡ memory_refusal) × Keeps before after) ⊎ HasFailedAt words (Refused r) before after
 HasStopped words (Unwritten r) before after = HasFailedAt words (Unwritten r) before after
 
 -- the program stopped, and not for its words
 abbrev pub HasFailed : List Word → Option (List ℕ) → Option (List ℕ) → Type 0
-HasFailed words before after = (stop : Stop) × (status_after stop ≡ 1) × HasStopped words stop before after
+HasFailed words before after =
+    (stop : Stop) × (status_after stop ≡ 1) × HasStopped words stop before after

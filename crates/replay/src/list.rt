@@ -68,9 +68,10 @@ pub(crate) struct Packages {
 
 /// The entries of a list of packages.
 ///
-/// A package has a line `package PATH NAME DIGEST`, and behind it a line `built PATH NAME DIGEST` for each package that it
-/// was built on; the paths may have any of their spellings, and the digests are in lower-case hexadecimal digits. Lines end
-/// with LF, which the last may lack. A text of no bytes is the empty list, and an empty line is a fault.
+/// A package has a line `package PATH NAME DIGEST`, and behind it a line `built PATH NAME DIGEST`
+/// for each package that it was built on; the paths may have any of their spellings, and the
+/// digests are in lower-case hexadecimal digits. Lines end with LF, which the last may lack. A text
+/// of no bytes is the empty list, and an empty line is a fault.
 pub fn read_list(alloc: Global, text: &[u8]) -> Result<Vec<Entry>, ListFault>
     ensures entries { IfOk result (λ entries. AreEntries text.now entries.items) }
     ensures refused { IfErr result (λ e. (e ≡ ListFault.Memory) ⊎ IsFirstBadLine text.now e) }
@@ -111,7 +112,8 @@ fn with_line(
     number: u64,
 ) -> Result<Packages, ListFault>
     ensures ok { IfOk result (AddsLine packages line.now) }
-    ensures err { IfErr result (λ e. (e ≡ ListFault.Memory) ⊎ ((e ≡ ListFault.BadList number) × CannotFollow packages line.now)) }
+    ensures err { IfErr result (λ e. (e ≡ ListFault.Memory) ⊎
+        ((e ≡ ListFault.BadList number) × CannotFollow packages line.now)) }
 {
     let Some(said) = list_line(alloc, line)? else {
         return Err(ListFault::BadList(number));
@@ -128,7 +130,8 @@ fn with_said(
     packages: Option<Packages>,
     said: ListLine,
 ) -> Result<Option<Packages>, Memory>
-    ensures some { IfOk result (λ more. IfSome more (λ after. said_in (Some after) ≡ said_in packages ++ said ∷ [])) }
+    ensures some { IfOk result
+        (λ more. IfSome more (λ after. said_in (Some after) ≡ said_in packages ++ said ∷ [])) }
     ensures none { IfOk result (λ more. IfNone more ((packages ≡ None) × IsBuilt said)) }
 {
     match said {

@@ -44,8 +44,10 @@ pub fn list_line(alloc: Global, line: &[u8]) -> Result<Option<ListLine>, Memory>
 
 /// The signature that the fields spell, if they do.
 fn signature(alloc: Global, path: &[u8], name: &[u8], digest: &[u8]) -> Result<Option<Dep>, Memory>
-    ensures some { IfOk result (λ signature. IfSome signature (Spells path.now name.now digest.now)) }
-    ensures none { IfOk result (λ signature. IfNone signature ((d : Dep) → ¬ Spells path.now name.now digest.now d)) }
+    ensures some { IfOk result
+        (λ signature. IfSome signature (Spells path.now name.now digest.now)) }
+    ensures none { IfOk result
+        (λ signature. IfNone signature ((d : Dep) → ¬ Spells path.now name.now digest.now d)) }
 {
     let path = match PkgPath::parse(alloc, path) {
         Ok(path) => path,
@@ -65,8 +67,10 @@ fn signature(alloc: Global, path: &[u8], name: &[u8], digest: &[u8]) -> Result<O
 
 /// The bytes that 64 lower-case hexadecimal digits write.
 fn digest_of(text: &[u8]) -> Option<[u8; 32]>
-    ensures some { IfSome result (λ digest. (decode_sized text.now 32 ≡ Ok digest) × (encode_lower digest ≡ text.now)) }
-    ensures none { IfNone result ((digest : List ℕ) → decode_sized text.now 32 ≡ Ok digest → encode_lower digest ≢ text.now) }
+    ensures some { IfSome result
+        (λ digest. (decode_sized text.now 32 ≡ Ok digest) × (encode_lower digest ≡ text.now)) }
+    ensures none { IfNone result ((digest : List ℕ) → decode_sized text.now 32 ≡ Ok digest
+        → encode_lower digest ≢ text.now) }
 {
     let mut digest = [0; 32];
     match hex::decode_to_slice(text, &mut digest) {

@@ -6,7 +6,8 @@ use std::alloc::{AllocError, Global};
 
 /// What stands between the separators: one piece more than there are separators.
 pub fn pieces<'t>(alloc: Global, separator: u8, text: &'t [u8]) -> Result<Vec<&'t [u8]>, AllocError>
-    ensures { IfOk result (λ pieces. map (λ piece. piece.now) pieces.items ≡ pieces_at separator text.entry.now) }
+    ensures { IfOk result
+        (λ pieces. map (λ piece. piece.now) pieces.items ≡ pieces_at separator text.entry.now) }
 {
     text.split(|byte| *byte == separator).collect(alloc)
 }

@@ -6,11 +6,12 @@ ghost use Rattle.replay.specs.Printed.{AppendsBeginning};
 use std::io;
 use std::io::{ErrorKind, Write};
 
-/// Writes the text and flushes it. After an error no more than a beginning of it was written, which the contract of
-/// `Write::write_all` does not say.
+/// Writes the text and flushes it. After an error no more than a beginning of it was written, which
+/// the contract of `Write::write_all` does not say.
 pub(crate) fn print<O: Write>(out: &mut O, text: &[u8]) -> io::Result<()>
     ensures ok { OnOk result (Appends (O.contents out.old) (O.contents out.new) text.now) }
-    ensures err { OnErr result (AppendsBeginning (O.contents out.old) (O.contents out.new) text.now) }
+    ensures err { OnErr result
+        (AppendsBeginning (O.contents out.old) (O.contents out.new) text.now) }
 {
     let mut rest = text;
     for _ in 0..u64::MAX {

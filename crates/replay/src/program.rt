@@ -17,12 +17,13 @@ use std::io::Write;
 use std::rt::Files;
 use words::{Call, dpbr_words};
 
-/// Carries out the call that the words make, and gives the status with which the program ends: 0; 3 after an audit that
-/// answers no; 1 after a fault, of which it writes one line to `err`, `dpbr: fault N` or `dpbr: fault N at K`; 2 where the
-/// words make no call, or ask for help, after clap's text on `err`.
+/// Carries out the call that the words make, and gives the status with which the program ends: 0; 3
+/// after an audit that answers no; 1 after a fault, of which it writes one line to `err`, `dpbr:
+/// fault N` or `dpbr: fault N at K`; 2 where the words make no call, or ask for help, after clap's
+/// text on `err`.
 ///
-/// The first word is the program's name. The whole output is made before any of it is written to `out`; output that can't
-/// be written is fault 2.
+/// The first word is the program's name. The whole output is made before any of it is written to
+/// `out`; output that can't be written is fault 2.
 pub fn dpbr_main<R: Files + AllocGlobal, O: Write, E: Write>(
     rt: &R,
     words: &[String],
@@ -30,9 +31,12 @@ pub fn dpbr_main<R: Files + AllocGlobal, O: Write, E: Write>(
     err: &mut E,
 ) -> u8
     ensures status { result ≤ 3 }
-    ensures done { result ≡ 0 → HasCarriedOut (map string_bytes words.now) 0 (O.contents out.old) (O.contents out.new) }
-    ensures denied { result ≡ 3 → HasCarriedOut (map string_bytes words.now) 3 (O.contents out.old) (O.contents out.new) }
-    ensures fault { result ≡ 1 → HasFailed (map string_bytes words.now) (O.contents out.old) (O.contents out.new) }
+    ensures done { result ≡ 0 → HasCarriedOut (map string_bytes words.now) 0 (O.contents out.old)
+        (O.contents out.new) }
+    ensures denied { result ≡ 3 → HasCarriedOut (map string_bytes words.now) 3 (O.contents out.old)
+        (O.contents out.new) }
+    ensures fault { result ≡ 1 → HasFailed (map string_bytes words.now) (O.contents out.old)
+        (O.contents out.new) }
     ensures wrong_words { result ≡ 2 → ¬ AreTaken (map string_bytes words.now) }
     ensures quiet { result ≡ 2 → Keeps (O.contents out.old) (O.contents out.new) }
 {
@@ -42,23 +46,26 @@ pub fn dpbr_main<R: Files + AllocGlobal, O: Write, E: Write>(
     }
 }
 
-/// Carries out the call that the words make, the first of which is the program's name, and gives the status with which
-/// the program then ends: 0, or 3 after an audit that answers no.
+/// Carries out the call that the words make, the first of which is the program's name, and gives
+/// the status with which the program then ends: 0, or 3 after an audit that answers no.
 ///
-/// The listing is read before the other file of the call is opened, and all that is printed is made before it is written.
+/// The listing is read before the other file of the call is opened, and all that is printed is made
+/// before it is written.
 ///
 /// # Errors
 ///
-/// `WrongWords`, where clap takes the words for no call; `Refused`, where a file can't be read, its text has a fault, or
-/// memory was refused; `Unwritten`, where a write to `out` failed.
+/// `WrongWords`, where clap takes the words for no call; `Refused`, where a file can't be read, its
+/// text has a fault, or memory was refused; `Unwritten`, where a write to `out` failed.
 pub fn dpbr_call<R: Files + AllocGlobal, O: Write>(
     rt: &R,
     words: &[String],
     out: &mut O,
 ) -> Result<u8, Stop>
     ensures status { IfOk result (λ status. (status ≡ 0) ⊎ (status ≡ 3)) }
-    ensures done { IfOk result (λ status. HasCarriedOut (map string_bytes words.now) status (O.contents out.old) (O.contents out.new)) }
-    ensures stopped { IfErr result (λ stop. HasStopped (map string_bytes words.now) stop (O.contents out.old) (O.contents out.new)) }
+    ensures done { IfOk result (λ status. HasCarriedOut (map string_bytes words.now) status
+        (O.contents out.old) (O.contents out.new)) }
+    ensures stopped { IfErr result (λ stop. HasStopped (map string_bytes words.now) stop
+        (O.contents out.old) (O.contents out.new)) }
 {
     let call = dpbr_words(rt.alloc(), words)?;
     carry_out(rt, &call, out)
@@ -71,8 +78,10 @@ fn carry_out<R: Files + AllocGlobal, O: Write>(
     out: &mut O,
 ) -> Result<u8, Stop>
     ensures status { IfOk result (λ status. (status ≡ 0) ⊎ (status ≡ 3)) }
-    ensures printed { IfOk result (λ status. HasPrinted call.now status (O.contents out.old) (O.contents out.new)) }
-    ensures stopped { IfErr result (λ stop. CannotCarryOut call.now stop (O.contents out.old) (O.contents out.new)) }
+    ensures printed { IfOk result
+        (λ status. HasPrinted call.now status (O.contents out.old) (O.contents out.new)) }
+    ensures stopped { IfErr result
+        (λ stop. CannotCarryOut call.now stop (O.contents out.old) (O.contents out.new)) }
 {
     let answer = answer_of_files(rt, call)?;
     match print(out, answer.text.as_slice()) {
@@ -127,7 +136,8 @@ fn status_of_files<R: Files + AllocGlobal>(
     held: &str,
     is_single: bool,
 ) -> Result<Answer, Refusal>
-    ensures ok { IfOk result (λ answer. (answer.status ≡ 0) × IsStatus is_single answer.text.items) }
+    ensures ok { IfOk result
+        (λ answer. (answer.status ≡ 0) × IsStatus is_single answer.text.items) }
     ensures refused { IfErr result (RefusesStatusFiles is_single) }
 {
     let tree = tree_of_file(rt, listing, is_single)?;

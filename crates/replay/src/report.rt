@@ -11,11 +11,12 @@ use pkgname::PkgName;
 use pkgpath::PkgPath;
 use std::alloc::{AllocError, Global};
 
-/// What is printed of a tree and a text of held package paths: for each package its letter, path and name, and then how
-/// many have each letter, a line each.
+/// What is printed of a tree and a text of held package paths: for each package its letter, path
+/// and name, and then how many have each letter, a line each.
 pub fn status(alloc: Global, tree: &Tree, held: &[u8]) -> Result<Vec<u8>, HeldFault>
     ensures ok { IfOk result (λ text. IsStatusOf tree.now held.now text.items) }
-    ensures refused { IfErr result (λ e. (e ≡ HeldFault.Memory) ⊎ IsFirstFault tree.now held.now e) }
+    ensures refused { IfErr result
+        (λ e. (e ≡ HeldFault.Memory) ⊎ IsFirstFault tree.now held.now e) }
 {
     let engine = held_engine(alloc, tree, held)?;
     let text = status_text(alloc, tree, &engine)?;
@@ -42,7 +43,8 @@ fn write_package(
     path: &PkgPath,
     name: &PkgName,
 ) -> Result<(), Memory>
-    ensures { OnOk result (text.new.items ≡ text.old.items ++ package_line letter path.now name.now) }
+    ensures { OnOk result
+        (text.new.items ≡ text.old.items ++ package_line letter path.now name.now) }
 {
     text.push(letter_byte(letter))?;
     text.push(b' ')?;

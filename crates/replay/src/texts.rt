@@ -36,8 +36,10 @@ pub fn status_of_texts(
     held: &[u8],
     is_single: bool,
 ) -> Result<Vec<u8>, Refusal>
-    ensures ok { IfOk result (λ text. IsStatusOfListing (rules_for is_single) listing.now held.now text.items) }
-    ensures refused { IfErr result (λ r. (r ≡ memory_refusal) ⊎ RefusesStatus (rules_for is_single) listing.now held.now r) }
+    ensures ok { IfOk result
+        (λ text. IsStatusOfListing (rules_for is_single) listing.now held.now text.items) }
+    ensures refused { IfErr result
+        (λ r. (r ≡ memory_refusal) ⊎ RefusesStatus (rules_for is_single) listing.now held.now r) }
 {
     let tree = tree_of_text(alloc, listing, is_single)?;
     let text = status(alloc, &tree, held)?;
@@ -56,7 +58,8 @@ pub fn audit_of_texts(
     is_single: bool,
 ) -> Result<Verdict, Refusal>
     ensures ok { IfOk result (IsVerdictOnListing (rules_for is_single) listing.now list.now) }
-    ensures refused { IfErr result (λ r. (r ≡ memory_refusal) ⊎ RefusesAudit (rules_for is_single) listing.now list.now r) }
+    ensures refused { IfErr result
+        (λ r. (r ≡ memory_refusal) ⊎ RefusesAudit (rules_for is_single) listing.now list.now r) }
 {
     let tree = tree_of_text(alloc, listing, is_single)?;
     let verdict = audit_list(alloc, &tree, list)?;

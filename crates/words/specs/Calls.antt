@@ -25,7 +25,8 @@ command name rules = (fold with_rule (new_app name) rules).top
 
 -- `dpbr status`, which takes a listing and a list of held paths
 abbrev pub status_command : Shape
-status_command = command (codes "status") (word (codes "LISTING") ∷ word (codes "HELD") ∷ single ∷ [])
+status_command =
+    command (codes "status") (word (codes "LISTING") ∷ word (codes "HELD") ∷ single ∷ [])
 
 -- `dpbr audit`, which takes a listing and a list of packages
 abbrev pub audit_command : Shape
@@ -35,7 +36,8 @@ audit_command = command (codes "audit") (word (codes "LISTING") ∷ word (codes 
 unfoldable pub dpbr_app : App
 dpbr_app =
     let program = new_app (codes "dpbr") in
-    fold with_subcommand (record program { top = record program.top { subcommand_required = true } })
+    fold with_subcommand
+    (record program { top = record program.top { subcommand_required = true } })
     (status_command ∷ audit_command ∷ [])
 
 -- the kinds of fault of which clap names one, where it finds any in the words
@@ -64,10 +66,12 @@ IsFlag rows id given = (given ≡ true) ↔ (first_of id rows ≡ Some (codes "t
 abbrev pub IsCallOf : Option (Text × List Row) → Call → Type 0
 IsCallOf None call = ⊥
 IsCallOf (Some (name, rows)) (Status listing held is_single) =
-    (name ≡ codes "status") × IsWord rows (codes "LISTING") listing.now × IsWord rows (codes "HELD") held.now
+    (name ≡ codes "status") × IsWord rows (codes "LISTING") listing.now
+    × IsWord rows (codes "HELD") held.now
     × IsFlag rows (codes "single") is_single
 IsCallOf (Some (name, rows)) (Audit listing list is_single) =
-    (name ≡ codes "audit") × IsWord rows (codes "LISTING") listing.now × IsWord rows (codes "LIST") list.now
+    (name ≡ codes "audit") × IsWord rows (codes "LISTING") listing.now
+    × IsWord rows (codes "LIST") list.now
     × IsFlag rows (codes "single") is_single
 
 -- a word was matched under each of two names

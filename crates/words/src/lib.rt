@@ -14,7 +14,8 @@ use clap::{ArgMatches, Command, Error};
 use std::alloc::{AllocError, Global};
 use std::convert::AsStr;
 
-/// A call of the program, with the names of its files, and whether each path of the listing is a group of its own.
+/// A call of the program, with the names of its files, and whether each path of the listing is a
+/// group of its own.
 #[derive(Debug, Drop)]
 pub enum Call<'a> {
     /// The letters of a listing's packages, where those named in a text of package paths are held.
@@ -36,7 +37,8 @@ pub enum Call<'a> {
 /// Words that make no call, and those that ask for help, are refused with clap's text.
 pub fn dpbr_words<'a, S: AsStr>(alloc: Global, words: &'a [S]) -> Result<Call<'a>, Error>
     ensures call { IfOk result (IsCallOf (matched (map S.text words.entry.now))) }
-    // Where there is a call clap found no fault in the words, and a refusal is for want of memory or of a kind of their faults.
+    // Where there is a call clap found no fault in the words, and a refusal is for want of memory
+    // or of a kind of their faults.
     ensures faults { FailsBy (faults_of (map S.text words.entry.now)) result }
 {
     let matches = matches_of(alloc, words)?;
@@ -48,7 +50,8 @@ pub fn dpbr_words<'a, S: AsStr>(alloc: Global, words: &'a [S]) -> Result<Call<'a
 
 /// What clap matches of the words.
 fn matches_of<'a, S: AsStr>(alloc: Global, words: &'a [S]) -> Result<ArgMatches<'a>, Error>
-    ensures matched { IfOk result (λ m. subcommand_rows_of m ≡ matched (map S.text words.entry.now)) }
+    ensures matched { IfOk result
+        (λ m. subcommand_rows_of m ≡ matched (map S.text words.entry.now)) }
     ensures faults { FailsBy (faults_of (map S.text words.entry.now)) result }
 {
     let command = dpbr_command(alloc)?;
