@@ -1,10 +1,12 @@
-mod Examples
+pub mod Lists
+pub mod Lowering
 pub mod Marked
 pub mod Numbered
 pub mod OneLetter
 pub mod Reading
-pub mod TakingOff
+pub mod Shown
+pub mod SoMany
 pub mod Tally
 pub mod Together
-mod UnitExamples
-pub mod Unmarked
+pub mod Waiting
+pub mod Walks

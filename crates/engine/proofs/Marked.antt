@@ -1,15 +1,27 @@
 -- The set that marks make.
-use Rattle.std.proofs.Common.{◌≡◌, ◌<◌, ◌&&◌, ◌||◌, ℕ, zero, suc, Bool, true, false, cond, nat_lt, nat_eq, List, length, set, replicate, sym, ap, ◌∙◌, refl, inl, inr, arith}
-use Rattle.std.proofs.lemmas.List.{get_or_past}
-use Rattle.std.proofs.lemmas.Bool.{cases_eq, cases_lt, cases_order, lt-ltb, le-ltb, eq-eqb, ne_eqb}
+use Rattle.std.proofs.Common.{◌≡◌, ◌≢◌, ◌+◌, ◌<◌, ◌&&◌, ◌||◌, ◌⊎◌, ℕ, zero, suc, Bool, true, false, not, cond, nat_lt, nat_eq, List, length, set, replicate, count_by, sym, ap, ◌∙◌, refl, inl, inr, arith, subst}
+use Rattle.std.proofs.lemmas.List.{get_or_past, get_or-set_same, get_or-set_other, get_or-replicate, length-set, length-replicate}
+use Rattle.std.proofs.lemmas.List.Sums.{sum_by-set}
+use Rattle.std.proofs.lemmas.Bool.{true≢false, cases_eq, cases_lt, cases_order, lt-ltb, le-ltb, eq-eqb, ne_eqb}
 use Rattle.std.proofs.lemmas.Bool.Decides.{nat_tests}
 use Rattle.std.specs.Cmp.{nat_cmp_total, unsigned_tied}
 use Rattle.std.specs.FinSet as finset
 use Rattle.std.specs.FinSet.{nat_cmp-IsAntisymmetric}
 use Rattle.std.specs.Ordering.{nat_cmp}
-use Rattle.units.specs.inside.Marks.{has_mark}
-use Rattle.units.proofs.Marked.{has_mark-other, has_mark-same, unmarked_everywhere}
-use Rattle.engine.specs.Marks.{marked_set, set_below}
+use Rattle.engine.specs.inside.Walks.{has_mark}
+use Rattle.engine.specs.inside.Agreed.{marked_set, set_below}
+
+has_mark-same : (marks : List Bool) (p : ℕ) (mark : Bool) → p < length marks → has_mark (set marks p mark) p ≡ mark
+has_mark-same marks p mark within = get_or-set_same marks p mark false within
+
+has_mark-other : (marks : List Bool) (p q : ℕ) (mark : Bool) → q ≢ p → has_mark (set marks p mark) q ≡ has_mark marks q
+has_mark-other marks p q mark other = get_or-set_other marks p q mark false other
+
+unmarked_everywhere : (n q : ℕ) → has_mark (replicate n false) q ≡ false
+unmarked_everywhere n q = elim (cases_lt q n) [
+  | inl within ↦ get_or-replicate n q false false within
+  | inr past ↦ get_or_past (replicate n false) q false (omega (arith, length-replicate n false))
+]
 
 below_more : (test : ℕ → Bool) (n q : ℕ) → test n ≡ true → (nat_eq q n || (nat_lt q n && test q)) ≡ (nat_lt q (suc n) && test q)
 below_more test n q passes = elim (cases_order q n) [

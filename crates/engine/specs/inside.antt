@@ -1,0 +1,7 @@
+pub mod Agreed
+pub mod Keeping
+pub mod Lacking
+pub mod Lists
+pub mod Queueing
+pub mod Shown
+pub mod Walks
