@@ -1,3 +1,6 @@
+pub mod Agreeing
+pub mod Beginning
+pub mod Bits
 pub mod Lists
 pub mod Lowering
 pub mod Marked
@@ -8,5 +11,6 @@ pub mod Shown
 pub mod SoMany
 pub mod Tally
 pub mod Together
+pub mod Turned
 pub mod Waiting
 pub mod Walks

@@ -1,5 +1,5 @@
 -- What the parts of an engine tell of its state.
-use Rattle.std.proofs.Common.{◌≡◌, ◌≢◌, ◌+◌, ◌<◌, ◌≤◌, ◌⊎◌, ℕ, zero, suc, Bool, true, false, not, cond, nat_eq, List, [], ◌∷◌, Some, None, All, Contains, count_by, get_or, length, map, set, refl, sym, ap, ◌∙◌, subst, inl, inr, ⊎_elim, arith}
+use Rattle.std.proofs.Common.{◌≡◌, ◌≢◌, ◌+◌, ◌<◌, ◌≤◌, ◌⊎◌, ℕ, zero, suc, Bool, true, false, not, cond, nat_eq, List, [], ◌∷◌, Option, MatchOption, Some, None, All, Contains, count_by, get_or, length, map, set, refl, sym, ap, ◌∙◌, subst, inl, inr, ⊎_elim, arith}
 use Rattle.std.proofs.Math.ListN.{get_or-map}
 use Rattle.std.proofs.lemmas.Bool.{both_ways, cases_lt, eq-eqb, eqb-true, true≢false}
 use Rattle.std.proofs.lemmas.List.{get_or_past, length-map}
@@ -12,7 +12,7 @@ use Rattle.units.specs.Ignored.{IsIgnored}
 use Rattle.units.specs.Units.{IsUnitOf, Unit}
 use Rattle.units.proofs.Once.{one_unit}
 use Rattle.engine.specs.Letters.{CanBeBuilt, IsInstallable}
-use Rattle.engine.specs.State.{AreCounts, HasLetter, IsEngine, State, counts_of, has_agreed}
+use Rattle.engine.specs.State.{AreCounts, HasLetter, IsEngine, IsNextQueued, State, counts_of, has_agreed}
 use Rattle.engine.specs.declared.Letter.{Letter}
 use Rattle.engine.specs.declared.Letter.TheVariants.{T, Q, B, I, Ignored}
 use Rattle.engine.specs.declared.reversed.Reversed.{Reversed}
@@ -25,6 +25,7 @@ use Rattle.engine.specs.inside.Shown.{is_held, is_installed, letter_at}
 use Rattle.engine.proofs.Lists.{get_or-same}
 use Rattle.engine.proofs.Marked.{contains-marked_set}
 use Rattle.engine.proofs.Numbered.{numbered_unit, unnumbered_ignored}
+use Rattle.engine.proofs.OneLetter.{only_one_letter}
 use Rattle.engine.proofs.SoMany.{nothing_lacks-held, nothing_lacks-needed, so_many-none}
 use Rattle.engine.proofs.Together.{not_ignored}
 
@@ -157,6 +158,24 @@ module _ {d : Division} {letters : List Letter} {lacks waiting : List ℕ} {runs
 
   pub has_letter : (p : ℕ) → p < length d.tree → HasLetter (state_of d.tree letters) p (letter_at letters p)
   has_letter p within = has_letter_of p within (letter_at letters p) refl (kept.queueing.are_fitting.fit p within)
+
+  -- a package that does not have the letter of ignored ones is kept with another
+  pub other_than_ignored : (p : ℕ) → p < length d.tree → ¬ HasLetter (state_of d.tree letters) p Ignored → letter_at letters p ≢ Ignored
+  other_than_ignored p within other is = other (subst (HasLetter (state_of d.tree letters) p) is (has_letter p within))
+
+  queued_shown : (p : ℕ) → p < length d.tree → HasLetter (state_of d.tree letters) p Q → letter_at letters p ≡ Q
+  queued_shown p within queued = only_one_letter d.tree (has_agreed (state_of d.tree letters)) p (letter_at letters p) Q (has_letter p within) queued
+
+  pub is_next_queued : (o : Option ℕ) → MatchOption o ((p : ℕ) → letter_at letters p ≢ Q) (λ p. (letter_at letters p ≡ Q) × ((k : ℕ) → k < p → letter_at letters k ≢ Q))
+      → IsNextQueued (state_of d.tree letters) o
+  is_next_queued None none = λ p within queued. none p (queued_shown p within queued)
+  is_next_queued (Some p) (here, before) =
+      let inside = letter_within letters p (λ ignored. let e : Q ≡ Ignored = sym here ∙ ignored in cc) in
+      let within : p < length d.tree = omega (arith, inside, kept.queueing.are_fitting.each_letter) in (
+      within,
+      subst (HasLetter (state_of d.tree letters) p) here (has_letter p within),
+      λ k earlier queued. before k earlier (queued_shown k (omega (arith, earlier, within)) queued),
+    )
 
   pub are_counts : AreCounts (state_of d.tree letters) (counts_of letters)
   are_counts = (letters, subst (λ (n : ℕ). AllZip (HasLetter (state_of d.tree letters)) (range_with_len 0 n) letters) kept.queueing.are_fitting.each_letter

@@ -3,5 +3,6 @@ pub mod Keeping
 pub mod Lacking
 pub mod Lists
 pub mod Queueing
+pub mod Row
 pub mod Shown
 pub mod Walks

@@ -121,11 +121,6 @@ impl<'a> Engine<'a> {
         ensures queued { IsNextQueued self.now result }
         ensures engine { IsEngine self.now }
     {
-        for position in 0..self.letters.len() {
-            if self.letter(position) == Letter::Q {
-                return Some(position);
-            }
-        }
-        None
+        self.letters.first_queued()
     }
 }

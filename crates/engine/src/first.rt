@@ -1,9 +1,11 @@
 //! What an engine keeps where nothing is held.
 ghost use Rattle.std.specs.Prelude.{◌≡◌, ◌<◌, ◌^◌, ℕ, IfOk, false, length, slice_index};
 ghost use Rattle.listing.specs.Tree.{run_at};
+ghost use Rattle.units.specs.Division.{IsDivision};
 ghost use Rattle.engine.specs.inside.Lacking.{AreLacks};
 ghost use Rattle.engine.specs.inside.Lists.{AreReversed, lists_of};
-ghost use Rattle.engine.specs.inside.Queueing.{AreFitting, needs_of};
+ghost use Rattle.engine.specs.inside.Queueing.{AreFitting, FitsUnit, needs_of};
+ghost use Rattle.engine.specs.inside.Shown.{is_held};
 ghost use Rattle.engine.specs.inside.Keeping.{holds};
 ghost use Rattle.engine.specs.inside.Walks.{IsIdle};
 
@@ -58,8 +60,9 @@ pub(crate) fn first_lacks(alloc: Global, tree: &Tree, runs: &Reversed, walk: &mu
 
 /// For each unit how many packages its build needs.
 pub(crate) fn first_waits(alloc: Global, units: &Units<'_>) -> Result<Vec<usize>, Memory>
-    ensures { IfOk result (λ waits. (length waits.items ≡ length units.now.units)
+    ensures waits { IfOk result (λ waits. (length waits.items ≡ length units.now.units)
         × ((u : ℕ) → u < length units.now.units → slice_index waits.items u ≡ length (needs_of units.now u))) }
+    ensures division { IsDivision units.now }
 {
     let mut waits = Vec::with_capacity(alloc, units.len() as usize)?;
     for unit in 0..units.len() {
@@ -73,18 +76,29 @@ pub(crate) fn first_letters(alloc: Global, len: u32, units: &Units<'_>, waits: &
     requires len { len ≡ length units.now.tree }
     requires each { length waits.now ≡ length units.now.units }
     requires few { len < 2 ^ 31 }
+    requires division { IsDivision units.now }
     ensures fitting { IfOk result (λ letters. AreFitting units.now letters waits.now) }
     ensures none_held { IfOk result (λ letters. (p : ℕ) → holds letters p ≡ false) }
 {
     let mut letters = Letters::new(alloc, len)?;
     for position in 0..len {
-        if let Some(unit) = units.unit_of(position) {
-            if waits[unit as usize] == 0 {
-                letters.set(position, Letter::Q);
-            } else {
-                letters.set(position, Letter::T);
-            }
-        }
+        letters.set(position, first_letter(units, waits, position));
     }
     Ok(letters)
+}
+
+/// The letter of the package at the position where nothing is held.
+fn first_letter(units: &Units<'_>, waits: &[usize], position: u32) -> Letter
+    requires listed { position < length units.now.tree }
+    requires each { length waits.now ≡ length units.now.units }
+    ensures fits { FitsUnit units.now waits.now position result }
+    ensures not_held { is_held result ≡ false }
+{
+    let Some(unit) = units.unit_of(position) else {
+        return Letter::Ignored;
+    };
+    if waits[unit as usize] == 0 {
+        return Letter::Q;
+    }
+    Letter::T
 }

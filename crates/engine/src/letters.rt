@@ -1,8 +1,10 @@
 //! The letters of all packages, which contracts see as a list by position.
-ghost use Rattle.std.specs.Prelude.{◌≡◌, ◌<◌, ◌^◌, IfOk, length, replicate, set};
+ghost use Rattle.std.specs.Prelude.{◌≡◌, ◌≢◌, ◌<◌, ◌^◌, ℕ, IfOk, MatchOption, length, replicate, set};
 ghost use Rattle.engine.specs.State.{counts_of};
 ghost use Rattle.engine.specs.inside.Shown.{is_held, letter_at};
+ghost use Rattle.engine.specs.declared.Letter.TheVariants.{Q};
 
+use crate::row::Row;
 use crate::{Counts, Letter};
 use faults::Memory;
 use std::alloc::Global;
@@ -13,18 +15,21 @@ use std::marker::Model;
 pub(crate) struct Letters {
     letters: Vec<Letter>,
     counts: Counts,
+    /// The positions with the letter Q.
+    queued: Row,
 }
 
 impl Model for Letters {
     ghost use Rattle.std.specs.Prelude.{◌≡◌, ◌<◌, ◌^◌, List, length};
     ghost use Rattle.engine.specs.State.{counts_of};
     ghost use Rattle.engine.specs.declared.Letter.{Letter as Kind};
+    ghost use Rattle.engine.specs.inside.Row.{HasQueued};
 
     ghost Value = { List Kind };
 
     ghost view = { λ l. l.letters.items };
 
-    ghost invariant = { λ l. (l.counts ≡ counts_of l.letters.items) × (length l.letters.items < 2 ^ 31) };
+    ghost invariant = { λ l. (l.counts ≡ counts_of l.letters.items) × (length l.letters.items < 2 ^ 31) × HasQueued l.letters.items l.queued };
 }
 
 impl Letters {
@@ -41,14 +46,12 @@ impl Letters {
             t: 0,
             ignored: len,
         };
-        Ok(Letters { letters, counts })
-    }
-
-    /// How many packages there are.
-    pub(crate) fn len(&self) -> u32
-        ensures { result ≡ length self.now }
-    {
-        self.letters.len() as u32
+        let queued = Row::new(alloc, len)?;
+        Ok(Letters {
+            letters,
+            counts,
+            queued,
+        })
     }
 
     /// The letter at the position.
@@ -66,6 +69,14 @@ impl Letters {
         self.counts
     }
 
+    /// The least position with the letter Q, if a package has it.
+    pub(crate) fn first_queued(&self) -> Option<u32>
+        ensures { MatchOption result ((p : ℕ) → letter_at self.now p ≢ Q)
+            (λ p. (letter_at self.now p ≡ Q) × ((k : ℕ) → k < p → letter_at self.now k ≢ Q)) }
+    {
+        self.queued.first()
+    }
+
     /// Puts the letter at the position, in place of the one that was there.
     pub(crate) fn set(&mut self, position: u32, letter: Letter)
         requires { position < length self.old }
@@ -74,6 +85,7 @@ impl Letters {
         let place = position as usize;
         self.counts.take(self.letters[place]);
         self.counts.add(letter);
+        self.queued.put(position, matches!(letter, Letter::Q));
         self.letters[place] = letter;
     }
 }

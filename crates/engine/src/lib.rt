@@ -9,6 +9,7 @@ mod laws;
 mod letters;
 mod queueing;
 mod reversed;
+mod row;
 mod walk;
 
 pub use crate::engine::Engine;
