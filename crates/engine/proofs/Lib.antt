@@ -1,10 +1,16 @@
-mod Examples
+pub mod Agreeing
+pub mod Beginning
+pub mod Bits
+pub mod Lists
+pub mod Lowering
 pub mod Marked
 pub mod Numbered
 pub mod OneLetter
 pub mod Reading
-pub mod TakingOff
+pub mod Shown
+pub mod SoMany
 pub mod Tally
 pub mod Together
-mod UnitExamples
-pub mod Unmarked
+pub mod Turned
+pub mod Waiting
+pub mod Walks

@@ -1,15 +1,21 @@
 -- The set that marks make.
-use Rattle.std.proofs.Common.{◌≡◌, ◌<◌, ◌&&◌, ◌||◌, ℕ, zero, suc, Bool, true, false, cond, nat_lt, nat_eq, List, length, set, replicate, sym, ap, ◌∙◌, refl, inl, inr, arith}
-use Rattle.std.proofs.lemmas.List.{get_or_past}
-use Rattle.std.proofs.lemmas.Bool.{cases_eq, cases_lt, cases_order, lt-ltb, le-ltb, eq-eqb, ne_eqb}
+use Rattle.std.proofs.Common.{◌≡◌, ◌≢◌, ◌+◌, ◌<◌, ◌&&◌, ◌||◌, ◌⊎◌, ℕ, zero, suc, Bool, true, false, not, cond, nat_lt, nat_eq, List, length, set, replicate, count_by, sym, ap, ◌∙◌, refl, inl, inr, arith, subst}
+use Rattle.std.proofs.lemmas.List.{get_or_past, get_or-set_same, get_or-set_other, get_or-replicate, length-set, length-replicate}
+use Rattle.std.proofs.lemmas.List.Sums.{sum_by-set}
+use Rattle.std.proofs.lemmas.Bool.{true≢false, cases_eq, cases_lt, cases_order, lt-ltb, le-ltb, eq-eqb, ne_eqb}
 use Rattle.std.proofs.lemmas.Bool.Decides.{nat_tests}
 use Rattle.std.specs.Cmp.{nat_cmp_total, unsigned_tied}
 use Rattle.std.specs.FinSet as finset
 use Rattle.std.specs.FinSet.{nat_cmp-IsAntisymmetric}
 use Rattle.std.specs.Ordering.{nat_cmp}
-use Rattle.units.specs.inside.Marks.{has_mark}
-use Rattle.units.proofs.Marked.{has_mark-other, has_mark-same, unmarked_everywhere}
-use Rattle.engine.specs.Marks.{marked_set, set_below}
+use Rattle.engine.specs.inside.Walks.{has_mark}
+use Rattle.engine.specs.inside.Agreed.{marked_set, set_below}
+
+pub has_mark-same : (marks : List Bool) (p : ℕ) (mark : Bool) → p < length marks → has_mark (set marks p mark) p ≡ mark
+has_mark-same marks p mark within = get_or-set_same marks p mark false within
+
+pub has_mark-other : (marks : List Bool) (p q : ℕ) (mark : Bool) → q ≢ p → has_mark (set marks p mark) q ≡ has_mark marks q
+has_mark-other marks p q mark other = get_or-set_other marks p q mark false other
 
 below_more : (test : ℕ → Bool) (n q : ℕ) → test n ≡ true → (nat_eq q n || (nat_lt q n && test q)) ≡ (nat_lt q (suc n) && test q)
 below_more test n q passes = elim (cases_order q n) [
@@ -43,9 +49,14 @@ contains-marked_set marks q = contains-set_below (has_mark marks) (length marks)
   | inr past ↦ ap (λ b. b && has_mark marks q) (le-ltb q (length marks) past) ∙ sym (get_or_past marks q false past)
 ]
 
-pub marked_set-none : (n : ℕ) → marked_set (replicate n false) ≡ finset.empty
-marked_set-none n = finset.same_set nat_cmp_total nat_cmp-IsAntisymmetric _ _
-    (λ q. contains-marked_set (replicate n false) q ∙ unmarked_everywhere n q ∙ sym (finset.contains-empty nat_cmp q))
+pub marked_set-none : (marks : List Bool) → ((p : ℕ) → has_mark marks p ≡ false) → marked_set marks ≡ finset.empty
+marked_set-none marks unmarked = finset.same_set nat_cmp_total nat_cmp-IsAntisymmetric _ _
+    (λ q. contains-marked_set marks q ∙ unmarked q ∙ sym (finset.contains-empty nat_cmp q))
+
+-- the same marks make the same set
+pub marked_set-like : (marks others : List Bool) → ((p : ℕ) → has_mark marks p ≡ has_mark others p) → marked_set marks ≡ marked_set others
+marked_set-like marks others same = finset.same_set nat_cmp_total nat_cmp-IsAntisymmetric _ _
+    (λ q. contains-marked_set marks q ∙ same q ∙ sym (contains-marked_set others q))
 
 pub marked_set-more : (marks : List Bool) (p : ℕ) → p < length marks → marked_set (set marks p true) ≡ finset.insert (marked_set marks) p
 marked_set-more marks p within = finset.same_set nat_cmp_total nat_cmp-IsAntisymmetric _ _

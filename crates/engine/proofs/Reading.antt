@@ -1,179 +1,204 @@
--- What an engine's marks tell of its state.
-use Rattle.std.proofs.Common.{◌≡◌, ◌<◌, ℕ, Bool, true, false, List, length, set, replicate, All, sym, ap, ◌∙◌, subst, ⊎_elim, arith, slice_index_or}
-use Rattle.std.proofs.lemmas.List.{get_or_read, length-replicate, length-set}
-use Rattle.std.proofs.lemmas.List.Elements.{All-weaker, Contains-get_or}
-use Rattle.std.proofs.lemmas.Bool.{both_ways}
-use Rattle.std.specs.FinSet as finset
-use Rattle.std.specs.Ordering.{nat_cmp}
-use Rattle.listing.specs.Tree.{IsTree, Tree, run_at}
+-- What the parts of an engine tell of its state.
+use Rattle.std.proofs.Common.{◌≡◌, ◌≢◌, ◌+◌, ◌<◌, ◌≤◌, ◌⊎◌, ℕ, zero, suc, Bool, true, false, not, cond, nat_eq, List, [], ◌∷◌, Option, MatchOption, Some, None, All, Contains, count_by, get_or, length, map, set, refl, sym, ap, ◌∙◌, subst, inl, inr, ⊎_elim, arith}
+use Rattle.std.proofs.Math.ListN.{get_or-map}
+use Rattle.std.proofs.lemmas.Bool.{both_ways, cases_lt, eq-eqb, eqb-true, true≢false}
+use Rattle.std.proofs.lemmas.List.{get_or_past, length-map}
+use Rattle.std.proofs.lemmas.List.Elements.{All-contains, Contains-get_or}
+use Rattle.std.proofs.lemmas.List.Sums.{get_or-le-sum_by, sum_by-cons}
+use Rattle.std.specs.List.{AllZip, range_with_len}
+use Rattle.listing.specs.Tree.{IsTree, Tree, no_package, run_at}
+use Rattle.units.specs.Division.{Division, IsDivision, number_of, unit_at}
 use Rattle.units.specs.Ignored.{IsIgnored}
-use Rattle.units.specs.inside.Marks.{has_mark}
 use Rattle.units.specs.Units.{IsUnitOf, Unit}
 use Rattle.units.proofs.Once.{one_unit}
-use Rattle.engine.specs.Letters.{IsInstallable}
-use Rattle.engine.specs.Marks.{AreInstallable, AreKnown, AreMarks, marked_set}
-use Rattle.engine.specs.State.{HasLetter, IsEngine, State, has_agreed}
+use Rattle.engine.specs.Letters.{CanBeBuilt, IsInstallable}
+use Rattle.engine.specs.State.{AreCounts, HasLetter, IsEngine, IsNextQueued, State, counts_of, has_agreed}
+use Rattle.engine.specs.declared.Letter.{Letter}
 use Rattle.engine.specs.declared.Letter.TheVariants.{T, Q, B, I, Ignored}
-use Rattle.units.proofs.Marked.{marked_after, marked_before, marked_within, unmarked_everywhere}
-use Rattle.engine.proofs.Marked.{contains-marked_set, marked_set-more, marked_set-none, marked_set-same}
+use Rattle.engine.specs.declared.reversed.Reversed.{Reversed}
+use Rattle.engine.specs.declared.walk.Walk.{Walk}
+use Rattle.engine.specs.inside.Agreed.{held_marks, marked_set}
+use Rattle.engine.specs.inside.Keeping.{AreKept, holds}
+use Rattle.engine.specs.inside.Lacking.{IsLacking}
+use Rattle.engine.specs.inside.Queueing.{FitsUnit, needs_of, waited_for}
+use Rattle.engine.specs.inside.Shown.{is_held, is_installed, letter_at}
+use Rattle.engine.proofs.Lists.{get_or-same}
+use Rattle.engine.proofs.Marked.{contains-marked_set}
+use Rattle.engine.proofs.Numbered.{numbered_unit, unnumbered_ignored}
+use Rattle.engine.proofs.OneLetter.{only_one_letter}
+use Rattle.engine.proofs.SoMany.{nothing_lacks-held, nothing_lacks-needed, so_many-none}
+use Rattle.engine.proofs.Together.{not_ignored}
 
--- what contracts see of the marks
-abbrev pub state_of : Tree → List Bool → State
-state_of tree held = record { tree = tree; agreed = marked_set held }
+-- what contracts see of the letters
+abbrev pub state_of : Tree → List Letter → State
+state_of tree letters = record { tree = tree; agreed = marked_set (held_marks letters) }
 
-pub agreed_is_held : (tree : Tree) (held : List Bool) (p : ℕ) → has_agreed (state_of tree held) p ≡ has_mark held p
-agreed_is_held tree held p = contains-marked_set held p
+pub held_mark : (letters : List Letter) (p : ℕ) → get_or (held_marks letters) p false ≡ holds letters p
+held_mark letters p = get_or-map is_held letters p Ignored
 
--- ---- installable
+pub agreed_is_held : (tree : Tree) (letters : List Letter) (p : ℕ) → has_agreed (state_of tree letters) p ≡ holds letters p
+agreed_is_held tree letters p = contains-marked_set (held_marks letters) p ∙ held_mark letters p
 
-pub installable_from_mark : (tree : Tree) (held marks : List Bool) (p : ℕ) → AreInstallable tree held marks → has_mark marks p ≡ true → IsInstallable tree (has_agreed (state_of tree held)) p
-installable_from_mark tree held marks p are marked = record {
-  among = has_mark marks;
-  member = marked;
-  all_held = λ q in_marks. agreed_is_held tree held q ∙ are.may_be.all_held q in_marks;
-  closed = are.closed;
-}
+-- a letter other than that of ignored packages stands within the list
+pub letter_within : (letters : List Letter) (p : ℕ) → letter_at letters p ≢ Ignored → p < length letters
+letter_within letters p other = elim (cases_lt p (length letters)) [
+  | inl within ↦ within
+  | inr past ↦ absurd (other (get_or_past letters p Ignored past))
+]
 
-pub mark_from_installable : (tree : Tree) (held marks : List Bool) (p : ℕ) → AreInstallable tree held marks → IsInstallable tree (has_agreed (state_of tree held)) p → has_mark marks p ≡ true
-mark_from_installable tree held marks p are i = are.may_be.greatest p (record {
-  among = i.among;
-  member = i.member;
-  all_held = λ q in_among. sym (agreed_is_held tree held q) ∙ i.all_held q in_among;
-  closed = i.closed;
-})
+installed_is : (l : Letter) → is_installed l ≡ true → l ≡ I
+installed_is T e = absurd (true≢false (sym e))
+installed_is Q e = absurd (true≢false (sym e))
+installed_is B e = absurd (true≢false (sym e))
+installed_is I e = refl
+installed_is Ignored e = absurd (true≢false (sym e))
 
--- ---- an engine's marks, and the state that contracts see of them
 
-module _ {tree : Tree} {held installable candidates : List Bool} (marks : AreMarks tree held installable candidates) where
-  pub is_engine : {s : State} → state_of tree held ≡ s → IsEngine s
-  is_engine seen = subst IsEngine seen (record {
-    tree = marks.is_tree;
-    listed = λ p agreed. omega (arith, marked_within held p (sym (agreed_is_held tree held p) ∙ agreed), marks.each);
-    not_ignored = λ p agreed. marks.none_ignored p (sym (agreed_is_held tree held p) ∙ agreed);
-  })
+-- where none is waited for, all are installed
+none_waited : (letters : List Letter) (ps : List ℕ) (q : ℕ) → waited_for letters ps ≡ 0 → Contains ps q → letter_at letters q ≡ I
+none_waited letters ps q none (k, within, is) = installed_is (letter_at letters q) (go (is_installed (letter_at letters q)) refl)
+  where
+    go : (b : Bool) → is_installed (letter_at letters q) ≡ b → is_installed (letter_at letters q) ≡ true
+    go true e = e
+    go false e =
+        let test : ℕ → ℕ = λ x. cond (not (is_installed (letter_at letters x))) 1 0 in
+        let at : test (get_or ps k q) ≤ waited_for letters ps = get_or-le-sum_by test ps k q within in
+        let one : test (get_or ps k q) ≡ 1 = ap test is ∙ ap (λ b. cond (not b) 1 0) e in
+        absurd (omega (arith, at, one, none))
 
-  ignored_letter : (p : ℕ) → has_mark held p ≡ false → IsIgnored tree p → HasLetter (state_of tree held) p Ignored
-  ignored_letter p not_held ignored = (agreed_is_held tree held p ∙ not_held, ignored)
+-- where some are waited for, one is not installed
+some_waited : (letters : List Letter) (ps : List ℕ) → 0 < waited_for letters ps → (q : ℕ) × Contains ps q × (is_installed (letter_at letters q) ≡ false)
+some_waited letters [] some = absurd (omega arith)
+some_waited letters (p ∷ ps) some = go (is_installed (letter_at letters p)) refl (λ rest. some_waited letters ps rest)
+  where
+    go : (b : Bool) → is_installed (letter_at letters p) ≡ b → (0 < waited_for letters ps → (q : ℕ) × Contains ps q × (is_installed (letter_at letters q) ≡ false))
+        → (q : ℕ) × Contains (p ∷ ps) q × (is_installed (letter_at letters q) ≡ false)
+    go false e later = (p, (0, omega arith, refl), e)
+    go true e later =
+        let test : ℕ → ℕ = λ x. cond (not (is_installed (letter_at letters x))) 1 0 in
+        let none : test p ≡ 0 = ap (λ b. cond (not b) 1 0) e in
+        let rest = later (omega (arith, some, none, sum_by-cons test p ps)) in
+        (rest.0, (suc rest.1.0, omega (arith, rest.1.1), rest.1.2), rest.2)
 
-  -- what a read of a mark says
-  module _ {s : State} (seen : state_of tree held ≡ s) {p : ℕ} (listed : p < length s.tree) where
-    pub listed_within : p < length tree
-    listed_within = subst (λ (t : State). p < length t.tree) (sym seen) listed
+zip_from : (R : ℕ → Letter → Type 0) (a : ℕ) (ls : List Letter) → ((k : ℕ) → k < length ls → R (a + k) (get_or ls k Ignored)) → AllZip R (range_with_len a (length ls)) ls
+zip_from R a [] each = tt
+zip_from R a (l ∷ ls) each = (
+  let e : a + 0 ≡ a = omega arith in subst (λ (x : ℕ). R x l) e (each 0 (omega arith)),
+  zip_from R (a + 1) ls (λ k within. let e : a + suc k ≡ a + 1 + k = omega arith in subst (λ (x : ℕ). R x (get_or ls k Ignored)) e (each (suc k) (omega arith))),
+)
 
-    pub held_read : {read mark : Bool} → read ≡ slice_index_or held p read → read ≡ mark → has_mark held p ≡ mark
-    held_read here is = sym (get_or_read held p _ (omega (arith, marks.each, listed_within)) here false) ∙ is
+module _ {d : Division} {letters : List Letter} {lacks waiting : List ℕ} {runs needs : Reversed} {walk : Walk} (kept : AreKept d letters lacks waiting runs needs walk) where
+  is_division : IsDivision d
+  is_division = kept.queueing.are_fitting.division
 
-    pub installable_read : {read mark : Bool} → read ≡ slice_index_or installable p read → read ≡ mark → has_mark installable p ≡ mark
-    installable_read here is = sym (get_or_read installable p _ (omega (arith, marks.each, marks.are_installable.may_be.each, listed_within)) here false) ∙ is
+  some_lacking : (q : ℕ) → nat_eq (get_or lacks q 1) 0 ≡ true → (q < length lacks) × (get_or lacks q 0 ≡ 0)
+  some_lacking q e = elim (cases_lt q (length lacks)) [
+    | inl within ↦ (within, get_or-same lacks q 0 1 within ∙ eqb-true (get_or lacks q 1) 0 e)
+    | inr past ↦ absurd (omega (arith, get_or_past lacks q 1 past, eqb-true (get_or lacks q 1) 0 e))
+  ]
 
-  -- ---- letters
+  run_within : (q x : ℕ) → q < length d.tree → Contains (run_at d.tree q) x → x < length d.tree
+  run_within q x within needed = All-contains (λ p. p < length d.tree) (run_at d.tree q) x (is_division.tree.run q no_package within).within needed
 
-  module _ {s : State} (seen : state_of tree held ≡ s) (p : ℕ) where
-    pub letter_I : has_mark installable p ≡ true → HasLetter s p I
-    letter_I marked = subst (λ (t : State). HasLetter t p I) seen
-        (agreed_is_held tree held p ∙ marks.are_installable.may_be.all_held p marked, installable_from_mark tree held installable p marks.are_installable marked)
+  -- what lacks nothing is installable
+  installable_from : (p : ℕ) → p < length d.tree → get_or lacks p 0 ≡ 0 → IsInstallable d.tree (has_agreed (state_of d.tree letters)) p
+  installable_from p within none = record {
+    among = λ q. nat_eq (get_or lacks q 1) 0;
+    member = eq-eqb (get_or lacks p 1) 0 (get_or-same lacks p 1 0 (omega (arith, within, kept.each)) ∙ none);
+    all_held = λ q e. let at = some_lacking q e in
+        agreed_is_held d.tree letters q ∙ nothing_lacks-held (run_at d.tree) (holds letters) (length d.tree) lacks q kept.are_lacks at.0 (omega (arith, at.0, kept.each)) at.1;
+    closed = λ q x e needed.
+        let at = some_lacking q e in
+        let inside = run_within q x (omega (arith, at.0, kept.each)) needed in
+        let inside' : x < length lacks = omega (arith, inside, kept.each) in
+        eq-eqb (get_or lacks x 1) 0 (get_or-same lacks x 1 0 inside' ∙ nothing_lacks-needed (run_at d.tree) (holds letters) (length d.tree) lacks q x kept.are_lacks at.0 inside' at.1 needed);
+  }
 
-    pub letter_B : has_mark installable p ≡ false → has_mark held p ≡ true → HasLetter s p B
-    letter_B unmarked is_held = subst (λ (t : State). HasLetter t p B) seen
-        (agreed_is_held tree held p ∙ is_held, λ i. both_ways (has_mark installable p) unmarked (mark_from_installable tree held installable p marks.are_installable i))
+  -- what is installable lacks nothing
+  lacks_none : (p : ℕ) → p < length d.tree → IsInstallable d.tree (has_agreed (state_of d.tree letters)) p → get_or lacks p 0 ≡ 0
+  lacks_none p within i = so_many-none (IsLacking (run_at d.tree) (holds letters) p) (length d.tree) (get_or lacks p 0) (kept.are_lacks p (omega (arith, within, kept.each)))
+      (λ q below lacking. true≢false (sym (i.all_held q (lacking.0 i.among i.member i.closed)) ∙ agreed_is_held d.tree letters q ∙ lacking.1))
 
-    pub letter_Ignored : has_mark held p ≡ false → IsIgnored tree p → HasLetter s p Ignored
-    letter_Ignored not_held ignored = subst (λ (t : State). HasLetter t p Ignored) seen (ignored_letter p not_held ignored)
+  not_installed : (q : ℕ) (l : Letter) → letter_at letters q ≡ l → is_installed l ≡ false → IsInstallable d.tree (has_agreed (state_of d.tree letters)) q → ⊥
+  not_installed q T is e i = true≢false (sym (i.all_held q i.member) ∙ agreed_is_held d.tree letters q ∙ ap is_held is)
+  not_installed q Q is e i = true≢false (sym (i.all_held q i.member) ∙ agreed_is_held d.tree letters q ∙ ap is_held is)
+  not_installed q Ignored is e i = true≢false (sym (i.all_held q i.member) ∙ agreed_is_held d.tree letters q ∙ ap is_held is)
+  not_installed q I is e i = true≢false e
+  not_installed q B is e i =
+      let within = letter_within letters q (λ ignored. let x : B ≡ Ignored = sym is ∙ ignored in cc) in
+      absurd (omega (arith, kept.built q is, lacks_none q (omega (arith, within, kept.queueing.are_fitting.each_letter)) i))
 
-    pub letter_Q : has_mark held p ≡ false → (IsIgnored tree p → ⊥) → (u : Unit) → IsUnitOf tree p u → All (λ d. has_mark installable d ≡ true) u.build → HasLetter s p Q
-    letter_Q not_held not_ignored u of_unit all = subst (λ (t : State). HasLetter t p Q) seen (
-      agreed_is_held tree held p ∙ not_held,
-      not_ignored,
+  has_letter_of : (p : ℕ) → p < length d.tree → (l : Letter) → letter_at letters p ≡ l → FitsUnit d waiting p l → HasLetter (state_of d.tree letters) p l
+  has_letter_of p within I is fits = (agreed_is_held d.tree letters p ∙ ap is_held is, installable_from p within (kept.installed p is))
+  has_letter_of p within B is fits = (agreed_is_held d.tree letters p ∙ ap is_held is, not_installed p B is refl)
+  has_letter_of p within Ignored is fits = (agreed_is_held d.tree letters p ∙ ap is_held is, unnumbered_ignored d p is_division within fits)
+  has_letter_of p within Q is (u, number, none) =
+      let unit = numbered_unit d p u is_division number in (
+      agreed_is_held d.tree letters p ∙ ap is_held is,
+      not_ignored d.tree p (unit_at d u) unit.1,
       record {
-        unit = u;
-        of_unit = of_unit;
-        installable = All-weaker (λ d. has_mark installable d ≡ true) (IsInstallable tree (has_agreed (state_of tree held)))
-            (λ d. installable_from_mark tree held installable d marks.are_installable) u.build all;
+        unit = unit_at d u;
+        of_unit = unit.1;
+        installable = λ k x inside.
+            let q = get_or (needs_of d u) k x in
+            let letter = none_waited letters (needs_of d u) q (sym (kept.queueing.waited u unit.0) ∙ none) (Contains-get_or (needs_of d u) k x inside) in
+            let within_q = letter_within letters q (λ ignored. let e : I ≡ Ignored = sym letter ∙ ignored in cc) in
+            installable_from q (omega (arith, within_q, kept.queueing.are_fitting.each_letter)) (kept.installed q letter);
       },
     )
-
-    pub letter_T : has_mark held p ≡ false → (IsIgnored tree p → ⊥) → (u : Unit) → IsUnitOf tree p u → (All (λ d. has_mark installable d ≡ true) u.build → ⊥) → HasLetter s p T
-    letter_T not_held not_ignored u of_unit lacks = subst (λ (t : State). HasLetter t p T) seen (
-      agreed_is_held tree held p ∙ not_held,
-      not_ignored,
-      λ can. lacks (All-weaker (IsInstallable tree (has_agreed (state_of tree held))) (λ d. has_mark installable d ≡ true)
-          (λ d. mark_from_installable tree held installable d marks.are_installable) u.build
-          (subst (λ (v : Unit). All (IsInstallable tree (has_agreed (state_of tree held))) v.build) (one_unit tree p can.unit u can.of_unit of_unit) can.installable)),
+  has_letter_of p within T is (u, number, some) =
+      let unit = numbered_unit d p u is_division number in (
+      agreed_is_held d.tree letters p ∙ ap is_held is,
+      not_ignored d.tree p (unit_at d u) unit.1,
+      λ can.
+          let one = some_waited letters (needs_of d u) (omega (arith, some, kept.queueing.waited u unit.0)) in
+          let all = subst (λ (v : Unit). All (IsInstallable d.tree (has_agreed (state_of d.tree letters))) v.build) (one_unit d.tree p can.unit (unit_at d u) can.of_unit unit.1) can.installable in
+          not_installed one.0 (letter_at letters one.0) refl one.2 (All-contains (IsInstallable d.tree (has_agreed (state_of d.tree letters))) (needs_of d u) one.0 all one.1),
     )
 
-  -- ---- one more is held
+  pub has_letter : (p : ℕ) → p < length d.tree → HasLetter (state_of d.tree letters) p (letter_at letters p)
+  has_letter p within = has_letter_of p within (letter_at letters p) refl (kept.queueing.are_fitting.fit p within)
 
-  pub AreKnown-held : (p : ℕ) → AreKnown tree installable (set held p true)
-  AreKnown-held p = record {
-    each = marks.are_installable.may_be.each ∙ sym (length-set held p true);
-    among = λ q marked. marked_after held p q (marks.are_installable.may_be.all_held q marked);
-    closed = marks.are_installable.closed;
-  }
+  -- a package that does not have the letter of ignored ones is kept with another
+  pub other_than_ignored : (p : ℕ) → p < length d.tree → ¬ HasLetter (state_of d.tree letters) p Ignored → letter_at letters p ≢ Ignored
+  other_than_ignored p within other is = other (subst (HasLetter (state_of d.tree letters) p) is (has_letter p within))
 
-  -- where it needs to run what is not held, nothing more is installable
-  pub AreInstallable-same : (p : ℕ) → (All (λ d. has_mark (set held p true) d ≡ true) (run_at tree p) → ⊥) → AreInstallable tree (set held p true) installable
-  AreInstallable-same p lacks = record {
-    may_be = record {
-      each = marks.are_installable.may_be.each ∙ sym (length-set held p true);
-      all_held = λ q marked. marked_after held p q (marks.are_installable.may_be.all_held q marked);
-      greatest = λ q i. marks.are_installable.may_be.greatest q (record {
-        among = i.among;
-        member = i.member;
-        all_held = λ x in_among. ⊎_elim (λ same. absurd (lacks (needed x i in_among same))) (λ before. before) (marked_before held p x (i.all_held x in_among));
-        closed = i.closed;
-      });
-    };
-    closed = marks.are_installable.closed;
+  queued_shown : (p : ℕ) → p < length d.tree → HasLetter (state_of d.tree letters) p Q → letter_at letters p ≡ Q
+  queued_shown p within queued = only_one_letter d.tree (has_agreed (state_of d.tree letters)) p (letter_at letters p) Q (has_letter p within) queued
+
+  pub is_next_queued : (o : Option ℕ) → MatchOption o ((p : ℕ) → letter_at letters p ≢ Q) (λ p. (letter_at letters p ≡ Q) × ((k : ℕ) → k < p → letter_at letters k ≢ Q))
+      → IsNextQueued (state_of d.tree letters) o
+  is_next_queued None none = λ p within queued. none p (queued_shown p within queued)
+  is_next_queued (Some p) (here, before) =
+      let inside = letter_within letters p (λ ignored. let e : Q ≡ Ignored = sym here ∙ ignored in cc) in
+      let within : p < length d.tree = omega (arith, inside, kept.queueing.are_fitting.each_letter) in (
+      within,
+      subst (HasLetter (state_of d.tree letters) p) here (has_letter p within),
+      λ k earlier queued. before k earlier (queued_shown k (omega (arith, earlier, within)) queued),
+    )
+
+  pub are_counts : AreCounts (state_of d.tree letters) (counts_of letters)
+  are_counts = (letters, subst (λ (n : ℕ). AllZip (HasLetter (state_of d.tree letters)) (range_with_len 0 n) letters) kept.queueing.are_fitting.each_letter
+      (zip_from (HasLetter (state_of d.tree letters)) 0 letters (λ k inside.
+      let e : k ≡ 0 + k = omega arith in
+      subst (λ (x : ℕ). HasLetter (state_of d.tree letters) x (get_or letters k Ignored)) e (has_letter k (omega (arith, inside, kept.queueing.are_fitting.each_letter))))), refl)
+
+  held_unit : (p : ℕ) (l : Letter) → is_held l ≡ true → FitsUnit d waiting p l → (u : ℕ) × (number_of d p ≡ Some u)
+  held_unit p T e fits = absurd (true≢false (sym e))
+  held_unit p Q e fits = absurd (true≢false (sym e))
+  held_unit p B e fits = fits
+  held_unit p I e fits = fits
+  held_unit p Ignored e fits = absurd (true≢false (sym e))
+
+  pub is_engine : IsEngine (state_of d.tree letters)
+  is_engine = record {
+    tree = is_division.tree;
+    listed = within;
+    not_ignored = λ p agreed.
+        let unit = held_unit p (letter_at letters p) (sym (agreed_is_held d.tree letters p) ∙ agreed) (kept.queueing.are_fitting.fit p (within p agreed)) in
+        not_ignored d.tree p (unit_at d unit.0) (numbered_unit d p unit.0 is_division unit.1).1;
   }
     where
-      needed : (x : ℕ) {q : ℕ} (i : IsInstallable tree (has_mark (set held p true)) q) → i.among x ≡ true → x ≡ p → All (λ d. has_mark (set held p true) d ≡ true) (run_at tree p)
-      needed x i in_among same = λ k d within.
-          i.all_held _ (i.closed p _ (subst (λ (n : ℕ). i.among n ≡ true) same in_among) (Contains-get_or (run_at tree p) k d within))
-
-  pub AreMarks-held : {s : State} → state_of tree held ≡ s → (p : ℕ) (more rest : List Bool) → has_mark held p ≡ false → (HasLetter s p Ignored → ⊥)
-      → AreInstallable tree (set held p true) more → length rest ≡ length tree → AreMarks tree (set held p true) more rest
-  AreMarks-held seen p more rest not_held not_ignored are each = record {
-    is_tree = marks.is_tree;
-    each = length-set held p true ∙ marks.each;
-    each_candidate = each;
-    are_installable = are;
-    none_ignored = λ q is_held ignored. ⊎_elim
-        (λ same. not_ignored (letter_Ignored seen p not_held (subst (IsIgnored tree) same ignored)))
-        (λ before. marks.none_ignored q before ignored) (marked_before held p q is_held);
-  }
-
-  -- the state with one more agreed
-  pub state_of-held : {s : State} → state_of tree held ≡ s → (p : ℕ) → p < length s.tree → state_of tree (set held p true) ≡ record s { agreed = finset.insert s.agreed p }
-  state_of-held seen p listed = subst (λ (t : State). state_of tree (set held p true) ≡ record t { agreed = finset.insert t.agreed p }) seen
-      (ap (λ (agreed : finset.FinSet nat_cmp). let t : State = record { tree = tree; agreed = agreed } in t)
-      (marked_set-more held p (omega (arith, marks.each, subst (λ (t : State). p < length t.tree) (sym seen) listed))))
-
-  pub state_of-again : {s : State} → state_of tree held ≡ s → (p : ℕ) → has_mark held p ≡ true → s ≡ record s { agreed = finset.insert s.agreed p }
-  state_of-again seen p is_held = subst (λ (t : State). t ≡ record t { agreed = finset.insert t.agreed p }) seen
-      (ap (λ (agreed : finset.FinSet nat_cmp). let t : State = record { tree = tree; agreed = agreed } in t) (sym (marked_set-same held p is_held)))
-
--- ---- at the start
-
-pub state_of-none : (tree : Tree) (held : List Bool) (n : ℕ) → held ≡ replicate n false → state_of tree held ≡ record { tree = tree; agreed = finset.empty }
-state_of-none tree held n none = ap (λ (agreed : finset.FinSet nat_cmp). let t : State = record { tree = tree; agreed = agreed } in t) (ap marked_set none ∙ marked_set-none n)
-
--- where nothing is held, nothing is marked
-pub AreMarks-none : (tree : Tree) (n : ℕ) (held installable candidates : List Bool) → IsTree tree → n ≡ length tree → held ≡ replicate n false → installable ≡ replicate n false → candidates ≡ replicate n false
-    → AreMarks tree held installable candidates
-AreMarks-none tree n held installable candidates is_tree len is_held is_installable is_candidates = record {
-  is_tree = is_tree;
-  each = ap length is_held ∙ length-replicate n false ∙ len;
-  each_candidate = ap length is_candidates ∙ length-replicate n false ∙ len;
-  are_installable = record {
-    may_be = record {
-      each = ap length is_installable ∙ sym (ap length is_held);
-      all_held = λ p marked. absurd (both_ways (has_mark installable p) (none installable is_installable p) marked);
-      greatest = λ p i. absurd (both_ways (has_mark held p) (none held is_held p) (i.all_held p i.member));
-    };
-    closed = λ p d marked needed. absurd (both_ways (has_mark installable p) (none installable is_installable p) marked);
-  };
-  none_ignored = λ p marked. absurd (both_ways (has_mark held p) (none held is_held p) marked);
-}
-  where
-    none : (marks : List Bool) → marks ≡ replicate n false → (p : ℕ) → has_mark marks p ≡ false
-    none marks is p = ap (λ ms. has_mark ms p) is ∙ unmarked_everywhere n p
+      within : (p : ℕ) → has_agreed (state_of d.tree letters) p ≡ true → p < length d.tree
+      within p agreed = omega (arith, kept.queueing.are_fitting.each_letter,
+          letter_within letters p (λ e. true≢false (sym (sym (agreed_is_held d.tree letters p) ∙ agreed) ∙ ap is_held e)))

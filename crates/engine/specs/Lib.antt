@@ -1,4 +1,4 @@
 pub mod Laws
 pub mod Letters
-pub mod Marks
 pub mod State
+pub mod inside

@@ -1,16 +1,15 @@
 //! How many packages have each letter.
-ghost use Rattle.std.specs.Prelude.{◌≡◌, ◌<◌, ◌^◌, ◌++◌, ◌∷◌, List, []};
-ghost use Rattle.engine.specs.State.{counts_of, total_of};
+ghost use Rattle.std.specs.Prelude.{◌≡◌, ◌<◌, ◌^◌, ◌+◌};
+ghost use Rattle.engine.specs.inside.Shown.{same_letter, tally};
 ghost use Rattle.engine.specs.declared.Letter.{Letter as Kind};
 
 use crate::{Counts, Letter};
 
 impl Counts {
-    /// One more package, with this letter.
+    /// One more package with this letter.
     pub(crate) fn add(&mut self, letter: Letter)
-        requires { total_of self.old < 2 ^ 31 }
-        ensures { (letters : List Kind)
-            → self.old ≡ counts_of letters → self.new ≡ counts_of (letters ++ letter ∷ []) }
+        requires { tally self.old letter < 2 ^ 31 }
+        ensures { (l : Kind) → tally self.new l ≡ tally self.old l + same_letter letter l }
     {
         match letter {
             Letter::T => self.t += 1,
@@ -18,6 +17,20 @@ impl Counts {
             Letter::B => self.b += 1,
             Letter::I => self.i += 1,
             Letter::Ignored => self.ignored += 1,
+        }
+    }
+
+    /// One package less with this letter.
+    pub(crate) fn take(&mut self, letter: Letter)
+        requires { 0 < tally self.old letter }
+        ensures { (l : Kind) → tally self.new l + same_letter letter l ≡ tally self.old l }
+    {
+        match letter {
+            Letter::T => self.t -= 1,
+            Letter::Q => self.q -= 1,
+            Letter::B => self.b -= 1,
+            Letter::I => self.i -= 1,
+            Letter::Ignored => self.ignored -= 1,
         }
     }
 }

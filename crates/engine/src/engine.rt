@@ -3,8 +3,12 @@ ghost use Rattle.std.specs.Prelude.{◌≡◌, ◌<◌, length, IfOk};
 ghost use Rattle.std.specs.FinSet as set;
 ghost use Rattle.engine.specs.State.{AreCounts, HasLetter, IsEngine, IsNextQueued};
 
-use crate::installable::keep_installable;
-use crate::marks::are_all_marked;
+use crate::first::{first_lacks, first_letters, first_waits, turned_needs, turned_runs};
+use crate::lacks::lower;
+use crate::letters::Letters;
+use crate::queueing::install_all;
+use crate::reversed::Reversed;
+use crate::walk::Walk;
 use crate::{Counts, Letter};
 use faults::Memory;
 use listing::Tree;
@@ -15,25 +19,31 @@ use units::Units;
 /// Which packages of a tree are agreed, and what follows for the letters of all.
 #[derive(Drop)]
 pub struct Engine<'a> {
-    tree: &'a Tree,
-    held: Vec<bool>,
-    installable: Vec<bool>,
     units: Units<'a>,
-    candidates: Vec<bool>,
+    letters: Letters,
+    /// For each package how many that it needs to run, through others too, are not held, itself included.
+    lacks: Vec<u32>,
+    /// For each unit how many packages that its build needs are not installable.
+    waits: Vec<usize>,
+    /// At each package those that need it to run.
+    runs: Reversed,
+    /// At each package the units whose build needs it.
+    needs: Reversed,
+    walk: Walk,
 }
 
 impl<'a> Model for Engine<'a> {
-    ghost use Rattle.std.specs.Prelude.{◌≡◌};
     ghost use Rattle.engine.specs.State.{State, state_code};
-    ghost use Rattle.engine.specs.Marks.{AreMarks, marked_set};
+    ghost use Rattle.engine.specs.inside.Agreed.{held_marks, marked_set};
+    ghost use Rattle.engine.specs.inside.Keeping.{AreKept};
 
     ghost Value = { State };
 
     ghost coded = { state_code };
 
-    ghost view = { λ e. record { tree = e.tree.now; agreed = marked_set e.held.items } };
+    ghost view = { λ e. record { tree = e.units.tree; agreed = marked_set (held_marks e.letters) } };
 
-    ghost invariant = { λ e. AreMarks e.tree.now e.held.items e.installable.items e.candidates.items × (e.units.tree ≡ e.tree.now) };
+    ghost invariant = { λ e. AreKept e.units e.letters e.lacks.items e.waits.items e.runs e.needs e.walk };
 }
 
 impl<'a> Engine<'a> {
@@ -42,17 +52,21 @@ impl<'a> Engine<'a> {
     pub fn new(alloc: Global, tree: &'a Tree) -> Result<Engine<'a>, Memory>
         ensures { IfOk result (λ engine. engine ≡ record { tree = tree.entry.now; agreed = set.empty }) }
     {
-        let len = tree.len() as usize;
-        let held = vec![in alloc; false; len]?;
-        let installable = vec![in alloc; false; len]?;
-        let candidates = vec![in alloc; false; len]?;
         let units = Units::new(alloc, tree)?;
+        let waits = first_waits(alloc, &units)?;
+        let letters = first_letters(alloc, tree.len(), &units, waits.as_slice())?;
+        let needs = turned_needs(alloc, tree.len(), &units)?;
+        let runs = turned_runs(alloc, tree)?;
+        let mut walk = Walk::new(alloc, tree.len())?;
+        let lacks = first_lacks(alloc, tree, &runs, &mut walk)?;
         Ok(Engine {
-            tree,
-            held,
-            installable,
             units,
-            candidates,
+            letters,
+            lacks,
+            waits,
+            runs,
+            needs,
+            walk,
         })
     }
 
@@ -62,20 +76,20 @@ impl<'a> Engine<'a> {
         requires not_ignored { ¬ HasLetter self.old position Letter.Ignored }
         ensures { self.new ≡ record self.old { agreed = set.insert self.old.agreed position } }
     {
-        let place = position as usize;
-        if self.held[place] {
+        if self.letters.at(position).is_held() {
             return;
         }
-        self.held[place] = true;
-        if are_all_marked(self.held.as_slice(), self.tree.run_deps(position)) {
-            self.candidates.copy_from_slice(self.held.as_slice());
-            keep_installable(
-                self.tree,
-                self.installable.as_slice(),
-                self.candidates.as_mut_slice(),
-            );
-            self.installable.copy_from_slice(self.candidates.as_slice());
-        }
+        self.letters.set(position, Letter::B);
+        self.walk.reach(&self.runs, position);
+        lower(self.lacks.as_mut_slice(), self.walk.found());
+        install_all(
+            &mut self.letters,
+            self.waits.as_mut_slice(),
+            &self.units,
+            &self.needs,
+            self.lacks.as_slice(),
+            self.walk.found(),
+        );
     }
 
     /// The letter of the package at the position, where the agreed packages are held.
@@ -84,24 +98,7 @@ impl<'a> Engine<'a> {
         ensures letter { HasLetter self.now position result }
         ensures engine { IsEngine self.now }
     {
-        let place = position as usize;
-        if self.installable[place] {
-            Letter::I
-        } else if self.held[place] {
-            Letter::B
-        } else {
-            match self.units.unit_of(position) {
-                None => Letter::Ignored,
-                Some(unit) => {
-                    let needs = self.units.build_deps(unit);
-                    if are_all_marked(self.installable.as_slice(), needs) {
-                        Letter::Q
-                    } else {
-                        Letter::T
-                    }
-                }
-            }
-        }
+        self.letters.at(position)
     }
 
     /// The tree's units, by which builds are queued and ignored packages are told.
@@ -116,17 +113,7 @@ impl<'a> Engine<'a> {
         ensures counts { AreCounts self.now result }
         ensures engine { IsEngine self.now }
     {
-        let mut counts = Counts {
-            i: 0,
-            b: 0,
-            q: 0,
-            t: 0,
-            ignored: 0,
-        };
-        for position in 0..self.tree.len() {
-            counts.add(self.letter(position));
-        }
-        counts
+        self.letters.counts()
     }
 
     /// The least position with the letter Q, if a package has it.
@@ -134,11 +121,6 @@ impl<'a> Engine<'a> {
         ensures queued { IsNextQueued self.now result }
         ensures engine { IsEngine self.now }
     {
-        for position in 0..self.tree.len() {
-            if self.letter(position) == Letter::Q {
-                return Some(position);
-            }
-        }
-        None
+        self.letters.first_queued()
     }
 }

@@ -3,9 +3,14 @@
 
 mod counting;
 mod engine;
-mod installable;
+mod first;
+mod lacks;
 mod laws;
-mod marks;
+mod letters;
+mod queueing;
+mod reversed;
+mod row;
+mod walk;
 
 pub use crate::engine::Engine;
 pub use crate::laws::{

@@ -1,0 +1,151 @@
+-- What changes where one more package is held.
+use Rattle.std.proofs.Common.{◌≡◌, ◌≢◌, ◌+◌, ◌<◌, ◌≤◌, ◌⊎◌, ℕ, Bool, true, false, List, All, Contains, Some, get_or, length, set, refl, sym, ap, ◌∙◌, subst, inl, inr, arith}
+use Rattle.std.proofs.lemmas.Bool.{cases_eq, cases_lt, true≢false}
+use Rattle.std.proofs.lemmas.List.{get_or-set_other, get_or-set_same, get_or_past, length-map, length-set}
+use Rattle.std.proofs.lemmas.List.Elements.{All-contains}
+use Rattle.std.specs.FinSet as finset
+use Rattle.listing.specs.Tree.{run_at}
+use Rattle.units.specs.Division.{Division, number_of}
+use Rattle.engine.specs.State.{State}
+use Rattle.engine.specs.declared.Letter.{Letter}
+use Rattle.engine.specs.declared.Letter.TheVariants.{T, Q, B, I, Ignored}
+use Rattle.engine.specs.declared.reversed.Reversed.{Reversed}
+use Rattle.engine.specs.declared.walk.Walk.{Walk}
+use Rattle.engine.specs.inside.Agreed.{held_marks, marked_set}
+use Rattle.engine.specs.inside.Keeping.{AreKept, holds}
+use Rattle.engine.specs.inside.Lacking.{IsLacking}
+use Rattle.engine.specs.inside.Lists.{AreReached, IsReached, list_at, lists_of, times}
+use Rattle.engine.specs.inside.Queueing.{AreFitting, AreQueueing, FitsUnit, needs_of}
+use Rattle.engine.specs.inside.Shown.{is_held, is_installed, letter_at}
+use Rattle.engine.specs.inside.Walks.{IsIdle, has_mark}
+use Rattle.engine.proofs.Beginning.{not_held_installed}
+use Rattle.engine.proofs.Lists.{contained-times}
+use Rattle.engine.proofs.Marked.{has_mark-other, has_mark-same, marked_set-like, marked_set-more, marked_set-same}
+use Rattle.engine.proofs.Reading.{held_mark, state_of}
+use Rattle.engine.proofs.SoMany.{AreLacks-held, AreTurned, reached-back, reached-itself, so_many-some}
+use Rattle.engine.proofs.Turned.{run_listed, turned, turned_back}
+use Rattle.engine.proofs.Waiting.{waited_for-same}
+
+-- a package that is not ignored has a unit
+numbered : (d : Division) (waits : List ℕ) (p : ℕ) (l : Letter) → l ≢ Ignored → FitsUnit d waits p l → (u : ℕ) × (number_of d p ≡ Some u)
+numbered d waits p T other (u, is, some) = (u, is)
+numbered d waits p Q other (u, is, none) = (u, is)
+numbered d waits p B other fits = fits
+numbered d waits p I other fits = fits
+numbered d waits p Ignored other fits = absurd (other refl)
+
+-- ---- the set that is agreed
+
+-- a package that is held is agreed
+pub agreed_again : (d : Division) (letters : List Letter) (p : ℕ) (s : State) → state_of d.tree letters ≡ s → holds letters p ≡ true
+    → s ≡ record { tree = s.tree; agreed = finset.insert s.agreed p }
+agreed_again d letters p s is held = subst (λ (x : State). x ≡ record { tree = x.tree; agreed = finset.insert x.agreed p }) is
+    (λ i. record { tree = d.tree; agreed = sym (marked_set-same (held_marks letters) p (held_mark letters p ∙ held)) i })
+
+module _ (d : Division) (letters now : List Letter) (p : ℕ) (s : State) (is : state_of d.tree letters ≡ s) (within : p < length letters)
+    (held : (q : ℕ) → holds now q ≡ holds (set letters p B) q) where
+  marks_same : (q : ℕ) → has_mark (held_marks now) q ≡ has_mark (set (held_marks letters) p true) q
+  marks_same q = held_mark now q ∙ held q ∙ elim (cases_eq q p) [
+    | inl same ↦ ap (holds (set letters p B)) same ∙ ap is_held (get_or-set_same letters p B Ignored within)
+        ∙ sym (ap (has_mark (set (held_marks letters) p true)) same ∙ has_mark-same (held_marks letters) p true (omega (arith, within, length-map letters is_held)))
+    | inr other ↦ ap is_held (get_or-set_other letters p q B Ignored other) ∙ sym (has_mark-other (held_marks letters) p q true other ∙ held_mark letters q)
+  ]
+
+  pub agreed_more : state_of d.tree now ≡ record { tree = s.tree; agreed = finset.insert s.agreed p }
+  agreed_more = subst (λ (x : State). state_of d.tree now ≡ record { tree = x.tree; agreed = finset.insert x.agreed p }) is
+      (λ i. record {
+        tree = d.tree;
+        agreed = (marked_set-like (held_marks now) (set (held_marks letters) p true) marks_same
+            ∙ marked_set-more (held_marks letters) p (omega (arith, within, length-map letters is_held))) i;
+      })
+
+-- ---- what is kept
+
+module _ {d : Division} {letters : List Letter} {lacks waits : List ℕ} {runs needs : Reversed} {walk : Walk} (kept : AreKept d letters lacks waits runs needs walk)
+    (p : ℕ) (within : p < length d.tree) (not_held : holds letters p ≡ false) where
+  inside : p < length letters
+  inside = omega (arith, within, kept.queueing.are_fitting.each_letter)
+
+  there : AreTurned (run_at d.tree) (list_at (lists_of runs))
+  there = turned kept.runs_turned (run_listed d.tree kept.queueing.are_fitting.division.tree)
+
+  back : AreTurned (list_at (lists_of runs)) (run_at d.tree)
+  back = turned_back kept.runs_turned
+
+  -- each that is reached lacks the package
+  pub some_lacking : (found : List ℕ) → AreReached (list_at (lists_of runs)) p found → (q : ℕ) → q < length lacks → times q found ≤ get_or lacks q 0
+  some_lacking found reached q listed = elim (reached q) [
+    | inl (leads, one) ↦ omega (arith, one, so_many-some (IsLacking (run_at d.tree) (holds letters) q) (length d.tree) (get_or lacks q 0) p (kept.are_lacks q listed) within
+        (reached-back (list_at (lists_of runs)) (run_at d.tree) p q back leads, not_held))
+    | inr (leads_not, none) ↦ omega (arith, none)
+  ]
+
+  -- the units wait for as many as before
+  pub AreQueueing-built : letter_at letters p ≢ Ignored → AreQueueing d (set letters p B) waits
+  AreQueueing-built not_ignored = record {
+    are_fitting = record {
+      division = kept.queueing.are_fitting.division;
+      each_letter = length-set letters p B ∙ kept.queueing.are_fitting.each_letter;
+      each_unit = kept.queueing.are_fitting.each_unit;
+      fit = λ q listed. elim (cases_eq q p) [
+        | inl same ↦
+          let b : FitsUnit d waits p B = numbered d waits p (letter_at letters p) not_ignored (kept.queueing.are_fitting.fit p within) in
+          let here : letter_at (set letters p B) p ≡ B = get_or-set_same letters p B Ignored inside in
+          subst (λ (x : ℕ). FitsUnit d waits x (letter_at (set letters p B) x)) (sym same) (subst (FitsUnit d waits p) (sym here) b)
+        | inr other ↦ subst (FitsUnit d waits q) (sym (get_or-set_other letters p q B Ignored other)) (kept.queueing.are_fitting.fit q listed)
+      ];
+    };
+    waited = λ u listed. kept.queueing.waited u listed ∙ sym (waited_for-same letters (set letters p B) (needs_of d u) (λ q. elim (cases_eq q p) [
+      | inl same ↦ ap (λ x. is_installed (letter_at (set letters p B) x)) same ∙ ap is_installed (get_or-set_same letters p B Ignored inside)
+          ∙ sym (ap (λ x. is_installed (letter_at letters x)) same ∙ not_held_installed (letter_at letters p) not_held)
+      | inr other ↦ ap is_installed (get_or-set_other letters p q B Ignored other)
+    ]));
+  }
+
+  -- all that lead to the package lack one less, and those that lack nothing are installed
+  module _ (now : List Letter) (less fewer found : List ℕ) (after : Walk)
+      (reached : AreReached (list_at (lists_of runs)) p found) (each : length less ≡ length lacks)
+      (lowered : (q : ℕ) → q < length lacks → get_or less q 0 + times q found ≡ get_or lacks q 0)
+      (held : (q : ℕ) → is_held (letter_at now q) ≡ is_held (letter_at (set letters p B) q)) where
+    -- the letter of another is as it was
+    as_it_was : (q : ℕ) (l : Letter) → q ≢ p → letter_at (set letters p B) q ≡ l → letter_at letters q ≡ l
+    as_it_was q l other is = sym (get_or-set_other letters p q B Ignored other) ∙ is
+
+    installed_lacks : (q : ℕ) → (letter_at (set letters p B) q ≡ I) ⊎ (get_or less q 0 ≡ 0) → get_or less q 0 ≡ 0
+    installed_lacks q (inr none) = none
+    installed_lacks q (inl was) = elim (cases_eq q p) [
+      | inl same ↦ absurd (let e : B ≡ I = sym (ap (letter_at (set letters p B)) same ∙ get_or-set_same letters p B Ignored inside) ∙ was in cc)
+      | inr other ↦ elim (cases_lt q (length lacks)) [
+        | inl listed ↦ omega (arith, kept.installed q (as_it_was q I other was), lowered q listed)
+        | inr past ↦ get_or_past less q 0 (omega (arith, past, each))
+      ]
+    ]
+
+    built_lacks : (q : ℕ) → letter_at (set letters p B) q ≡ B → times q found ≡ 0 → q ≢ p → 0 < get_or less q 0
+    built_lacks q was none other = elim (cases_lt q (length lacks)) [
+      | inl listed ↦ omega (arith, none, kept.built q (as_it_was q B other was), lowered q listed)
+      | inr past ↦ absurd (omega (arith, get_or_past lacks q 0 past, kept.built q (as_it_was q B other was)))
+    ]
+
+    pub AreKept-agreed : AreQueueing d now fewer
+        → ((q : ℕ) → letter_at now q ≡ B → letter_at (set letters p B) q ≡ B)
+        → ((q : ℕ) → letter_at now q ≡ I → (letter_at (set letters p B) q ≡ I) ⊎ (get_or less q 0 ≡ 0))
+        → All (λ q. letter_at now q ≡ B → 0 < get_or less q 0) found
+        → IsIdle (length d.tree) after → AreKept d now less fewer runs needs after
+    AreKept-agreed queueing built installed all idle = record {
+      queueing = queueing;
+      each = each ∙ kept.each;
+      are_lacks = AreLacks-held (run_at d.tree) (list_at (lists_of runs)) there back (holds letters) (holds now) (length d.tree) lacks less found p within not_held
+          (held p ∙ ap is_held (get_or-set_same letters p B Ignored inside))
+          (λ q other. held q ∙ ap is_held (get_or-set_other letters p q B Ignored other))
+          reached each lowered kept.are_lacks;
+      installed = λ q is. installed_lacks q (installed q is);
+      built = λ q is. elim (reached q) [
+        | inl (leads, one) ↦ All-contains (λ x. letter_at now x ≡ B → 0 < get_or less x 0) found q all (contained-times q found (omega (arith, one))) is
+        | inr (leads_not, none) ↦ built_lacks q (built q is) none
+            (λ same. leads_not (subst (IsReached (list_at (lists_of runs)) p) (sym same) (reached-itself (list_at (lists_of runs)) p)))
+      ];
+      runs_turned = kept.runs_turned;
+      needs_turned = kept.needs_turned;
+      idle = idle;
+    }

@@ -1,0 +1,92 @@
+-- What is kept where nothing is held.
+use Rattle.std.proofs.Common.{◌≡◌, ◌+◌, ◌<◌, ◌≤◌, ◌^◌, ◌⊎◌, ℕ, zero, suc, Bool, true, false, not, cond, List, [], ◌∷◌, All, count_by, get_or, length, replicate, set, refl, sym, ap, ◌∙◌, subst, inl, inr, arith}
+use borrow.Author.Count.{below_more}
+use Rattle.std.proofs.lemmas.Bool.{cases_eq, cases_lt, true≢false}
+use Rattle.std.proofs.lemmas.List.{get_or-replicate, get_or-set_other, get_or-set_same, get_or_past, length-replicate}
+use Rattle.std.proofs.lemmas.List.Sums.{sum_by-cons}
+use Rattle.listing.specs.Tree.{run_at}
+use Rattle.units.specs.Division.{Division}
+use Rattle.engine.specs.declared.Letter.{Letter}
+use Rattle.engine.specs.declared.Letter.TheVariants.{T, Q, B, I, Ignored}
+use Rattle.engine.specs.declared.reversed.Reversed.{Reversed}
+use Rattle.engine.specs.declared.walk.Walk.{Walk}
+use Rattle.engine.specs.inside.Keeping.{AreKept, holds}
+use Rattle.engine.specs.inside.Lacking.{AreLacks}
+use Rattle.engine.specs.inside.Lists.{AreReached, AreReversed, lists_of, times}
+use Rattle.engine.specs.inside.Queueing.{AreFitting, FitsUnit, needs_of, waited_for}
+use Rattle.engine.specs.inside.Shown.{is_held, is_installed, letter_at}
+use Rattle.engine.specs.inside.Walks.{IsIdle}
+use Rattle.engine.proofs.SoMany.{so_many-few}
+
+pub not_held_installed : (l : Letter) → is_held l ≡ false → is_installed l ≡ false
+not_held_installed T e = refl
+not_held_installed Q e = refl
+not_held_installed B e = refl
+not_held_installed I e = e
+not_held_installed Ignored e = refl
+
+-- all are waited for
+all_waited : (letters : List Letter) (ps : List ℕ) → ((p : ℕ) → holds letters p ≡ false) → waited_for letters ps ≡ length ps
+all_waited letters [] none = refl
+all_waited letters (p ∷ ps) none =
+    let test : ℕ → ℕ = λ q. cond (not (is_installed (letter_at letters q))) 1 0 in
+    let one : test p ≡ 1 = ap (λ b. cond (not b) 1 0) (not_held_installed (letter_at letters p) (none p)) in
+    omega (arith, one, sum_by-cons test p ps, all_waited letters ps none)
+
+pub AreKept-first : (d : Division) (letters : List Letter) (lacks waits : List ℕ) (runs needs : Reversed) (walk : Walk) → AreFitting d letters waits
+    → ((p : ℕ) → holds letters p ≡ false)
+    → ((u : ℕ) → u < length d.units → get_or waits u 0 ≡ length (needs_of d u))
+    → length lacks ≡ length d.tree → AreLacks (run_at d.tree) (λ p. false) (length d.tree) lacks
+    → AreReversed (length d.tree) (length d.tree) (run_at d.tree) (lists_of runs)
+    → AreReversed (length d.tree) (length d.units) (needs_of d) (lists_of needs)
+    → IsIdle (length d.tree) walk → AreKept d letters lacks waits runs needs walk
+AreKept-first d letters lacks waits runs needs walk fitting none counted each are_lacks runs_turned needs_turned idle = record {
+  queueing = record {
+    are_fitting = fitting;
+    waited = λ u listed. counted u listed ∙ sym (all_waited letters (needs_of d u) none);
+  };
+  each = each;
+  are_lacks =
+      let same : (λ (p : ℕ). false) ≡ holds letters = λ i p. sym (none p) i in
+      subst (λ (held : ℕ → Bool). AreLacks (run_at d.tree) held (length d.tree) lacks) same are_lacks;
+  installed = λ p is. absurd (true≢false (sym (ap is_held is) ∙ none p));
+  built = λ p is. absurd (true≢false (sym (ap is_held is) ∙ none p));
+  runs_turned = runs_turned;
+  needs_turned = needs_turned;
+  idle = idle;
+}
+
+-- ---- letters are put
+
+module _ (letters : List Letter) (n : ℕ) (letter : Letter) (inside : n < length letters) where
+  pub fit_more : (d : Division) (waits : List ℕ) → FitsUnit d waits n letter → ((p : ℕ) → p < n → FitsUnit d waits p (letter_at letters p))
+      → (p : ℕ) → p < n + 1 → FitsUnit d waits p (letter_at (set letters n letter) p)
+  fit_more d waits here fit = below_more (λ p. FitsUnit d waits p (letter_at (set letters n letter) p)) n
+      (λ p before. subst (FitsUnit d waits p) (sym (get_or-set_other letters n p letter Ignored (λ e. absurd (omega (arith, e, before))))) (fit p before))
+      (subst (FitsUnit d waits n) (sym (get_or-set_same letters n letter Ignored inside)) here)
+
+  pub none_held_more : is_held letter ≡ false → ((p : ℕ) → holds letters p ≡ false) → (p : ℕ) → holds (set letters n letter) p ≡ false
+  none_held_more not_held none p = elim (cases_eq p n) [
+    | inl same ↦ ap (holds (set letters n letter)) same ∙ ap is_held (get_or-set_same letters n letter Ignored inside) ∙ not_held
+    | inr other ↦ ap is_held (get_or-set_other letters n p letter Ignored other) ∙ none p
+  ]
+
+-- ---- lacks are counted
+
+-- none of no packages is lacking
+pub AreLacks-none : (next : ℕ → List ℕ) (held : ℕ → Bool) (n : ℕ) → AreLacks next held 0 (replicate n 0)
+AreLacks-none next held n p inside = get_or-replicate n p 0 0 (omega (arith, inside, length-replicate {A = ℕ} n 0))
+
+times_once : (before : ℕ → List ℕ) (n : ℕ) (reached : List ℕ) → AreReached before n reached → (p : ℕ) → times p reached ≤ 1
+times_once before n reached are p = elim (are p) [
+  | inl (leads, one) ↦ omega (arith, one)
+  | inr (leads_not, none) ↦ omega (arith, none)
+]
+
+-- one more of each that is reached fits
+pub lacks_fit : (next before : ℕ → List ℕ) (held : ℕ → Bool) (n : ℕ) (lacks reached : List ℕ) → AreLacks next held n lacks → AreReached before n reached
+    → n + 1 < 2 ^ 32 → (p : ℕ) → get_or lacks p 0 + times p reached < 2 ^ 32
+lacks_fit next before held n lacks reached are are_reached few p = elim (cases_lt p (length lacks)) [
+  | inl within ↦ omega (arith, few, times_once before n reached are_reached p, so_many-few _ n (get_or lacks p 0) (are p within))
+  | inr past ↦ omega (arith, few, times_once before n reached are_reached p, get_or_past lacks p 0 past)
+]

@@ -1,0 +1,143 @@
+-- How many positions meet a condition.
+use Rattle.std.proofs.Common.{◌≡◌, ◌≢◌, ◌+◌, ◌-◌, ◌<◌, ◌≤◌, ◌⊎◌, ◌↔◌, ℕ, zero, suc, Bool, true, false, not, List, get_or, length, Contains, refl, sym, ap, ◌∙◌, subst, inl, inr, ⊎_elim, arith}
+use Rattle.std.proofs.lemmas.Bool.{both_ways, cases_Bool, cases_eq, true≢false}
+use Rattle.engine.specs.inside.Lists.{AreReached, IsReached, times}
+use Rattle.engine.specs.inside.Lacking.{AreLacks, AreSoMany, IsLacking}
+
+pub so_many-few : (P : ℕ → Type 0) (n m : ℕ) → AreSoMany P n m → m ≤ n
+so_many-few P zero m are = omega arith
+so_many-few P (suc n) m (inl (here, (k, are, is))) = omega (arith, so_many-few P n k are)
+so_many-few P (suc n) m (inr (not_here, are)) = omega (arith, so_many-few P n m are)
+
+-- one that meets it is counted
+pub so_many-some : (P : ℕ → Type 0) (n m q : ℕ) → AreSoMany P n m → q < n → P q → 0 < m
+so_many-some P zero m q are below meets = absurd (omega arith)
+so_many-some P (suc n) m q (inl (here, (k, are, is))) below meets = omega arith
+so_many-some P (suc n) m q (inr (not_here, are)) below meets = elim (cases_eq q n) [
+  | inl same ↦ absurd (not_here (subst P same meets))
+  | inr other ↦ so_many-some P n m q are (omega (arith, other)) meets
+]
+
+pub so_many-none : (P : ℕ → Type 0) (n m : ℕ) → AreSoMany P n m → ((q : ℕ) → q < n → ¬ P q) → m ≡ 0
+so_many-none P zero m are none = are
+so_many-none P (suc n) m (inl (here, (k, are, is))) none = absurd (none n (omega arith) here)
+so_many-none P (suc n) m (inr (not_here, are)) none = so_many-none P n m are (λ q below. none q (omega arith))
+
+pub so_many-same : (P Q : ℕ → Type 0) (n m : ℕ) → ((q : ℕ) → q < n → P q → Q q) → ((q : ℕ) → q < n → Q q → P q) → AreSoMany P n m → AreSoMany Q n m
+so_many-same P Q zero m there back are = are
+so_many-same P Q (suc n) m there back (inl (here, (k, are, is))) =
+    inl (there n (omega arith) here, (k, so_many-same P Q n k (λ q below. there q (omega arith)) (λ q below. back q (omega arith)) are, is))
+so_many-same P Q (suc n) m there back (inr (not_here, are)) =
+    inr (λ h. not_here (back n (omega arith) h), so_many-same P Q n m (λ q below. there q (omega arith)) (λ q below. back q (omega arith)) are)
+
+-- where one no longer meets it, they are one less
+pub so_many-less : (P Q : ℕ → Type 0) (n m p : ℕ) → p < n → P p → ¬ Q p → ((q : ℕ) → q < n → q ≢ p → P q → Q q) → ((q : ℕ) → q < n → Q q → P q)
+    → AreSoMany P n (suc m) → AreSoMany Q n m
+so_many-less P Q zero m p within met no_more there back are = absurd (omega arith)
+so_many-less P Q (suc n) m p within met no_more there back (inl (here, (k, are, is))) = elim (cases_eq n p) [
+  | inl same ↦ inr (λ h. no_more (subst Q same h), let e : k ≡ m = omega (arith, is) in subst (AreSoMany Q n) e
+      (so_many-same P Q n k (λ q below h. there q (omega arith) (λ e. absurd (omega (arith, e, same, below))) h) (λ q below. back q (omega arith)) are))
+  | inr other ↦ earlier (omega (arith, other)) k are is
+      (λ j below more. so_many-less P Q n j p below met no_more (λ q under. there q (omega arith)) (λ q under. back q (omega arith)) more)
+]
+  where
+    earlier : p < n → (k : ℕ) → AreSoMany P n k → suc m ≡ suc k → ((j : ℕ) → p < n → AreSoMany P n (suc j) → AreSoMany Q n j) → AreSoMany Q (suc n) m
+    earlier below zero are is less = absurd (omega (arith, so_many-some P n zero p are below met))
+    earlier below (suc k) are is less = inl (there n (omega arith) (λ e. absurd (omega (arith, e, below))) here, (k, less k below are, omega (arith, is)))
+so_many-less P Q (suc n) m p within met no_more there back (inr (not_here, are)) = elim (cases_eq n p) [
+  | inl same ↦ absurd (not_here (subst P (sym same) met))
+  | inr other ↦ inr (λ h. not_here (back n (omega arith) h),
+      so_many-less P Q n m p (omega (arith, other)) met no_more (λ q under. there q (omega arith)) (λ q under. back q (omega arith)) are)
+]
+
+-- one position more
+pub so_many-yes : (P : ℕ → Type 0) (n m : ℕ) → P n → AreSoMany P n m → AreSoMany P (n + 1) (m + 1)
+so_many-yes P n m here are =
+    let e : suc n ≡ n + 1 = omega arith in
+    subst (λ (k : ℕ). AreSoMany P k (m + 1)) e (inl (here, (m, are, omega arith)))
+
+pub so_many-no : (P : ℕ → Type 0) (n m : ℕ) → ¬ P n → AreSoMany P n m → AreSoMany P (n + 1) m
+so_many-no P n m not_here are =
+    let e : suc n ≡ n + 1 = omega arith in
+    subst (λ (k : ℕ). AreSoMany P k m) e (inr (not_here, are))
+
+-- ---- what is reached, there and back
+
+-- lists that have each position where the others have it the other way round
+abbrev pub AreTurned : (ℕ → List ℕ) → (ℕ → List ℕ) → Type 0
+AreTurned next before = (x d : ℕ) → Contains (next x) d → Contains (before d) x
+
+pub reached-back : (next before : ℕ → List ℕ) (p q : ℕ) → AreTurned next before → IsReached next p q → IsReached before q p
+reached-back next before p q turned reached S in_S closed = elim (cases_Bool (S p)) [
+  | inl is ↦ is
+  | inr is_not ↦
+    let out : ℕ → Bool = λ x. not (S x) in
+    let left_out : out q ≡ true = reached out (ap not is_not) (λ x d x_out listed. stays x d (cases_Bool (S d)) x_out listed) in
+    absurd (true≢false (sym left_out ∙ ap not in_S))
+]
+  where
+    stays : (x d : ℕ) → (S d ≡ true) ⊎ (S d ≡ false) → not (S x) ≡ true → Contains (next x) d → not (S d) ≡ true
+    stays x d (inl d_in) x_out listed = absurd (true≢false (sym x_out ∙ ap not (closed d x d_in (turned x d listed))))
+    stays x d (inr d_out) x_out listed = ap not d_out
+
+pub reached-itself : (next : ℕ → List ℕ) (p : ℕ) → IsReached next p p
+reached-itself next p = λ S in_S closed. in_S
+
+pub reached-through : (next : ℕ → List ℕ) (p d q : ℕ) → Contains (next p) d → IsReached next d q → IsReached next p q
+reached-through next p d q listed reached = λ S in_S closed. reached S (closed p d in_S listed) closed
+
+-- ---- lacks
+
+module _ (next before : ℕ → List ℕ) (there : AreTurned next before) (back : AreTurned before next) where
+  -- one more is held: each that leads to it lacks one less
+  pub AreLacks-held : (held now : ℕ → Bool) (n : ℕ) (lacks less reached : List ℕ) (p : ℕ) → p < n → held p ≡ false → now p ≡ true
+      → ((q : ℕ) → q ≢ p → now q ≡ held q) → AreReached before p reached → length less ≡ length lacks
+      → ((q : ℕ) → q < length lacks → get_or less q 0 + times q reached ≡ get_or lacks q 0)
+      → AreLacks next held n lacks → AreLacks next now n less
+  AreLacks-held held now n lacks less reached p within not_held now_held others are_reached each lowered are q inside = elim (are_reached q) [
+    | inl (leads, one) ↦ so_many-less (IsLacking next held q) (IsLacking next now q) n (get_or less q 0) p within
+        (reached-back before next p q back leads, not_held)
+        (λ lacking. true≢false (sym now_held ∙ lacking.1))
+        (λ x below other lacking. (lacking.0, others x other ∙ lacking.1))
+        (λ x below lacking. (lacking.0, still x lacking.1 (cases_eq x p)))
+        (let e : get_or lacks q 0 ≡ suc (get_or less q 0) = omega (arith, lowered q inside', one) in subst (AreSoMany (IsLacking next held q) n) e (are q inside'))
+    | inr (leads_not, none) ↦ so_many-same (IsLacking next held q) (IsLacking next now q) n (get_or less q 0)
+        (λ x below lacking. (lacking.0, others x (λ same. leads_not (reached-back next before q p there (subst (IsReached next q) same lacking.0))) ∙ lacking.1))
+        (λ x below lacking. (lacking.0, still x lacking.1 (cases_eq x p)))
+        (let e : get_or lacks q 0 ≡ get_or less q 0 = omega (arith, lowered q inside', none) in subst (AreSoMany (IsLacking next held q) n) e (are q inside'))
+  ]
+    where
+      inside' : q < length lacks
+      inside' = omega (arith, inside, each)
+
+      still : (x : ℕ) → now x ≡ false → (x ≡ p) ⊎ (x ≢ p) → held x ≡ false
+      still x out (inl same) = absurd (true≢false (sym now_held ∙ ap now (sym same) ∙ out))
+      still x out (inr other) = sym (others x other) ∙ out
+
+  -- nothing is held: each that leads to the next position lacks one more
+  pub AreLacks-next : (held : ℕ → Bool) (n : ℕ) (lacks more reached : List ℕ) → held n ≡ false → AreReached before n reached → length more ≡ length lacks
+      → ((q : ℕ) → q < length lacks → get_or more q 0 ≡ get_or lacks q 0 + times q reached)
+      → AreLacks next held n lacks → AreLacks next held (n + 1) more
+  AreLacks-next held n lacks more reached not_held are_reached each raised are q inside = elim (are_reached q) [
+    | inl (leads, one) ↦ let e : get_or lacks q 0 + 1 ≡ get_or more q 0 = omega (arith, raised q inside', one) in subst (AreSoMany (IsLacking next held q) (n + 1)) e
+        (so_many-yes (IsLacking next held q) n (get_or lacks q 0) (reached-back before next n q back leads, not_held) (are q inside'))
+    | inr (leads_not, none) ↦ let e : get_or lacks q 0 ≡ get_or more q 0 = omega (arith, raised q inside', none) in subst (AreSoMany (IsLacking next held q) (n + 1)) e
+        (so_many-no (IsLacking next held q) n (get_or lacks q 0) (λ lacking. leads_not (reached-back next before q n there lacking.0)) (are q inside'))
+  ]
+    where
+      inside' : q < length lacks
+      inside' = omega (arith, inside, each)
+
+-- where nothing is lacking, nothing is for what is needed
+pub nothing_lacks-needed : (next : ℕ → List ℕ) (held : ℕ → Bool) (n : ℕ) (lacks : List ℕ) (p d : ℕ) → AreLacks next held n lacks → p < length lacks → d < length lacks
+    → get_or lacks p 0 ≡ 0 → Contains (next p) d → get_or lacks d 0 ≡ 0
+nothing_lacks-needed next held n lacks p d are within within_d none listed =
+    so_many-none (IsLacking next held d) n (get_or lacks d 0) (are d within_d)
+    (λ q below lacking. absurd (omega (arith, none, so_many-some (IsLacking next held p) n (get_or lacks p 0) q (are p within) below (reached-through next p d q listed lacking.0, lacking.1))))
+
+pub nothing_lacks-held : (next : ℕ → List ℕ) (held : ℕ → Bool) (n : ℕ) (lacks : List ℕ) (p : ℕ) → AreLacks next held n lacks → p < length lacks → p < n
+    → get_or lacks p 0 ≡ 0 → held p ≡ true
+nothing_lacks-held next held n lacks p are within below none = elim (cases_Bool (held p)) [
+  | inl is ↦ is
+  | inr is_not ↦ absurd (omega (arith, none, so_many-some (IsLacking next held p) n (get_or lacks p 0) p (are p within) below (reached-itself next p, is_not)))
+]

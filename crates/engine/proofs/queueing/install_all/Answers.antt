@@ -1,0 +1,10 @@
+use Rattle.std.proofs.Common.{◌≡◌, ◌<◌, ℕ, List, All, ap, arith, get_or, length, subst, ◌∙◌, sym}
+use Rattle.engine.proofs.Lists.{get_or-same}
+use Rattle.engine.specs.inside.Lists.{lists_of}
+use Rattle.engine.specs.inside.Queueing.{needs_of}
+use Rattle.engine.proofs.Waiting.{IsInstallingAll-keeps, IsInstallingAll-more, named_within}
+use Rattle.engine.proofs.queueing.install_all.Goals as goal
+
+pub install-requires-clause-listed : goal.install-requires-clause-listed
+install-requires-clause-listed c =
+    rw c.at-in-B.ensures (named_within (length c.args.letters.now) (length c.args.units.now.units) (needs_of c.args.units.now) (lists_of c.args.needs.now) _ c.requires.needs)

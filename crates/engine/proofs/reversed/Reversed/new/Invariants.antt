@@ -1,0 +1,5 @@
+use Rattle.std.proofs.Common.{◌≡◌, List, [], ℕ, map, replicate}
+use Rattle.engine.proofs.reversed.Reversed.new.Given as goal
+
+abbrev pub invariant-loop-position : goal.invariant-loop-position
+invariant-loop-position l = map (λ v. v.items) l.lists.items ≡ replicate l._position []

@@ -1,0 +1,104 @@
+//! What an engine keeps where nothing is held.
+ghost use Rattle.std.specs.Prelude.{◌≡◌, ◌<◌, ◌^◌, ℕ, IfOk, false, length, slice_index};
+ghost use Rattle.listing.specs.Tree.{run_at};
+ghost use Rattle.units.specs.Division.{IsDivision};
+ghost use Rattle.engine.specs.inside.Lacking.{AreLacks};
+ghost use Rattle.engine.specs.inside.Lists.{AreReversed, lists_of};
+ghost use Rattle.engine.specs.inside.Queueing.{AreFitting, FitsUnit, needs_of};
+ghost use Rattle.engine.specs.inside.Shown.{is_held};
+ghost use Rattle.engine.specs.inside.Keeping.{holds};
+ghost use Rattle.engine.specs.inside.Walks.{IsIdle};
+
+use crate::Letter;
+use crate::lacks::raise;
+use crate::letters::Letters;
+use crate::reversed::Reversed;
+use crate::walk::Walk;
+use faults::Memory;
+use listing::Tree;
+use std::alloc::Global;
+use units::Units;
+
+/// At each package those that need it to run.
+pub(crate) fn turned_runs(alloc: Global, tree: &Tree) -> Result<Reversed, Memory>
+    ensures { IfOk result (λ runs. AreReversed (length tree.now) (length tree.now) (run_at tree.now) (lists_of runs)) }
+{
+    let mut runs = Reversed::new(alloc, tree.len())?;
+    for position in 0..tree.len() {
+        runs.add(position, tree.run_deps(position))?;
+    }
+    Ok(runs)
+}
+
+/// At each package the units whose build needs it.
+pub(crate) fn turned_needs(alloc: Global, len: u32, units: &Units<'_>) -> Result<Reversed, Memory>
+    requires { len ≡ length units.now.tree }
+    ensures { IfOk result (λ needs. AreReversed (length units.now.tree) (length units.now.units) (needs_of units.now) (lists_of needs)) }
+{
+    let mut needs = Reversed::new(alloc, len)?;
+    for unit in 0..units.len() {
+        needs.add(unit, units.build_deps(unit))?;
+    }
+    Ok(needs)
+}
+
+/// For each package how many it needs to run, through others too, itself included.
+pub(crate) fn first_lacks(alloc: Global, tree: &Tree, runs: &Reversed, walk: &mut Walk) -> Result<Vec<u32>, Memory>
+    requires runs { AreReversed (length tree.now) (length tree.now) (run_at tree.now) (lists_of runs.now) }
+    requires idle { IsIdle (length tree.now) walk.old }
+    ensures lacks { IfOk result (λ lacks. (length lacks.items ≡ length tree.now)
+        × AreLacks (run_at tree.now) (λ p. false) (length tree.now) lacks.items) }
+    ensures idle { IsIdle (length tree.now) walk.new }
+{
+    let mut lacks = vec![in alloc; 0u32; tree.len() as usize]?;
+    for position in 0..tree.len() {
+        walk.reach(runs, position);
+        raise(lacks.as_mut_slice(), walk.found());
+    }
+    Ok(lacks)
+}
+
+/// For each unit how many packages its build needs.
+pub(crate) fn first_waits(alloc: Global, units: &Units<'_>) -> Result<Vec<usize>, Memory>
+    ensures waits { IfOk result (λ waits. (length waits.items ≡ length units.now.units)
+        × ((u : ℕ) → u < length units.now.units → slice_index waits.items u ≡ length (needs_of units.now u))) }
+    ensures division { IsDivision units.now }
+{
+    let mut waits = Vec::with_capacity(alloc, units.len() as usize)?;
+    for unit in 0..units.len() {
+        waits.push(units.build_deps(unit).len())?;
+    }
+    Ok(waits)
+}
+
+/// The letters where nothing is held: a unit that waits for nothing is queued.
+pub(crate) fn first_letters(alloc: Global, len: u32, units: &Units<'_>, waits: &[usize]) -> Result<Letters, Memory>
+    requires len { len ≡ length units.now.tree }
+    requires each { length waits.now ≡ length units.now.units }
+    requires few { len < 2 ^ 31 }
+    requires division { IsDivision units.now }
+    ensures fitting { IfOk result (λ letters. AreFitting units.now letters waits.now) }
+    ensures none_held { IfOk result (λ letters. (p : ℕ) → holds letters p ≡ false) }
+{
+    let mut letters = Letters::new(alloc, len)?;
+    for position in 0..len {
+        letters.set(position, first_letter(units, waits, position));
+    }
+    Ok(letters)
+}
+
+/// The letter of the package at the position where nothing is held.
+fn first_letter(units: &Units<'_>, waits: &[usize], position: u32) -> Letter
+    requires listed { position < length units.now.tree }
+    requires each { length waits.now ≡ length units.now.units }
+    ensures fits { FitsUnit units.now waits.now position result }
+    ensures not_held { is_held result ≡ false }
+{
+    let Some(unit) = units.unit_of(position) else {
+        return Letter::Ignored;
+    };
+    if waits[unit as usize] == 0 {
+        return Letter::Q;
+    }
+    Letter::T
+}

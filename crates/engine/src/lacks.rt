@@ -1,0 +1,25 @@
+//! Counts by position of what is lacking.
+ghost use Rattle.std.specs.Prelude.{◌≡◌, ◌<◌, ◌≤◌, ◌+◌, ◌^◌, ℕ, All, length, slice_index};
+ghost use Rattle.engine.specs.inside.Lists.{times};
+
+/// Each of the positions lacks one more.
+pub(crate) fn raise(lacks: &mut [u32], positions: &[u32])
+    requires within { All (λ p. p < length lacks.old) positions.now }
+    requires few { (p : ℕ) → slice_index lacks.old p + times p positions.now < 2 ^ 32 }
+    ensures { (p : ℕ) → p < length lacks.old → slice_index lacks.new p ≡ slice_index lacks.old p + times p positions.now }
+{
+    for position in positions {
+        lacks[*position as usize] += 1;
+    }
+}
+
+/// Each of the positions lacks one less.
+pub(crate) fn lower(lacks: &mut [u32], positions: &[u32])
+    requires within { All (λ p. p < length lacks.old) positions.now }
+    requires some { (p : ℕ) → p < length lacks.old → times p positions.now ≤ slice_index lacks.old p }
+    ensures { (p : ℕ) → p < length lacks.old → slice_index lacks.new p + times p positions.now ≡ slice_index lacks.old p }
+{
+    for position in positions {
+        lacks[*position as usize] -= 1;
+    }
+}

@@ -1,0 +1,55 @@
+//! A row of bits, one for each position.
+ghost use Rattle.std.specs.Prelude.{◌≡◌, ◌<◌, ◌≤◌, ◌≢◌, ◌/◌, ◌+◌, ◌^◌, ℕ, IfOk, MatchOption, length};
+ghost use Rattle.engine.specs.inside.Lists.{one_if};
+ghost use Rattle.engine.specs.inside.Row.{bit_of};
+
+use faults::Memory;
+use std::alloc::Global;
+
+/// The bits in words of 64, the lowest bit of the first word for the first position.
+#[derive(Drop)]
+pub(crate) struct Row {
+    words: Vec<u64>,
+}
+
+impl Row {
+    /// A bit for each of so many positions, none of them set.
+    pub(crate) fn new(alloc: Global, len: u32) -> Result<Row, Memory>
+        ensures room { IfOk result (λ row. length row.words.items ≡ len / 64 + 1) }
+        ensures clear { IfOk result (λ row. (p : ℕ) → bit_of row p ≡ 0) }
+    {
+        let words = vec![in alloc; 0u64; len as usize / 64 + 1]?;
+        Ok(Row { words })
+    }
+
+    /// Sets or clears the bit of the position.
+    pub(crate) fn put(&mut self, position: u32, bit: bool)
+        requires { position / 64 < length self.old.words.items }
+        ensures room { length self.new.words.items ≡ length self.old.words.items }
+        ensures here { bit_of self.new position ≡ one_if bit }
+        ensures others { (p : ℕ) → p ≢ position → bit_of self.new p ≡ bit_of self.old p }
+    {
+        let word = &mut self.words[position as usize / 64];
+        let mask = 1u64 << (position % 64);
+        if bit {
+            *word |= mask;
+        } else {
+            *word &= !mask;
+        }
+    }
+
+    /// The least position whose bit is set, if one is.
+    pub(crate) fn first(&self) -> Option<u32>
+        requires { length self.now.words.items < 2 ^ 26 }
+        ensures { MatchOption result ((p : ℕ) → bit_of self.now p ≡ 0)
+            (λ p. (bit_of self.now p ≡ 1) × ((k : ℕ) → k < p → bit_of self.now k ≡ 0)) }
+    {
+        for place in 0..self.words.len() {
+            let word = self.words[place];
+            if word != 0 {
+                return Some(place as u32 * 64 + word.trailing_zeros());
+            }
+        }
+        None
+    }
+}
