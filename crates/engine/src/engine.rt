@@ -54,8 +54,8 @@ impl<'a> Engine<'a> {
     {
         let units = Units::new(alloc, tree)?;
         let waits = first_waits(alloc, &units)?;
-        let letters = first_letters(alloc, tree.len(), &units, waits.as_slice())?;
-        let needs = turned_needs(alloc, tree.len(), &units)?;
+        let letters = first_letters(alloc, tree, &units, waits.as_slice())?;
+        let needs = turned_needs(alloc, tree, &units)?;
         let runs = turned_runs(alloc, tree)?;
         let mut walk = Walk::new(alloc, tree.len())?;
         let lacks = first_lacks(alloc, tree, &runs, &mut walk)?;

@@ -41,7 +41,13 @@ fn wait_less(letters: &mut Letters, waits: &mut [usize], units: &Units<'_>, unit
 }
 
 /// The package is installable, so that the units that need it wait for one less.
-fn install(letters: &mut Letters, waits: &mut [usize], units: &Units<'_>, needing: &[u32], position: u32)
+fn install(
+    letters: &mut Letters,
+    waits: &mut [usize],
+    units: &Units<'_>,
+    needing: &[u32],
+    position: u32,
+)
     requires position { position < length letters.old }
     requires built { letter_at letters.old position ≡ B }
     requires queueing { AreQueueing units.now letters.old waits.old }
@@ -57,7 +63,14 @@ fn install(letters: &mut Letters, waits: &mut [usize], units: &Units<'_>, needin
 }
 
 /// Those of the found packages that are built and lack nothing are installable.
-pub(crate) fn install_all(letters: &mut Letters, waits: &mut [usize], units: &Units<'_>, needs: &Reversed, lacks: &[u32], found: &[u32])
+pub(crate) fn install_all(
+    letters: &mut Letters,
+    waits: &mut [usize],
+    units: &Units<'_>,
+    needs: &Reversed,
+    lacks: &[u32],
+    found: &[u32],
+)
     requires queueing { AreQueueing units.now letters.old waits.old }
     requires needs { AreReversed (length letters.old) (length units.now.units) (needs_of units.now) (lists_of needs.now) }
     requires each { length lacks.now ≡ length letters.old }
