@@ -39,7 +39,8 @@ pub(crate) fn turned_needs(
 ) -> Result<Reversed, Memory>
     requires { units.now.tree ≡ tree.now }
     ensures { IfOk result (λ needs.
-        AreReversed (length tree.now) (length units.now.units) (needs_of units.now) (lists_of needs)) }
+        AreReversed (length tree.now) (length units.now.units) (needs_of units.now)
+        (lists_of needs)) }
 {
     let mut needs = Reversed::new(alloc, tree.len())?;
     for unit in 0..units.len() {
