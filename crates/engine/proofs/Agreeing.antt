@@ -1,6 +1,6 @@
 -- What changes where one more package is held.
-use Rattle.std.proofs.Common.{◌≡◌, ◌≢◌, ◌+◌, ◌<◌, ◌≤◌, ◌⊎◌, ℕ, Bool, true, false, List, All, Contains, Some, get_or, length, set, refl, sym, ap, ◌∙◌, subst, inl, inr, arith}
-use Rattle.std.proofs.lemmas.Bool.{cases_eq, cases_lt, true≢false}
+use Rattle.std.proofs.Common.{◌≡◌, ◌≢◌, ◌+◌, ◌<◌, ◌≤◌, ◌⊎◌, ℕ, true, false, List, All, Some, get_or, length, set, refl, sym, ap, ◌∙◌, subst, inl, inr, arith}
+use Rattle.std.proofs.lemmas.Bool.{cases_eq, cases_lt}
 use Rattle.std.proofs.lemmas.List.{get_or-set_other, get_or-set_same, get_or_past, length-map, length-set}
 use Rattle.std.proofs.lemmas.List.Elements.{All-contains}
 use Rattle.std.specs.FinSet as finset
@@ -11,11 +11,11 @@ use Rattle.engine.specs.declared.Letter.{Letter}
 use Rattle.engine.specs.declared.Letter.TheVariants.{T, Q, B, I, Ignored}
 use Rattle.engine.specs.declared.reversed.Reversed.{Reversed}
 use Rattle.engine.specs.declared.walk.Walk.{Walk}
-use Rattle.engine.specs.inside.Agreed.{held_marks, marked_set}
+use Rattle.engine.specs.inside.Agreed.{held_marks}
 use Rattle.engine.specs.inside.Keeping.{AreKept, holds}
 use Rattle.engine.specs.inside.Lacking.{IsLacking}
 use Rattle.engine.specs.inside.Lists.{AreReached, IsReached, list_at, lists_of, times}
-use Rattle.engine.specs.inside.Queueing.{AreFitting, AreQueueing, FitsUnit, needs_of}
+use Rattle.engine.specs.inside.Queueing.{AreQueueing, FitsUnit, needs_of}
 use Rattle.engine.specs.inside.Shown.{is_held, is_installed, letter_at}
 use Rattle.engine.specs.inside.Walks.{IsIdle, has_mark}
 use Rattle.engine.proofs.Beginning.{not_held_installed}
@@ -75,8 +75,12 @@ module _ {d : Division} {letters : List Letter} {lacks waits : List ℕ} {runs n
   -- each that is reached lacks the package
   pub some_lacking : (found : List ℕ) → AreReached (list_at (lists_of runs)) p found → (q : ℕ) → q < length lacks → times q found ≤ get_or lacks q 0
   some_lacking found reached q listed = elim (reached q) [
-    | inl (leads, one) ↦ omega (arith, one, so_many-some (IsLacking (run_at d.tree) (holds letters) q) (length d.tree) (get_or lacks q 0) p (kept.are_lacks q listed) within
-        (reached-back (list_at (lists_of runs)) (run_at d.tree) p q back leads, not_held))
+    | inl (leads, one) ↦ omega (
+      arith,
+      one,
+      so_many-some (IsLacking (run_at d.tree) (holds letters) q) (length d.tree) (get_or lacks q 0) p (kept.are_lacks q listed) within
+          (reached-back (list_at (lists_of runs)) (run_at d.tree) p q back leads, not_held),
+    )
     | inr (leads_not, none) ↦ omega (arith, none)
   ]
 
@@ -89,9 +93,9 @@ module _ {d : Division} {letters : List Letter} {lacks waits : List ℕ} {runs n
       each_unit = kept.queueing.are_fitting.each_unit;
       fit = λ q listed. elim (cases_eq q p) [
         | inl same ↦
-          let b : FitsUnit d waits p B = numbered d waits p (letter_at letters p) not_ignored (kept.queueing.are_fitting.fit p within) in
-          let here : letter_at (set letters p B) p ≡ B = get_or-set_same letters p B Ignored inside in
-          subst (λ (x : ℕ). FitsUnit d waits x (letter_at (set letters p B) x)) (sym same) (subst (FitsUnit d waits p) (sym here) b)
+            let b : FitsUnit d waits p B = numbered d waits p (letter_at letters p) not_ignored (kept.queueing.are_fitting.fit p within) in
+            let here : letter_at (set letters p B) p ≡ B = get_or-set_same letters p B Ignored inside in
+            subst (λ (x : ℕ). FitsUnit d waits x (letter_at (set letters p B) x)) (sym same) (subst (FitsUnit d waits p) (sym here) b)
         | inr other ↦ subst (FitsUnit d waits q) (sym (get_or-set_other letters p q B Ignored other)) (kept.queueing.are_fitting.fit q listed)
       ];
     };

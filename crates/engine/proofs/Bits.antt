@@ -1,5 +1,5 @@
 -- A row of bits, one of which is set or cleared.
-use Rattle.std.proofs.Common.{◌≡◌, ◌≢◌, ◌+◌, ◌*◌, ◌/◌, ◌%◌, ◌<◌, ◌≤◌, ◌^◌, ℕ, false, List, get_or, length, set, refl, ap, sym, ◌∙◌, inl, inr, arith, w64}
+use Rattle.std.proofs.Common.{◌≡◌, ◌≢◌, ◌+◌, ◌*◌, ◌/◌, ◌%◌, ◌<◌, ◌^◌, ℕ, false, List, get_or, length, set, refl, ap, sym, ◌∙◌, inl, inr, arith, w64}
 use Rattle.std.specs.Int.{bit_at, trailing_zeros}
 use Rattle.std.proofs.lemmas.Bool.{cases_eq, cases_lt}
 use Rattle.std.proofs.lemmas.List.{get_or-set_other, get_or-set_same, length-set}
@@ -22,8 +22,8 @@ pub bit-other : (words : List ℕ) (p v q : ℕ) → p / 64 < length words → q
     → ((i : ℕ) → i < 64 → i ≢ p % 64 → bit_at v i ≡ bit_at (get_or words (p / 64) 0) i) → bit_in (set words (p / 64) v) q ≡ bit_in words q
 bit-other words p v q within other same = elim (cases_eq (q / 64) (p / 64)) [
   | inl together ↦
-    let e : get_or (set words (p / 64) v) (q / 64) 0 ≡ v = ap (λ k. get_or (set words (p / 64) v) k 0) together ∙ get_or-set_same words (p / 64) v 0 within in
-    ap (λ w. bit_at w (q % 64)) e ∙ same (q % 64) (omega arith) (λ e. other (omega (arith, e, together))) ∙ ap (λ k. bit_at (get_or words k 0) (q % 64)) (sym together)
+      let e : get_or (set words (p / 64) v) (q / 64) 0 ≡ v = ap (λ k. get_or (set words (p / 64) v) k 0) together ∙ get_or-set_same words (p / 64) v 0 within in
+      ap (λ w. bit_at w (q % 64)) e ∙ same (q % 64) (omega arith) (λ e. other (omega (arith, e, together))) ∙ ap (λ k. bit_at (get_or words k 0) (q % 64)) (sym together)
   | inr apart ↦ ap (λ w. bit_at w (q % 64)) (get_or-set_other words (p / 64) (q / 64) v 0 apart)
 ]
 
@@ -40,9 +40,9 @@ module _ (words : List ℕ) (n w : ℕ) (is : w ≡ get_or words n 0) (some : 0 
   first-before none p before = elim (cases_lt (p / 64) n) [
     | inl earlier ↦ ap (λ v. bit_at v (p % 64)) (none (p / 64) earlier) ∙ bit_at-zero (p % 64)
     | inr past ↦
-      let lowest = bit_at-trailing_zeros w64 w some fits in
-      let place : p / 64 ≡ n = omega (arith, lowest.0) in
-      ap (λ v. bit_at v (p % 64)) (ap (λ k. get_or words k 0) place ∙ sym is) ∙ lowest.2 (p % 64) (omega (arith, place))
+        let lowest = bit_at-trailing_zeros w64 w some fits in
+        let place : p / 64 ≡ n = omega (arith, lowest.0) in
+        ap (λ v. bit_at v (p % 64)) (ap (λ k. get_or words k 0) place ∙ sym is) ∙ lowest.2 (p % 64) (omega (arith, place))
   ]
 
 -- a letter is put in place of another, and its bit with it

@@ -1,6 +1,7 @@
 pub mod Agreeing
 pub mod Beginning
 pub mod Bits
+mod Examples
 pub mod Lists
 pub mod Lowering
 pub mod Marked
@@ -12,5 +13,7 @@ pub mod SoMany
 pub mod Tally
 pub mod Together
 pub mod Turned
+mod UnitExamples
+pub mod Unmarked
 pub mod Waiting
 pub mod Walks

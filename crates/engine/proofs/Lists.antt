@@ -1,8 +1,8 @@
 -- How often a position stands in a list.
-use Rattle.std.proofs.Common.{◌≡◌, ◌≢◌, ◌+◌, ◌<◌, ◌≤◌, ◌⊎◌, ℕ, zero, suc, Bool, true, false, cond, nat_eq, List, [], ◌∷◌, ◌++◌, length, set, take, get_or, replicate, map, Contains, count_by, refl, sym, ap, ◌∙◌, subst, inl, inr, arith}
+use Rattle.std.proofs.Common.{◌≡◌, ◌+◌, ◌<◌, ℕ, zero, suc, Bool, true, false, cond, nat_eq, List, [], ◌∷◌, ◌++◌, length, set, take, get_or, Contains, refl, sym, ap, ◌∙◌, inl, inr, arith}
 use Rattle.std.proofs.lemmas.Bool.{cases_eq, eq-eqb, ne_eqb}
-use Rattle.std.proofs.lemmas.List.{get_or_past, get_or-set_same, get_or-set_other}
-use Rattle.std.proofs.lemmas.List.Sums.{get_or-le-sum_by, sum_by-cons, sum_by-set, sum_by_more, sum_by_push}
+use Rattle.std.proofs.lemmas.List.{get_or-set_same, get_or-set_other}
+use Rattle.std.proofs.lemmas.List.Sums.{get_or-le-sum_by, sum_by-cons, sum_by_more, sum_by_push}
 use Rattle.engine.specs.inside.Lists.{list_at, one_if, times}
 
 pub times-push : (p q : ℕ) (ps : List ℕ) → times p (ps ++ q ∷ []) ≡ times p ps + one_if (nat_eq q p)
@@ -21,9 +21,9 @@ contained-times p [] some = absurd (omega arith)
 contained-times p (q ∷ qs) some = elim (cases_eq q p) [
   | inl same ↦ (0, omega arith, same)
   | inr other ↦
-    let none : one_if (nat_eq q p) ≡ 0 = ap one_if (ne_eqb q p other) in
-    let rest = contained-times p qs (omega (arith, none, some, sum_by-cons (λ x. cond (nat_eq x p) 1 0) q qs)) in
-    (suc rest.0, omega (arith, rest.1), rest.2)
+      let none : one_if (nat_eq q p) ≡ 0 = ap one_if (ne_eqb q p other) in
+      let rest = contained-times p qs (omega (arith, none, some, sum_by-cons (λ x. cond (nat_eq x p) 1 0) q qs)) in
+      (suc rest.0, omega (arith, rest.1), rest.2)
 ]
 
 -- ---- lists turned around
@@ -33,13 +33,13 @@ pub list_at-push : (lists : List (List ℕ)) (o p : ℕ) (d x : ℕ) → o < len
     → times x (list_at (set lists o (list_at lists o ++ p ∷ [])) d) ≡ times x (list_at lists d) + cond (nat_eq p x) (one_if (nat_eq o d)) 0
 list_at-push lists o p d x within = elim (cases_eq d o) [
   | inl same ↦
-    let here : list_at (set lists o (list_at lists o ++ p ∷ [])) d ≡ list_at lists d ++ p ∷ [] =
-        ap (list_at (set lists o (list_at lists o ++ p ∷ []))) same ∙ get_or-set_same lists o _ [] within ∙ ap (λ n. list_at lists n ++ p ∷ []) (sym same) in
-    ap (times x) here ∙ times-push x p (list_at lists d)
-    ∙ ap (λ b. times x (list_at lists d) + cond (nat_eq p x) (one_if b) 0) (sym (eq-eqb o d (sym same)))
+      let here : list_at (set lists o (list_at lists o ++ p ∷ [])) d ≡ list_at lists d ++ p ∷ [] =
+      ap (list_at (set lists o (list_at lists o ++ p ∷ []))) same ∙ get_or-set_same lists o _ [] within ∙ ap (λ n. list_at lists n ++ p ∷ []) (sym same) in
+      ap (times x) here ∙ times-push x p (list_at lists d)
+      ∙ ap (λ b. times x (list_at lists d) + cond (nat_eq p x) (one_if b) 0) (sym (eq-eqb o d (sym same)))
   | inr other ↦
-    let there = get_or-set_other lists o d (list_at lists o ++ p ∷ []) [] other in
-    ap (times x) there ∙ nothing (nat_eq p x) (nat_eq o d) (ne_eqb o d (λ e. other (sym e)))
+      let there = get_or-set_other lists o d (list_at lists o ++ p ∷ []) [] other in
+      ap (times x) there ∙ nothing (nat_eq p x) (nat_eq o d) (ne_eqb o d (λ e. other (sym e)))
 ]
   where
     nothing : (a b : Bool) → b ≡ false → times x (list_at lists d) ≡ times x (list_at lists d) + cond a (one_if b) 0

@@ -1,5 +1,5 @@
 -- Counts by position that are raised and lowered.
-use Rattle.std.proofs.Common.{◌≡◌, ◌+◌, ◌-◌, ◌<◌, ◌≤◌, ℕ, Bool, List, get_or, length, set, take, ap, ◌∙◌, sym, inl, inr, arith}
+use Rattle.std.proofs.Common.{◌≡◌, ◌+◌, ◌<◌, ◌≤◌, ℕ, List, get_or, length, set, take, ap, ◌∙◌, sym, inl, inr, arith}
 use Rattle.std.proofs.lemmas.Bool.{cases_eq, eq-eqb, ne_eqb}
 use Rattle.std.proofs.lemmas.List.{get_or-set_other, get_or-set_same}
 use Rattle.std.proofs.lemmas.List.Sums.{sum_by-take-le}
@@ -15,24 +15,24 @@ module _ (lacks positions : List ℕ) (i p : ℕ) (listed : i < length positions
       → (v : ℕ) → v ≡ get_or now x 0 + 1 → get_or (set now x v) p 0 ≡ get_or lacks p 0 + times p (take (i + 1) positions)
   raised-more now x is before inside v raised = elim (cases_eq p x) [
     | inl same ↦
-      let one : one_if (nat_eq (get_or positions i 0) p) ≡ 1 = ap one_if (eq-eqb (get_or positions i 0) p (sym is ∙ sym same)) in
-      let here : get_or (set now x v) p 0 ≡ v = ap (λ q. get_or (set now x v) q 0) same ∙ get_or-set_same now x v 0 inside in
-      omega (arith, one, here, raised, ap (λ q. get_or now q 0) same, before, times-more p positions i listed)
+        let one : one_if (nat_eq (get_or positions i 0) p) ≡ 1 = ap one_if (eq-eqb (get_or positions i 0) p (sym is ∙ sym same)) in
+        let here : get_or (set now x v) p 0 ≡ v = ap (λ q. get_or (set now x v) q 0) same ∙ get_or-set_same now x v 0 inside in
+        omega (arith, one, here, raised, ap (λ q. get_or now q 0) same, before, times-more p positions i listed)
     | inr other ↦
-      let none : one_if (nat_eq (get_or positions i 0) p) ≡ 0 = ap one_if (ne_eqb (get_or positions i 0) p (λ e. other (sym e ∙ sym is))) in
-      omega (arith, none, get_or-set_other now x p v 0 other, before, times-more p positions i listed)
+        let none : one_if (nat_eq (get_or positions i 0) p) ≡ 0 = ap one_if (ne_eqb (get_or positions i 0) p (λ e. other (sym e ∙ sym is))) in
+        omega (arith, none, get_or-set_other now x p v 0 other, before, times-more p positions i listed)
   ]
 
   pub lowered-more : (now : List ℕ) (x : ℕ) → x ≡ get_or positions i 0 → get_or now p 0 + times p (take i positions) ≡ get_or lacks p 0 → x < length now
       → (v : ℕ) → v + 1 ≡ get_or now x 0 → get_or (set now x v) p 0 + times p (take (i + 1) positions) ≡ get_or lacks p 0
   lowered-more now x is before inside v lowered = elim (cases_eq p x) [
     | inl same ↦
-      let one : one_if (nat_eq (get_or positions i 0) p) ≡ 1 = ap one_if (eq-eqb (get_or positions i 0) p (sym is ∙ sym same)) in
-      let here : get_or (set now x v) p 0 ≡ v = ap (λ q. get_or (set now x v) q 0) same ∙ get_or-set_same now x v 0 inside in
-      omega (arith, one, here, lowered, ap (λ q. get_or now q 0) same, before, times-more p positions i listed)
+        let one : one_if (nat_eq (get_or positions i 0) p) ≡ 1 = ap one_if (eq-eqb (get_or positions i 0) p (sym is ∙ sym same)) in
+        let here : get_or (set now x v) p 0 ≡ v = ap (λ q. get_or (set now x v) q 0) same ∙ get_or-set_same now x v 0 inside in
+        omega (arith, one, here, lowered, ap (λ q. get_or now q 0) same, before, times-more p positions i listed)
     | inr other ↦
-      let none : one_if (nat_eq (get_or positions i 0) p) ≡ 0 = ap one_if (ne_eqb (get_or positions i 0) p (λ e. other (sym e ∙ sym is))) in
-      omega (arith, none, get_or-set_other now x p v 0 other, before, times-more p positions i listed)
+        let none : one_if (nat_eq (get_or positions i 0) p) ≡ 0 = ap one_if (ne_eqb (get_or positions i 0) p (λ e. other (sym e ∙ sym is))) in
+        omega (arith, none, get_or-set_other now x p v 0 other, before, times-more p positions i listed)
   ]
 
 here_one : (positions : List ℕ) (i : ℕ) → one_if (nat_eq (get_or positions i 0) (get_or positions i 0)) ≡ 1

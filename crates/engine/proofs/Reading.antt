@@ -1,17 +1,16 @@
 -- What the parts of an engine tell of its state.
-use Rattle.std.proofs.Common.{◌≡◌, ◌≢◌, ◌+◌, ◌<◌, ◌≤◌, ◌⊎◌, ℕ, zero, suc, Bool, true, false, not, cond, nat_eq, List, [], ◌∷◌, Option, MatchOption, Some, None, All, Contains, count_by, get_or, length, map, set, refl, sym, ap, ◌∙◌, subst, inl, inr, ⊎_elim, arith}
+use Rattle.std.proofs.Common.{◌≡◌, ◌≢◌, ◌+◌, ◌<◌, ◌≤◌, ℕ, suc, Bool, true, false, not, cond, nat_eq, List, [], ◌∷◌, Option, MatchOption, Some, None, All, Contains, get_or, length, refl, sym, ap, ◌∙◌, subst, inl, inr, arith}
 use Rattle.std.proofs.Math.ListN.{get_or-map}
-use Rattle.std.proofs.lemmas.Bool.{both_ways, cases_lt, eq-eqb, eqb-true, true≢false}
-use Rattle.std.proofs.lemmas.List.{get_or_past, length-map}
+use Rattle.std.proofs.lemmas.Bool.{cases_lt, eq-eqb, eqb-true, true≢false}
+use Rattle.std.proofs.lemmas.List.{get_or_past}
 use Rattle.std.proofs.lemmas.List.Elements.{All-contains, Contains-get_or}
 use Rattle.std.proofs.lemmas.List.Sums.{get_or-le-sum_by, sum_by-cons}
 use Rattle.std.specs.List.{AllZip, range_with_len}
-use Rattle.listing.specs.Tree.{IsTree, Tree, no_package, run_at}
+use Rattle.listing.specs.Tree.{Tree, no_package, run_at}
 use Rattle.units.specs.Division.{Division, IsDivision, number_of, unit_at}
-use Rattle.units.specs.Ignored.{IsIgnored}
-use Rattle.units.specs.Units.{IsUnitOf, Unit}
+use Rattle.units.specs.Units.{Unit}
 use Rattle.units.proofs.Once.{one_unit}
-use Rattle.engine.specs.Letters.{CanBeBuilt, IsInstallable}
+use Rattle.engine.specs.Letters.{IsInstallable}
 use Rattle.engine.specs.State.{AreCounts, HasLetter, IsEngine, IsNextQueued, State, counts_of, has_agreed}
 use Rattle.engine.specs.declared.Letter.{Letter}
 use Rattle.engine.specs.declared.Letter.TheVariants.{T, Q, B, I, Ignored}
@@ -52,7 +51,6 @@ installed_is Q e = absurd (true≢false (sym e))
 installed_is B e = absurd (true≢false (sym e))
 installed_is I e = refl
 installed_is Ignored e = absurd (true≢false (sym e))
-
 
 -- where none is waited for, all are installed
 none_waited : (letters : List Letter) (ps : List ℕ) (q : ℕ) → waited_for letters ps ≡ 0 → Contains ps q → letter_at letters q ≡ I
@@ -134,27 +132,27 @@ module _ {d : Division} {letters : List Letter} {lacks waiting : List ℕ} {runs
   has_letter_of p within Ignored is fits = (agreed_is_held d.tree letters p ∙ ap is_held is, unnumbered_ignored d p is_division within fits)
   has_letter_of p within Q is (u, number, none) =
       let unit = numbered_unit d p u is_division number in (
-      agreed_is_held d.tree letters p ∙ ap is_held is,
-      not_ignored d.tree p (unit_at d u) unit.1,
-      record {
-        unit = unit_at d u;
-        of_unit = unit.1;
-        installable = λ k x inside.
-            let q = get_or (needs_of d u) k x in
-            let letter = none_waited letters (needs_of d u) q (sym (kept.queueing.waited u unit.0) ∙ none) (Contains-get_or (needs_of d u) k x inside) in
-            let within_q = letter_within letters q (λ ignored. let e : I ≡ Ignored = sym letter ∙ ignored in cc) in
-            installable_from q (omega (arith, within_q, kept.queueing.are_fitting.each_letter)) (kept.installed q letter);
-      },
-    )
+        agreed_is_held d.tree letters p ∙ ap is_held is,
+        not_ignored d.tree p (unit_at d u) unit.1,
+        record {
+          unit = unit_at d u;
+          of_unit = unit.1;
+          installable = λ k x inside.
+              let q = get_or (needs_of d u) k x in
+              let letter = none_waited letters (needs_of d u) q (sym (kept.queueing.waited u unit.0) ∙ none) (Contains-get_or (needs_of d u) k x inside) in
+              let within_q = letter_within letters q (λ ignored. let e : I ≡ Ignored = sym letter ∙ ignored in cc) in
+              installable_from q (omega (arith, within_q, kept.queueing.are_fitting.each_letter)) (kept.installed q letter);
+        },
+      )
   has_letter_of p within T is (u, number, some) =
       let unit = numbered_unit d p u is_division number in (
-      agreed_is_held d.tree letters p ∙ ap is_held is,
-      not_ignored d.tree p (unit_at d u) unit.1,
-      λ can.
-          let one = some_waited letters (needs_of d u) (omega (arith, some, kept.queueing.waited u unit.0)) in
-          let all = subst (λ (v : Unit). All (IsInstallable d.tree (has_agreed (state_of d.tree letters))) v.build) (one_unit d.tree p can.unit (unit_at d u) can.of_unit unit.1) can.installable in
-          not_installed one.0 (letter_at letters one.0) refl one.2 (All-contains (IsInstallable d.tree (has_agreed (state_of d.tree letters))) (needs_of d u) one.0 all one.1),
-    )
+        agreed_is_held d.tree letters p ∙ ap is_held is,
+        not_ignored d.tree p (unit_at d u) unit.1,
+        λ can.
+            let one = some_waited letters (needs_of d u) (omega (arith, some, kept.queueing.waited u unit.0)) in
+            let all = subst (λ (v : Unit). All (IsInstallable d.tree (has_agreed (state_of d.tree letters))) v.build) (one_unit d.tree p can.unit (unit_at d u) can.of_unit unit.1) can.installable in
+            not_installed one.0 (letter_at letters one.0) refl one.2 (All-contains (IsInstallable d.tree (has_agreed (state_of d.tree letters))) (needs_of d u) one.0 all one.1),
+      )
 
   pub has_letter : (p : ℕ) → p < length d.tree → HasLetter (state_of d.tree letters) p (letter_at letters p)
   has_letter p within = has_letter_of p within (letter_at letters p) refl (kept.queueing.are_fitting.fit p within)
@@ -172,16 +170,20 @@ module _ {d : Division} {letters : List Letter} {lacks waiting : List ℕ} {runs
   is_next_queued (Some p) (here, before) =
       let inside = letter_within letters p (λ ignored. let e : Q ≡ Ignored = sym here ∙ ignored in cc) in
       let within : p < length d.tree = omega (arith, inside, kept.queueing.are_fitting.each_letter) in (
-      within,
-      subst (HasLetter (state_of d.tree letters) p) here (has_letter p within),
-      λ k earlier queued. before k earlier (queued_shown k (omega (arith, earlier, within)) queued),
-    )
+        within,
+        subst (HasLetter (state_of d.tree letters) p) here (has_letter p within),
+        λ k earlier queued. before k earlier (queued_shown k (omega (arith, earlier, within)) queued),
+      )
 
   pub are_counts : AreCounts (state_of d.tree letters) (counts_of letters)
-  are_counts = (letters, subst (λ (n : ℕ). AllZip (HasLetter (state_of d.tree letters)) (range_with_len 0 n) letters) kept.queueing.are_fitting.each_letter
-      (zip_from (HasLetter (state_of d.tree letters)) 0 letters (λ k inside.
-      let e : k ≡ 0 + k = omega arith in
-      subst (λ (x : ℕ). HasLetter (state_of d.tree letters) x (get_or letters k Ignored)) e (has_letter k (omega (arith, inside, kept.queueing.are_fitting.each_letter))))), refl)
+  are_counts = (
+    letters,
+    subst (λ (n : ℕ). AllZip (HasLetter (state_of d.tree letters)) (range_with_len 0 n) letters) kept.queueing.are_fitting.each_letter
+        (zip_from (HasLetter (state_of d.tree letters)) 0 letters (λ k inside.
+        let e : k ≡ 0 + k = omega arith in
+        subst (λ (x : ℕ). HasLetter (state_of d.tree letters) x (get_or letters k Ignored)) e (has_letter k (omega (arith, inside, kept.queueing.are_fitting.each_letter))))),
+    refl,
+  )
 
   held_unit : (p : ℕ) (l : Letter) → is_held l ≡ true → FitsUnit d waiting p l → (u : ℕ) × (number_of d p ≡ Some u)
   held_unit p T e fits = absurd (true≢false (sym e))
@@ -200,5 +202,8 @@ module _ {d : Division} {letters : List Letter} {lacks waiting : List ℕ} {runs
   }
     where
       within : (p : ℕ) → has_agreed (state_of d.tree letters) p ≡ true → p < length d.tree
-      within p agreed = omega (arith, kept.queueing.are_fitting.each_letter,
-          letter_within letters p (λ e. true≢false (sym (sym (agreed_is_held d.tree letters p) ∙ agreed) ∙ ap is_held e)))
+      within p agreed = omega (
+        arith,
+        kept.queueing.are_fitting.each_letter,
+        letter_within letters p (λ e. true≢false (sym (sym (agreed_is_held d.tree letters p) ∙ agreed) ∙ ap is_held e)),
+      )

@@ -1,11 +1,11 @@
 -- The counts of letters, where one letter is put in place of another.
-use Rattle.std.proofs.Common.{◌≡◌, ◌+◌, ◌<◌, ◌==◌, ℕ, List, count_by, get_or, length, set, cond, refl, sym, ap, ◌∙◌, arith}
+use Rattle.std.proofs.Common.{◌≡◌, ◌+◌, ◌<◌, ◌==◌, ℕ, List, get_or, length, set, cond, refl, sym, ap, ◌∙◌, arith}
 use Rattle.std.proofs.lemmas.List.Sums.{sum_by-set}
 use Rattle.engine.specs.State.{count_of, counts_of, index_of}
 use Rattle.engine.specs.declared.Counts.{Counts}
 use Rattle.engine.specs.declared.Letter.{Letter}
 use Rattle.engine.specs.declared.Letter.TheVariants.{T, Q, B, I, Ignored}
-use Rattle.engine.specs.inside.Shown.{letter_at, same_letter, tally}
+use Rattle.engine.specs.inside.Shown.{same_letter, tally}
 use Rattle.engine.proofs.Lists.{get_or-same}
 
 pub tally-counts : (letters : List Letter) (l : Letter) → tally (counts_of letters) l ≡ count_of l letters

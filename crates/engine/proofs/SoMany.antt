@@ -1,6 +1,6 @@
 -- How many positions meet a condition.
-use Rattle.std.proofs.Common.{◌≡◌, ◌≢◌, ◌+◌, ◌-◌, ◌<◌, ◌≤◌, ◌⊎◌, ◌↔◌, ℕ, zero, suc, Bool, true, false, not, List, get_or, length, Contains, refl, sym, ap, ◌∙◌, subst, inl, inr, ⊎_elim, arith}
-use Rattle.std.proofs.lemmas.Bool.{both_ways, cases_Bool, cases_eq, true≢false}
+use Rattle.std.proofs.Common.{◌≡◌, ◌≢◌, ◌+◌, ◌<◌, ◌≤◌, ◌⊎◌, ℕ, zero, suc, Bool, true, false, not, List, get_or, length, Contains, sym, ap, ◌∙◌, subst, inl, inr, arith}
+use Rattle.std.proofs.lemmas.Bool.{cases_Bool, cases_eq, true≢false}
 use Rattle.engine.specs.inside.Lists.{AreReached, IsReached, times}
 use Rattle.engine.specs.inside.Lacking.{AreLacks, AreSoMany, IsLacking}
 
@@ -35,8 +35,11 @@ pub so_many-less : (P Q : ℕ → Type 0) (n m p : ℕ) → p < n → P p → ¬
     → AreSoMany P n (suc m) → AreSoMany Q n m
 so_many-less P Q zero m p within met no_more there back are = absurd (omega arith)
 so_many-less P Q (suc n) m p within met no_more there back (inl (here, (k, are, is))) = elim (cases_eq n p) [
-  | inl same ↦ inr (λ h. no_more (subst Q same h), let e : k ≡ m = omega (arith, is) in subst (AreSoMany Q n) e
-      (so_many-same P Q n k (λ q below h. there q (omega arith) (λ e. absurd (omega (arith, e, same, below))) h) (λ q below. back q (omega arith)) are))
+  | inl same ↦ inr (
+    λ h. no_more (subst Q same h),
+    let e : k ≡ m = omega (arith, is) in subst (AreSoMany Q n) e
+        (so_many-same P Q n k (λ q below h. there q (omega arith) (λ e. absurd (omega (arith, e, same, below))) h) (λ q below. back q (omega arith)) are),
+  )
   | inr other ↦ earlier (omega (arith, other)) k are is
       (λ j below more. so_many-less P Q n j p below met no_more (λ q under. there q (omega arith)) (λ q under. back q (omega arith)) more)
 ]
@@ -46,8 +49,10 @@ so_many-less P Q (suc n) m p within met no_more there back (inl (here, (k, are, 
     earlier below (suc k) are is less = inl (there n (omega arith) (λ e. absurd (omega (arith, e, below))) here, (k, less k below are, omega (arith, is)))
 so_many-less P Q (suc n) m p within met no_more there back (inr (not_here, are)) = elim (cases_eq n p) [
   | inl same ↦ absurd (not_here (subst P (sym same) met))
-  | inr other ↦ inr (λ h. not_here (back n (omega arith) h),
-      so_many-less P Q n m p (omega (arith, other)) met no_more (λ q under. there q (omega arith)) (λ q under. back q (omega arith)) are)
+  | inr other ↦ inr (
+    λ h. not_here (back n (omega arith) h),
+    so_many-less P Q n m p (omega (arith, other)) met no_more (λ q under. there q (omega arith)) (λ q under. back q (omega arith)) are,
+  )
 ]
 
 -- one position more
@@ -71,9 +76,9 @@ pub reached-back : (next before : ℕ → List ℕ) (p q : ℕ) → AreTurned ne
 reached-back next before p q turned reached S in_S closed = elim (cases_Bool (S p)) [
   | inl is ↦ is
   | inr is_not ↦
-    let out : ℕ → Bool = λ x. not (S x) in
-    let left_out : out q ≡ true = reached out (ap not is_not) (λ x d x_out listed. stays x d (cases_Bool (S d)) x_out listed) in
-    absurd (true≢false (sym left_out ∙ ap not in_S))
+      let out : ℕ → Bool = λ x. not (S x) in
+      let left_out : out q ≡ true = reached out (ap not is_not) (λ x d x_out listed. stays x d (cases_Bool (S d)) x_out listed) in
+      absurd (true≢false (sym left_out ∙ ap not in_S))
 ]
   where
     stays : (x d : ℕ) → (S d ≡ true) ⊎ (S d ≡ false) → not (S x) ≡ true → Contains (next x) d → not (S d) ≡ true

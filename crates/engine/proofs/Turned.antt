@@ -1,5 +1,5 @@
 -- Lists that are turned around, position by position.
-use Rattle.std.proofs.Common.{◌≡◌, ◌+◌, ◌<◌, ◌≤◌, ℕ, Bool, true, false, cond, nat_eq, List, [], get_or, length, replicate, Contains, refl, sym, ap, ◌∙◌, subst, inl, inr, arith}
+use Rattle.std.proofs.Common.{◌≡◌, ◌+◌, ◌<◌, ℕ, cond, nat_eq, List, [], length, replicate, Contains, sym, ap, ◌∙◌, inl, inr, arith}
 use Rattle.std.proofs.lemmas.Bool.{cases_eq, cases_lt, eq-eqb, ne_eqb}
 use Rattle.std.proofs.lemmas.List.{get_or-replicate, get_or_past, length-replicate}
 use Rattle.std.proofs.lemmas.List.Elements.{All-contains}
@@ -30,12 +30,12 @@ AreReversed-more n m next lists more are each named = record {
   each = each ∙ are.each;
   named = λ d x within before. elim (cases_eq x m) [
     | inl same ↦
-      let here : cond (nat_eq m x) (times d (next m)) 0 ≡ times d (next m) = ap (λ b. cond b (times d (next m)) 0) (eq-eqb m x (sym same)) in
-      let is : times d (next m) ≡ times d (next x) = ap (λ k. times d (next k)) (sym same) in
-      omega (arith, named d x, here, is, are.no_more d x (omega (arith, same)))
+        let here : cond (nat_eq m x) (times d (next m)) 0 ≡ times d (next m) = ap (λ b. cond b (times d (next m)) 0) (eq-eqb m x (sym same)) in
+        let is : times d (next m) ≡ times d (next x) = ap (λ k. times d (next k)) (sym same) in
+        omega (arith, named d x, here, is, are.no_more d x (omega (arith, same)))
     | inr other ↦
-      let there : cond (nat_eq m x) (times d (next m)) 0 ≡ 0 = ap (λ b. cond b (times d (next m)) 0) (ne_eqb m x (λ e. other (sym e))) in
-      omega (arith, named d x, there, are.named d x within (omega (arith, before, other)))
+        let there : cond (nat_eq m x) (times d (next m)) 0 ≡ 0 = ap (λ b. cond b (times d (next m)) 0) (ne_eqb m x (λ e. other (sym e))) in
+        omega (arith, named d x, there, are.named d x within (omega (arith, before, other)))
   ];
   no_more = λ d x past.
       let there : cond (nat_eq m x) (times d (next m)) 0 ≡ 0 = ap (λ b. cond b (times d (next m)) 0) (ne_eqb m x (λ e. absurd (omega (arith, e, past)))) in
@@ -63,7 +63,7 @@ module _ {n m : ℕ} {next : ℕ → List ℕ} {lists : List (List ℕ)} (are : 
     | inl before ↦ elim (cases_lt d n) [
       | inl within ↦ contained-times d (next x) (omega (arith, are.named d x within before, times-contained x (list_at lists d) named))
       | inr past ↦
-        let nothing : list_at lists d ≡ [] = get_or_past lists d [] (omega (arith, past, are.each)) in
-        absurd (omega (arith, times-contained x (list_at lists d) named, ap (times x) nothing))
+          let nothing : list_at lists d ≡ [] = get_or_past lists d [] (omega (arith, past, are.each)) in
+          absurd (omega (arith, times-contained x (list_at lists d) named, ap (times x) nothing))
     ]
   ]

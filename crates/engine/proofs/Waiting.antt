@@ -1,5 +1,5 @@
 -- What changes where a package becomes installable.
-use Rattle.std.proofs.Common.{◌≡◌, ◌≢◌, ◌+◌, ◌-◌, ◌<◌, ◌≤◌, ◌⊎◌, ℕ, zero, suc, Bool, true, false, not, cond, nat_eq, List, [], ◌∷◌, Some, None, All, Contains, count_by, drop, get_or, length, set, refl, sym, ap, ◌∙◌, subst, inl, inr, ⊎_elim, arith}
+use Rattle.std.proofs.Common.{◌≡◌, ◌≢◌, ◌+◌, ◌-◌, ◌<◌, ◌≤◌, ◌⊎◌, ℕ, zero, suc, Bool, not, cond, nat_eq, List, [], ◌∷◌, Some, All, Contains, count_by, drop, get_or, length, set, refl, sym, ap, ◌∙◌, subst, inl, inr, arith}
 use borrow.Author.Count.{below_more}
 use Rattle.std.proofs.lemmas.Bool.{cases_eq, cases_lt, eq-eqb, ne_eqb}
 use Rattle.std.proofs.lemmas.List.{get_or-set_other, get_or-set_same, length-set}
@@ -59,14 +59,14 @@ waited_for-less letters p (q ∷ qs) within built =
     let three : ℕ → ℕ = λ x. cond (nat_eq x p) 1 0 in
     let here : one q + three q ≡ two q = elim (cases_eq q p) [
       | inl same ↦
-        let a : one q ≡ 0 = ap one same ∙ ap (λ l. one_if (not (is_installed l))) (get_or-set_same letters p I Ignored within) in
-        let b : three q ≡ 1 = ap one_if (eq-eqb q p same) in
-        let c : two q ≡ 1 = ap two same ∙ ap (λ l. one_if (not (is_installed l))) built in
-        omega (arith, a, b, c)
+          let a : one q ≡ 0 = ap one same ∙ ap (λ l. one_if (not (is_installed l))) (get_or-set_same letters p I Ignored within) in
+          let b : three q ≡ 1 = ap one_if (eq-eqb q p same) in
+          let c : two q ≡ 1 = ap two same ∙ ap (λ l. one_if (not (is_installed l))) built in
+          omega (arith, a, b, c)
       | inr other ↦
-        let a : one q ≡ two q = ap (λ l. one_if (not (is_installed l))) (get_or-set_other letters p q I Ignored other) in
-        let b : three q ≡ 0 = ap one_if (ne_eqb q p other) in
-        omega (arith, a, b)
+          let a : one q ≡ two q = ap (λ l. one_if (not (is_installed l))) (get_or-set_other letters p q I Ignored other) in
+          let b : three q ≡ 0 = ap one_if (ne_eqb q p other) in
+          omega (arith, a, b)
     ] in
     omega (arith, here, waited_for-less letters p qs within built, sum_by-cons one q qs, sum_by-cons two q qs, sum_by-cons three q qs)
 
@@ -78,7 +78,6 @@ package_there d p u number =
     let at = position-Some (λ (x : Unit). is_in x.packages p) d.units u no_unit number in
     (at.0, in_contains (unit_at d u).packages p at.1)
 
-
 module _ {d : Division} {letters : List Letter} {waits : List ℕ} (are : AreFitting d letters waits) where
   pub AreFitting-installed : (p : ℕ) → p < length letters → letter_at letters p ≡ B → AreFitting d (set letters p I) waits
   AreFitting-installed p within built = record {
@@ -87,8 +86,8 @@ module _ {d : Division} {letters : List Letter} {waits : List ℕ} (are : AreFit
     each_unit = are.each_unit;
     fit = λ q listed. elim (cases_eq q p) [
       | inl same ↦
-        let old : FitsUnit d waits q I = subst (FitsUnit d waits q) (ap (letter_at letters) same ∙ built) (are.fit q listed) in
-        subst (FitsUnit d waits q) (sym (ap (letter_at (set letters p I)) same ∙ get_or-set_same letters p I Ignored within)) old
+          let old : FitsUnit d waits q I = subst (FitsUnit d waits q) (ap (letter_at letters) same ∙ built) (are.fit q listed) in
+          subst (FitsUnit d waits q) (sym (ap (letter_at (set letters p I)) same ∙ get_or-set_same letters p I Ignored within)) old
       | inr other ↦ subst (FitsUnit d waits q) (sym (get_or-set_other letters p q I Ignored other)) (are.fit q listed)
     ];
   }
@@ -135,9 +134,9 @@ module _ {d : Division} {letters : List Letter} {waits : List ℕ} (are : AreFit
           | inl e ↦ let t : FitsUnit d (set waits u v) p T = (w, number, omega (arith, some, get_or-set_other waits u w v 0 other)) in
               subst (FitsUnit d (set waits u v) p) (sym (e ∙ is)) t
           | inr (contained, was, queued) ↦
-            let same = (one_unit_has d u p are.division (omega (arith, listed, are.each_unit)) contained).0 in
-            let e : Some w ≡ Some u = sym number ∙ same in
-            absurd (other (cc))
+              let same = (one_unit_has d u p are.division (omega (arith, listed, are.each_unit)) contained).0 in
+              let e : Some w ≡ Some u = sym number ∙ same in
+              absurd (other (cc))
         ]
       ]
       fits_queued p Q is (w, number, zero_left) = elim (only p) [
@@ -199,14 +198,14 @@ module _ {d : Division} {before letters : List Letter} {waits needing : List ℕ
     fitting = fitting;
     waited = λ u within. elim (cases_eq u (get_or needing n 0)) [
       | inl same ↦
-        let one : one_if (nat_eq (get_or needing n 0) u) ≡ 1 = ap one_if (eq-eqb (get_or needing n 0) u (sym same)) in
-        let here : get_or less u 0 ≡ get_or waits u 0 - 1 = ap (λ ws. get_or ws u 0) is ∙ ap (λ x. get_or (set waits (get_or needing n 0) (get_or waits (get_or needing n 0) 0 - 1)) x 0) same
-            ∙ get_or-set_same waits (get_or needing n 0) _ 0 (omega (arith, listed, now.fitting.each_unit)) ∙ ap (λ x. get_or waits x 0 - 1) (sym same) in
-        omega (arith, one, here, now.waited u within, waited_for-same letters more (needs_of d u) (queued-installed letters more queued), sum_by-drop_more (λ x. cond (nat_eq x u) 1 0) needing n 0 inside)
+          let one : one_if (nat_eq (get_or needing n 0) u) ≡ 1 = ap one_if (eq-eqb (get_or needing n 0) u (sym same)) in
+          let here : get_or less u 0 ≡ get_or waits u 0 - 1 = ap (λ ws. get_or ws u 0) is ∙ ap (λ x. get_or (set waits (get_or needing n 0) (get_or waits (get_or needing n 0) 0 - 1)) x 0) same
+          ∙ get_or-set_same waits (get_or needing n 0) _ 0 (omega (arith, listed, now.fitting.each_unit)) ∙ ap (λ x. get_or waits x 0 - 1) (sym same) in
+          omega (arith, one, here, now.waited u within, waited_for-same letters more (needs_of d u) (queued-installed letters more queued), sum_by-drop_more (λ x. cond (nat_eq x u) 1 0) needing n 0 inside)
       | inr other ↦
-        let none : one_if (nat_eq (get_or needing n 0) u) ≡ 0 = ap one_if (ne_eqb (get_or needing n 0) u (λ e. other (sym e))) in
-        let there : get_or less u 0 ≡ get_or waits u 0 = ap (λ ws. get_or ws u 0) is ∙ get_or-set_other waits (get_or needing n 0) u _ 0 other in
-        omega (arith, none, there, now.waited u within, waited_for-same letters more (needs_of d u) (queued-installed letters more queued), sum_by-drop_more (λ x. cond (nat_eq x u) 1 0) needing n 0 inside)
+          let none : one_if (nat_eq (get_or needing n 0) u) ≡ 0 = ap one_if (ne_eqb (get_or needing n 0) u (λ e. other (sym e))) in
+          let there : get_or less u 0 ≡ get_or waits u 0 = ap (λ ws. get_or ws u 0) is ∙ get_or-set_other waits (get_or needing n 0) u _ 0 other in
+          omega (arith, none, there, now.waited u within, waited_for-same letters more (needs_of d u) (queued-installed letters more queued), sum_by-drop_more (λ x. cond (nat_eq x u) 1 0) needing n 0 inside)
     ];
     queued = AreQueued-through before letters more now.queued queued;
   }
@@ -230,17 +229,17 @@ pub letter_after : (letters now : List Letter) (p : ℕ) → p < length letters 
     → ((q ≡ p) × (letter_at now q ≡ I) × (letter_at letters q ≡ B)) ⊎ ((q ≢ p) × ((letter_at now q ≡ letter_at letters q) ⊎ ((letter_at letters q ≡ T) × (letter_at now q ≡ Q))))
 letter_after letters now p within built queued q = elim (cases_eq q p) [
   | inl same ↦
-    let was : letter_at (set letters p I) q ≡ I = ap (letter_at (set letters p I)) same ∙ get_or-set_same letters p I Ignored within in
-    elim (queued.same q) [
-      | inl e ↦ inl (same, e ∙ was, ap (letter_at letters) same ∙ built)
-      | inr (t, changed) ↦ absurd (let e : I ≡ T = sym was ∙ t in cc)
-    ]
+      let was : letter_at (set letters p I) q ≡ I = ap (letter_at (set letters p I)) same ∙ get_or-set_same letters p I Ignored within in
+      elim (queued.same q) [
+        | inl e ↦ inl (same, e ∙ was, ap (letter_at letters) same ∙ built)
+        | inr (t, changed) ↦ absurd (let e : I ≡ T = sym was ∙ t in cc)
+      ]
   | inr other ↦
-    let was : letter_at (set letters p I) q ≡ letter_at letters q = get_or-set_other letters p q I Ignored other in
-    elim (queued.same q) [
-      | inl e ↦ inr (other, inl (e ∙ was))
-      | inr (t, changed) ↦ inr (other, inr (sym was ∙ t, changed))
-    ]
+      let was : letter_at (set letters p I) q ≡ letter_at letters q = get_or-set_other letters p q I Ignored other in
+      elim (queued.same q) [
+        | inl e ↦ inr (other, inl (e ∙ was))
+        | inr (t, changed) ↦ inr (other, inr (sym was ∙ t, changed))
+      ]
 ]
 
 -- what holds when n of the found ones have been looked at

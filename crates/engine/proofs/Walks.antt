@@ -1,5 +1,5 @@
 -- How marks and the list of the marked ones grow together.
-use Rattle.std.proofs.Common.{◌≡◌, ◌≢◌, ◌+◌, ◌<◌, ◌≤◌, ◌⊎◌, ℕ, zero, suc, Bool, true, false, cond, nat_eq, List, [], ◌∷◌, ◌++◌, length, set, get_or, All, Contains, count_by, refl, sym, ap, ◌∙◌, subst, inl, inr, ⊎_elim, arith}
+use Rattle.std.proofs.Common.{◌≡◌, ◌+◌, ◌<◌, ◌≤◌, ◌⊎◌, ℕ, zero, suc, Bool, true, false, cond, List, [], ◌∷◌, ◌++◌, length, set, get_or, All, Contains, count_by, refl, sym, ap, ◌∙◌, subst, inl, inr, ⊎_elim, arith}
 use borrow.Author.Count.{below_more}
 use Rattle.std.proofs.lemmas.Bool.{both_ways, cases_eq, cases_lt, eq-eqb, ne_eqb, true≢false}
 use Rattle.std.proofs.lemmas.List.{get_or_append_left, get_or_past, get_or-set_same, get_or-set_other, length-set, length_push}
@@ -64,11 +64,11 @@ module _ {marks : List Bool} {found : List ℕ} (are : AreFound marks found) whe
     once = λ q. times-push q p found ∙ elim (cases_eq q p) [
       | inl same ↦ ap (λ b. times q found + one_if b) (eq-eqb p q (sym same))
           ∙ (let none : times q found ≡ 0 = are.once q ∙ ap (λ n. one_if (has_mark marks n)) same ∙ ap one_if unmarked in
-             let one : one_if (has_mark (set marks p true) q) ≡ 1 = ap (λ n. one_if (has_mark (set marks p true) n)) same ∙ ap one_if (get_or-set_same marks p true false within) in
-             omega (arith, none, one))
+          let one : one_if (has_mark (set marks p true) q) ≡ 1 = ap (λ n. one_if (has_mark (set marks p true) n)) same ∙ ap one_if (get_or-set_same marks p true false within) in
+          omega (arith, none, one))
       | inr other ↦ ap (λ b. times q found + one_if b) (ne_eqb p q (λ e. other (sym e)))
           ∙ (let there : one_if (has_mark (set marks p true) q) ≡ one_if (has_mark marks q) = ap one_if (get_or-set_other marks p q true false other) in
-             omega (arith, there, are.once q))
+          omega (arith, there, are.once q))
     ];
     as_many = omega (arith, are.as_many, one_more_marked marks p within unmarked, length_push found p);
   }

@@ -21,7 +21,8 @@ use units::Units;
 pub struct Engine<'a> {
     units: Units<'a>,
     letters: Letters,
-    /// For each package how many that it needs to run, through others too, are not held, itself included.
+    /// For each package how many of those that it needs to run, through others too, are not held,
+    /// itself included.
     lacks: Vec<u32>,
     /// For each unit how many packages that its build needs are not installable.
     waits: Vec<usize>,
@@ -41,9 +42,13 @@ impl<'a> Model for Engine<'a> {
 
     ghost coded = { state_code };
 
-    ghost view = { λ e. record { tree = e.units.tree; agreed = marked_set (held_marks e.letters) } };
+    ghost view = { λ e. record {
+      tree = e.units.tree;
+      agreed = marked_set (held_marks e.letters);
+    } };
 
-    ghost invariant = { λ e. AreKept e.units e.letters e.lacks.items e.waits.items e.runs e.needs e.walk };
+    ghost invariant = { λ e.
+        AreKept e.units e.letters e.lacks.items e.waits.items e.runs e.needs e.walk };
 }
 
 impl<'a> Engine<'a> {
@@ -54,8 +59,8 @@ impl<'a> Engine<'a> {
     {
         let units = Units::new(alloc, tree)?;
         let waits = first_waits(alloc, &units)?;
-        let letters = first_letters(alloc, tree.len(), &units, waits.as_slice())?;
-        let needs = turned_needs(alloc, tree.len(), &units)?;
+        let letters = first_letters(alloc, tree, &units, waits.as_slice())?;
+        let needs = turned_needs(alloc, tree, &units)?;
         let runs = turned_runs(alloc, tree)?;
         let mut walk = Walk::new(alloc, tree.len())?;
         let lacks = first_lacks(alloc, tree, &runs, &mut walk)?;

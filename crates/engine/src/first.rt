@@ -1,5 +1,5 @@
 //! What an engine keeps where nothing is held.
-ghost use Rattle.std.specs.Prelude.{◌≡◌, ◌<◌, ◌^◌, ℕ, IfOk, false, length, slice_index};
+ghost use Rattle.std.specs.Prelude.{◌≡◌, ◌<◌, ℕ, IfOk, OnOk, false, length, slice_index};
 ghost use Rattle.listing.specs.Tree.{run_at};
 ghost use Rattle.units.specs.Division.{IsDivision};
 ghost use Rattle.engine.specs.inside.Lacking.{AreLacks};
@@ -21,7 +21,8 @@ use units::Units;
 
 /// At each package those that need it to run.
 pub(crate) fn turned_runs(alloc: Global, tree: &Tree) -> Result<Reversed, Memory>
-    ensures { IfOk result (λ runs. AreReversed (length tree.now) (length tree.now) (run_at tree.now) (lists_of runs)) }
+    ensures { IfOk result (λ runs.
+        AreReversed (length tree.now) (length tree.now) (run_at tree.now) (lists_of runs)) }
 {
     let mut runs = Reversed::new(alloc, tree.len())?;
     for position in 0..tree.len() {
@@ -31,11 +32,17 @@ pub(crate) fn turned_runs(alloc: Global, tree: &Tree) -> Result<Reversed, Memory
 }
 
 /// At each package the units whose build needs it.
-pub(crate) fn turned_needs(alloc: Global, len: u32, units: &Units<'_>) -> Result<Reversed, Memory>
-    requires { len ≡ length units.now.tree }
-    ensures { IfOk result (λ needs. AreReversed (length units.now.tree) (length units.now.units) (needs_of units.now) (lists_of needs)) }
+pub(crate) fn turned_needs(
+    alloc: Global,
+    tree: &Tree,
+    units: &Units<'_>,
+) -> Result<Reversed, Memory>
+    requires { units.now.tree ≡ tree.now }
+    ensures { IfOk result (λ needs.
+        AreReversed (length tree.now) (length units.now.units) (needs_of units.now)
+        (lists_of needs)) }
 {
-    let mut needs = Reversed::new(alloc, len)?;
+    let mut needs = Reversed::new(alloc, tree.len())?;
     for unit in 0..units.len() {
         needs.add(unit, units.build_deps(unit))?;
     }
@@ -43,7 +50,12 @@ pub(crate) fn turned_needs(alloc: Global, len: u32, units: &Units<'_>) -> Result
 }
 
 /// For each package how many it needs to run, through others too, itself included.
-pub(crate) fn first_lacks(alloc: Global, tree: &Tree, runs: &Reversed, walk: &mut Walk) -> Result<Vec<u32>, Memory>
+pub(crate) fn first_lacks(
+    alloc: Global,
+    tree: &Tree,
+    runs: &Reversed,
+    walk: &mut Walk,
+) -> Result<Vec<u32>, Memory>
     requires runs { AreReversed (length tree.now) (length tree.now) (run_at tree.now) (lists_of runs.now) }
     requires idle { IsIdle (length tree.now) walk.old }
     ensures lacks { IfOk result (λ lacks. (length lacks.items ≡ length tree.now)
@@ -61,8 +73,9 @@ pub(crate) fn first_lacks(alloc: Global, tree: &Tree, runs: &Reversed, walk: &mu
 /// For each unit how many packages its build needs.
 pub(crate) fn first_waits(alloc: Global, units: &Units<'_>) -> Result<Vec<usize>, Memory>
     ensures waits { IfOk result (λ waits. (length waits.items ≡ length units.now.units)
-        × ((u : ℕ) → u < length units.now.units → slice_index waits.items u ≡ length (needs_of units.now u))) }
-    ensures division { IsDivision units.now }
+        × ((u : ℕ) → u < length units.now.units
+        → slice_index waits.items u ≡ length (needs_of units.now u))) }
+    ensures division { OnOk result (IsDivision units.now) }
 {
     let mut waits = Vec::with_capacity(alloc, units.len() as usize)?;
     for unit in 0..units.len() {
@@ -72,16 +85,20 @@ pub(crate) fn first_waits(alloc: Global, units: &Units<'_>) -> Result<Vec<usize>
 }
 
 /// The letters where nothing is held: a unit that waits for nothing is queued.
-pub(crate) fn first_letters(alloc: Global, len: u32, units: &Units<'_>, waits: &[usize]) -> Result<Letters, Memory>
-    requires len { len ≡ length units.now.tree }
+pub(crate) fn first_letters(
+    alloc: Global,
+    tree: &Tree,
+    units: &Units<'_>,
+    waits: &[usize],
+) -> Result<Letters, Memory>
+    requires tree { units.now.tree ≡ tree.now }
     requires each { length waits.now ≡ length units.now.units }
-    requires few { len < 2 ^ 31 }
     requires division { IsDivision units.now }
     ensures fitting { IfOk result (λ letters. AreFitting units.now letters waits.now) }
     ensures none_held { IfOk result (λ letters. (p : ℕ) → holds letters p ≡ false) }
 {
-    let mut letters = Letters::new(alloc, len)?;
-    for position in 0..len {
+    let mut letters = Letters::new(alloc, tree.len())?;
+    for position in 0..tree.len() {
         letters.set(position, first_letter(units, waits, position));
     }
     Ok(letters)

@@ -6,7 +6,8 @@ ghost use Rattle.engine.specs.inside.Lists.{times};
 pub(crate) fn raise(lacks: &mut [u32], positions: &[u32])
     requires within { All (λ p. p < length lacks.old) positions.now }
     requires few { (p : ℕ) → slice_index lacks.old p + times p positions.now < 2 ^ 32 }
-    ensures { (p : ℕ) → p < length lacks.old → slice_index lacks.new p ≡ slice_index lacks.old p + times p positions.now }
+    ensures { (p : ℕ) → p < length lacks.old
+        → slice_index lacks.new p ≡ slice_index lacks.old p + times p positions.now }
 {
     for position in positions {
         lacks[*position as usize] += 1;
@@ -16,8 +17,10 @@ pub(crate) fn raise(lacks: &mut [u32], positions: &[u32])
 /// Each of the positions lacks one less.
 pub(crate) fn lower(lacks: &mut [u32], positions: &[u32])
     requires within { All (λ p. p < length lacks.old) positions.now }
-    requires some { (p : ℕ) → p < length lacks.old → times p positions.now ≤ slice_index lacks.old p }
-    ensures { (p : ℕ) → p < length lacks.old → slice_index lacks.new p + times p positions.now ≡ slice_index lacks.old p }
+    requires some { (p : ℕ) → p < length lacks.old
+        → times p positions.now ≤ slice_index lacks.old p }
+    ensures { (p : ℕ) → p < length lacks.old
+        → slice_index lacks.new p + times p positions.now ≡ slice_index lacks.old p }
 {
     for position in positions {
         lacks[*position as usize] -= 1;

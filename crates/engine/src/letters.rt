@@ -29,7 +29,9 @@ impl Model for Letters {
 
     ghost view = { λ l. l.letters.items };
 
-    ghost invariant = { λ l. (l.counts ≡ counts_of l.letters.items) × (length l.letters.items < 2 ^ 31) × HasQueued l.letters.items l.queued };
+    ghost invariant = { λ l. (l.counts ≡ counts_of l.letters.items)
+        × (length l.letters.items < 2 ^ 31)
+        × HasQueued l.letters.items l.queued };
 }
 
 impl Letters {

@@ -15,7 +15,8 @@ fn queue(letters: &mut Letters, packages: &[u32])
     requires { All (λ p. p < length letters.old) packages.now }
     ensures each { length letters.new ≡ length letters.old }
     ensures only { (p : ℕ) → (letter_at letters.new p ≡ letter_at letters.old p)
-        ⊎ (Contains packages.now p × (letter_at letters.old p ≡ T) × (letter_at letters.new p ≡ Q)) }
+        ⊎ (Contains packages.now p × (letter_at letters.old p ≡ T)
+        × (letter_at letters.new p ≡ Q)) }
     ensures all { All (λ p. letter_at letters.new p ≢ T) packages.now }
 {
     for position in packages {
@@ -41,11 +42,18 @@ fn wait_less(letters: &mut Letters, waits: &mut [usize], units: &Units<'_>, unit
 }
 
 /// The package is installable, so that the units that need it wait for one less.
-fn install(letters: &mut Letters, waits: &mut [usize], units: &Units<'_>, needing: &[u32], position: u32)
+fn install(
+    letters: &mut Letters,
+    waits: &mut [usize],
+    units: &Units<'_>,
+    needing: &[u32],
+    position: u32,
+)
     requires position { position < length letters.old }
     requires built { letter_at letters.old position ≡ B }
     requires queueing { AreQueueing units.now letters.old waits.old }
-    requires needing { (u : ℕ) → u < length units.now.units → times u needing.now ≡ times position (needs_of units.now u) }
+    requires needing { (u : ℕ) → u < length units.now.units
+        → times u needing.now ≡ times position (needs_of units.now u) }
     requires listed { All (λ u. u < length units.now.units) needing.now }
     ensures queueing { AreQueueing units.now letters.new waits.new }
     ensures queued { AreQueued (set letters.old position I) letters.new }
@@ -57,15 +65,24 @@ fn install(letters: &mut Letters, waits: &mut [usize], units: &Units<'_>, needin
 }
 
 /// Those of the found packages that are built and lack nothing are installable.
-pub(crate) fn install_all(letters: &mut Letters, waits: &mut [usize], units: &Units<'_>, needs: &Reversed, lacks: &[u32], found: &[u32])
+pub(crate) fn install_all(
+    letters: &mut Letters,
+    waits: &mut [usize],
+    units: &Units<'_>,
+    needs: &Reversed,
+    lacks: &[u32],
+    found: &[u32],
+)
     requires queueing { AreQueueing units.now letters.old waits.old }
-    requires needs { AreReversed (length letters.old) (length units.now.units) (needs_of units.now) (lists_of needs.now) }
+    requires needs { AreReversed (length letters.old) (length units.now.units) (needs_of units.now)
+        (lists_of needs.now) }
     requires each { length lacks.now ≡ length letters.old }
     requires found { All (λ p. p < length letters.old) found.now }
     ensures queueing { AreQueueing units.now letters.new waits.new }
     ensures held { (p : ℕ) → is_held (letter_at letters.new p) ≡ is_held (letter_at letters.old p) }
     ensures built { (p : ℕ) → letter_at letters.new p ≡ B → letter_at letters.old p ≡ B }
-    ensures installed { (p : ℕ) → letter_at letters.new p ≡ I → (letter_at letters.old p ≡ I) ⊎ (slice_index lacks.now p ≡ 0) }
+    ensures installed { (p : ℕ) → letter_at letters.new p ≡ I
+        → (letter_at letters.old p ≡ I) ⊎ (slice_index lacks.now p ≡ 0) }
     ensures all { All (λ p. letter_at letters.new p ≡ B → 0 < slice_index lacks.now p) found.now }
 {
     for position in found {

@@ -28,7 +28,8 @@ impl Reversed {
         requires { All (λ d. d < length (lists_of self.old)) named.now }
         ensures each { length (lists_of self.new) ≡ length (lists_of self.old) }
         ensures named { OnOk result ((d x : ℕ) → times x (list_at (lists_of self.new) d)
-            ≡ times x (list_at (lists_of self.old) d) + cond (nat_eq position x) (times d named.now) 0) }
+            ≡ times x (list_at (lists_of self.old) d)
+            + cond (nat_eq position x) (times d named.now) 0) }
     {
         for other in named {
             self.lists[*other as usize].push(position)?;

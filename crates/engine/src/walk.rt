@@ -27,7 +27,8 @@ impl Walk {
     /// Finds all that the lists lead to from the position, itself included.
     pub(crate) fn reach(&mut self, lists: &Reversed, from: u32)
         requires idle { IsIdle (length (lists_of lists.now)) self.old }
-        requires listed { (p : ℕ) → All (λ d. d < length (lists_of lists.now)) (list_at (lists_of lists.now) p) }
+        requires listed { (p : ℕ)
+            → All (λ d. d < length (lists_of lists.now)) (list_at (lists_of lists.now) p) }
         requires from { from < length (lists_of lists.now) }
         ensures idle { IsIdle (length (lists_of lists.now)) self.new }
         ensures reached { AreReached (list_at (lists_of lists.now)) from self.new.found.items }
@@ -57,9 +58,11 @@ fn find(marks: &mut [bool], found: &mut Vec<u32>, positions: &[u32])
     ensures room { vec_capacity found.new ≡ vec_capacity found.old }
     ensures all { All (λ p. has_mark marks.new p ≡ true) positions.now }
     ensures kept { (p : ℕ) → has_mark marks.old p ≡ true → has_mark marks.new p ≡ true }
-    ensures only { (p : ℕ) → has_mark marks.new p ≡ true → (has_mark marks.old p ≡ true) ⊎ Contains positions.now p }
+    ensures only { (p : ℕ) → has_mark marks.new p ≡ true
+        → (has_mark marks.old p ≡ true) ⊎ Contains positions.now p }
     ensures longer { length found.old.items ≤ length found.new.items }
-    ensures order { (k : ℕ) → k < length found.old.items → slice_index found.new.items k ≡ slice_index found.old.items k }
+    ensures order { (k : ℕ) → k < length found.old.items
+        → slice_index found.new.items k ≡ slice_index found.old.items k }
 {
     for position in positions {
         let place = *position as usize;
@@ -75,7 +78,8 @@ fn follow(marks: &mut [bool], found: &mut Vec<u32>, lists: &Reversed)
     requires found { AreFound marks.old found.old.items }
     requires each { length marks.old ≡ length (lists_of lists.now) }
     requires room { length marks.old ≤ vec_capacity found.old }
-    requires listed { (p : ℕ) → All (λ d. d < length (lists_of lists.now)) (list_at (lists_of lists.now) p) }
+    requires listed { (p : ℕ)
+        → All (λ d. d < length (lists_of lists.now)) (list_at (lists_of lists.now) p) }
     ensures found { AreFound marks.new found.new.items }
     ensures room { vec_capacity found.new ≡ vec_capacity found.old }
     ensures kept { (p : ℕ) → has_mark marks.old p ≡ true → has_mark marks.new p ≡ true }

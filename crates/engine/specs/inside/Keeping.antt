@@ -16,8 +16,11 @@ use Rattle.engine.specs.inside.Walks.{IsIdle}
 abbrev pub holds : List Letter → ℕ → Bool
 holds letters p = is_held (letter_at letters p)
 
--- The letters are those of the packages; of each is counted what it lacks, and of each unit what it waits for.
-pub record AreKept (d : Division) (letters : List Letter) (lacks waits : List ℕ) (runs needs : Reversed) (walk : Walk) : Type 0 where
+-- The letters are those of the packages; of each is counted what it lacks, and of each unit what it
+-- waits for.
+pub record AreKept
+    (d : Division) (letters : List Letter) (lacks waits : List ℕ) (runs needs : Reversed)
+    (walk : Walk) : Type 0 where
   pub queueing : AreQueueing d letters waits
   pub each : length lacks ≡ length d.tree
   pub are_lacks : AreLacks (run_at d.tree) (holds letters) (length d.tree) lacks

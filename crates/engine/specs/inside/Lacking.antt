@@ -5,7 +5,8 @@ use Rattle.engine.specs.inside.Lists.{IsReached}
 -- so many of the positions below n meet the condition
 abbrev pub AreSoMany : (ℕ → Type 0) → ℕ → ℕ → Type 0
 AreSoMany P zero m = m ≡ 0
-AreSoMany P (suc n) m = (P n × ((k : ℕ) × AreSoMany P n k × (m ≡ suc k))) ⊎ (¬ P n × AreSoMany P n m)
+AreSoMany P (suc n) m =
+    (P n × ((k : ℕ) × AreSoMany P n k × (m ≡ suc k))) ⊎ (¬ P n × AreSoMany P n m)
 
 -- the lists lead from the first position to the second, which is not held
 abbrev pub IsLacking : (ℕ → List ℕ) → (ℕ → Bool) → ℕ → ℕ → Type 0
@@ -13,4 +14,5 @@ IsLacking next held p q = IsReached next p q × (held q ≡ false)
 
 -- at each position stands how many of those below n it lacks
 abbrev pub AreLacks : (ℕ → List ℕ) → (ℕ → Bool) → ℕ → List ℕ → Type 0
-AreLacks next held n lacks = (p : ℕ) → p < length lacks → AreSoMany (IsLacking next held p) n (slice_index_or lacks p 0)
+AreLacks next held n lacks =
+    (p : ℕ) → p < length lacks → AreSoMany (IsLacking next held p) n (slice_index_or lacks p 0)

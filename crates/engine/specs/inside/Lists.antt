@@ -18,7 +18,8 @@ lists_of r = map (λ v. v.items) r.lists.items
 abbrev pub list_at : List (List ℕ) → ℕ → List ℕ
 list_at lists p = slice_index_or lists p []
 
--- Of the lists of the positions below m, these name at each of n positions those whose list has it, as often.
+-- Of the lists of the positions below m, these name at each of n positions those whose list has it,
+-- as often.
 pub record AreReversed (n m : ℕ) (next : ℕ → List ℕ) (lists : List (List ℕ)) : Type 0 where
   pub each : length lists ≡ n
   pub named : (d x : ℕ) → d < n → x < m → times x (list_at lists d) ≡ times d (next x)
@@ -35,7 +36,8 @@ IsReached next p q = (S : ℕ → Bool) → S p ≡ true → IsClosed next S →
 -- the lists lead from the first set to all of the second: it is in each such set that has the first
 abbrev pub LeadsTo : (ℕ → List ℕ) → (ℕ → Bool) → (ℕ → Bool) → Type 0
 LeadsTo next from to =
-    (S : ℕ → Bool) → IsClosed next S → ((p : ℕ) → from p ≡ true → S p ≡ true) → (p : ℕ) → to p ≡ true → S p ≡ true
+    (S : ℕ → Bool) → IsClosed next S → ((p : ℕ) → from p ≡ true → S p ≡ true)
+    → (p : ℕ) → to p ≡ true → S p ≡ true
 
 -- there is one where the fact holds, and none where it doesn't
 abbrev pub IsOneIf : Type 0 → ℕ → Type 0

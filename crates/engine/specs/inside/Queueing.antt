@@ -1,5 +1,5 @@
 -- Which units wait, and for how many packages.
-use Rattle.std.specs.Prelude.{◌≡◌, ◌+◌, ◌<◌, ◌⊎◌, ℕ, Bool, not, List, None, Some, count_by, length, slice_index_or}
+use Rattle.std.specs.Prelude.{◌≡◌, ◌<◌, ◌⊎◌, ℕ, not, List, None, Some, count_by, length, slice_index_or}
 use Rattle.units.specs.Division.{Division, IsDivision, number_of, unit_at}
 use Rattle.engine.specs.declared.Letter.{Letter}
 use Rattle.engine.specs.declared.Letter.TheVariants.{T, Q, B, I, Ignored}
@@ -13,8 +13,8 @@ waited_for letters ps = count_by (λ q. not (is_installed (letter_at letters q))
 abbrev pub needs_of : Division → ℕ → List ℕ
 needs_of d u = (unit_at d u).build
 
--- The letter of the package at p fits its unit: T while it waits, Q once it doesn't, B and I as it may be, and
--- ignored without a unit.
+-- The letter of the package at p fits its unit: T while it waits, Q once it doesn't, B and I as it
+-- may be, and ignored without a unit.
 abbrev pub FitsUnit : Division → List ℕ → ℕ → Letter → Type 0
 FitsUnit d waits p T = (u : ℕ) × (number_of d p ≡ Some u) × (0 < slice_index_or waits u 0)
 FitsUnit d waits p Q = (u : ℕ) × (number_of d p ≡ Some u) × (slice_index_or waits u 0 ≡ 0)
@@ -32,9 +32,11 @@ pub record AreFitting (d : Division) (letters : List Letter) (waits : List ℕ) 
 -- each unit waits for so many of what it needs as have another letter than I
 pub record AreQueueing (d : Division) (letters : List Letter) (waits : List ℕ) : Type 0 where
   pub are_fitting : AreFitting d letters waits
-  pub waited : (u : ℕ) → u < length d.units → slice_index_or waits u 0 ≡ waited_for letters (needs_of d u)
+  pub waited : (u : ℕ) → u < length d.units
+      → slice_index_or waits u 0 ≡ waited_for letters (needs_of d u)
 
 -- some that had T have Q
 pub record AreQueued (before now : List Letter) : Type 0 where
   pub each : length now ≡ length before
-  pub same : (p : ℕ) → (letter_at now p ≡ letter_at before p) ⊎ ((letter_at before p ≡ T) × (letter_at now p ≡ Q))
+  pub same : (p : ℕ) → (letter_at now p ≡ letter_at before p)
+      ⊎ ((letter_at before p ≡ T) × (letter_at now p ≡ Q))

@@ -1,5 +1,5 @@
 -- Marks by position, and the list of the marked ones, as a walk keeps them.
-use Rattle.std.specs.Prelude.{◌≡◌, ◌<◌, ◌≤◌, ℕ, Bool, true, false, List, count_by, length, slice_index_or, vec_capacity}
+use Rattle.std.specs.Prelude.{◌≡◌, ◌≤◌, ℕ, Bool, false, List, count_by, length, slice_index_or, vec_capacity}
 use Rattle.engine.specs.declared.walk.Walk.{Walk}
 use Rattle.engine.specs.inside.Lists.{one_if, times}
 

@@ -1,4 +1,4 @@
-use Rattle.std.proofs.Common.{◌≡◌, ◌+◌, ◌++◌, ◌<◌, ◌∙◌, ℕ, ap, arith, drop, false, length, refl, take}
+use Rattle.std.proofs.Common.{◌≡◌, ◌++◌, ◌∙◌, ap, arith, drop, false, length, refl, take}
 use Rattle.std.proofs.lemmas.List.{take_at}
 use Rattle.listing.specs.Tree.{run_at}
 use Rattle.engine.specs.inside.Lists.{list_at, lists_of}

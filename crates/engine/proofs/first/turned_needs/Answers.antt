@@ -9,5 +9,5 @@ loop-unit-preserved c =
     let before = lists_of c.loop-unit.needs in
     let now = lists_of c.add.new.self in
     let unit = c.loop-unit.unit in
-    AreReversed-more (length c.args.units.now.tree) unit (needs_of c.args.units.now) before now c.loop-unit.invariant c.add.ensures.each
+    AreReversed-more (length c.args.tree.now) unit (needs_of c.args.units.now) before now c.loop-unit.invariant c.add.ensures.each
     (subst (λ (ps : List ℕ). (d x : ℕ) → times x (list_at now d) ≡ times x (list_at before d) + cond (nat_eq unit x) (times d ps) 0) c.build_deps.ensures.value c.in_ok-add.ensures.named)

@@ -1,4 +1,3 @@
-use Rattle.std.proofs.Common.{arith}
 use Rattle.engine.proofs.Lowering.{some_left}
 use Rattle.engine.proofs.lacks.lower.Goals as goal
 

@@ -1,5 +1,4 @@
-use Rattle.std.proofs.Common.{◌∙◌, arith}
-use Rattle.engine.proofs.Waiting.{IsInstalling-end, IsInstalling-more, IsInstalling-start, next_waits}
+use Rattle.engine.proofs.Waiting.{IsInstalling-more, IsInstalling-start}
 use Rattle.engine.proofs.queueing.install.Goals as goal
 
 pub loop-unit-init : goal.loop-unit-init

@@ -1,8 +1,7 @@
-use Rattle.std.proofs.Common.{◌≡◌, ◌<◌, ℕ, List, All, ap, arith, get_or, length, subst, ◌∙◌, sym}
-use Rattle.engine.proofs.Lists.{get_or-same}
+use Rattle.std.proofs.Common.{length}
 use Rattle.engine.specs.inside.Lists.{lists_of}
 use Rattle.engine.specs.inside.Queueing.{needs_of}
-use Rattle.engine.proofs.Waiting.{IsInstallingAll-keeps, IsInstallingAll-more, named_within}
+use Rattle.engine.proofs.Waiting.{named_within}
 use Rattle.engine.proofs.queueing.install_all.Goals as goal
 
 pub install-requires-clause-listed : goal.install-requires-clause-listed

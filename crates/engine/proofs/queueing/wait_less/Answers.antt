@@ -1,10 +1,8 @@
-use Rattle.std.proofs.Common.{◌≡◌, ◌≢◌, ◌⊎◌, ◌-◌, ◌+◌, ℕ, List, All, Contains, ap, arith, get_or, length, subst, ◌∙◌}
+use Rattle.std.proofs.Common.{◌≡◌, ◌≢◌, ◌⊎◌, ◌-◌, ℕ, List, All, Contains, arith, get_or, subst}
 use Rattle.std.proofs.lemmas.List.{get_or-set_same}
-use Rattle.std.proofs.lemmas.List.Elements.{Contains-get_or}
 use Rattle.engine.specs.declared.Letter.TheVariants.{T, Q}
 use Rattle.engine.specs.inside.Shown.{letter_at}
-use Rattle.units.proofs.WellMade.{one_unit_has}
-use Rattle.engine.proofs.Waiting.{AreFitting-queued, AreFitting-waiting, AreQueued-itself}
+use Rattle.engine.proofs.Waiting.{AreFitting-queued}
 use Rattle.engine.proofs.queueing.wait_less.Goals as goal
 
 pub queue-requires : goal.queue-requires

@@ -1,4 +1,4 @@
-use Rattle.std.proofs.Common.{◌≡◌, ◌<◌, ◌∙◌, ap, arith, length, refl, true}
+use Rattle.std.proofs.Common.{◌≡◌, ◌∙◌, ap, arith, length, refl}
 use Rattle.engine.specs.inside.Walks.{has_mark}
 use Rattle.engine.proofs.Lists.{get_or-same}
 use Rattle.engine.proofs.Walks.{IsFinding-finds, IsFinding-keeps, found-room}
@@ -17,14 +17,14 @@ loop-position-preserved c =
     let finding = c.loop-position.invariant.finding in
     elim c.if-not-marks-place.branch [
       | then-not-marks-place w ↦ rw (w.marks-is, w.found-is) (record {
-          finding = rw w.push_reserved.ensures.items (IsFinding-finds finding _ c.loop-position-test.true refl
-              (omega (arith, c.requires.within c.loop-position.position-index 0 c.loop-position-test.true, finding.each)) w.if-not-marks-place.true);
-          room = w.push_reserved.ensures.capacity ∙ c.loop-position.invariant.room;
-        })
+        finding = rw w.push_reserved.ensures.items (IsFinding-finds finding _ c.loop-position-test.true refl
+            (omega (arith, c.requires.within c.loop-position.position-index 0 c.loop-position-test.true, finding.each)) w.if-not-marks-place.true);
+        room = w.push_reserved.ensures.capacity ∙ c.loop-position.invariant.room;
+      })
       | else-not-marks-place w ↦ rw (w.marks-is, w.found-is) (record {
-          finding = IsFinding-keeps finding w.if-not-marks-place.false;
-          room = c.loop-position.invariant.room;
-        })
+        finding = IsFinding-keeps finding w.if-not-marks-place.false;
+        room = c.loop-position.invariant.room;
+      })
     ]
 
 pub returns-clause-all : goal.returns-clause-all

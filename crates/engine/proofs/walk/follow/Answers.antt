@@ -17,7 +17,7 @@ follow-preserved c =
     let lists = lists_of c.args.lists.now in
     let within : c.follow.followed < length found = omega (arith, c.follow-test.true, c.len.ensures, c.follow.found.ok) in
     let is : c.at.result.now ≡ list_at lists (get_or found c.follow.followed 0) =
-        c.at.ensures ∙ ap (list_at lists) (c.index.ensures ∙ get_or-same found c.follow.followed c.index.result.now 0 within) in
+    c.at.ensures ∙ ap (list_at lists) (c.index.ensures ∙ get_or-same found c.follow.followed c.index.result.now 0 within) in
     record {
       following = IsFollowing-more c.follow.invariant.following c.find.new.marks c.find.new.found.items within c.find.ensures.found c.find.auto.marks
           (subst (λ (ds : List ℕ). All (λ d. has_mark c.find.new.marks d ≡ true) ds) is c.find.ensures.all) c.find.ensures.kept

@@ -1,13 +1,13 @@
-use Rattle.std.proofs.Common.{◌≡◌, ◌≢◌, ◌++◌, ◌<◌, ◌∙◌, ap, arith, drop, false, length, subst, sym, take, true}
+use Rattle.std.proofs.Common.{◌≡◌, ◌++◌, ◌<◌, ◌∙◌, ap, arith, drop, false, length, subst, sym, take}
 use Rattle.std.proofs.lemmas.List.{take_at}
 use Rattle.listing.specs.Tree.{run_at}
 use Rattle.engine.specs.State.{HasLetter, State}
 use Rattle.engine.specs.declared.Letter.TheVariants.{Ignored}
 use Rattle.engine.specs.inside.Keeping.{holds}
 use Rattle.engine.specs.inside.Lists.{lists_of}
-use Rattle.engine.specs.inside.Shown.{is_held, letter_at}
+use Rattle.engine.specs.inside.Shown.{is_held}
 use Rattle.engine.proofs.Agreeing.{AreKept-agreed, AreQueueing-built, agreed_again, agreed_more, some_lacking}
-use Rattle.engine.proofs.Reading.{other_than_ignored, state_of}
+use Rattle.engine.proofs.Reading.{other_than_ignored}
 use Rattle.engine.proofs.Waiting.{named_within}
 use Rattle.engine.proofs.engine.Engine.agree.Goals as goal
 
@@ -45,7 +45,7 @@ invariant_of-self c =
     let waits = c.self.inside.waits in
     let fewer = c.install_all.new.waits in
     let waits_now : take waits.len (fewer ++ drop (length fewer) waits.items) ≡ fewer =
-        take_at fewer (drop (length fewer) waits.items) waits.len (omega (arith, c.install_all.auto.waits, ap length c.as_mut_slice-2.ensures.value, waits.ok)) in
+    take_at fewer (drop (length fewer) waits.items) waits.len (omega (arith, c.install_all.auto.waits, ap length c.as_mut_slice-2.ensures.value, waits.ok)) in
     let lowered = rw (c.as_mut_slice.ensures.value, c.found.ensures) at c.lower.ensures in
     let installed = rw (c.set.ensures, c.as_slice.ensures.value ∙ lacks_now, c.found-2.ensures) at c.install_all.ensures in
     rw (lacks_now, waits_now) (AreKept-agreed c.self.invariant c.args.position within not_held c.install_all.new.letters less fewer c.reach.new.self.found.items c.reach.new.self

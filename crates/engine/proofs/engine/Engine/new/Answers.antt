@@ -1,9 +1,9 @@
-use Rattle.std.proofs.Common.{◌≡◌, ◌∙◌, ℕ, List, false, length, subst, sym}
+use Rattle.std.proofs.Common.{◌≡◌, ◌∙◌, false, length, subst, sym}
 use Rattle.listing.specs.Tree.{Tree, run_at}
 use Rattle.engine.specs.inside.Agreed.{held_marks}
 use Rattle.engine.specs.inside.Lacking.{AreLacks}
 use Rattle.engine.specs.inside.Lists.{AreReversed, lists_of}
-use Rattle.engine.specs.inside.Queueing.{AreFitting}
+use Rattle.engine.specs.inside.Queueing.{AreFitting, needs_of}
 use Rattle.engine.specs.inside.Walks.{IsIdle}
 use Rattle.engine.proofs.Beginning.{AreKept-first}
 use Rattle.engine.proofs.Marked.{marked_set-none}
@@ -21,7 +21,7 @@ invariant_of-result c =
     (subst (AreFitting units letters) c.as_slice.ensures.value c.in_ok-letters.ensures.fitting)
     c.in_ok-letters.ensures.none_held c.in_ok-waits.ensures.waits.1 counted.0 counted.1
     (subst (λ (t : Tree). AreReversed (length t) (length t) (run_at t) (lists_of c.in_ok-runs.runs)) of_tree c.in_ok-runs.ensures)
-    c.in_ok-needs.ensures
+    (subst (λ (t : Tree). AreReversed (length t) (length units.units) (needs_of units) (lists_of c.in_ok-needs.needs)) of_tree c.in_ok-needs.ensures)
     (subst (λ (t : Tree). IsIdle (length t) c.first_lacks.new.walk) of_tree c.first_lacks.ensures.idle)
 
 pub returns : goal.returns

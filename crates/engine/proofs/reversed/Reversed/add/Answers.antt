@@ -1,6 +1,6 @@
 use Rattle.std.proofs.Common.{◌≡◌, ◌<◌, ◌++◌, ◌∷◌, [], ℕ, ◌∙◌, ap, arith, get_or, length, map, nat_eq, set, sym, take}
 use Rattle.std.proofs.lemmas.List.{get_or-map, length-map, length-set, map-set}
-use Rattle.engine.specs.inside.Lists.{list_at, lists_of, one_if, times}
+use Rattle.engine.specs.inside.Lists.{list_at, lists_of, times}
 use Rattle.engine.proofs.Lists.{list_at-push, times-added, times-more}
 use Rattle.engine.proofs.reversed.Reversed.add.Goals as goal
 
@@ -11,9 +11,9 @@ loop-other-preserved c =
     let before = lists_of c.loop-other.self in
     let within : o < length before = omega (arith, c.requires c.loop-other.other-index 0 c.loop-other-test.true, c.loop-other.invariant.each) in
     let read : c.index_mut.result.now.items ≡ list_at before o =
-        ap (λ v. v.items) c.index_mut.ensures.value ∙ sym (get_or-map (λ v. v.items) vecs o c.index_mut.result.now [] (omega (arith, within, length-map vecs (λ v. v.items)))) in
+    ap (λ v. v.items) c.index_mut.ensures.value ∙ sym (get_or-map (λ v. v.items) vecs o c.index_mut.result.now [] (omega (arith, within, length-map vecs (λ v. v.items)))) in
     let is : map (λ v. v.items) (set vecs o c.push.new.self) ≡ set before o (list_at before o ++ c.args.position ∷ []) =
-        map-set (λ v. v.items) vecs o c.push.new.self ∙ ap (set before o) (c.in_ok-push.ensures.items ∙ ap (λ xs. xs ++ c.args.position ∷ []) read) in
+    map-set (λ v. v.items) vecs o c.push.new.self ∙ ap (set before o) (c.in_ok-push.ensures.items ∙ ap (λ xs. xs ++ c.args.position ∷ []) read) in
     rw is (record {
       each = length-set before o _ ∙ c.loop-other.invariant.each;
       named = λ d x. list_at-push before o c.args.position d x within

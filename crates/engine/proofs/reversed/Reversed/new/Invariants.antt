@@ -1,4 +1,4 @@
-use Rattle.std.proofs.Common.{◌≡◌, List, [], ℕ, map, replicate}
+use Rattle.std.proofs.Common.{◌≡◌, [], map, replicate}
 use Rattle.engine.proofs.reversed.Reversed.new.Given as goal
 
 abbrev pub invariant-loop-position : goal.invariant-loop-position

@@ -13,8 +13,8 @@ returns-then-bit-clause-here c =
 pub returns-then-bit-clause-others : goal.returns-then-bit-clause-others
 returns-then-bit-clause-others c = λ p other.
     bit-other c.args.self.now.words.items c.args.position _ p c.requires other (λ i below apart.
-      bit_at_set_other w64 _ (c.args.position % 64) (omega arith) i apart
-      ∙ ap (λ w. bit_at w i) (c.index_mut-word.ensures.value ∙ get_or-same c.args.self.now.words.items (c.args.position / 64) _ 0 c.requires))
+    bit_at_set_other w64 _ (c.args.position % 64) (omega arith) i apart
+    ∙ ap (λ w. bit_at w i) (c.index_mut-word.ensures.value ∙ get_or-same c.args.self.now.words.items (c.args.position / 64) _ 0 c.requires))
 
 pub returns-else-bit-clause-here : goal.returns-else-bit-clause-here
 returns-else-bit-clause-here c =
@@ -23,5 +23,5 @@ returns-else-bit-clause-here c =
 pub returns-else-bit-clause-others : goal.returns-else-bit-clause-others
 returns-else-bit-clause-others c = λ p other.
     bit-other c.args.self.now.words.items c.args.position _ p c.requires other (λ i below apart.
-      bit_at_clear_other w64 _ (c.args.position % 64) (omega arith) i below apart
-      ∙ ap (λ w. bit_at w i) (c.index_mut-word.ensures.value ∙ get_or-same c.args.self.now.words.items (c.args.position / 64) _ 0 c.requires))
+    bit_at_clear_other w64 _ (c.args.position % 64) (omega arith) i below apart
+    ∙ ap (λ w. bit_at w i) (c.index_mut-word.ensures.value ∙ get_or-same c.args.self.now.words.items (c.args.position / 64) _ 0 c.requires))

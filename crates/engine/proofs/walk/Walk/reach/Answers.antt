@@ -1,4 +1,4 @@
-use Rattle.std.proofs.Common.{◌≡◌, ap, arith, length, sym, ◌∙◌, true, false, ⊎_elim}
+use Rattle.std.proofs.Common.{◌≡◌, ap, arith, length, sym, ◌∙◌, ⊎_elim}
 use Rattle.std.proofs.lemmas.Bool.{true≢false}
 use Rattle.engine.specs.inside.Lists.{list_at, lists_of}
 use Rattle.std.proofs.lemmas.List.Elements.{Contains-get_or}
