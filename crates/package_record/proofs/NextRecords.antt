@@ -1,6 +1,6 @@
 -- Reading records one after the other.
 use Rattle.std.proofs.Common.{◌≡◌, ℕ, zero, suc, ◌+◌, ◌-◌, ◌<◌, ◌≤◌, ◌⊎◌, List, [], ◌∷◌, ◌++◌, length, true, false, eqb, take, drop, get_or, Option, None, Some, Result, Ok, Err, refl, sym, ap, ◌∙◌, arith, inl, inr}
-use Rattle.std.proofs.lemmas.Bool.{le-ltb, lt-ltb}
+use Rattle.std.proofs.lemmas.Bool.{eqb-true, le-ltb, lt-ltb}
 use Rattle.std.proofs.lemmas.List.{drop_all, length-drop, take_all}
 use Rattle.faults.specs.Answers.{first_given, map_ok, option_or, unless_fault}
 use Rattle.faults.specs.Bytes.{Text, is_empty}
@@ -16,6 +16,10 @@ use Rattle.package_record.proofs.ReadFields.{where_false, where_true}
 pub passed_on : {A B F : Type 0} (memory e : F) (r : Result A F) (s : Result B F) → (r ≡ Err e → s ≡ Err e) → (e ≡ memory) ⊎ (r ≡ Err e) → (e ≡ memory) ⊎ (s ≡ Err e)
 passed_on memory e r s on (inl m) = inl m
 passed_on memory e r s on (inr h) = inr (on h)
+
+-- and so it is where the refusal that is passed on is only known to equal it
+pub passed_as : {A B F : Type 0} (memory e f : F) → f ≡ e → (r : Result A F) (s : Result B F) → (r ≡ Err e → s ≡ Err e) → (e ≡ memory) ⊎ (r ≡ Err e) → (f ≡ memory) ⊎ (s ≡ Err f)
+passed_as memory e f same r s on h = rw same (passed_on memory e r s on h)
 
 -- ---- so many records
 
@@ -129,4 +133,4 @@ first_of_one text one = where_false (is_several text) (several_of text) (map_ok 
 
 pub no_bytes : (bytes : Text) → eqb (length bytes) 0 ≡ true → is_empty bytes ≡ true
 no_bytes [] e = refl
-no_bytes (b ∷ bytes) e = absurd cc
+no_bytes (b ∷ bytes) e = absurd (omega (arith, eqb-true (length (b ∷ bytes)) 0 e))

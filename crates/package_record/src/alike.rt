@@ -32,7 +32,8 @@ fn are_same_deps(deps: &[Dep], others: &[Dep]) -> bool
 }
 
 fn is_of_group(path: &PkgPath, other: &PkgPath) -> Result<bool, Memory>
-    ensures { IfOk result (λ same. same ≡ bytes_eq (without_subpackage path.now) (without_subpackage other.now)) }
+    ensures { IfOk result (λ same.
+        same ≡ bytes_eq (without_subpackage path.now) (without_subpackage other.now)) }
 {
     let group = path.without_subpackage()?;
     let other_group = other.without_subpackage()?;
@@ -54,7 +55,8 @@ fn is_next_path(records: &[Record], first: &Record, next: &Record) -> Result<boo
 }
 
 fn is_alike(records: &[Record], first: &Record, next: &Record) -> Result<(), RecordFault>
-    ensures { IsRightUnless RecordFault.Memory result (unless_fault (unlike_fault records.now first.now next.now) tt) }
+    ensures { IsRightUnless RecordFault.Memory result
+        (unless_fault (unlike_fault records.now first.now next.now) tt) }
 {
     if !is_next_path(records, first, next)? {
         return Err(RecordFault::BadLine(3));
@@ -73,7 +75,8 @@ fn is_alike(records: &[Record], first: &Record, next: &Record) -> Result<(), Rec
 
 /// The record may stand behind these in a build.
 pub fn may_follow(records: &[Record], next: &Record) -> Result<(), RecordFault>
-    ensures { IsRightUnless RecordFault.Memory result (unless_fault (next_fault records.now next.now) tt) }
+    ensures { IsRightUnless RecordFault.Memory result
+        (unless_fault (next_fault records.now next.now) tt) }
 {
     match records.first() {
         None => Ok(()),

@@ -27,9 +27,9 @@ pub struct Package {
     pub files: Files,
 }
 
-/// The records of all packages that one build made, ascending by path: from one to 16,384, of one group, with one host,
-/// one claim, and one list of what they were built on. The text of a whole build is within `LIMIT`; a build of one is
-/// its record's text.
+/// The records of all packages that one build made, ascending by path: from one to 16,384, of one
+/// group, with one host, one claim, and one list of what they were built on. The text of a whole
+/// build is within `LIMIT`; a build of one is its record's text.
 #[derive(Drop)]
 pub struct Build {
     /// The name of the unit that was built.
@@ -50,8 +50,9 @@ impl Model for Build {
 }
 
 impl Build {
-    /// The build that says this. File names come first, package by package: `BadFileName` counts the files of the first
-    /// package that has a bad name, or one that was used before in it. A text that would be over `LIMIT` is `TooLarge`.
+    /// The build that says this. File names come first, package by package: `BadFileName` counts
+    /// the files of the first package that has a bad name, or one that was used before in it. A
+    /// text that would be over `LIMIT` is `TooLarge`.
     pub fn make(
         alloc: Global,
         host: u16,
@@ -66,8 +67,8 @@ impl Build {
         requires few { length packages.items ≤ most_packages }
         requires paths { is_ascending (map (λ (p : Package). p.path) packages.items) ≡ true }
         requires group { AreOfOneGroup packages.items }
-        ensures { IsRightUnless RecordFault.Memory result
-            (unless_fault (build_fault (contents_of host claim built packages.items)) (contents_of host claim built packages.items)) }
+        ensures { let contents = contents_of host claim built packages.items in
+            IsRightUnless RecordFault.Memory result (unless_fault (build_fault contents) contents) }
     {
         test_all_names(alloc, packages.as_slice())?;
         let records = gather(alloc, host, claim, &built, packages)?;
@@ -83,15 +84,16 @@ impl Build {
         Ok(Build { unit, records })
     }
 
-    /// The build whose text this is. A text that begins with the line `@dpb 2` is of two or more packages, and any other
-    /// is read by `Record::parse`. It is tested in this order:
+    /// The build whose text this is. A text that begins with the line `@dpb 2` is of two or more
+    /// packages, and any other is read by `Record::parse`. It is tested in this order:
     ///
     /// 1. The length of the whole text, which is `TooLarge` over `LIMIT`.
-    /// 2. The line `@packages N`, N from 2 to 16,384: without its LF it is `Truncated`, and else `BadLine` at 2 where it
-    ///    is another.
-    /// 3. Each record, as `Record::read_first` does, and right behind it what it shares with the first one: a path that
-    ///    does not ascend or is of another group is `BadLine` at 3, another host at 4, another claim at 5, another list
-    ///    of what it was built on at 6. Places are counted from the record's own first line.
+    /// 2. The line `@packages N`, N from 2 to 16,384: without its LF it is `Truncated`, and else
+    ///    `BadLine` at 2 where it is another.
+    /// 3. Each record, as `Record::read_first` does, and right behind it what it shares with the
+    ///    first one: a path that does not ascend or is of another group is `BadLine` at 3, another
+    ///    host at 4, another claim at 5, another list of what it was built on at 6. Places are
+    ///    counted from the record's own first line.
     /// 4. The end: bytes behind the build are `Trailing`.
     pub fn parse(alloc: Global, text: &[u8]) -> Result<Build, RecordFault>
         // What is read is spelled so.
@@ -103,13 +105,16 @@ impl Build {
         Ok(Build::of(records)?)
     }
 
-    /// The build at the front of the text, and how many bytes its own text takes. Anything may stand behind it. The
-    /// tests are those of `parse`, without the last, and with another one of the length: that of what was read so far,
-    /// right after each record.
+    /// The build at the front of the text, and how many bytes its own text takes. Anything may
+    /// stand behind it. The tests are those of `parse`, without the last, and with another one of
+    /// the length: that of what was read so far, right after each record.
     pub fn read_first(alloc: Global, text: &[u8]) -> Result<(Build, usize), RecordFault>
-        ensures text { IfOk result (λ first. IsBuild first.0 × (take first.1 text.now ≡ build_text first.0)) }
+        ensures text { IfOk result (λ first.
+            IsBuild first.0 × (take first.1 text.now ≡ build_text first.0)) }
         ensures length { IfOk result (λ first. first.1 ≡ length (build_text first.0)) }
-        ensures exact { IsRightUnless RecordFault.Memory (map_ok (λ first. (first.0, drop first.1 text.now)) result) (first_build_of text.now) }
+        ensures exact { IsRightUnless RecordFault.Memory
+            (map_ok (λ first. (first.0, drop first.1 text.now)) result)
+            (first_build_of text.now) }
     {
         let (records, rest) = several::first(alloc, text)?;
         let length = text.len().saturating_sub(rest.len());
@@ -128,8 +133,8 @@ impl Build {
         Ok(())
     }
 
-    /// The name of the unit that was built: its only package's path, or the path without subpackage that its packages
-    /// share.
+    /// The name of the unit that was built: its only package's path, or the path without subpackage
+    /// that its packages share.
     pub fn unit_path(&self) -> &PkgPath
         ensures path { result.now ≡ unit_path self.now }
         ensures build { IsBuild self.now }

@@ -34,7 +34,8 @@ impl<'a> Cursor<'a> {
 
     /// The line without its LF, and the cursor behind it.
     pub fn line(self) -> Result<(&'a [u8], Cursor<'a>), ReadError>
-        ensures { Gives (λ x. (x.0.now, cursor_view x.1)) result (line_at (cursor_view self.entry)) }
+        ensures { Gives (λ x. (x.0.now, cursor_view x.1)) result
+            (line_at (cursor_view self.entry)) }
     {
         match split(self.rest, b'\n') {
             Some((line, rest)) => {
@@ -48,7 +49,8 @@ impl<'a> Cursor<'a> {
     /// What belongs to the word that begins the line, and the cursor behind the line.
     #[tactic(auto, unfolding(crate::specs::Reading::field_at))]
     pub fn field(self, word: &[u8]) -> Result<(&'a [u8], Cursor<'a>), ReadError>
-        ensures { Gives (λ x. (x.0.now, cursor_view x.1)) result (field_at word.now (cursor_view self.entry)) }
+        ensures { Gives (λ x. (x.0.now, cursor_view x.1)) result
+            (field_at word.now (cursor_view self.entry)) }
     {
         let (line, after) = self.line()?;
         match line.strip_prefix(word) {

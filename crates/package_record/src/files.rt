@@ -8,7 +8,8 @@ use faults::Memory;
 use std::alloc::Global;
 use std::marker::Model;
 
-/// A list of files, which contracts see as their names and bytes. Which names are good is tested where a record is made.
+/// A list of files, which contracts see as their names and bytes. Which names are good is tested
+/// where a record is made.
 #[derive(Drop)]
 pub struct Files {
     items: Vec<File>,

@@ -21,9 +21,11 @@ use std::alloc::Global;
 
 /// The files of each package have good names, and each name stands once in it.
 pub fn test_all_names(alloc: Global, packages: &[Package]) -> Result<(), RecordFault>
-    ensures names { OnOk result (All (λ (p : Package). AreFileNames (names_of p.files)) packages.now) }
+    ensures names { OnOk result
+        (All (λ (p : Package). AreFileNames (names_of p.files)) packages.now) }
     ensures exact { IsRightUnless RecordFault.Memory result
-        (unless_fault (first_given (λ (p : Package). names_fault (names_of p.files)) packages.now) tt) }
+        (unless_fault
+        (first_given (λ (p : Package). names_fault (names_of p.files)) packages.now) tt) }
 {
     for package in packages {
         test_names(alloc, package.files.as_slice())?;
@@ -44,7 +46,8 @@ fn record_of(
     requires run { is_ascending source.run.items ≡ true }
     requires names { AreFileNames (names_of source.files) }
     ensures record { IsRightUnless RecordFault.Memory (map_ok (λ x. x.0) result)
-        (unless_fault (too_large (length (record_text (content_from host claim built.now source)))) (content_from host claim built.now source)) }
+        (let content = content_from host claim built.now source in
+        unless_fault (too_large (length (record_text content))) content) }
     ensures good { IfOk result (λ x. IsRecord x.0) }
     ensures length { IfOk result (λ x. x.1 ≡ length (record_text x.0)) }
 {
@@ -94,7 +97,8 @@ pub fn gather(
     requires run { All (λ (p : Package). is_ascending p.run.items ≡ true) packages.items }
     requires names { All (λ (p : Package). AreFileNames (names_of p.files)) packages.items }
     ensures records { IsRightUnless RecordFault.Memory (map_ok (λ x. x.items) result)
-        (unless_fault (too_large (length (build_text (contents_of host claim built.now packages.items)))) (contents_of host claim built.now packages.items)) }
+        (let contents = contents_of host claim built.now packages.items in
+        unless_fault (too_large (length (build_text contents))) contents) }
     ensures good { IfOk result (λ x. All IsRecord x.items) }
 {
     let mut bytes: usize = 0;

@@ -30,7 +30,8 @@ pub fn test_names(alloc: Global, files: &[File]) -> Result<(), RecordFault>
 
 /// How many bytes the text has, or the most that a number can say.
 pub fn text_length(alloc: Global, fields: &Fields) -> Result<usize, Memory>
-    ensures length { IfOk result (λ n. n ≡ min (length (record_text (content_of fields.now))) 18446744073709551615) }
+    ensures length { IfOk result (λ n.
+        n ≡ min (length (record_text (content_of fields.now))) 18446744073709551615) }
     ensures names { OnOk result (HasNames (content_of fields.now)) }
 {
     let mut text_length = header(alloc, fields)?.len();

@@ -20,9 +20,10 @@ use sha2::{Digest, Sha256};
 use std::alloc::Global;
 use std::marker::Model;
 
-/// A package that was built: its path and name, the host that built it and under which claim, the dependencies that
-/// it was built on, the paths that it needs to run, and its files. The text of a record is within `LIMIT`; its
-/// dependencies and its paths to run ascend, each path once; its files' names are good, and each stands once.
+/// A package that was built: its path and name, the host that built it and under which claim, the
+/// dependencies that it was built on, the paths that it needs to run, and its files. The text of a
+/// record is within `LIMIT`; its dependencies and its paths to run ascend, each path once; its
+/// files' names are good, and each stands once.
 #[derive(Drop)]
 pub struct Record {
     fields: Fields,
@@ -39,8 +40,9 @@ impl Model for Record {
     ghost invariant = { λ r. IsRecord (content_of r.fields) };
 }
 
-/// The record that says this. File names come first: `BadFileName` counts the files from 1, and names the one whose name
-/// is bad or was used before. A text that would be over `LIMIT` is `TooLarge`.
+/// The record that says this. File names come first: `BadFileName` counts the files from 1, and
+/// names the one whose name is bad or was used before. A text that would be over `LIMIT` is
+/// `TooLarge`.
 pub fn make(
     alloc: Global,
     path: PkgPath,
@@ -101,11 +103,12 @@ impl Record {
     /// The record whose text this is. It is tested in this order:
     ///
     /// 1. The length of the whole text, which is `TooLarge` over `LIMIT`.
-    /// 2. The header, line by line: a line without its LF is `Truncated`; where a file's name may stand, a bad one, or
-    ///    one that stood before, is `BadFileName`; a size with which the files so far are over `LIMIT` is `TooLarge`;
-    ///    all else that does not fit is `BadLine`.
+    /// 2. The header, line by line: a line without its LF is `Truncated`; where a file's name may
+    ///    stand, a bad one, or one that stood before, is `BadFileName`; a size with which the files
+    ///    so far are over `LIMIT` is `TooLarge`; all else that does not fit is `BadLine`.
     /// 3. The files' bytes: fewer than the sizes say are `Truncated`.
-    /// 4. The digests of the files: `DigestDiffers` has the `@sha` line of the first file that has another one.
+    /// 4. The digests of the files: `DigestDiffers` has the `@sha` line of the first file that has
+    ///    another one.
     /// 5. The end: bytes behind the record are `Trailing`.
     pub fn parse(alloc: Global, text: &[u8]) -> Result<Record, RecordFault>
         // What is read is spelled so.
@@ -117,13 +120,17 @@ impl Record {
         Ok(Record { fields })
     }
 
-    /// The record at the front of the text, and how many bytes its own text takes. Anything may stand behind it. The
-    /// tests are those of `parse`, without the last, and with another one of the length: it comes right after the
-    /// header, and is `TooLarge` where the header and the sizes together are over `LIMIT`.
+    /// The record at the front of the text, and how many bytes its own text takes. Anything may
+    /// stand behind it. The tests are those of `parse`, without the last, and with another one of
+    /// the length: it comes right after the header, and is `TooLarge` where the header and the
+    /// sizes together are over `LIMIT`.
     pub fn read_first(alloc: Global, text: &[u8]) -> Result<(Record, usize), RecordFault>
-        ensures text { IfOk result (λ first. IsRecord first.0 × (take first.1 text.now ≡ record_text first.0)) }
+        ensures text { IfOk result (λ first.
+            IsRecord first.0 × (take first.1 text.now ≡ record_text first.0)) }
         ensures length { IfOk result (λ first. first.1 ≡ length (record_text first.0)) }
-        ensures exact { IsRightUnless RecordFault.Memory (map_ok (λ first. (first.0, drop first.1 text.now)) result) (first_of text.now) }
+        ensures exact { IsRightUnless RecordFault.Memory
+            (map_ok (λ first. (first.0, drop first.1 text.now)) result)
+            (first_of text.now) }
     {
         let (fields, rest) = parsing::first(alloc, text)?;
         let length = text.len().saturating_sub(rest.len());

@@ -20,7 +20,8 @@ fn files<'a>(
     bytes: &'a [u8],
 ) -> Result<(Vec<File>, &'a [u8]), ReadError>
     requires { sum_by (λ h. h.size) (map head_of heads.now) ≤ length bytes.now }
-    ensures { Gives (λ x. (map file_view x.0.items, x.1.now)) result (files_in [] (map head_of heads.now) bytes.entry.now) }
+    ensures { Gives (λ x. (map file_view x.0.items, x.1.now)) result
+        (files_in [] (map head_of heads.now) bytes.entry.now) }
 {
     let mut files = Vec::with_capacity(alloc, heads.len())?;
     let mut rest = bytes;
@@ -45,7 +46,8 @@ fn fields<'a>(
     bytes: &'a [u8],
 ) -> Result<(Fields, &'a [u8]), ReadError>
     requires { header.heads.total ≡ total_of (header_view header) }
-    ensures { Gives (λ x. (content_of x.0, x.1.now)) result (content_of_parts (header_view header.entry) bytes.entry.now) }
+    ensures { Gives (λ x. (content_of x.0, x.1.now)) result
+        (content_of_parts (header_view header.entry) bytes.entry.now) }
 {
     if bytes.len() < header.heads.total {
         return Err(ReadError::Fault(RecordFault::Truncated));

@@ -44,14 +44,16 @@ fn packages(text: &[u8]) -> Result<(u64, &[u8]), ReadError>
     Ok((count, place.rest))
 }
 
-/// The record at the front of what is left of a text of this length, behind these, and the text behind it.
+/// The record at the front of what is left of a text of this length, behind these, and the text
+/// behind it.
 fn next_record<'a>(
     alloc: Global,
     length: usize,
     records: &[Record],
     text: &'a [u8],
 ) -> Result<(Record, &'a [u8]), RecordFault>
-    ensures { IsRightUnless RecordFault.Memory (map_ok (λ x. (x.0, x.1.now)) result) (next_of length records.now text.entry.now) }
+    ensures { IsRightUnless RecordFault.Memory (map_ok (λ x. (x.0, x.1.now)) result)
+        (next_of length records.now text.entry.now) }
 {
     let (record, taken) = Record::read_first(alloc, text)?;
     let rest = &text[taken..];
@@ -69,7 +71,8 @@ fn read_records<'a>(
     count: u64,
     text: &'a [u8],
 ) -> Result<(Vec<Record>, &'a [u8]), RecordFault>
-    ensures { IsRightUnless RecordFault.Memory (map_ok (λ x. (x.0.items, x.1.now)) result) (records_in length count [] text.entry.now) }
+    ensures { IsRightUnless RecordFault.Memory (map_ok (λ x. (x.0.items, x.1.now)) result)
+        (records_in length count [] text.entry.now) }
 {
     let mut records = Vec::new(alloc);
     let mut rest = text;
@@ -84,14 +87,16 @@ fn read_records<'a>(
 }
 
 fn first_several<'a>(alloc: Global, text: &'a [u8]) -> Result<(Vec<Record>, &'a [u8]), RecordFault>
-    ensures { IsRightUnless RecordFault.Memory (map_ok (λ x. (x.0.items, x.1.now)) result) (several_of text.entry.now) }
+    ensures { IsRightUnless RecordFault.Memory (map_ok (λ x. (x.0.items, x.1.now)) result)
+        (several_of text.entry.now) }
 {
     let (count, behind) = packages(text)?;
     read_records(alloc, text.len(), count, behind)
 }
 
 fn whole_several(alloc: Global, text: &[u8]) -> Result<Vec<Record>, RecordFault>
-    ensures { IsRightUnless RecordFault.Memory (map_ok (λ x. x.items) result) (whole_several_of text.now) }
+    ensures { IsRightUnless RecordFault.Memory (map_ok (λ x. x.items) result)
+        (whole_several_of text.now) }
 {
     if text.len() > LIMIT {
         return Err(RecordFault::TooLarge);
@@ -114,7 +119,8 @@ fn alone(alloc: Global, only: Record) -> Result<Vec<Record>, Memory>
 
 /// The records of the build that is the whole text.
 pub fn whole(alloc: Global, text: &[u8]) -> Result<Vec<Record>, RecordFault>
-    ensures { IsRightUnless RecordFault.Memory (map_ok (λ x. x.items) result) (whole_build_of text.now) }
+    ensures { IsRightUnless RecordFault.Memory (map_ok (λ x. x.items) result)
+        (whole_build_of text.now) }
 {
     if is_several(text) {
         return whole_several(alloc, text);
@@ -125,7 +131,8 @@ pub fn whole(alloc: Global, text: &[u8]) -> Result<Vec<Record>, RecordFault>
 
 /// The records of the build at the front, and the text behind them.
 pub fn first<'a>(alloc: Global, text: &'a [u8]) -> Result<(Vec<Record>, &'a [u8]), RecordFault>
-    ensures { IsRightUnless RecordFault.Memory (map_ok (λ x. (x.0.items, x.1.now)) result) (first_build_of text.entry.now) }
+    ensures { IsRightUnless RecordFault.Memory (map_ok (λ x. (x.0.items, x.1.now)) result)
+        (first_build_of text.entry.now) }
 {
     if is_several(text) {
         return first_several(alloc, text);

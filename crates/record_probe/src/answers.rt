@@ -1,5 +1,5 @@
 // The answer to a line.
-use crate::{builds, pairs, records};
+use crate::{builds, making, pairs, records};
 use faults::Fault;
 use package_record::RecordFault;
 use std::alloc::{AllocError, Global};
@@ -11,9 +11,15 @@ pub fn answer(alloc: Global, line: &[u8]) -> Result<String, AllocError> {
     if let Some(name) = line.strip_prefix(b"pair ") {
         return pairs::made(alloc, name);
     }
+    if let Some(digits) = line.strip_prefix(b"fields ") {
+        return records::fields(alloc, text_of(alloc, digits).as_slice());
+    }
+    if let Some(name) = line.strip_prefix(b"full ") {
+        return making::full(alloc, name);
+    }
     match line {
-        b"make 4194158" => records::made(alloc, 4_194_158),
-        b"make 4194159" => records::made(alloc, 4_194_159),
+        b"make 4194158" => making::large(alloc, 4_194_158),
+        b"make 4194159" => making::large(alloc, 4_194_159),
         _ => records::read(alloc, text_of(alloc, line).as_slice()),
     }
 }

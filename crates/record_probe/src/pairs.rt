@@ -4,14 +4,15 @@ ghost use Rattle.claims.specs.Deps.{is_ascending};
 ghost use Rattle.pkgpath.specs.PkgPath.{without_subpackage};
 
 use crate::answers::{no_memory, refused};
+use crate::parts::{named, one_file, one_path};
 use claims::{Claim, Deps};
 use faults::Memory;
-use package_record::{Build, File, Files, Package, RecordFault};
-use pkgname::PkgName;
+use package_record::{Build, Files, Package, RecordFault};
 use pkgpath::PkgPath;
 use std::alloc::{AllocError, Global};
 
-// The text of the build of `a/b,-x`, with a file of this name that holds `abc`, and of `a/b,-y`, which runs with it.
+// The text of the build of `a/b,-x`, with a file of this name that holds `abc`, and of `a/b,-y`,
+// which runs with it.
 pub fn made(alloc: Global, file: &[u8]) -> Result<String, AllocError> {
     match build(alloc, file) {
         Ok(build) => written(alloc, &build),
@@ -43,8 +44,10 @@ fn build(alloc: Global, file: &[u8]) -> Result<Build, RecordFault> {
 
 // The paths ascend, and are equal without their subpackages.
 fn may_stand_so(front: &PkgPath, behind: &PkgPath) -> Result<bool, Memory>
-    ensures order { IfOk result (λ so. so ≡ true → is_ascending (front.now ∷ behind.now ∷ []) ≡ true) }
-    ensures group { IfOk result (λ so. so ≡ true → without_subpackage behind.now ≡ without_subpackage front.now) }
+    ensures order { IfOk result (λ so.
+        so ≡ true → is_ascending (front.now ∷ behind.now ∷ []) ≡ true) }
+    ensures group { IfOk result (λ so.
+        so ≡ true → without_subpackage behind.now ≡ without_subpackage front.now) }
 {
     let group = front.without_subpackage()?;
     let other = behind.without_subpackage()?;
@@ -55,16 +58,12 @@ fn with_file(alloc: Global, file: &[u8]) -> Result<Package, Memory>
     ensures { IfOk result (λ p. is_ascending p.run.items ≡ true) }
 {
     let (path, name) = named(alloc, b"a/b,-x", b"x-1")?;
-    let file = File {
-        name: Vec::from_slice(alloc, file)?,
-        bytes: Vec::from_slice(alloc, b"abc")?,
-    };
-    let files = Files::new(vec![in alloc; file]?);
+    let files = Files::new(one_file(alloc, file, b"abc")?);
     Ok(Package {
         path,
         name,
         run: Vec::new(alloc),
-        files,
+        files: files.copy()?,
     })
 }
 
@@ -72,18 +71,11 @@ fn without_file(alloc: Global) -> Result<Package, Memory>
     ensures { IfOk result (λ p. is_ascending p.run.items ≡ true) }
 {
     let (path, name) = named(alloc, b"a/b,-y", b"y-1")?;
-    let (needed, _name) = named(alloc, b"a/b,-x", b"x-1")?;
+    let run = one_path(alloc, b"a/b,-x")?;
     Ok(Package {
         path,
         name,
-        run: vec![in alloc; needed]?,
+        run,
         files: Files::new(Vec::new(alloc)),
     })
-}
-
-fn named(alloc: Global, path: &[u8], name: &[u8]) -> Result<(PkgPath, PkgName), Memory> {
-    match (PkgPath::parse(alloc, path), PkgName::parse(alloc, name)) {
-        (Ok(path), Ok(name)) => Ok((path, name)),
-        _ => Err(Memory),
-    }
 }

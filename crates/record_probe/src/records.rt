@@ -1,10 +1,8 @@
-// What is read and made as a record.
+// What is read as a record.
 use crate::answers::{both, no_memory, refused};
-use claims::{Claim, Deps};
+use claims::Claim;
 use faults::Memory;
-use package_record::{File, Record, RecordFault, make};
-use pkgname::PkgName;
-use pkgpath::PkgPath;
+use package_record::Record;
 use std::alloc::{AllocError, Global};
 
 pub fn read(alloc: Global, text: &[u8]) -> Result<String, AllocError> {
@@ -24,7 +22,7 @@ fn first(alloc: Global, text: &[u8]) -> Result<String, AllocError> {
 }
 
 // What a copy of the record says, and the length of what it writes.
-fn said(alloc: Global, record: &Record, length: usize) -> Result<String, AllocError> {
+pub fn said(alloc: Global, record: &Record, length: usize) -> Result<String, AllocError> {
     match copied(alloc, record) {
         Ok((digest, written)) => line(alloc, record, &digest, length, written),
         Err(Memory) => no_memory(alloc),
@@ -51,30 +49,20 @@ fn line(
     format!(in alloc; "{path} {digest} {length} {written}")
 }
 
-// What is made of one file of so many bytes.
-pub fn made(alloc: Global, bytes: usize) -> Result<String, AllocError> {
-    let file = File {
-        name: Vec::from_slice(alloc, b"x")?,
-        bytes: vec![in alloc; b'a'; bytes]?,
-    };
-    let files = vec![in alloc; file]?;
-    match of_files(alloc, files) {
-        Ok(record) => said(alloc, &record, bytes),
+// What the record says of its build, and how many dependencies, paths to run and files it has.
+pub fn fields(alloc: Global, text: &[u8]) -> Result<String, AllocError> {
+    match Record::parse(alloc, text) {
+        Ok(record) => told(alloc, &record),
         Err(fault) => refused(alloc, fault),
     }
 }
 
-fn of_files(alloc: Global, files: Vec<File>) -> Result<Record, RecordFault> {
-    let (Ok(path), Ok(name)) = (
-        PkgPath::parse(alloc, b"a/b"),
-        PkgName::parse(alloc, b"b-1.0"),
-    ) else {
-        return Err(RecordFault::Memory);
-    };
-    let claim = Claim {
-        round: 1,
-        member: 0,
-    };
-    let none = Deps::new(Vec::new(alloc));
-    make(alloc, path, name, 3, claim, none, Vec::new(alloc), files)
+fn told(alloc: Global, record: &Record) -> Result<String, AllocError> {
+    let name = hex::encode(alloc, record.name().as_bytes())?;
+    let host = record.host();
+    let Claim { round, member } = record.claim();
+    let built = record.built().len();
+    let run = record.run().len();
+    let files = record.files().len();
+    format!(in alloc; "{name} {host} {round} {member} {built} {run} {files}")
 }

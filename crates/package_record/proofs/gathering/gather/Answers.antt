@@ -3,6 +3,7 @@ use Rattle.std.proofs.lemmas.List.{map-append}
 use Rattle.std.proofs.lemmas.List.Elements.{All-append, All-cons, All-nil}
 use Rattle.std.proofs.lemmas.Iterator.Adapters.{YieldsList-from_vec}
 use Rattle.std.proofs.lemmas.Iterator.Consumers.{YieldsList-end, YieldsList-so_far, YieldsList-turn}
+use Rattle.std.proofs.lemmas.Result.{err_from_is_err_and}
 use Rattle.faults.specs.Answers.{unless_fault}
 use Rattle.package_record.specs.Build.{build_text, records_text}
 use Rattle.package_record.specs.Content.{Content, IsRecord, most_bytes, record_text}
@@ -14,7 +15,7 @@ use Rattle.package_record.specs.declared.RecordFault.TheVariants.{Memory}
 use Rattle.package_record.proofs.BuildTexts.{text_length, text_push}
 use Rattle.package_record.proofs.BuildsMade.{over as over_limit, refused_for_length, too_long}
 use Rattle.package_record.proofs.BuildsTaken.{unless_ok}
-use Rattle.package_record.proofs.NextRecords.{fault_none, passed_on}
+use Rattle.package_record.proofs.NextRecords.{fault_none, passed_as}
 use Rattle.package_record.proofs.gathering.gather.Goals as goal
 
 pub returns-then-bytes-gt-LIMIT-clause-records : goal.returns-then-bytes-gt-LIMIT-clause-records
@@ -42,7 +43,8 @@ returns-in_err-record-clause-records c =
     let front = sym (map-id ys) ∙ YieldsList-so_far yields ys c.loop-package.package-iterator c.loop-package.yielded_by in
     let content = content_from c.args.host c.args.claim c.args.built.now p in
     let cs = contents_of c.args.host c.args.claim c.args.built.now ps in
-    rw c.from_residual-in_err-record.ensures (passed_on Memory e (unless_fault (too_large (length (record_text content))) content) (unless_fault (too_large (length (build_text cs))) cs)
+    let told = err_from_is_err_and c.from_residual-in_err-record.result c.from_residual-in_err-record.ensures.1 in
+    rw told.1 (passed_as Memory e told.0 told.2 (unless_fault (too_large (length (record_text content))) content) (unless_fault (too_large (length (build_text cs))) cs)
     (λ h.
     let refused = refused_for_length (length (record_text content)) content e h in
     let long : most_bytes < length (records_text (contents_of c.args.host c.args.claim c.args.built.now ys)) + length (record_text content) = omega (arith, refused.0) in
@@ -81,7 +83,8 @@ returns-in_err-test_length-clause-records c =
     let count : c.len-2.result ≡ length rs = omega (arith, c.len-2.ensures, c.loop-package.records.ok.0) in
     let size : length (build_text cs) ≡ length (lines_before c.len-2.result) + c.loop-package.bytes =
     sym (ap (λ (ds : List Content). length (build_text ds)) all) ∙ text_length rs ∙ omega (arith, c.loop-package.invariant.bytes, ap (λ n. length (lines_before n)) count) in
-    rw c.from_residual-in_err-test_length.ensures (passed_on Memory e (unless_fault (too_large (length (lines_before c.len-2.result) + c.loop-package.bytes)) tt) (unless_fault (too_large (length (build_text cs))) cs)
+    let told = err_from_is_err_and c.from_residual-in_err-test_length.result c.from_residual-in_err-test_length.ensures.1 in
+    rw told.1 (passed_as Memory e told.0 told.2 (unless_fault (too_large (length (lines_before c.len-2.result) + c.loop-package.bytes)) tt) (unless_fault (too_large (length (build_text cs))) cs)
     (λ h. let refused = refused_for_length (length (lines_before c.len-2.result) + c.loop-package.bytes) tt e h in
     let over : most_bytes < length (build_text cs) = omega (arith, refused.0, size) in
     ap (λ (o : Option RecordFault). unless_fault o cs) (over_limit (length (build_text cs)) over) ∙ ap Err (sym refused.1))
