@@ -22,7 +22,7 @@ use Rattle.package_record.proofs.Steps.{ok_is}
 -- ---- the two lines
 
 packages_read : (n : ℕ) (rest : Text) → 2 ≤ n → n ≤ most_packages → packages_of (ended (several_lines n) ++ rest) ≡ Ok (n, rest)
-unfolding packages_of packages_at
+unfolding packages_of
 packages_read n rest low high =
     let word = codes "@packages " in
     let behind = (word ++ decimal n) ∷ pieces_at 10 rest in

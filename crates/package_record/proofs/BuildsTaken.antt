@@ -42,7 +42,7 @@ unfolding ended
 two_lines n rest = sym (simp append_assoc)
 
 packages_taken : (text : Text) (x : ℕ × Text) → is_several text ≡ true → packages_of text ≡ Ok x → (text ≡ ended (several_lines x.0) ++ x.1) × (2 ≤ x.0) × (x.0 ≤ most_packages)
-unfolding packages_of packages_at
+unfolding packages_of
 packages_taken text x several e =
     let word = codes "@packages " in
     let start : Place = record { passed = 0; lines = pieces_at 10 text } in

@@ -24,7 +24,7 @@ use Rattle.agreement.specs.declared.claim.Claim.{Claim}
 use Rattle.claims.specs.Deps.{is_ascending}
 use Rattle.claims.specs.declared.deps.Dep.{Dep}
 use Rattle.package_record.specs.Content.{AreFileNames, Content, IsDep, IsRecord, NamedFile, built_line, claim_line, ended, file_lines, header_lines, is_next_name, most_bytes, names_of, record_text, run_line}
-use Rattle.package_record.specs.Given.{Fails, refusal_of}
+use Rattle.package_record.specs.inside.Given.{Fails, refusal_of}
 use Rattle.package_record.specs.Reading.{Front, Head, Header, Place, ◌>>=◌, all_at, built_at, claim_at, claim_in, content_of_parts, cut_in, field_at, file_at, files_in, first_of, front_at, header_of, host_at, is_above, name_at, name_in, is_number, line_at, number_in, path_at, path_in, run_at, total_of, version_at, whole_of}
 use Rattle.package_record.specs.declared.RecordFault.{RecordFault}
 use Rattle.package_record.specs.declared.RecordFault.TheVariants.{BadLine, DigestDiffers, Memory, TooLarge, Trailing, Truncated}

@@ -28,8 +28,8 @@ pub fn split<'a>(text: &'a [u8], byte: u8) -> Option<(&'a [u8], &'a [u8])>
 }
 
 impl<'a> Cursor<'a> {
-    ghost use Rattle.package_record.specs.Cursor.{cursor_view};
-    ghost use Rattle.package_record.specs.Given.{Gives};
+    ghost use Rattle.package_record.specs.inside.Cursor.{cursor_view};
+    ghost use Rattle.package_record.specs.inside.Given.{Gives};
     ghost use Rattle.package_record.specs.Reading.{field_at, line_at};
 
     /// The line without its LF, and the cursor behind it.

@@ -1,6 +1,6 @@
 //! What a record says, field by field.
 ghost use Rattle.std.specs.Prelude.{◌≡◌, IfOk, map};
-ghost use Rattle.package_record.specs.Inside.{file_view};
+ghost use Rattle.package_record.specs.Views.{file_view};
 
 use crate::File;
 use claims::{Claim, Deps};
@@ -22,7 +22,7 @@ pub struct Fields {
 }
 
 impl Fields {
-    ghost use Rattle.package_record.specs.Inside.{content_of};
+    ghost use Rattle.package_record.specs.Views.{content_of};
 
     /// Equal fields.
     pub fn copy(&self) -> Result<Fields, Memory>

@@ -1,6 +1,6 @@
 //! The files of a package.
 ghost use Rattle.std.specs.Prelude.{◌≡◌, IfOk, map};
-ghost use Rattle.package_record.specs.Inside.{file_view};
+ghost use Rattle.package_record.specs.Views.{file_view};
 
 use crate::File;
 use crate::fields::copy_files;
@@ -18,7 +18,7 @@ pub struct Files {
 impl Model for Files {
     ghost use Rattle.std.specs.Prelude.{List, map};
     ghost use Rattle.package_record.specs.Content.{NamedFile};
-    ghost use Rattle.package_record.specs.Inside.{file_view};
+    ghost use Rattle.package_record.specs.Views.{file_view};
 
     ghost Value = { List NamedFile };
 

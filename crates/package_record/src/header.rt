@@ -1,10 +1,10 @@
 //! The header of a record, line by line.
 ghost use Rattle.std.specs.Prelude.{◌≡◌, ◌+◌, ◌≤◌, ◌++◌, ◌∷◌, [], Some, IfOk, IfSome, map, option_map, sum_by};
 ghost use Rattle.package_record.specs.Content.{most_bytes};
-ghost use Rattle.package_record.specs.Cursor.{cursor_view};
-ghost use Rattle.package_record.specs.Given.{Gives};
-ghost use Rattle.package_record.specs.Heads.{front_of, head_of, header_view};
-ghost use Rattle.package_record.specs.Names.{names_in};
+ghost use Rattle.package_record.specs.inside.Cursor.{cursor_view};
+ghost use Rattle.package_record.specs.inside.Given.{Gives};
+ghost use Rattle.package_record.specs.inside.Heads.{front_of, head_of, header_view};
+ghost use Rattle.package_record.specs.inside.Names.{names_in};
 ghost use Rattle.package_record.specs.Reading.{all_at, built_at, entry_at, file_at, front_at, head_at, header_of, run_at, total_of};
 
 use crate::RecordFault;

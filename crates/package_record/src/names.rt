@@ -2,7 +2,7 @@
 ghost use Rattle.std.specs.Prelude.{◌≡◌, ◌∷◌, [], ◌++◌, IfOk, not, true};
 ghost use Rattle.faults.specs.Bytes.{is_among};
 ghost use Rattle.package_record.specs.Content.{is_next_name};
-ghost use Rattle.package_record.specs.Names.{names_in};
+ghost use Rattle.package_record.specs.inside.Names.{names_in};
 
 use crate::file_name::is_file_name;
 use faults::Memory;

@@ -2,7 +2,7 @@
 ghost use Rattle.std.specs.Prelude.{◌≡◌, ◌+◌, ◌<◌, ◌≤◌, true, false, min, IfOk, MatchOption};
 ghost use Rattle.std.specs.Str.Parse.{digits_value};
 ghost use Rattle.package_record.specs.Content.{most_bytes};
-ghost use Rattle.package_record.specs.Given.{Gives};
+ghost use Rattle.package_record.specs.inside.Given.{Gives};
 ghost use Rattle.package_record.specs.Reading.{is_number, number_in, size_in};
 
 use crate::fault::ReadError;

@@ -5,7 +5,7 @@ ghost use Rattle.faults.specs.Answers.{IsRightUnless, map_ok, unless_fault};
 ghost use Rattle.claims.specs.Claim.{IsClaim};
 ghost use Rattle.claims.specs.Deps.{AreInOrder, is_ascending};
 ghost use Rattle.package_record.specs.Content.{AreFileNames, Content, IsRecord, names_of, record_text};
-ghost use Rattle.package_record.specs.Inside.{content_of, file_view};
+ghost use Rattle.package_record.specs.Views.{content_of, file_view};
 ghost use Rattle.package_record.specs.Making.{make_fault, too_large};
 ghost use Rattle.package_record.specs.Reading.{first_of, whole_of};
 
@@ -31,7 +31,7 @@ pub struct Record {
 
 impl Model for Record {
     ghost use Rattle.package_record.specs.Content.{Content, IsRecord};
-    ghost use Rattle.package_record.specs.Inside.{content_of};
+    ghost use Rattle.package_record.specs.Views.{content_of};
 
     ghost Value = { Content };
 

@@ -1,8 +1,8 @@
 //! A text as a record.
 ghost use Rattle.std.specs.Prelude.{◌≡◌, ◌≤◌, [], length, map, sum_by};
-ghost use Rattle.package_record.specs.Given.{Gives};
-ghost use Rattle.package_record.specs.Heads.{head_of, header_view};
-ghost use Rattle.package_record.specs.Inside.{content_of, file_view};
+ghost use Rattle.package_record.specs.inside.Given.{Gives};
+ghost use Rattle.package_record.specs.inside.Heads.{head_of, header_view};
+ghost use Rattle.package_record.specs.Views.{content_of, file_view};
 ghost use Rattle.package_record.specs.Reading.{content_of_parts, files_in, first_of, total_of, whole_of};
 
 use crate::fault::ReadError;

@@ -11,7 +11,7 @@ ghost use Rattle.package_record.specs.BuildReading.{
   whole_build_of,
   whole_several_of,
 };
-ghost use Rattle.package_record.specs.Given.{Gives};
+ghost use Rattle.package_record.specs.inside.Given.{Gives};
 
 use crate::alike::may_follow;
 use crate::cursor::Cursor;
@@ -30,7 +30,7 @@ fn is_several(text: &[u8]) -> bool
 }
 
 /// How many records follow the two lines, and the text behind these.
-#[tactic(auto, unfolding(crate::specs::BuildReading::packages_of, crate::specs::BuildReading::packages_at))]
+#[tactic(auto, unfolding(crate::specs::BuildReading::packages_of))]
 fn packages(text: &[u8]) -> Result<(u64, &[u8]), ReadError>
     ensures { Gives (λ x. (x.0, x.1.now)) result (packages_of text.entry.now) }
 {

@@ -6,7 +6,7 @@ ghost use Rattle.faults.specs.Bytes.{line_feed};
 ghost use Rattle.pkgname.specs.PkgName.{IsName};
 ghost use Rattle.pkgpath.specs.PkgPath.{IsPath};
 ghost use Rattle.package_record.specs.Content.{HasNames, IsDep, built_line, claim_line, ended, file_lines, front_lines, header_lines, name_lines, record_text, run_line};
-ghost use Rattle.package_record.specs.Inside.{content_of, file_view};
+ghost use Rattle.package_record.specs.Views.{content_of, file_view};
 
 use crate::File;
 use crate::fields::Fields;

@@ -1,4 +1,4 @@
--- What bodies and proofs need of builds.
+-- The lines before the records of a build.
 use Rattle.std.specs.Prelude.{ℕ, [], nat_lt, if◌then◌else◌}
 use Rattle.faults.specs.Bytes.{Text}
 use Rattle.package_record.specs.Build.{several_lines}
