@@ -4,7 +4,7 @@ use Rattle.std.specs.List.{flat_map}
 use Rattle.std.proofs.lemmas.List.{append-nil}
 use Rattle.faults.specs.Bytes.{Text}
 use Rattle.package_record.proofs.Steps.{bind_ok, ok_is}
-use Rattle.package_record.specs.Given.{Fails}
+use Rattle.package_record.specs.inside.Given.{Fails}
 use Rattle.package_record.specs.Reading.{Place, all_at, go_on, many_at}
 use Rattle.package_record.specs.declared.RecordFault.{RecordFault}
 use Rattle.package_record.specs.declared.fault.ReadError.{ReadError}

@@ -1,10 +1,10 @@
+pub mod Build
+pub mod BuildReading
 pub mod Content
-pub mod Cursor
-pub mod Given
-pub mod Making
-pub mod Heads
-pub mod Inside
 pub mod Laws
-pub mod Names
+pub mod Making
+pub mod Packages
 pub mod Reading
 pub mod Refusals
+pub mod Views
+pub mod inside

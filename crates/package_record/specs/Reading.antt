@@ -14,24 +14,27 @@ use Rattle.pkgpath.specs.PkgPath.{path_of}
 use Rattle.agreement.specs.declared.claim.Claim.{Claim}
 use Rattle.claims.specs.Claim.{greatest_round}
 use Rattle.claims.specs.declared.deps.Dep.{Dep}
-use Rattle.package_record.specs.Content.{Content, NamedFile, is_next_name, most_bytes}
+use Rattle.package_record.specs.Content.{Content, NamedFile, greatest_host, is_next_name, most_bytes}
 use Rattle.package_record.specs.declared.RecordFault.{RecordFault}
 use Rattle.package_record.specs.declared.RecordFault.TheVariants.{BadLine, Truncated, Trailing, DigestDiffers, BadFileName, TooLarge}
 
 infixl 10 ◌>>=◌
 -- a fault ends the reading; else it goes on with what was read
-abbrev pub ◌>>=◌ : {A B : Type 0} → Result A RecordFault → (A → Result B RecordFault) → Result B RecordFault
+abbrev pub ◌>>=◌ :
+    {A B : Type 0} → Result A RecordFault → (A → Result B RecordFault) → Result B RecordFault
 (Ok x) >>= f = f x
 (Err e) >>= f = Err e
 
 -- ---- lines
 
--- where a reader is: how many lines it has passed, and the lines from there on, each but the last ended by LF
+-- where a reader is: how many lines it has passed, and the lines from there on, each but the last
+-- ended by LF
 pub record Place : Type 0 where
   pub passed : ℕ
   pub lines : List Text
 
--- the first of these lines, behind n others, and the place after it; a line without its LF is cut off
+-- the first of these lines, behind n others, and the place after it; a line without its LF is cut
+-- off
 abbrev pub line_in : ℕ → List Text → Result (Text × Place) RecordFault
 line_in n [] = Err Truncated
 line_in n (l ∷ []) = Err Truncated
@@ -45,7 +48,9 @@ line_at p = line_in p.passed p.lines
 unfoldable pub field_at : Text → Place → Result (Text × Place) RecordFault
 field_at word p = do
   line ← line_at p
-  if begins_with word line.0 then Ok (drop (length word) line.0, line.1) else Err (BadLine line.1.passed)
+  if begins_with word line.0
+      then Ok (drop (length word) line.0, line.1)
+      else Err (BadLine line.1.passed)
 
 -- ---- fields of the n-th line
 
@@ -72,18 +77,22 @@ name_in n text = if is_itself (name_of text) text then Ok text else Err (BadLine
 -- digits, and no zero before others
 abbrev pub is_number : Text → Bool
 is_number text =
-    list_all is_ascii_digit text && not (is_empty text) && (length text == 1 || not (begins_with (codes "0") text))
+    list_all is_ascii_digit text && not (is_empty text)
+    && (length text == 1 || not (begins_with (codes "0") text))
 
 -- the number from the least to the greatest that the text is
 unfoldable pub number_in : ℕ → ℕ → ℕ → Text → Result ℕ RecordFault
 number_in least greatest n text =
-    if is_number text && nat_le least (digits_value 10 text) && nat_le (digits_value 10 text) greatest
+    if is_number text && nat_le least (digits_value 10 text)
+    && nat_le (digits_value 10 text) greatest
     then Ok (digits_value 10 text)
     else Err (BadLine n)
 
 -- the digest that was decoded, where the text is how it is written in lower case
-abbrev pub if_lower : {F : Type 0} → ℕ → Text → Result (List ℕ) F → Result (List ℕ) RecordFault
-if_lower n text (Ok digest) = if bytes_eq (encode_lower digest) text then Ok digest else Err (BadLine n)
+abbrev pub if_lower :
+    {F : Type 0} → ℕ → Text → Result (List ℕ) F → Result (List ℕ) RecordFault
+if_lower n text (Ok digest) =
+    if bytes_eq (encode_lower digest) text then Ok digest else Err (BadLine n)
 if_lower n text (Err e) = Err (BadLine n)
 
 -- the 32 bytes that are written so
@@ -116,7 +125,7 @@ path_at p = do
 unfoldable pub host_at : Place → Result (ℕ × Place) RecordFault
 host_at p = do
   field ← field_at (codes "@host ") p
-  host ← number_in 0 65535 field.1.passed field.0
+  host ← number_in 0 greatest_host field.1.passed field.0
   Ok (host, field.1)
 
 -- the claim that the text is: its round, a dot, and its member
@@ -154,17 +163,24 @@ front_at p = do
 -- ---- the lines that may stand any number of times
 
 -- one more was read, behind which reading goes on; or there was none, and it ends
-abbrev pub go_on : {X : Type 0} → (List X → Place → Result (List X × Place) RecordFault) → List X → Option X × Place → Result (List X × Place) RecordFault
+abbrev pub go_on :
+    {X : Type 0} → (List X → Place → Result (List X × Place) RecordFault)
+    → List X → Option X × Place → Result (List X × Place) RecordFault
 go_on more front (None, p) = Ok (front, p)
 go_on more front (Some x, p) = more (front ++ x ∷ []) p
 
--- Reads while there is one more, at most so often. What may come next depends on what was read before, which is in front.
-unfoldable pub many_at : {X : Type 0} → (List X → Place → Result (Option X × Place) RecordFault) → ℕ → List X → Place → Result (List X × Place) RecordFault
+-- Reads while there is one more, at most so often. What may come next depends on what was read
+-- before, which is in front.
+unfoldable pub many_at :
+    {X : Type 0} → (List X → Place → Result (Option X × Place) RecordFault)
+    → ℕ → List X → Place → Result (List X × Place) RecordFault
 many_at one zero front p = Err Truncated
 many_at one (suc k) front p = one front p >>= go_on (many_at one k) front
 
 -- all of them; there are no more than lines
-abbrev pub all_at : {X : Type 0} → (List X → Place → Result (Option X × Place) RecordFault) → Place → Result (List X × Place) RecordFault
+abbrev pub all_at :
+    {X : Type 0} → (List X → Place → Result (Option X × Place) RecordFault)
+    → Place → Result (List X × Place) RecordFault
 all_at one p = many_at one (length p.lines) [] p
 
 -- the path is above the one before it, where there is one
@@ -192,7 +208,9 @@ built_at deps p = do
   line ← line_at p
   if begins_with (codes "@built ") line.0 then (do
     d ← dependency_in line.1.passed (drop 7 line.0)
-    if is_above (option_map (λ before. before.path) (last_of deps)) d.path then Ok (Some d, line.1) else Err (BadLine line.1.passed))
+    if is_above (option_map (λ before. before.path) (last_of deps)) d.path
+        then Ok (Some d, line.1)
+        else Err (BadLine line.1.passed))
       else Ok (None, p)
 
 -- a line of `@run`, if one stands there
@@ -228,7 +246,8 @@ head_at total name p = do
   n ← size_in total size.1.passed size.0
   Ok (Some (record { name = name; digest = digest; size = n; line = sha.1.passed }), size.1)
 
--- the lines of a file behind files of these names and this total, or the empty line, which ends the header
+-- the lines of a file behind files of these names and this total, or the empty line, which ends the
+-- header
 unfoldable pub entry_at : List Text → ℕ → Place → Result (Option Head × Place) RecordFault
 entry_at names total p = do
   line ← line_at p
@@ -257,19 +276,39 @@ header_of text = do
   built ← all_at built_at front.1
   run ← all_at run_at built.1
   heads ← all_at file_at run.1
-  Ok (record { front = front.0; built = built.0; run = run.0; heads = heads.0 }, join_with_byte line_feed heads.1.lines)
+  Ok (
+    record { front = front.0; built = built.0; run = run.0; heads = heads.0 },
+    join_with_byte line_feed heads.1.lines,
+  )
+
+-- the file of this head, at the front of the bytes
+abbrev pub file_from : Head → Text → NamedFile
+file_from h bytes = record { name = h.name; bytes = take h.size bytes }
 
 -- the files of these heads, from the front of the bytes, and the bytes behind them
-unfoldable pub files_in : List NamedFile → List Head → Text → Result (List NamedFile × Text) RecordFault
+unfoldable pub files_in :
+    List NamedFile → List Head → Text → Result (List NamedFile × Text) RecordFault
 files_in front [] bytes = Ok (front, bytes)
 files_in front (h ∷ hs) bytes =
     if bytes_eq (sha256 (take h.size bytes)) h.digest
-    then files_in (front ++ record { name = h.name; bytes = take h.size bytes } ∷ []) hs (drop h.size bytes)
+    then files_in (front ++ file_from h bytes ∷ []) hs (drop h.size bytes)
     else Err (DigestDiffers h.line)
 
 -- how many bytes the files have in all, by the header
 abbrev pub total_of : Header → ℕ
 total_of h = sum_by (λ head. head.size) h.heads
+
+-- what the record with this header and these files says
+abbrev pub content_with : Header → List NamedFile → Content
+content_with h files = record {
+  path = h.front.path;
+  name = h.front.name;
+  host = h.front.host;
+  claim = h.front.claim;
+  built = h.built;
+  run = h.run;
+  files = files;
+}
 
 -- what the header and the bytes behind it say, and the bytes that are left
 unfoldable pub content_of_parts : Header → Text → Result (Content × Text) RecordFault
@@ -277,18 +316,7 @@ content_of_parts h bytes =
     if nat_lt (length bytes) (total_of h) then Err Truncated
     else (do
       files ← files_in [] h.heads bytes
-      Ok (
-        record {
-          path = h.front.path;
-          name = h.front.name;
-          host = h.front.host;
-          claim = h.front.claim;
-          built = h.built;
-          run = h.run;
-          files = files.0;
-        },
-        files.1,
-      ))
+      Ok (content_with h files.0, files.1))
 
 -- the record that is the whole text
 unfoldable pub whole_of : Text → Result Content RecordFault

@@ -28,13 +28,14 @@ pub fn split<'a>(text: &'a [u8], byte: u8) -> Option<(&'a [u8], &'a [u8])>
 }
 
 impl<'a> Cursor<'a> {
-    ghost use Rattle.package_record.specs.Cursor.{cursor_view};
-    ghost use Rattle.package_record.specs.Given.{Gives};
+    ghost use Rattle.package_record.specs.inside.Cursor.{cursor_view};
+    ghost use Rattle.package_record.specs.inside.Given.{Gives};
     ghost use Rattle.package_record.specs.Reading.{field_at, line_at};
 
     /// The line without its LF, and the cursor behind it.
     pub fn line(self) -> Result<(&'a [u8], Cursor<'a>), ReadError>
-        ensures { Gives (λ x. (x.0.now, cursor_view x.1)) result (line_at (cursor_view self.entry)) }
+        ensures { Gives (λ x. (x.0.now, cursor_view x.1)) result
+            (line_at (cursor_view self.entry)) }
     {
         match split(self.rest, b'\n') {
             Some((line, rest)) => {
@@ -48,7 +49,8 @@ impl<'a> Cursor<'a> {
     /// What belongs to the word that begins the line, and the cursor behind the line.
     #[tactic(auto, unfolding(crate::specs::Reading::field_at))]
     pub fn field(self, word: &[u8]) -> Result<(&'a [u8], Cursor<'a>), ReadError>
-        ensures { Gives (λ x. (x.0.now, cursor_view x.1)) result (field_at word.now (cursor_view self.entry)) }
+        ensures { Gives (λ x. (x.0.now, cursor_view x.1)) result
+            (field_at word.now (cursor_view self.entry)) }
     {
         let (line, after) = self.line()?;
         match line.strip_prefix(word) {

@@ -1,6 +1,6 @@
 //! Why a text could not be read.
 ghost use Rattle.std.specs.Prelude.{◌≡◌};
-ghost use Rattle.package_record.specs.Given.{refusal_of};
+ghost use Rattle.package_record.specs.inside.Given.{refusal_of};
 ghost use Rattle.package_record.specs.declared.fault.ReadError.TheVariants.{Memory as out_of_memory};
 
 use crate::RecordFault;

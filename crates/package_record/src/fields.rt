@@ -1,6 +1,6 @@
 //! What a record says, field by field.
 ghost use Rattle.std.specs.Prelude.{◌≡◌, IfOk, map};
-ghost use Rattle.package_record.specs.Inside.{file_view};
+ghost use Rattle.package_record.specs.Views.{file_view};
 
 use crate::File;
 use claims::{Claim, Deps};
@@ -22,7 +22,7 @@ pub struct Fields {
 }
 
 impl Fields {
-    ghost use Rattle.package_record.specs.Inside.{content_of};
+    ghost use Rattle.package_record.specs.Views.{content_of};
 
     /// Equal fields.
     pub fn copy(&self) -> Result<Fields, Memory>
@@ -56,7 +56,8 @@ fn copy_paths(alloc: Global, paths: &[PkgPath]) -> Result<Vec<PkgPath>, Memory>
     Ok(copies)
 }
 
-fn copy_files(alloc: Global, files: &[File]) -> Result<Vec<File>, Memory>
+/// Equal files.
+pub fn copy_files(alloc: Global, files: &[File]) -> Result<Vec<File>, Memory>
     ensures { IfOk result (λ copies. map file_view copies.items ≡ map file_view files.now) }
 {
     let mut copies = Vec::with_capacity(alloc, files.len())?;

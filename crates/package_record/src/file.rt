@@ -3,8 +3,8 @@ ghost use Rattle.std.specs.Prelude.{◌≡◌, IfOk};
 
 use faults::Memory;
 
-/// A file by its name, in which slashes stand between components, and its bytes. Which names are good is tested where
-/// a record is made.
+/// A file by its name, in which slashes stand between components, and its bytes. Which names are
+/// good is tested where a record is made.
 #[derive(Drop)]
 pub struct File {
     pub name: Vec<u8>,

@@ -1,10 +1,10 @@
 //! The header of a record, line by line.
 ghost use Rattle.std.specs.Prelude.{◌≡◌, ◌+◌, ◌≤◌, ◌++◌, ◌∷◌, [], Some, IfOk, IfSome, map, option_map, sum_by};
 ghost use Rattle.package_record.specs.Content.{most_bytes};
-ghost use Rattle.package_record.specs.Cursor.{cursor_view};
-ghost use Rattle.package_record.specs.Given.{Gives};
-ghost use Rattle.package_record.specs.Heads.{front_of, head_of, header_view};
-ghost use Rattle.package_record.specs.Names.{names_in};
+ghost use Rattle.package_record.specs.inside.Cursor.{cursor_view};
+ghost use Rattle.package_record.specs.inside.Given.{Gives};
+ghost use Rattle.package_record.specs.inside.Heads.{front_of, head_of, header_view};
+ghost use Rattle.package_record.specs.inside.Names.{names_in};
 ghost use Rattle.package_record.specs.Reading.{all_at, built_at, entry_at, file_at, front_at, head_at, header_of, run_at, total_of};
 
 use crate::RecordFault;
@@ -42,7 +42,8 @@ pub struct Head<'a> {
 /// The five lines that each record begins with.
 #[tactic(auto, unfolding(crate::specs::Reading::front_at))]
 pub fn front_lines<'a>(alloc: Global, place: Cursor<'a>) -> Result<(Front, Cursor<'a>), ReadError>
-    ensures { Gives (λ x. (front_of x.0, cursor_view x.1)) result (front_at (cursor_view place.entry)) }
+    ensures { Gives (λ x. (front_of x.0, cursor_view x.1)) result
+        (front_at (cursor_view place.entry)) }
 {
     let place = version_line(place)?;
     let (name, place) = name_line(alloc, place)?;
@@ -64,7 +65,8 @@ fn built_line<'a>(
     deps: &[Dep],
     place: Cursor<'a>,
 ) -> Result<(Option<Dep>, Cursor<'a>), ReadError>
-    ensures { Gives (λ x. (x.0, cursor_view x.1)) result (built_at deps.now (cursor_view place.entry)) }
+    ensures { Gives (λ x. (x.0, cursor_view x.1)) result
+        (built_at deps.now (cursor_view place.entry)) }
 {
     let (line, after) = place.line()?;
     let Some(text) = line.strip_prefix(b"@built ") else {
@@ -87,7 +89,8 @@ fn run_line<'a>(
     paths: &[PkgPath],
     place: Cursor<'a>,
 ) -> Result<(Option<PkgPath>, Cursor<'a>), ReadError>
-    ensures { Gives (λ x. (x.0, cursor_view x.1)) result (run_at paths.now (cursor_view place.entry)) }
+    ensures { Gives (λ x. (x.0, cursor_view x.1)) result
+        (run_at paths.now (cursor_view place.entry)) }
 {
     let (line, after) = place.line()?;
     let Some(text) = line.strip_prefix(b"@run ") else {
@@ -111,7 +114,8 @@ fn head_lines<'a>(
     place: Cursor<'a>,
 ) -> Result<(Head<'a>, Cursor<'a>), ReadError>
     requires { total ≤ most_bytes }
-    ensures head { Gives (λ x. (Some (head_of x.0), cursor_view x.1)) result (head_at total name.entry.now (cursor_view place.entry)) }
+    ensures head { Gives (λ x. (Some (head_of x.0), cursor_view x.1)) result
+        (head_at total name.entry.now (cursor_view place.entry)) }
     ensures within { IfOk result (λ x. total + x.0.size ≤ most_bytes) }
     ensures name { IfOk result (λ x. x.0.name.now ≡ name.entry.now) }
 {
@@ -136,9 +140,11 @@ fn entry<'a>(
     place: Cursor<'a>,
 ) -> Result<(Option<Head<'a>>, Cursor<'a>), ReadError>
     requires { total ≤ most_bytes }
-    ensures entry { Gives (λ x. (option_map head_of x.0, cursor_view x.1)) result (entry_at (names_in names.old) total (cursor_view place.entry)) }
+    ensures entry { Gives (λ x. (option_map head_of x.0, cursor_view x.1)) result
+        (entry_at (names_in names.old) total (cursor_view place.entry)) }
     ensures within { IfOk result (λ x. IfSome x.0 (λ h. total + h.size ≤ most_bytes)) }
-    ensures entered { IfOk result (λ x. IfSome x.0 (λ h. names_in names.new ≡ names_in names.old ++ h.name.now ∷ [])) }
+    ensures entered { IfOk result (λ x. IfSome x.0 (λ h.
+        names_in names.new ≡ names_in names.old ++ h.name.now ∷ [])) }
 {
     let (line, after) = place.line()?;
     if line.is_empty() {
@@ -155,7 +161,8 @@ fn entry<'a>(
 }
 
 fn built_lines<'a>(alloc: Global, start: Cursor<'a>) -> Result<(Vec<Dep>, Cursor<'a>), ReadError>
-    ensures { Gives (λ x. (x.0.items, cursor_view x.1)) result (all_at built_at (cursor_view start.entry)) }
+    ensures { Gives (λ x. (x.0.items, cursor_view x.1)) result
+        (all_at built_at (cursor_view start.entry)) }
 {
     let mut deps = Vec::new(alloc);
     let mut place = start;
@@ -170,7 +177,8 @@ fn built_lines<'a>(alloc: Global, start: Cursor<'a>) -> Result<(Vec<Dep>, Cursor
 }
 
 fn run_lines<'a>(alloc: Global, start: Cursor<'a>) -> Result<(Vec<PkgPath>, Cursor<'a>), ReadError>
-    ensures { Gives (λ x. (x.0.items, cursor_view x.1)) result (all_at run_at (cursor_view start.entry)) }
+    ensures { Gives (λ x. (x.0.items, cursor_view x.1)) result
+        (all_at run_at (cursor_view start.entry)) }
 {
     let mut paths = Vec::new(alloc);
     let mut place = start;
@@ -192,8 +200,10 @@ pub struct Heads<'a> {
 }
 
 fn file_lines<'a>(alloc: Global, start: Cursor<'a>) -> Result<(Heads<'a>, Cursor<'a>), ReadError>
-    ensures heads { Gives (λ x. (map head_of x.0.items.items, cursor_view x.1)) result (all_at file_at (cursor_view start.entry)) }
-    ensures total { IfOk result (λ x. x.0.total ≡ sum_by (λ h. h.size) (map head_of x.0.items.items)) }
+    ensures heads { Gives (λ x. (map head_of x.0.items.items, cursor_view x.1)) result
+        (all_at file_at (cursor_view start.entry)) }
+    ensures total { IfOk result (λ x.
+        x.0.total ≡ sum_by (λ h. h.size) (map head_of x.0.items.items)) }
     ensures within { IfOk result (λ x. x.0.total ≤ most_bytes) }
 {
     let mut heads = Vec::new(alloc);

@@ -2,7 +2,7 @@
 ghost use Rattle.std.specs.Prelude.{◌≡◌, ◌∷◌, [], ◌++◌, IfOk, not, true};
 ghost use Rattle.faults.specs.Bytes.{is_among};
 ghost use Rattle.package_record.specs.Content.{is_next_name};
-ghost use Rattle.package_record.specs.Names.{names_in};
+ghost use Rattle.package_record.specs.inside.Names.{names_in};
 
 use crate::file_name::is_file_name;
 use faults::Memory;
@@ -10,16 +10,20 @@ use indexmap::IndexSet;
 
 /// Enters a name, and answers if it is new.
 fn enter<'a>(names: &mut IndexSet<&'a [u8]>, name: &'a [u8]) -> Result<bool, Memory>
-    ensures is_new { IfOk result (λ is_new. is_new ≡ not (is_among (names_in names.old) name.entry.now)) }
-    ensures entered { IfOk result (λ is_new. is_new ≡ true → names_in names.new ≡ names_in names.old ++ name.entry.now ∷ []) }
+    ensures is_new { IfOk result (λ is_new.
+        is_new ≡ not (is_among (names_in names.old) name.entry.now)) }
+    ensures entered { IfOk result (λ is_new.
+        is_new ≡ true → names_in names.new ≡ names_in names.old ++ name.entry.now ∷ []) }
 {
     Ok(names.insert(name)?)
 }
 
 /// Enters a name, if a file may have it behind those entered before, and answers if so.
 pub fn admit<'a>(names: &mut IndexSet<&'a [u8]>, name: &'a [u8]) -> Result<bool, Memory>
-    ensures is_next { IfOk result (λ is_next. is_next ≡ is_next_name (names_in names.old) name.entry.now) }
-    ensures entered { IfOk result (λ is_next. is_next ≡ true → names_in names.new ≡ names_in names.old ++ name.entry.now ∷ []) }
+    ensures is_next { IfOk result (λ is_next.
+        is_next ≡ is_next_name (names_in names.old) name.entry.now) }
+    ensures entered { IfOk result (λ is_next.
+        is_next ≡ true → names_in names.new ≡ names_in names.old ++ name.entry.now ∷ []) }
 {
     if !is_file_name(name) {
         return Ok(false);

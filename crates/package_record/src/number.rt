@@ -2,7 +2,7 @@
 ghost use Rattle.std.specs.Prelude.{◌≡◌, ◌+◌, ◌<◌, ◌≤◌, true, false, min, IfOk, MatchOption};
 ghost use Rattle.std.specs.Str.Parse.{digits_value};
 ghost use Rattle.package_record.specs.Content.{most_bytes};
-ghost use Rattle.package_record.specs.Given.{Gives};
+ghost use Rattle.package_record.specs.inside.Given.{Gives};
 ghost use Rattle.package_record.specs.Reading.{is_number, number_in, size_in};
 
 use crate::fault::ReadError;
@@ -12,7 +12,8 @@ use crate::{LIMIT, RecordFault};
 fn number(text: &[u8]) -> Option<u64>
     ensures { MatchOption result
         (is_number text.now ≡ false)
-        (λ n. (is_number text.now ≡ true) × (n ≡ min (digits_value 10 text.now) 18446744073709551615)) }
+        (λ n. (is_number text.now ≡ true)
+        × (n ≡ min (digits_value 10 text.now) 18446744073709551615)) }
 {
     if text.is_empty() || text.len() > 1 && text.starts_with(b"0") {
         return None;

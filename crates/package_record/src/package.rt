@@ -4,14 +4,14 @@ ghost use Rattle.sha2.specs.Sha256.{sha256};
 ghost use Rattle.faults.specs.Answers.{IsRightUnless, map_ok, unless_fault};
 ghost use Rattle.claims.specs.Claim.{IsClaim};
 ghost use Rattle.claims.specs.Deps.{AreInOrder, is_ascending};
-ghost use Rattle.package_record.specs.Content.{Content, IsRecord, record_text};
-ghost use Rattle.package_record.specs.Inside.{file_view};
-ghost use Rattle.package_record.specs.Making.{make_fault};
+ghost use Rattle.package_record.specs.Content.{AreFileNames, Content, IsRecord, names_of, record_text};
+ghost use Rattle.package_record.specs.Views.{content_of, file_view};
+ghost use Rattle.package_record.specs.Making.{make_fault, too_large};
 ghost use Rattle.package_record.specs.Reading.{first_of, whole_of};
 
 use crate::fields::Fields;
-use crate::making::{test_length, test_names};
-use crate::{File, RecordFault, parsing, writing};
+use crate::making::{test_names, text_length};
+use crate::{File, LIMIT, RecordFault, parsing, writing};
 use claims::{Claim, Dep, Deps};
 use faults::Memory;
 use pkgname::PkgName;
@@ -20,9 +20,10 @@ use sha2::{Digest, Sha256};
 use std::alloc::Global;
 use std::marker::Model;
 
-/// A package that was built: its path and name, the host that built it and under which claim, the dependencies that
-/// it was built on, the paths that it needs to run, and its files. The text of a record is within `LIMIT`; its
-/// dependencies and its paths to run ascend, each path once; its files' names are good, and each stands once.
+/// A package that was built: its path and name, the host that built it and under which claim, the
+/// dependencies that it was built on, the paths that it needs to run, and its files. The text of a
+/// record is within `LIMIT`; its dependencies and its paths to run ascend, each path once; its
+/// files' names are good, and each stands once.
 #[derive(Drop)]
 pub struct Record {
     fields: Fields,
@@ -30,7 +31,7 @@ pub struct Record {
 
 impl Model for Record {
     ghost use Rattle.package_record.specs.Content.{Content, IsRecord};
-    ghost use Rattle.package_record.specs.Inside.{content_of};
+    ghost use Rattle.package_record.specs.Views.{content_of};
 
     ghost Value = { Content };
 
@@ -39,8 +40,9 @@ impl Model for Record {
     ghost invariant = { λ r. IsRecord (content_of r.fields) };
 }
 
-/// The record that says this. File names come first: `BadFileName` counts the files from 1, and names the one whose name
-/// is bad or was used before. A text that would be over `LIMIT` is `TooLarge`.
+/// The record that says this. File names come first: `BadFileName` counts the files from 1, and
+/// names the one whose name is bad or was used before. A text that would be over `LIMIT` is
+/// `TooLarge`.
 pub fn make(
     alloc: Global,
     path: PkgPath,
@@ -74,19 +76,39 @@ pub fn make(
         run,
         files,
     };
-    test_length(alloc, &fields)?;
-    Ok(Record { fields })
+    let (record, _length) = sized(alloc, fields)?;
+    Ok(record)
+}
+
+/// The record with these fields, whose files' names are good, and the length of its text.
+pub fn sized(alloc: Global, fields: Fields) -> Result<(Record, usize), RecordFault>
+    requires claim { IsClaim fields.claim }
+    requires built { AreInOrder fields.built }
+    requires run { is_ascending fields.run.items ≡ true }
+    requires names { AreFileNames (names_of (map file_view fields.files.items)) }
+    ensures record { IsRightUnless RecordFault.Memory (map_ok (λ x. x.0) result)
+        (unless_fault (too_large (length (record_text (content_of fields)))) (content_of fields)) }
+    ensures good { IfOk result (λ x. IsRecord x.0) }
+    ensures length { IfOk result (λ x. x.1 ≡ length (record_text x.0)) }
+{
+    let length = text_length(alloc, &fields)?;
+    if length > LIMIT {
+        return Err(RecordFault::TooLarge);
+    }
+    let made = Record { fields };
+    Ok((made, length))
 }
 
 impl Record {
     /// The record whose text this is. It is tested in this order:
     ///
     /// 1. The length of the whole text, which is `TooLarge` over `LIMIT`.
-    /// 2. The header, line by line: a line without its LF is `Truncated`; where a file's name may stand, a bad one, or
-    ///    one that stood before, is `BadFileName`; a size with which the files so far are over `LIMIT` is `TooLarge`;
-    ///    all else that does not fit is `BadLine`.
+    /// 2. The header, line by line: a line without its LF is `Truncated`; where a file's name may
+    ///    stand, a bad one, or one that stood before, is `BadFileName`; a size with which the files
+    ///    so far are over `LIMIT` is `TooLarge`; all else that does not fit is `BadLine`.
     /// 3. The files' bytes: fewer than the sizes say are `Truncated`.
-    /// 4. The digests of the files: `DigestDiffers` has the `@sha` line of the first file that has another one.
+    /// 4. The digests of the files: `DigestDiffers` has the `@sha` line of the first file that has
+    ///    another one.
     /// 5. The end: bytes behind the record are `Trailing`.
     pub fn parse(alloc: Global, text: &[u8]) -> Result<Record, RecordFault>
         // What is read is spelled so.
@@ -98,13 +120,17 @@ impl Record {
         Ok(Record { fields })
     }
 
-    /// The record at the front of the text, and how many bytes its own text takes. Anything may stand behind it. The
-    /// tests are those of `parse`, without the last, and with another one of the length: it comes right after the
-    /// header, and is `TooLarge` where the header and the sizes together are over `LIMIT`.
+    /// The record at the front of the text, and how many bytes its own text takes. Anything may
+    /// stand behind it. The tests are those of `parse`, without the last, and with another one of
+    /// the length: it comes right after the header, and is `TooLarge` where the header and the
+    /// sizes together are over `LIMIT`.
     pub fn read_first(alloc: Global, text: &[u8]) -> Result<(Record, usize), RecordFault>
-        ensures text { IfOk result (λ first. IsRecord first.0 × (take first.1 text.now ≡ record_text first.0)) }
+        ensures text { IfOk result (λ first.
+            IsRecord first.0 × (take first.1 text.now ≡ record_text first.0)) }
         ensures length { IfOk result (λ first. first.1 ≡ length (record_text first.0)) }
-        ensures exact { IsRightUnless RecordFault.Memory (map_ok (λ first. (first.0, drop first.1 text.now)) result) (first_of text.now) }
+        ensures exact { IsRightUnless RecordFault.Memory
+            (map_ok (λ first. (first.0, drop first.1 text.now)) result)
+            (first_of text.now) }
     {
         let (fields, rest) = parsing::first(alloc, text)?;
         let length = text.len().saturating_sub(rest.len());

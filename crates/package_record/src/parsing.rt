@@ -1,8 +1,8 @@
 //! A text as a record.
 ghost use Rattle.std.specs.Prelude.{◌≡◌, ◌≤◌, [], length, map, sum_by};
-ghost use Rattle.package_record.specs.Given.{Gives};
-ghost use Rattle.package_record.specs.Heads.{head_of, header_view};
-ghost use Rattle.package_record.specs.Inside.{content_of, file_view};
+ghost use Rattle.package_record.specs.inside.Given.{Gives};
+ghost use Rattle.package_record.specs.inside.Heads.{head_of, header_view};
+ghost use Rattle.package_record.specs.Views.{content_of, file_view};
 ghost use Rattle.package_record.specs.Reading.{content_of_parts, files_in, first_of, total_of, whole_of};
 
 use crate::fault::ReadError;
@@ -20,7 +20,8 @@ fn files<'a>(
     bytes: &'a [u8],
 ) -> Result<(Vec<File>, &'a [u8]), ReadError>
     requires { sum_by (λ h. h.size) (map head_of heads.now) ≤ length bytes.now }
-    ensures { Gives (λ x. (map file_view x.0.items, x.1.now)) result (files_in [] (map head_of heads.now) bytes.entry.now) }
+    ensures { Gives (λ x. (map file_view x.0.items, x.1.now)) result
+        (files_in [] (map head_of heads.now) bytes.entry.now) }
 {
     let mut files = Vec::with_capacity(alloc, heads.len())?;
     let mut rest = bytes;
@@ -45,7 +46,8 @@ fn fields<'a>(
     bytes: &'a [u8],
 ) -> Result<(Fields, &'a [u8]), ReadError>
     requires { header.heads.total ≡ total_of (header_view header) }
-    ensures { Gives (λ x. (content_of x.0, x.1.now)) result (content_of_parts (header_view header.entry) bytes.entry.now) }
+    ensures { Gives (λ x. (content_of x.0, x.1.now)) result
+        (content_of_parts (header_view header.entry) bytes.entry.now) }
 {
     if bytes.len() < header.heads.total {
         return Err(ReadError::Fault(RecordFault::Truncated));

@@ -1,7 +1,7 @@
 //! The lines of a header, each read from the left.
 ghost use Rattle.std.specs.Prelude.{◌≡◌};
-ghost use Rattle.package_record.specs.Cursor.{cursor_view};
-ghost use Rattle.package_record.specs.Given.{Gives};
+ghost use Rattle.package_record.specs.inside.Cursor.{cursor_view};
+ghost use Rattle.package_record.specs.inside.Given.{Gives};
 ghost use Rattle.package_record.specs.Reading.{
   claim_at,
   claim_in,

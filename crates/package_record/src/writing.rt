@@ -6,7 +6,7 @@ ghost use Rattle.faults.specs.Bytes.{line_feed};
 ghost use Rattle.pkgname.specs.PkgName.{IsName};
 ghost use Rattle.pkgpath.specs.PkgPath.{IsPath};
 ghost use Rattle.package_record.specs.Content.{HasNames, IsDep, built_line, claim_line, ended, file_lines, front_lines, header_lines, name_lines, record_text, run_line};
-ghost use Rattle.package_record.specs.Inside.{content_of, file_view};
+ghost use Rattle.package_record.specs.Views.{content_of, file_view};
 
 use crate::File;
 use crate::fields::Fields;
@@ -20,7 +20,8 @@ use std::alloc::Global;
 /// Appends a line that is made of these parts.
 #[tactic(auto, unfolding(crate::specs::Content::ended))]
 fn put_line(out: &mut Vec<u8>, parts: &[&[u8]]) -> Result<(), Memory>
-    ensures { OnOk result (out.new.items ≡ out.old.items ++ ended (flat_map (λ part. part.now) parts.now ∷ [])) }
+    ensures { OnOk result
+        (out.new.items ≡ out.old.items ++ ended (flat_map (λ part. part.now) parts.now ∷ [])) }
 {
     for part in parts {
         out.extend_from_slice(part)?;
@@ -30,7 +31,7 @@ fn put_line(out: &mut Vec<u8>, parts: &[&[u8]]) -> Result<(), Memory>
 }
 
 /// Appends the line of a word and what belongs to it.
-fn put_field(out: &mut Vec<u8>, word: &[u8], text: &[u8]) -> Result<(), Memory>
+pub fn put_field(out: &mut Vec<u8>, word: &[u8], text: &[u8]) -> Result<(), Memory>
     ensures { OnOk result (out.new.items ≡ out.old.items ++ ended ((word.now ++ text.now) ∷ [])) }
 {
     put_line(out, &[word, text])
@@ -49,7 +50,8 @@ pub fn digest_text(digest: &[u8; 32]) -> [u8; 64]
 
 /// The lines that say what the package is.
 fn put_names(out: &mut Vec<u8>, fields: &Fields) -> Result<(), Memory>
-    ensures text { OnOk result (out.new.items ≡ out.old.items ++ ended (name_lines (content_of fields.now))) }
+    ensures text { OnOk result
+        (out.new.items ≡ out.old.items ++ ended (name_lines (content_of fields.now))) }
     ensures names { OnOk result (IsName fields.now.name × IsPath fields.now.path) }
 {
     put_field(out, b"@dpb 1", b"")?;
@@ -59,7 +61,8 @@ fn put_names(out: &mut Vec<u8>, fields: &Fields) -> Result<(), Memory>
 }
 
 fn put_host(out: &mut Vec<u8>, host: u16) -> Result<(), Memory>
-    ensures { OnOk result (out.new.items ≡ out.old.items ++ ended ((codes "@host " ++ decimal host) ∷ [])) }
+    ensures { OnOk result
+        (out.new.items ≡ out.old.items ++ ended ((codes "@host " ++ decimal host) ∷ [])) }
 {
     let mut text = Buffer::new();
     put_field(out, b"@host ", text.format(host).as_bytes())
@@ -82,7 +85,8 @@ fn put_claim(out: &mut Vec<u8>, claim: Claim) -> Result<(), Memory>
 }
 
 fn put_front(out: &mut Vec<u8>, fields: &Fields) -> Result<(), Memory>
-    ensures text { OnOk result (out.new.items ≡ out.old.items ++ ended (front_lines (content_of fields.now))) }
+    ensures text { OnOk result
+        (out.new.items ≡ out.old.items ++ ended (front_lines (content_of fields.now))) }
     ensures names { OnOk result (IsName fields.now.name × IsPath fields.now.path) }
 {
     put_names(out, fields)?;
@@ -109,21 +113,24 @@ fn put_built(out: &mut Vec<u8>, dep: &Dep) -> Result<(), Memory>
 }
 
 fn put_digest(out: &mut Vec<u8>, bytes: &[u8]) -> Result<(), Memory>
-    ensures { OnOk result (out.new.items ≡ out.old.items ++ ended ((codes "@sha " ++ encode_lower (sha256 bytes.now)) ∷ [])) }
+    ensures { OnOk result (out.new.items
+        ≡ out.old.items ++ ended ((codes "@sha " ++ encode_lower (sha256 bytes.now)) ∷ [])) }
 {
     let digest: [u8; 32] = Sha256::digest(bytes);
     put_field(out, b"@sha ", digest_text(&digest).as_slice())
 }
 
 fn put_size(out: &mut Vec<u8>, size: usize) -> Result<(), Memory>
-    ensures { OnOk result (out.new.items ≡ out.old.items ++ ended ((codes "@size " ++ decimal size) ∷ [])) }
+    ensures { OnOk result
+        (out.new.items ≡ out.old.items ++ ended ((codes "@size " ++ decimal size) ∷ [])) }
 {
     let mut text = Buffer::new();
     put_field(out, b"@size ", text.format(size).as_bytes())
 }
 
 fn put_file(out: &mut Vec<u8>, file: &File) -> Result<(), Memory>
-    ensures { OnOk result (out.new.items ≡ out.old.items ++ ended (file_lines (file_view file.now))) }
+    ensures { OnOk result
+        (out.new.items ≡ out.old.items ++ ended (file_lines (file_view file.now))) }
 {
     put_field(out, b"", file.name.as_slice())?;
     put_digest(out, file.bytes.as_slice())?;
@@ -152,7 +159,8 @@ fn put_run(out: &mut Vec<u8>, paths: &[PkgPath]) -> Result<(), Memory>
 }
 
 fn put_files(out: &mut Vec<u8>, files: &[File]) -> Result<(), Memory>
-    ensures { OnOk result (out.new.items ≡ out.old.items ++ ended (flat_map file_lines (map file_view files.now))) }
+    ensures { OnOk result
+        (out.new.items ≡ out.old.items ++ ended (flat_map file_lines (map file_view files.now))) }
 {
     for file in files {
         put_file(out, file)?;
@@ -162,7 +170,8 @@ fn put_files(out: &mut Vec<u8>, files: &[File]) -> Result<(), Memory>
 
 /// The header with the empty line at its end.
 pub fn header(alloc: Global, fields: &Fields) -> Result<Vec<u8>, Memory>
-    ensures text { IfOk result (λ text. text.items ≡ ended (header_lines (content_of fields.now)) ++ line_feed ∷ []) }
+    ensures text { IfOk result (λ text.
+        text.items ≡ ended (header_lines (content_of fields.now)) ++ line_feed ∷ []) }
     ensures names { OnOk result (HasNames (content_of fields.now)) }
 {
     let mut text = Vec::new(alloc);

@@ -1,6 +1,6 @@
 use Rattle.std.proofs.Common.{ap, length, arith}
 use Rattle.std.proofs.lemmas.Result.{err_from_is_err_and}
-use Rattle.package_record.specs.Cursor.{cursor_view}
+use Rattle.package_record.specs.inside.Cursor.{cursor_view}
 use Rattle.package_record.specs.Reading.{all_at, built_at}
 use Rattle.package_record.proofs.Cuts.{some_line}
 use Rattle.package_record.proofs.Many.{fueled_end, fueled_fails, fueled_more, fueled_start}

@@ -2,8 +2,8 @@ use Rattle.std.proofs.Common.{◌≡◌, ◌∷◌, [], ◌++◌, ap, length, ma
 use Rattle.std.proofs.lemmas.List.{map_push}
 use Rattle.std.proofs.lemmas.List.Sums.{sum_by-append}
 use Rattle.std.proofs.lemmas.Result.{err_from_is_err_and}
-use Rattle.package_record.specs.Cursor.{cursor_view}
-use Rattle.package_record.specs.Heads.{head_of}
+use Rattle.package_record.specs.inside.Cursor.{cursor_view}
+use Rattle.package_record.specs.inside.Heads.{head_of}
 use Rattle.package_record.specs.Reading.{all_at, file_at}
 use Rattle.package_record.proofs.Cuts.{some_line}
 use Rattle.package_record.proofs.Many.{fueled_end, fueled_fails, fueled_more}

@@ -1,9 +1,9 @@
 use Rattle.std.proofs.Common.{◌≡◌, ◌≤◌, length, map}
 use Rattle.std.specs.List.{sum_by}
 use Rattle.package_record.specs.Content.{most_bytes}
-use Rattle.package_record.specs.Cursor.{cursor_view}
-use Rattle.package_record.specs.Heads.{head_of}
-use Rattle.package_record.specs.Names.{names_in}
+use Rattle.package_record.specs.inside.Cursor.{cursor_view}
+use Rattle.package_record.specs.inside.Heads.{head_of}
+use Rattle.package_record.specs.inside.Names.{names_in}
 use Rattle.package_record.specs.Reading.{all_at, file_at}
 use Rattle.package_record.proofs.Many.{Fueled}
 use Rattle.package_record.proofs.header.file_lines.Given as goal

@@ -1,5 +1,5 @@
 use Rattle.std.proofs.Common.{length}
-use Rattle.package_record.specs.Cursor.{cursor_view}
+use Rattle.package_record.specs.inside.Cursor.{cursor_view}
 use Rattle.package_record.specs.Reading.{all_at, run_at}
 use Rattle.package_record.proofs.Many.{Fueled}
 use Rattle.package_record.proofs.header.run_lines.Given as goal

@@ -1,7 +1,7 @@
 use Rattle.std.proofs.Common.{◌≡◌, ◌≤◌, [], length, map, drop}
 use Rattle.std.specs.List.{sum_by}
-use Rattle.package_record.specs.Heads.{head_of}
-use Rattle.package_record.specs.Inside.{file_view}
+use Rattle.package_record.specs.inside.Heads.{head_of}
+use Rattle.package_record.specs.Views.{file_view}
 use Rattle.package_record.specs.Reading.{files_in}
 use Rattle.package_record.proofs.parsing.files.Given as goal
 

@@ -2,7 +2,7 @@ use Rattle.std.proofs.Common.{ap, [], ◌∷◌, ◌∙◌, ◌++◌, List, ℕ,
 use Rattle.std.specs.List.{flat_map}
 use Rattle.package_record.proofs.Texts.{ended_more}
 use Rattle.package_record.specs.Content.{built_line, file_lines, front_lines, run_line}
-use Rattle.package_record.specs.Inside.{content_of}
+use Rattle.package_record.specs.Views.{content_of}
 use Rattle.package_record.proofs.writing.header.Goals as goal
 
 pub returns-clause-text : goal.returns-clause-text

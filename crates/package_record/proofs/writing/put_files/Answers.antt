@@ -1,5 +1,5 @@
 use Rattle.package_record.specs.Content.{file_lines}
-use Rattle.package_record.specs.Inside.{file_view}
+use Rattle.package_record.specs.Views.{file_view}
 use Rattle.package_record.proofs.Texts.{ended_none, ended_next_lines}
 use Rattle.package_record.proofs.writing.put_files.Goals as goal
 

@@ -1,6 +1,6 @@
 use Rattle.std.proofs.Common.{◌≡◌, ◌++◌, flat_map, map, take}
 use Rattle.package_record.specs.Content.{ended, file_lines}
-use Rattle.package_record.specs.Inside.{file_view}
+use Rattle.package_record.specs.Views.{file_view}
 use Rattle.package_record.proofs.writing.put_files.Given as goal
 
 abbrev pub invariant-loop-file : goal.invariant-loop-file

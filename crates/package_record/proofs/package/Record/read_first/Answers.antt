@@ -2,7 +2,7 @@ use Rattle.std.proofs.Common.{ap, sym, ◌∙◌, List, ℕ, Ok}
 use Rattle.std.proofs.lemmas.Result.{err_from_is_err_and}
 use Rattle.package_record.proofs.Whole.{failed, first_taken, front_cut}
 use Rattle.package_record.specs.Content.{record_text}
-use Rattle.package_record.specs.Inside.{content_of}
+use Rattle.package_record.specs.Views.{content_of}
 use Rattle.package_record.specs.Reading.{first_of}
 use Rattle.package_record.proofs.package.Record.read_first.Goals as goal
 

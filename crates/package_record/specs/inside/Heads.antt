@@ -15,4 +15,9 @@ head_of h = record { name = h.name.now; digest = h.digest; size = h.size; line =
 
 -- what the header was read as
 abbrev pub header_view : Header → reading.Header
-header_view h = record { front = front_of h.front; built = h.built.items; run = h.run.items; heads = map head_of h.heads.items.items }
+header_view h = record {
+  front = front_of h.front;
+  built = h.built.items;
+  run = h.run.items;
+  heads = map head_of h.heads.items.items;
+}

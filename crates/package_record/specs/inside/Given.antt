@@ -11,7 +11,8 @@ Fails errors.Memory read = Unit {0}
 Fails (errors.Fault f) read = read ≡ Err f
 
 -- What a function returned, seen by view, is what reading gives, unless memory ran out.
-abbrev pub Gives : {X Y : Type 0} → (X → Y) → Result X ReadError → Result Y RecordFault → Type 0
+abbrev pub Gives :
+    {X Y : Type 0} → (X → Y) → Result X ReadError → Result Y RecordFault → Type 0
 Gives view (Ok x) read = read ≡ Ok (view x)
 Gives view (Err e) read = Fails e read
 

@@ -1,0 +1,5 @@
+pub mod BuildLines
+pub mod Cursor
+pub mod Given
+pub mod Heads
+pub mod Names
