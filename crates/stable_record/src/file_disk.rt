@@ -1,6 +1,7 @@
 //! A file of the operating system. Each call is noted with its answer, for clauses alone.
 ghost use Rattle.std.specs.Prelude.{◌≡◌, ◌≢◌, ◌≤◌, ◌∷◌, [], length, IfOk, IfSome, IsErrOf};
 ghost use Rattle.std.specs.Path.{path_parent};
+ghost use Rattle.stable_record.specs.Crash.{CutOrNot, Torn};
 ghost use Rattle.stable_record.specs.Events.{Past};
 ghost use Rattle.stable_record.specs.inside.Noted.{WereBytes};
 ghost use Rattle.stable_record.specs.Faults.{Cuts, Writes, counted, one_more};
@@ -165,10 +166,12 @@ impl Disk for FileDisk {
         ensures room { at ≤ length (seen (file_history self.old))
             → UsesRoom (length bytes.now) file_room file_room result }
 
-        // A write that failed is among the calls, whatever it left.
+        // A write that failed is among the calls, and left a file that is torn.
         ensures failed { IsErrOf result DiskFault.Device
-            → file_history self.new ≡ written at (length bytes.now)
-            (after_failed_write self.old at (length bytes.now)) ∷ file_history self.old }
+            → (file_history self.new ≡ written at (length bytes.now)
+            (after_failed_write self.old at (length bytes.now)) ∷ file_history self.old)
+            × Torn at (length bytes.now) (seen (file_history self.old))
+            (after_failed_write self.old at (length bytes.now)) }
     {
         match self.file.write_all_at(bytes, at) {
             Ok(()) => {
@@ -190,10 +193,11 @@ impl Disk for FileDisk {
         ensures cause { self.new.failures ≡ counted result self.old.failures }
         ensures room { UsesRoom 0 file_room file_room result }
 
-        // A cut that failed is among the calls, done or not.
+        // A cut that failed is among the calls, and was done or not.
         ensures failed { IsErrOf result DiskFault.Device
-            → file_history self.new ≡ cut_to len (after_failed_cut self.old len)
-            ∷ file_history self.old }
+            → (file_history self.new ≡ cut_to len (after_failed_cut self.old len)
+            ∷ file_history self.old)
+            × CutOrNot len (seen (file_history self.old)) (after_failed_cut self.old len) }
     {
         match cut_file(&self.file, len) {
             Ok(()) => {
