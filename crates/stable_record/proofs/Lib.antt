@@ -6,6 +6,7 @@ mod Entries
 mod Examples
 mod Files
 mod Filled
+mod Foretold
 mod Headers
 mod NewLog
 mod NotesRead

@@ -6,6 +6,7 @@ ghost use Rattle.stable_record.specs.Events.{Past};
 ghost use Rattle.stable_record.specs.inside.Noted.{WereBytes};
 ghost use Rattle.stable_record.specs.Faults.{Cuts, Writes, counted, one_more};
 ghost use Rattle.stable_record.specs.History.{cut_to, seen, written};
+ghost use Rattle.stable_record.specs.Pasts.{TornCutsAreForetold, TornWritesAreForetold};
 ghost use Rattle.stable_record.specs.inside.Possible.{replay_possible};
 ghost use Rattle.stable_record.specs.Room.{UsesRoom};
 
@@ -33,9 +34,9 @@ const NOT_CUT: u64 = 7;
 
 /// A file of the operating system. What contracts say of its bytes, and of what a crash leaves,
 /// holds as long as each read so far gave what the history says. The history begins with the past
-/// that the file is opened with. A write or cut that failed is part of it, with a file that such a
-/// call may leave. Which file that is says the past, beforehand: whatever the device leaves, there
-/// is a past that says just that.
+/// that the file is opened with. A write or cut that failed is part of it, with what it left. That
+/// is known by reads alone, so the past says it beforehand: clauses hold for each past, and
+/// whatever the device leaves, there is one that says so.
 #[derive(Drop)]
 pub struct FileDisk {
     file: File,
@@ -58,14 +59,18 @@ impl FileDisk {
         Ok(file)
     }
 
-    /// A disk over an open file with a past, which clauses alone see: what is known of the file, and
-    /// of what a crash leaves of it. Reads that don't fit it end what is claimed, as they do later.
+    /// A disk over an open file with a past, which clauses alone see: what is known of the file,
+    /// and of what a crash leaves of it. Once a read doesn't fit it, nothing more is claimed.
     pub fn new(file: File) -> FileDisk
         ghost past: { Past }
         ensures past { file_past result ≡ past }
         ensures history { file_history result ≡ past.calls }
         ensures kept { file_agrees result }
         ensures no_failure { result.failures ≡ 0 }
+
+        // Whatever a write or cut leaves that fails, there is a past that says so.
+        ensures torn_writes { TornWritesAreForetold }
+        ensures torn_cuts { TornCutsAreForetold }
     {
         FileDisk {
             file,

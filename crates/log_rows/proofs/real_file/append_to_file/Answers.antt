@@ -47,6 +47,6 @@ returns-in-Ok-clause-acknowledged g c kept =
       notes,
       opens,
       subst (λ d. Leaves (HasNotes i both) (file_history d)) (sym c.into_disk.ensures)
-      (subst (λ o. Leaves (HasNotes o both) (file_history after.disk)) owner (settled_leaves (file_history after.disk) after.identity both after.end holds.settled)),
+          (subst (λ o. Leaves (HasNotes o both) (file_history after.disk)) owner (settled_leaves (file_history after.disk) after.identity both after.end holds.settled)),
     ))
     (c.append-answer.ensures.acknowledged kept2 notes (c.in-Ok.ensures.holds kept1))
