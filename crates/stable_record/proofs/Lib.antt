@@ -1,4 +1,4 @@
-mod Along
+pub mod Along
 mod Answered
 mod AsLeft
 mod Bytes
@@ -6,6 +6,7 @@ mod Entries
 mod Examples
 mod Files
 mod Filled
+mod Foretold
 mod Headers
 mod NewLog
 mod NotesRead
