@@ -1,3 +1,4 @@
+pub mod Value
 pub mod Weights
 pub mod Support
 pub mod Pledge

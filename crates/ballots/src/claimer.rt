@@ -23,11 +23,11 @@ use crate::{Tally, Value, Weights};
 use agreement::keep;
 use claims::Claim;
 use faults::Memory;
-use package_record::Record;
+use package_record::Build;
 
 /// An open claim of one path, and how far it is. What members weigh stays with it.
 #[derive(Drop)]
-pub enum Claimer<V = Record> {
+pub enum Claimer<V = Build> {
     /// Promises come in, from those in `promised` so far. Of the votes they report, the one under
     /// the greatest claim is kept, and of equal claims the first.
     Gathering {
@@ -51,14 +51,14 @@ pub enum Claimer<V = Record> {
 /// What a step leads to, and what it changes of the open claim. The two are apart, so that what is
 /// noted can be handed to a log before the change is taken.
 #[derive(Drop)]
-pub struct ClaimerStep<V = Record> {
+pub struct ClaimerStep<V = Build> {
     pub next: Next<V>,
     pub change: ClaimerChange<V>,
 }
 
 /// What follows a step.
 #[derive(Drop)]
-pub enum Next<V = Record> {
+pub enum Next<V = Build> {
     /// Nothing is noted, said or built.
     Nothing,
     /// A value is to be built.
@@ -73,7 +73,7 @@ pub enum Next<V = Record> {
 /// What a step changes of the open claim. It holds all that the change needs, so that taking it
 /// needs no memory.
 #[derive(Drop)]
-pub enum ClaimerChange<V = Record> {
+pub enum ClaimerChange<V = Build> {
     /// The message is of another claim, or comes too late: nothing changes.
     Stays,
     /// A member joined: this is the tally now, and of the reports that came, if any did, the one

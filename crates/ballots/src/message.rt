@@ -5,12 +5,12 @@ use crate::Value;
 use crate::value::copy_of_vote;
 use claims::Claim;
 use faults::Memory;
-use package_record::Record;
+use package_record::Build;
 use pkgpath::PkgPath;
 
 /// What a message says of its path.
 #[derive(Drop)]
-pub enum Body<V = Record> {
+pub enum Body<V = Build> {
     /// The claim's member asks for promises.
     Offer(Claim),
     /// The sender votes for no claim below this one any more. With it goes its last vote, if it has
@@ -30,7 +30,7 @@ pub enum Body<V = Record> {
 
 /// What a member tells another about a path.
 #[derive(Drop)]
-pub struct Message<V = Record> {
+pub struct Message<V = Build> {
     /// The number of the member that sends it.
     pub sender: u8,
     /// The digest of the sender's tree.
@@ -43,7 +43,7 @@ pub struct Message<V = Record> {
 
 /// What a member has to know of a path after a stop.
 #[derive(Drop)]
-pub enum Fact<V = Record> {
+pub enum Fact<V = Build> {
     /// It opened a claim of this round.
     Opened(u64),
     /// It promised the claim.
@@ -56,7 +56,7 @@ pub enum Fact<V = Record> {
 
 /// What a member writes down of a path before it answers.
 #[derive(Drop)]
-pub struct Note<V = Record> {
+pub struct Note<V = Build> {
     /// The path that it is about.
     pub path: PkgPath,
     /// What is to be known of that path.

@@ -4,7 +4,7 @@ ghost use Rattle.std.specs.Option.{option_copied};
 
 use claims::Claim;
 use faults::Memory;
-use package_record::Record;
+use package_record::Build;
 
 /// A value that can be copied, where memory allows it.
 pub trait Value: Drop {
@@ -13,10 +13,10 @@ pub trait Value: Drop {
         ensures { IfOk result (λ copy. copy ≡ self.now) };
 }
 
-/// Hosts agree on records of built packages.
-impl Value for Record {
-    fn copy(&self) -> Result<Record, Memory> {
-        Record::copy(self)
+/// Hosts agree on what they built.
+impl Value for Build {
+    fn copy(&self) -> Result<Build, Memory> {
+        Build::copy(self)
     }
 }
 

@@ -11,13 +11,13 @@ use crate::{Body, Fact, Value};
 use agreement::{is_above, is_below, is_promised};
 use claims::Claim;
 use faults::Memory;
-use package_record::Record;
+use package_record::Build;
 use std::marker::Model;
 
 /// What a member promised, and its last vote, for one path. Each vote raises what is promised, so
 /// who voted has promised; whoever makes a voter proves that.
 #[derive(Drop)]
-pub struct Voter<V = Record> {
+pub struct Voter<V = Build> {
     /// The greatest claim that it promised or voted under.
     pub promised: Option<Claim>,
     /// The claim and the value of its last vote.
@@ -38,7 +38,7 @@ impl<V> Model for Voter<V> {
 /// holds all that was grown for it. What it keeps is apart from the note, so that the note can be
 /// handed to a log before the change is taken.
 #[derive(Drop)]
-pub struct VoterStep<V = Record> {
+pub struct VoterStep<V = Build> {
     /// What has to be on the log before the answer goes out.
     pub note: Option<Fact<V>>,
     /// A promise, a vote or a nay.

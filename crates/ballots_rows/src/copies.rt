@@ -2,7 +2,7 @@
 use crate::said::{Said, Sign, claim, said};
 use ballots::{Body, Fact, Message, Note};
 use faults::Memory;
-use package_record::Record;
+use package_record::Build;
 use pkgpath::PkgPath;
 use std::alloc::Global;
 use std::test::Fail;
@@ -22,13 +22,21 @@ fn copies_bodies(rt: HostRuntime) -> Result<(), Fail> {
     Ok(())
 }
 
-/// The record of host 3, with one file that holds `abc`.
+/// The text of a build of one package by host 3, with one file that holds `abc`.
 static TEXT: &str = "@dpb 1\n@name b-1.0\n@comment pkgpath=a/b\n@host 3\n@claim 1.0\nx\n\
      @sha ba7816bf8f01cfea414140de5dae2223b00361a396177a9cb410ff61f20015ad\n\
      @size 3\n\nabc";
 
-fn record(alloc: Global) -> Result<Record, Fail> {
-    Ok(Record::parse(alloc, TEXT.as_bytes())?)
+fn build(alloc: Global) -> Result<Build, Fail> {
+    Ok(Build::parse(alloc, TEXT.as_bytes())?)
+}
+
+/// The host of the one package that was built.
+fn host_of(build: &Build) -> Option<u16> {
+    match build.packages() {
+        [record] => Some(record.host()),
+        _ => None,
+    }
 }
 
 fn path(alloc: Global) -> Result<PkgPath, Fail> {
@@ -38,19 +46,19 @@ fn path(alloc: Global) -> Result<PkgPath, Fail> {
 /// The host of what the body proposes.
 fn proposed_by(body: &Body) -> Option<u16> {
     match body {
-        Body::Propose(_, record) => Some(record.host()),
+        Body::Propose(_, build) => host_of(build),
         _ => None,
     }
 }
 
 fn message(alloc: Global) -> Result<Message, Fail> {
     let path = path(alloc)?;
-    let record = record(alloc)?;
+    let build = build(alloc)?;
     Ok(Message {
         sender: 1,
         tree: [2; 32],
         path,
-        body: Body::Propose(claim(1, 0), record),
+        body: Body::Propose(claim(1, 0), build),
     })
 }
 
@@ -71,10 +79,10 @@ fn copies_messages(rt: HostRuntime) -> Result<(), Fail> {
 
 fn note(alloc: Global) -> Result<Note, Fail> {
     let path = path(alloc)?;
-    let record = record(alloc)?;
+    let build = build(alloc)?;
     Ok(Note {
         path,
-        fact: Fact::Held(record),
+        fact: Fact::Held(build),
     })
 }
 
@@ -83,7 +91,7 @@ fn noted(note: &Note) -> Result<(bool, Option<u16>), Memory> {
     let copy = note.copy()?;
     let same = copy.path == note.path;
     match &copy.fact {
-        Fact::Held(record) => Ok((same, Some(record.host()))),
+        Fact::Held(build) => Ok((same, host_of(build))),
         _ => Ok((same, None)),
     }
 }

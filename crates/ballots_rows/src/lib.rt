@@ -1,4 +1,4 @@
-//! Ballots whose outcomes are known, on values that a number tells apart and on records.
+//! Ballots whose outcomes are known, on values that a number tells apart and on builds.
 #![tactic(auto)]
 
 #[cfg(test)]

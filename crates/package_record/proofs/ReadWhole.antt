@@ -28,10 +28,10 @@ use Rattle.package_record.proofs.Steps.{ok_is}
 
 -- ---- no line of a header has an LF
 
-line_lacks : (line : Text) → has_byte 10 line ≡ false → lacks 10 line ≡ true
+pub line_lacks : (line : Text) → has_byte 10 line ≡ false → lacks 10 line ≡ true
 line_lacks line none = ap not none
 
-number_lacks : (v : ℕ) → v < 2 ^ 64 → has_byte 10 (decimal v) ≡ false
+pub number_lacks : (v : ℕ) → v < 2 ^ 64 → has_byte 10 (decimal v) ≡ false
 number_lacks v small = lacks_failing is_ascii_digit 10 (decimal v) refl (decimal_digits v small)
 
 claim_lacks : (c : Claim) → IsClaim c → has_byte 10 (claim_line c) ≡ false
@@ -99,15 +99,15 @@ header_lacks c good total =
 -- ---- the lines of a text
 
 -- lines that are each ended, and the bytes behind them
-lines_split : (hs : List Text) (bytes : Text) → list_all (lacks 10) hs ≡ true → pieces_at 10 (ended hs ++ 10 ∷ bytes) ≡ hs ++ ([] ∷ pieces_at 10 bytes)
+pub ended_split : (hs : List Text) (bytes : Text) → list_all (lacks 10) hs ≡ true → pieces_at 10 (ended hs ++ bytes) ≡ hs ++ pieces_at 10 bytes
 unfolding ended
-lines_split [] bytes none = refl
-lines_split (h ∷ hs) bytes none =
+ended_split [] bytes none = refl
+ended_split (h ∷ hs) bytes none =
     let parts = and_parts (lacks 10 h) (list_all (lacks 10) hs) none in
     let behind = flat_map (λ line. line ++ 10 ∷ []) hs in
-    ap (pieces_at 10) (append_assoc (h ++ 10 ∷ []) behind (10 ∷ bytes) ∙ append_assoc h (10 ∷ []) (behind ++ 10 ∷ bytes))
-    ∙ slice_split_at (λ b. eqb b 10) h 10 (behind ++ 10 ∷ bytes) (lacks_all 10 h (not-true (has_byte 10 h) parts.0)) refl
-    ∙ ap (λ (ls : List Text). h ∷ ls) (lines_split hs bytes parts.1)
+    ap (pieces_at 10) (append_assoc (h ++ 10 ∷ []) behind bytes ∙ append_assoc h (10 ∷ []) (behind ++ bytes))
+    ∙ slice_split_at (λ b. eqb b 10) h 10 (behind ++ bytes) (lacks_all 10 h (not-true (has_byte 10 h) parts.0)) refl
+    ∙ ap (λ (ls : List Text). h ∷ ls) (ended_split hs bytes parts.1)
 
 no_word : (word name : Text) → begins_with (codes "@") name ≡ false → begins_with (64 ∷ word) name ≡ false
 no_word word [] other = refl
@@ -161,7 +161,7 @@ header_read c bytes good total =
     let r = all_run_read b.0 c.run files good.names.run good.run (next_entry (codes "run ") c.files behind names some) in
     let f = all_files_read r.0 c.files behind good.file_names total some in
     let lines : pieces_at 10 (ended (header_lines c) ++ 10 ∷ bytes) ≡ front_lines c ++ (map built_line c.built ++ run) =
-    lines_split (header_lines c) bytes (header_lacks c good total) ∙ grouped (front_lines c) (map built_line c.built) (map run_line c.run) (flat_map file_lines c.files) ([] ∷ behind) in
+    ended_split (header_lines c) (10 ∷ bytes) (header_lacks c good total) ∙ grouped (front_lines c) (map built_line c.built) (map run_line c.run) (flat_map file_lines c.files) ([] ∷ behind) in
     let more : 0 < length (map built_line c.built ++ run) = omega (arith, length-append (map built_line c.built) run, ap length next.is) in
     (r.0, rw (lines, front_read c (map built_line c.built ++ run) good.names.name good.names.path good.host good.claim more, b.1, r.1, f.1, join_with_byte-slice_split 10 bytes))
 

@@ -42,7 +42,7 @@ failed (errors.Fault d) f read e h = inr (h ∙ ap Err (sym e))
 
 -- ---- the first five lines
 
-number_taken : (least greatest n : ℕ) (text : Text) (v : ℕ) → greatest < 2 ^ 64 → number_in least greatest n text ≡ Ok v → (text ≡ decimal v) × (least ≤ v) × (v ≤ greatest)
+pub number_taken : (least greatest n : ℕ) (text : Text) (v : ℕ) → greatest < 2 ^ 64 → number_in least greatest n text ≡ Ok v → (text ≡ decimal v) × (least ≤ v) × (v ≤ greatest)
 unfolding number_in
 number_taken least greatest n text v small e =
     let d = digits_value 10 text in
@@ -276,7 +276,7 @@ files_taken front (h ∷ hs) bytes fs rest enough e =
 
 -- ---- the lines as a text
 
-join_behind : (l : Text) (ls : List Text) → 0 < length ls → join_with_byte 10 (l ∷ ls) ≡ l ++ 10 ∷ join_with_byte 10 ls
+pub join_behind : (l : Text) (ls : List Text) → 0 < length ls → join_with_byte 10 (l ∷ ls) ≡ l ++ 10 ∷ join_with_byte 10 ls
 join_behind l [] some = absurd (omega arith)
 join_behind l (m ∷ ls) some = refl
 
@@ -373,7 +373,7 @@ content_taken h bytes x good e =
     regrouped : (a b c : Text) → a ++ 10 ∷ (b ++ c) ≡ a ++ 10 ∷ [] ++ b ++ c
     regrouped a b c = sym (simp append_assoc)
 
-empty_is : (text : Text) → is_empty text ≡ true → text ≡ []
+pub empty_is : (text : Text) → is_empty text ≡ true → text ≡ []
 empty_is [] e = refl
 empty_is (b ∷ text) e = absurd cc
 

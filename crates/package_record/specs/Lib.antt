@@ -4,7 +4,11 @@ pub mod Given
 pub mod Making
 pub mod Heads
 pub mod Inside
+pub mod InsideBuild
 pub mod Laws
 pub mod Names
+pub mod Packages
 pub mod Reading
 pub mod Refusals
+pub mod Build
+pub mod BuildReading

@@ -56,7 +56,8 @@ fn copy_paths(alloc: Global, paths: &[PkgPath]) -> Result<Vec<PkgPath>, Memory>
     Ok(copies)
 }
 
-fn copy_files(alloc: Global, files: &[File]) -> Result<Vec<File>, Memory>
+/// Equal files.
+pub fn copy_files(alloc: Global, files: &[File]) -> Result<Vec<File>, Memory>
     ensures { IfOk result (λ copies. map file_view copies.items ≡ map file_view files.now) }
 {
     let mut copies = Vec::with_capacity(alloc, files.len())?;

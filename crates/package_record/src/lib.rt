@@ -9,11 +9,16 @@ use faults::{Fault, Memory};
 use std::alloc::{AllocError, AllocFailed};
 use thiserror::Error;
 
+mod alike;
+mod build;
+mod build_writing;
 mod cursor;
 mod fault;
 mod fields;
 mod file;
 mod file_name;
+mod files;
+mod gathering;
 mod header;
 mod laws;
 mod making;
@@ -22,21 +27,28 @@ mod number;
 mod package;
 mod parsing;
 mod reading;
-#[cfg(test)]
-mod tests;
+mod several;
 mod writing;
 
+pub use crate::build::{Build, Package};
 pub use crate::file::File;
+pub use crate::files::Files;
 pub use crate::laws::{
-    no_text_begins_another, record_text_is_read_again, record_text_is_read_at_the_front,
+    build_text_is_read_again, build_text_is_read_at_the_front, no_build_text_begins_another,
+    no_text_begins_another, record_is_build, record_text_is_read_again,
+    record_text_is_read_at_the_front, what_is_made_is_a_build, what_is_read_is_a_build,
 };
 pub use crate::package::{Record, make};
 
-/// The most bytes that a record's text may have.
-pub const LIMIT: usize = 60_000;
+/// The most bytes that the text of a record, and of a whole build, may have.
+pub const LIMIT: usize = 4_194_304;
+
+/// The most packages that one build may make.
+pub const MOST_PACKAGES: usize = 16_384;
 
 /// Why a text is no record, or why none can be made: the first fault. A number is that of a line, counted from 1;
-/// where a record is made, that of `BadFileName` is the number of a file, counted from 1.
+/// within a build of two or more, that of a line of its record; where a record is made, that of `BadFileName` is the
+/// number of a file of its package, counted from 1.
 #[derive(Clone, Copy, Debug, PartialEq, Eq, Error)]
 pub enum RecordFault {
     #[error("out of memory")]

@@ -1,21 +1,23 @@
 //! What a record is made of is tested first.
-ghost use Rattle.std.specs.Prelude.{◌≡◌, ◌≤◌, ◌⊎◌, None, Some, OnOk, IfErr, length, map};
+ghost use Rattle.std.specs.Prelude.{◌≡◌, IfOk, OnOk, length, map, min};
+ghost use Rattle.faults.specs.Answers.{IsRightUnless, unless_fault};
 ghost use Rattle.package_record.specs.Content.{AreFileNames, HasNames, names_of, record_text};
 ghost use Rattle.package_record.specs.Inside.{content_of, file_view};
-ghost use Rattle.package_record.specs.Making.{names_fault, too_large};
+ghost use Rattle.package_record.specs.Making.{names_fault};
 
 use crate::fields::Fields;
 use crate::names::admit;
 use crate::writing::header;
-use crate::{File, LIMIT, RecordFault};
+use crate::{File, RecordFault};
+use faults::Memory;
 use indexmap::IndexSet;
 use std::alloc::Global;
 
 /// Each name is one that a file may have, and stands once.
 pub fn test_names(alloc: Global, files: &[File]) -> Result<(), RecordFault>
-    ensures ok { OnOk result (names_fault (names_of (map file_view files.now)) ≡ None) }
     ensures names { OnOk result (AreFileNames (names_of (map file_view files.now))) }
-    ensures err { IfErr result (λ e. (e ≡ RecordFault.Memory) ⊎ (names_fault (names_of (map file_view files.now)) ≡ Some e)) }
+    ensures exact { IsRightUnless RecordFault.Memory result
+        (unless_fault (names_fault (names_of (map file_view files.now))) tt) }
 {
     let mut names = IndexSet::new(alloc);
     for (index, file) in files.iter().enumerate() {
@@ -26,19 +28,15 @@ pub fn test_names(alloc: Global, files: &[File]) -> Result<(), RecordFault>
     Ok(())
 }
 
-/// The text is not too long.
-pub fn test_length(alloc: Global, fields: &Fields) -> Result<(), RecordFault>
-    ensures ok { OnOk result (too_large (length (record_text (content_of fields.now))) ≡ None) }
+/// How many bytes the text has, or the most that a number can say.
+pub fn text_length(alloc: Global, fields: &Fields) -> Result<usize, Memory>
+    ensures length { IfOk result (λ n. n ≡ min (length (record_text (content_of fields.now))) 18446744073709551615) }
     ensures names { OnOk result (HasNames (content_of fields.now)) }
-    ensures err { IfErr result (λ e. (e ≡ RecordFault.Memory) ⊎ (too_large (length (record_text (content_of fields.now))) ≡ Some e)) }
 {
     let mut text_length = header(alloc, fields)?.len();
     let files = fields.files.as_slice();
     for file in files {
         text_length = text_length.saturating_add(file.bytes.len());
     }
-    if text_length > LIMIT {
-        return Err(RecordFault::TooLarge);
-    }
-    Ok(())
+    Ok(text_length)
 }

@@ -4,14 +4,14 @@ ghost use Rattle.sha2.specs.Sha256.{sha256};
 ghost use Rattle.faults.specs.Answers.{IsRightUnless, map_ok, unless_fault};
 ghost use Rattle.claims.specs.Claim.{IsClaim};
 ghost use Rattle.claims.specs.Deps.{AreInOrder, is_ascending};
-ghost use Rattle.package_record.specs.Content.{Content, IsRecord, record_text};
-ghost use Rattle.package_record.specs.Inside.{file_view};
-ghost use Rattle.package_record.specs.Making.{make_fault};
+ghost use Rattle.package_record.specs.Content.{AreFileNames, Content, IsRecord, names_of, record_text};
+ghost use Rattle.package_record.specs.Inside.{content_of, file_view};
+ghost use Rattle.package_record.specs.Making.{make_fault, too_large};
 ghost use Rattle.package_record.specs.Reading.{first_of, whole_of};
 
 use crate::fields::Fields;
-use crate::making::{test_length, test_names};
-use crate::{File, RecordFault, parsing, writing};
+use crate::making::{test_names, text_length};
+use crate::{File, LIMIT, RecordFault, parsing, writing};
 use claims::{Claim, Dep, Deps};
 use faults::Memory;
 use pkgname::PkgName;
@@ -74,8 +74,27 @@ pub fn make(
         run,
         files,
     };
-    test_length(alloc, &fields)?;
-    Ok(Record { fields })
+    let (record, _length) = sized(alloc, fields)?;
+    Ok(record)
+}
+
+/// The record with these fields, whose files' names are good, and the length of its text.
+pub fn sized(alloc: Global, fields: Fields) -> Result<(Record, usize), RecordFault>
+    requires claim { IsClaim fields.claim }
+    requires built { AreInOrder fields.built }
+    requires run { is_ascending fields.run.items ≡ true }
+    requires names { AreFileNames (names_of (map file_view fields.files.items)) }
+    ensures record { IsRightUnless RecordFault.Memory (map_ok (λ x. x.0) result)
+        (unless_fault (too_large (length (record_text (content_of fields)))) (content_of fields)) }
+    ensures good { IfOk result (λ x. IsRecord x.0) }
+    ensures length { IfOk result (λ x. x.1 ≡ length (record_text x.0)) }
+{
+    let length = text_length(alloc, &fields)?;
+    if length > LIMIT {
+        return Err(RecordFault::TooLarge);
+    }
+    let made = Record { fields };
+    Ok((made, length))
 }
 
 impl Record {

@@ -30,7 +30,7 @@ fn put_line(out: &mut Vec<u8>, parts: &[&[u8]]) -> Result<(), Memory>
 }
 
 /// Appends the line of a word and what belongs to it.
-fn put_field(out: &mut Vec<u8>, word: &[u8], text: &[u8]) -> Result<(), Memory>
+pub fn put_field(out: &mut Vec<u8>, word: &[u8], text: &[u8]) -> Result<(), Memory>
     ensures { OnOk result (out.new.items ≡ out.old.items ++ ended ((word.now ++ text.now) ∷ [])) }
 {
     put_line(out, &[word, text])

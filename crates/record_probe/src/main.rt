@@ -1,9 +1,17 @@
-// Answers lines of standard input, each a text in hexadecimal: what the text is as a whole, and
-// what record stands at its front; a path, the digest of the record and its length, or the number of the refusal and
-// its place. The lines `make 59856` and `make 59857` ask for the record that is made of one file of so many bytes.
+// Answers lines of standard input.
+//
+// - Digits alone are a text in hexadecimal, and what it is as a whole and what stands at its front is answered: of a
+//   record its path, digest and length, and the length of what its copy writes; else the number of the refusal and its
+//   place.
+// - `build` and digits ask the same of a build: its unit, how many packages, and the lengths.
+// - `make 4194158` and `make 4194159` ask for the record that is made of one file of so many bytes.
+// - `pair` and a file's name ask for the text of the build of two packages, of which the first has that file.
 #![tactic(auto)]
 
 mod answers;
+mod builds;
+mod pairs;
+mod records;
 
 use std::io;
 

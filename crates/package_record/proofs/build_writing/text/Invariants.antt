@@ -1,0 +1,7 @@
+use Rattle.std.proofs.Common.{◌≡◌, ◌++◌, length, take}
+use Rattle.package_record.specs.Build.{records_text}
+use Rattle.package_record.specs.InsideBuild.{lines_before}
+use Rattle.package_record.proofs.build_writing.text.Given as goal
+
+abbrev pub invariant-loop-record : goal.invariant-loop-record
+invariant-loop-record l = l.text.items ≡ lines_before (length l.records) ++ records_text (take l.record-index l.records)

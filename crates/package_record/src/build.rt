@@ -1,0 +1,177 @@
+//! A build, which contracts see as what its records say.
+ghost use Rattle.std.specs.Prelude.{◌≡◌, ◌≤◌, ◌<◌, ◌++◌, All, Ok, drop, length, map, take, true, IfOk, OnOk, OnErr};
+ghost use Rattle.faults.specs.Answers.{IsRightUnless, map_ok, unless_fault};
+ghost use Rattle.claims.specs.Claim.{IsClaim};
+ghost use Rattle.claims.specs.Deps.{AreInOrder, is_ascending};
+ghost use Rattle.package_record.specs.Build.{IsBuild, build_text, most_packages, unit_path};
+ghost use Rattle.package_record.specs.BuildReading.{first_build_of, whole_build_of};
+ghost use Rattle.package_record.specs.Making.{build_fault};
+ghost use Rattle.package_record.specs.Packages.{AreOfOneGroup, contents_of};
+
+use crate::gathering::{gather, test_all_names};
+use crate::{Files, Record, RecordFault, build_writing, several};
+use claims::{Claim, Deps};
+use faults::Memory;
+use pkgname::PkgName;
+use pkgpath::PkgPath;
+use std::alloc::Global;
+use std::marker::Model;
+
+/// What a build made of one path.
+#[derive(Drop)]
+pub struct Package {
+    pub path: PkgPath,
+    pub name: PkgName,
+    /// The paths that the package needs to run.
+    pub run: Vec<PkgPath>,
+    pub files: Files,
+}
+
+/// The records of all packages that one build made, ascending by path: from one to 16,384, of one group, with one host,
+/// one claim, and one list of what they were built on. The text of a whole build is within `LIMIT`; a build of one is
+/// its record's text.
+#[derive(Drop)]
+pub struct Build {
+    /// The name of the unit that was built.
+    unit: PkgPath,
+    records: Vec<Record>,
+}
+
+impl Model for Build {
+    ghost use Rattle.std.specs.Prelude.{◌≡◌, List};
+    ghost use Rattle.package_record.specs.Build.{IsBuild, unit_path};
+    ghost use Rattle.package_record.specs.Content.{Content};
+
+    ghost Value = { List Content };
+
+    ghost view = { λ b. b.records.items };
+
+    ghost invariant = { λ b. IsBuild b.records.items × (b.unit ≡ unit_path b.records.items) };
+}
+
+impl Build {
+    /// The build that says this. File names come first, package by package: `BadFileName` counts the files of the first
+    /// package that has a bad name, or one that was used before in it. A text that would be over `LIMIT` is `TooLarge`.
+    pub fn make(
+        alloc: Global,
+        host: u16,
+        claim: Claim,
+        built: Deps,
+        packages: Vec<Package>,
+    ) -> Result<Build, RecordFault>
+        requires claim { IsClaim claim }
+        requires built { AreInOrder built }
+        requires run { All (λ (p : Package). is_ascending p.run.items ≡ true) packages.items }
+        requires some { 1 ≤ length packages.items }
+        requires few { length packages.items ≤ most_packages }
+        requires paths { is_ascending (map (λ (p : Package). p.path) packages.items) ≡ true }
+        requires group { AreOfOneGroup packages.items }
+        ensures { IsRightUnless RecordFault.Memory result
+            (unless_fault (build_fault (contents_of host claim built packages.items)) (contents_of host claim built packages.items)) }
+    {
+        test_all_names(alloc, packages.as_slice())?;
+        let records = gather(alloc, host, claim, &built, packages)?;
+        Ok(Build::of(records)?)
+    }
+
+    /// The build of these records.
+    fn of(records: Vec<Record>) -> Result<Build, Memory>
+        requires { IsBuild records.items }
+        ensures { IfOk result (λ b. b ≡ records.items) }
+    {
+        let unit = unit_of(records.as_slice())?;
+        Ok(Build { unit, records })
+    }
+
+    /// The build whose text this is. A text that begins with the line `@dpb 2` is of two or more packages, and any other
+    /// is read by `Record::parse`. It is tested in this order:
+    ///
+    /// 1. The length of the whole text, which is `TooLarge` over `LIMIT`.
+    /// 2. The line `@packages N`, N from 2 to 16,384: without its LF it is `Truncated`, and else `BadLine` at 2 where it
+    ///    is another.
+    /// 3. Each record, as `Record::read_first` does, and right behind it what it shares with the first one: a path that
+    ///    does not ascend or is of another group is `BadLine` at 3, another host at 4, another claim at 5, another list
+    ///    of what it was built on at 6. Places are counted from the record's own first line.
+    /// 4. The end: bytes behind the build are `Trailing`.
+    pub fn parse(alloc: Global, text: &[u8]) -> Result<Build, RecordFault>
+        // What is read is spelled so.
+        ensures text { IfOk result (λ b. IsBuild b × (text.now ≡ build_text b)) }
+        // Which build or fault it is.
+        ensures exact { IsRightUnless RecordFault.Memory result (whole_build_of text.now) }
+    {
+        let records = several::whole(alloc, text)?;
+        Ok(Build::of(records)?)
+    }
+
+    /// The build at the front of the text, and how many bytes its own text takes. Anything may stand behind it. The
+    /// tests are those of `parse`, without the last, and with another one of the length: that of what was read so far,
+    /// right after each record.
+    pub fn read_first(alloc: Global, text: &[u8]) -> Result<(Build, usize), RecordFault>
+        ensures text { IfOk result (λ first. IsBuild first.0 × (take first.1 text.now ≡ build_text first.0)) }
+        ensures length { IfOk result (λ first. first.1 ≡ length (build_text first.0)) }
+        ensures exact { IsRightUnless RecordFault.Memory (map_ok (λ first. (first.0, drop first.1 text.now)) result) (first_build_of text.now) }
+    {
+        let (records, rest) = several::first(alloc, text)?;
+        let length = text.len().saturating_sub(rest.len());
+        let build = Build::of(records)?;
+        Ok((build, length))
+    }
+
+    /// Appends the text, or nothing.
+    pub fn write_to(&self, out: &mut Vec<u8>) -> Result<(), Memory>
+        ensures ok { OnOk result (out.new.items ≡ out.old.items ++ build_text self.now) }
+        ensures err { OnErr result (out.new.items ≡ out.old.items) }
+    {
+        let alloc: Global = *self.records.allocator();
+        let text = build_writing::text(alloc, self.records.as_slice())?;
+        out.extend_from_slice(text.as_slice())?;
+        Ok(())
+    }
+
+    /// The name of the unit that was built: its only package's path, or the path without subpackage that its packages
+    /// share.
+    pub fn unit_path(&self) -> &PkgPath
+        ensures path { result.now ≡ unit_path self.now }
+        ensures build { IsBuild self.now }
+    {
+        &self.unit
+    }
+
+    /// The records, ascending by path.
+    pub fn packages(&self) -> &[Record]
+        ensures { result.now ≡ self.now }
+    {
+        self.records.as_slice()
+    }
+
+    /// An equal build.
+    pub fn copy(&self) -> Result<Build, Memory>
+        ensures { IfOk result (λ b. b ≡ self.now) }
+    {
+        let alloc: Global = *self.records.allocator();
+        let unit = self.unit.copy()?;
+        let records = copy_records(alloc, self.records.as_slice())?;
+        Ok(Build { unit, records })
+    }
+}
+
+/// The name of the unit that these records are of.
+fn unit_of(records: &[Record]) -> Result<PkgPath, Memory>
+    requires { 1 ≤ length records.now }
+    ensures { IfOk result (λ path. path ≡ unit_path records.now) }
+{
+    if records.len() == 1 {
+        return records[0].path().copy();
+    }
+    records[0].path().without_subpackage()
+}
+
+fn copy_records(alloc: Global, records: &[Record]) -> Result<Vec<Record>, Memory>
+    ensures { IfOk result (λ copies. copies.items ≡ records.now) }
+{
+    let mut copies = Vec::with_capacity(alloc, records.len())?;
+    for record in records {
+        copies.push(record.copy()?)?;
+    }
+    Ok(copies)
+}

@@ -1,0 +1,57 @@
+//! The files of a package.
+ghost use Rattle.std.specs.Prelude.{◌≡◌, IfOk, map};
+ghost use Rattle.package_record.specs.Inside.{file_view};
+
+use crate::File;
+use crate::fields::copy_files;
+use faults::Memory;
+use std::alloc::Global;
+use std::marker::Model;
+
+/// A list of files, which contracts see as their names and bytes. Which names are good is tested where a record is made.
+#[derive(Drop)]
+pub struct Files {
+    items: Vec<File>,
+}
+
+impl Model for Files {
+    ghost use Rattle.std.specs.Prelude.{List, map};
+    ghost use Rattle.package_record.specs.Content.{NamedFile};
+    ghost use Rattle.package_record.specs.Inside.{file_view};
+
+    ghost Value = { List NamedFile };
+
+    ghost view = { λ f. map file_view f.items.items };
+}
+
+impl Files {
+    /// The list of these, in their order.
+    pub fn new(items: Vec<File>) -> Files
+        ensures { result ≡ map file_view items.items }
+    {
+        Files { items }
+    }
+
+    /// The files, in the list's order.
+    pub fn into_vec(self) -> Vec<File>
+        ensures { map file_view result.items ≡ self }
+    {
+        self.items
+    }
+
+    /// The files, in the list's order.
+    pub fn as_slice(&self) -> &[File]
+        ensures { map file_view result.now ≡ self.now }
+    {
+        self.items.as_slice()
+    }
+
+    /// An equal list.
+    pub fn copy(&self) -> Result<Files, Memory>
+        ensures { IfOk result (λ files. files ≡ self.now) }
+    {
+        let alloc: Global = *self.items.allocator();
+        let items = copy_files(alloc, self.items.as_slice())?;
+        Ok(Files { items })
+    }
+}

@@ -1,0 +1,12 @@
+pub mod Steps
+pub mod Numbers
+pub mod FieldTexts
+pub mod Readers
+pub mod NoteTexts
+pub mod Fronts
+pub mod WholeTexts
+pub mod PieceTexts
+pub mod DatagramTexts
+pub mod Cutting
+pub mod Refused
+mod Rows

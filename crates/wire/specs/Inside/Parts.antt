@@ -1,0 +1,11 @@
+-- What a body is taken apart into.
+use Rattle.std.specs.Prelude.{◌≡◌, Result, Ok, Err, None, Some}
+use Rattle.ballots.specs.declared.message.Body.{Body}
+use Rattle.ballots.specs.Value.{Value}
+use Rattle.wire.specs.Pieces.{carried_in}
+use Rattle.wire.specs.declared.datagram.Carrier.{Carrier}
+
+-- what carries the build and the build, where there is one, and else the body as it was
+abbrev pub TakenApart : Body Value → Result (Carrier × Value) (Body Value) → Type 0
+TakenApart body (Ok parts) = carried_in body ≡ Some parts
+TakenApart body (Err same) = (same ≡ body) × (carried_in body ≡ None)

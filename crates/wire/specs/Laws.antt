@@ -1,0 +1,114 @@
+-- What holds of the texts of datagrams and notes, and of pieces.
+use Rattle.std.specs.Prelude.{◌≡◌, ◌<◌, ◌++◌, ℕ, All, List, [], ◌∷◌, flat_map, length, slice_get, slice_index, Option, None, Some, Result, Ok}
+use Rattle.faults.specs.Bytes.{Text}
+use Rattle.package_record.specs.Build.{build_text}
+use Rattle.ballots.specs.declared.message.Message.{Message}
+use Rattle.ballots.specs.declared.message.Note.{Note}
+use Rattle.ballots.specs.Value.{Value}
+use Rattle.wire.specs.Messages.{IsMessage, IsNote}
+use Rattle.wire.specs.Pieces.{IsDatagram, IsHeader, carried_in, header_with, message_with, split_of}
+use Rattle.wire.specs.Reading.{datagram_of, joined, note_of}
+use Rattle.wire.specs.Spelling.{datagram_text, note_text}
+use Rattle.wire.specs.declared.datagram.Carrier.{Carrier}
+use Rattle.wire.specs.declared.datagram.Datagram.{Datagram}
+use Rattle.wire.specs.declared.datagram.Datagram.TheVariants.{Whole, Piece}
+use Rattle.wire.specs.declared.datagram.Header.{Header}
+use Rattle.wire.specs.declared.datagram.Piece as pieces
+
+-- ---- texts
+
+-- the text of each datagram is read as that datagram
+abbrev pub DatagramTextIsReadAgain : Type 0
+DatagramTextIsReadAgain = (d : Datagram) → IsDatagram d → datagram_of (datagram_text d) ≡ Ok d
+
+-- the text of each note is read as that note
+abbrev pub NoteTextIsReadAgain : Type 0
+NoteTextIsReadAgain = (n : Note Value) → IsNote n → note_of (note_text n) ≡ Ok n
+
+-- a text has bytes
+abbrev pub AreBytes : Text → Type 0
+AreBytes text = (k : ℕ) → slice_index text k < 256
+
+-- a text that is read as a datagram is its text
+abbrev pub WhatIsReadIsSpelledSo : Type 0
+WhatIsReadIsSpelledSo =
+    (text : Text) (d : Datagram) → AreBytes text → datagram_of text ≡ Ok d → IsDatagram d × (text ≡ datagram_text d)
+
+-- a text that is read as a note is its text
+abbrev pub NoteThatIsReadIsSpelledSo : Type 0
+NoteThatIsReadIsSpelledSo = (text : Text) (n : Note Value) → AreBytes text → note_of text ≡ Ok n → IsNote n × (text ≡ note_text n)
+
+-- where the text of a datagram begins that of another, the two are one datagram with one text
+abbrev pub NoDatagramBeginsAnother : Type 0
+NoDatagramBeginsAnother =
+    (d e : Datagram) (rest : Text) → IsDatagram d → IsDatagram e → datagram_text e ≡ datagram_text d ++ rest → (d ≡ e) × (rest ≡ [])
+
+-- where the text of a note begins that of another, the two are one note with one text
+abbrev pub NoNoteBeginsAnother : Type 0
+NoNoteBeginsAnother =
+    (m n : Note Value) (rest : Text) → IsNote m → IsNote n → note_text n ≡ note_text m ++ rest → (m ≡ n) × (rest ≡ [])
+
+-- ---- pieces
+
+-- the header of a piece
+abbrev pub header_in : Datagram → Option Header
+header_in (Whole m) = None
+header_in (Piece p) = Some p.header
+
+-- the number of a piece
+abbrev pub number_in : Datagram → Option ℕ
+number_in (Whole m) = None
+number_in (Piece p) = Some p.number
+
+-- the bytes of a piece
+abbrev pub bytes_in : Datagram → Text
+bytes_in (Whole m) = []
+bytes_in (Piece p) = p.bytes
+
+-- the datagrams are all pieces that such a header has, in order of number, and their bytes are the build's text
+pub record AreItsPieces (h : Header) (v : Value) (ds : List Datagram) : Type 0 where
+  pub headers : All (λ d. header_in d ≡ Some h) ds
+  pub each : (k : ℕ) → k < length ds → (d : Datagram) × (slice_get ds k ≡ Some d) × (number_in d ≡ Some k)
+  pub bytes : flat_map bytes_in ds ≡ build_text v
+
+-- each datagram of a message can be written down
+abbrev pub MessagesAreSplitIntoDatagrams : Type 0
+MessagesAreSplitIntoDatagrams = (m : Message Value) → IsMessage m → All IsDatagram (split_of m)
+
+-- a message without a build goes out in whole, and one with a build in its pieces
+abbrev pub MessagesWithABuildGoOutInPieces : Type 0
+MessagesWithABuildGoOutInPieces =
+    (m : Message Value) (carrier : Carrier) (v : Value)
+    → IsMessage m → carried_in m.body ≡ Some (carrier, v) → AreItsPieces (header_with m carrier v) v (split_of m)
+
+-- what the pieces of a message join to is the message
+abbrev pub PiecesJoinToTheMessage : Type 0
+PiecesJoinToTheMessage =
+    (m : Message Value) (carrier : Carrier) (v : Value)
+    → IsMessage m → carried_in m.body ≡ Some (carrier, v) → joined (header_with m carrier v) (build_text v) ≡ Ok m
+
+-- A header says all of a message but its build: messages with one header and one build are one.
+abbrev pub HeadersSayAllButTheBuild : Type 0
+HeadersSayAllButTheBuild =
+    (m n : Message Value) (carrier other : Carrier) (v : Value)
+    → carried_in m.body ≡ Some (carrier, v) → carried_in n.body ≡ Some (other, v)
+    → header_with m carrier v ≡ header_with n other v → m ≡ n
+
+-- the message that carries the build so is the one with that header
+abbrev pub MessagesAreWithTheirHeaders : Type 0
+MessagesAreWithTheirHeaders =
+    (m : Message Value) (carrier : Carrier) (v : Value)
+    → carried_in m.body ≡ Some (carrier, v) → message_with (header_with m carrier v) v ≡ m
+
+-- what pieces of one header join to is a message with that header, which carries what they spell
+pub record IsJoined (h : Header) (text : Text) (m : Message Value) : Type 0 where
+  pub message : IsMessage m
+  pub build : Value
+  pub carried : carried_in m.body ≡ Some (h.carrier, build)
+  pub spelled : text ≡ build_text build
+  pub header : header_with m h.carrier build ≡ h
+
+abbrev pub WhatIsJoinedIsAMessage : Type 0
+WhatIsJoinedIsAMessage =
+    (h : Header) (text : Text) (m : Message Value)
+    → IsHeader h → length text ≡ h.length → joined h text ≡ Ok m → IsJoined h text m
