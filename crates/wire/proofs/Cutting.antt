@@ -2,7 +2,8 @@
 use Rattle.std.proofs.Common.{◌≡◌, ℕ, zero, suc, ◌+◌, ◌-◌, ◌*◌, ◌<◌, ◌≤◌, min, Bool, true, false, cond, ltb, List, [], ◌∷◌, ◌++◌, length, get_or, take, drop, Option, None, Some, Result, Ok, Err, refl, sym, ap, subst, ◌∙◌, arith}
 use Rattle.std.specs.Prelude.{All, flat_map, slice_get}
 use Rattle.std.proofs.lemmas.Bool.{ltb-false, ltb-true}
-use Rattle.std.proofs.lemmas.List.{drop_all, length-append, length-drop, length-take, take-append-drop}
+use Rattle.std.proofs.lemmas.List.{drop-drop, drop_all, length-append, length-drop, length-take, take-append-drop}
+use Rattle.std.proofs.lemmas.List.Elements.{All-cons, All-nil}
 use Rattle.faults.specs.Bytes.{Text, line_feed}
 use Rattle.package_record.specs.Build.{AreAlike, build_text, records_text, several_lines}
 use Rattle.package_record.specs.BuildReading.{whole_build_of}
@@ -25,77 +26,71 @@ use Rattle.wire.specs.declared.datagram.Header.{Header}
 use Rattle.wire.proofs.FieldTexts.{whole_build_read, whole_build_taken}
 use Rattle.wire.proofs.Steps.{bind_ok, ok_is}
 
--- ---- lists
-
-all_none : {X : Type 0} (P : X → Type 0) → All P []
-all_none P k d below = absurd (omega arith)
-
-all_more : {X : Type 0} (P : X → Type 0) (x : X) (xs : List X) → P x → All P xs → All P (x ∷ xs)
-all_more P x xs first rest zero d below = first
-all_more P x xs first rest (suc k) d below = rest k d (omega arith)
-
-drop_further : {X : Type 0} (m n : ℕ) (xs : List X) → drop m (drop n xs) ≡ drop (n + m) xs
-drop_further m zero xs = ap (λ (k : ℕ). drop k xs) (let e : m ≡ 0 + m = omega arith in e)
-drop_further zero (suc n) [] = refl
-drop_further (suc m) (suc n) [] = refl
-drop_further m (suc n) (x ∷ xs) = drop_further m n xs ∙ ap (λ (k : ℕ). drop k (x ∷ xs)) (let e : suc (n + m) ≡ suc n + m = omega arith in e)
-
 -- ---- the pieces of a text
 
+-- the piece of this number and those behind it, where something is left for it
+abbrev piece_and : Bool → Header → Text → ℕ → ℕ → List Datagram
+piece_and left h text n k = cond left (datagrams.Piece (piece_at h text k) ∷ pieces_from h text n (suc k)) []
+
+piece_good : (h : Header) (text : Text) (k : ℕ) → IsHeader h → length text ≡ h.length → ltb (piece_size * k) (length text) ≡ true → IsDatagram (datagrams.Piece (piece_at h text k))
+piece_good h text k good size left = record {
+  header = good;
+  number = subst (λ (m : ℕ). piece_size * k < m) size (ltb-true (piece_size * k) (length text) left);
+  bytes = length-take piece_size (drop (piece_size * k) text)
+    ∙ ap (min piece_size) (length-drop (piece_size * k) text ∙ ap (λ (m : ℕ). m - piece_size * k) size);
+}
+
 pub pieces_good : (h : Header) (text : Text) (n k : ℕ) → IsHeader h → length text ≡ h.length → All IsDatagram (pieces_from h text n k)
-pieces_good h text zero k good size = all_none IsDatagram
-pieces_good h text (suc n) k good size = step (ltb (piece_size * k) (length text)) refl
+pieces_good h text zero k good size = All-nil IsDatagram
+pieces_good h text (suc n) k good size = step (ltb (piece_size * k) (length text)) refl (pieces_good h text n (suc k) good size)
   where
-    step : (b : Bool) → ltb (piece_size * k) (length text) ≡ b → All IsDatagram (cond b (datagrams.Piece (piece_at h text k) ∷ pieces_from h text n (suc k)) [])
-    step true e =
-        all_more IsDatagram (datagrams.Piece (piece_at h text k)) (pieces_from h text n (suc k))
-        (record {
-            header = good;
-            number = omega (arith, ltb-true (piece_size * k) (length text) e);
-            bytes = length-take piece_size (drop (piece_size * k) text) ∙ ap (min piece_size) (length-drop (piece_size * k) text ∙ ap (λ (m : ℕ). m - piece_size * k) size);
-          })
-        (pieces_good h text n (suc k) good size)
-    step false e = all_none IsDatagram
+    step : (left : Bool) → ltb (piece_size * k) (length text) ≡ left → All IsDatagram (pieces_from h text n (suc k)) → All IsDatagram (piece_and left h text n k)
+    step true e rest = All-cons IsDatagram (datagrams.Piece (piece_at h text k)) (pieces_from h text n (suc k)) (piece_good h text k good size e) rest
+    step false e rest = All-nil IsDatagram
 
 abbrev HasHeader : Header → Datagram → Type 0
 HasHeader h d = header_in d ≡ Some h
 
 pieces_headed : (h : Header) (text : Text) (n k : ℕ) → All (HasHeader h) (pieces_from h text n k)
-pieces_headed h text zero k = all_none (HasHeader h)
-pieces_headed h text (suc n) k = step (ltb (piece_size * k) (length text))
+pieces_headed h text zero k = All-nil (HasHeader h)
+pieces_headed h text (suc n) k = step (ltb (piece_size * k) (length text)) (pieces_headed h text n (suc k))
   where
-    step : (b : Bool) → All (HasHeader h) (cond b (datagrams.Piece (piece_at h text k) ∷ pieces_from h text n (suc k)) [])
-    step true = all_more (HasHeader h) (datagrams.Piece (piece_at h text k)) (pieces_from h text n (suc k)) refl (pieces_headed h text n (suc k))
-    step false = all_none (HasHeader h)
+    step : (left : Bool) → All (HasHeader h) (pieces_from h text n (suc k)) → All (HasHeader h) (piece_and left h text n k)
+    step true rest = All-cons (HasHeader h) (datagrams.Piece (piece_at h text k)) (pieces_from h text n (suc k)) refl rest
+    step false rest = All-nil (HasHeader h)
 
-pieces_numbered : (h : Header) (text : Text) (n j i : ℕ) → i < length (pieces_from h text n j) → (d : Datagram) × (slice_get (pieces_from h text n j) i ≡ Some d) × (number_in d ≡ Some (j + i))
-pieces_numbered h text zero j i below = absurd (omega arith)
-pieces_numbered h text (suc n) j i below = step (ltb (piece_size * j) (length text)) i below
+-- the i-th of these datagrams is a piece with this number
+abbrev IsAt : List Datagram → ℕ → ℕ → Type 0
+IsAt ds i number = (d : Datagram) × (slice_get ds i ≡ Some d) × (number_in d ≡ Some number)
+
+pieces_numbered : (h : Header) (text : Text) (n k i : ℕ) → i < length (pieces_from h text n k) → IsAt (pieces_from h text n k) i (k + i)
+pieces_numbered h text zero k i below = absurd (omega arith)
+pieces_numbered h text (suc n) k i below = step (ltb (piece_size * k) (length text)) i below (pieces_numbered h text n (suc k))
   where
-    list : Bool → List Datagram
-    list b = cond b (datagrams.Piece (piece_at h text j) ∷ pieces_from h text n (suc j)) []
-    step : (b : Bool) (i : ℕ) → i < length (cond b (datagrams.Piece (piece_at h text j) ∷ pieces_from h text n (suc j)) [])
-        → (d : Datagram) × (slice_get (cond b (datagrams.Piece (piece_at h text j) ∷ pieces_from h text n (suc j)) []) i ≡ Some d) × (number_in d ≡ Some (j + i))
-    step true zero below = (datagrams.Piece (piece_at h text j), refl, ap Some (let e : j ≡ j + 0 = omega arith in e))
-    step true (suc i) below =
-        let later = pieces_numbered h text n (suc j) i (omega arith) in
-        (later.0, later.1, later.2 ∙ ap Some (let e : suc j + i ≡ j + suc i = omega arith in e))
-    step false i below = absurd (omega arith)
+    step : (left : Bool) (i : ℕ) → i < length (piece_and left h text n k)
+        → ((i : ℕ) → i < length (pieces_from h text n (suc k)) → IsAt (pieces_from h text n (suc k)) i (suc k + i))
+        → IsAt (piece_and left h text n k) i (k + i)
+    step true zero below rest = (datagrams.Piece (piece_at h text k), refl, ap Some (let e : k ≡ k + 0 = omega arith in e))
+    step true (suc i) below rest =
+        let later = rest i (omega arith) in
+        (later.0, later.1, later.2 ∙ ap Some (let e : suc k + i ≡ k + suc i = omega arith in e))
+    step false i below rest = absurd (omega arith)
 
 pieces_spell : (h : Header) (text : Text) (n k : ℕ) → length text ≤ piece_size * (k + n) → flat_map bytes_in (pieces_from h text n k) ≡ drop (piece_size * k) text
 pieces_spell h text zero k enough = sym (drop_all (piece_size * k) text (omega arith))
-pieces_spell h text (suc n) k enough = step (ltb (piece_size * k) (length text)) refl
+pieces_spell h text (suc n) k enough = step (ltb (piece_size * k) (length text)) refl (pieces_spell h text n (suc k) (omega arith))
   where
-    step : (b : Bool) → ltb (piece_size * k) (length text) ≡ b
-        → flat_map bytes_in (cond b (datagrams.Piece (piece_at h text k) ∷ pieces_from h text n (suc k)) []) ≡ drop (piece_size * k) text
-    step true e =
+    step : (left : Bool) → ltb (piece_size * k) (length text) ≡ left
+        → flat_map bytes_in (pieces_from h text n (suc k)) ≡ drop (piece_size * suc k) text
+        → flat_map bytes_in (piece_and left h text n k) ≡ drop (piece_size * k) text
+    step true e spelled =
         let rest = drop (piece_size * k) text in
         ap (λ (t : Text). take piece_size rest ++ t)
-          (pieces_spell h text n (suc k) (omega arith)
+          (spelled
           ∙ ap (λ (m : ℕ). drop m text) (let e : piece_size * suc k ≡ piece_size * k + piece_size = omega arith in e)
-          ∙ sym (drop_further piece_size (piece_size * k) text))
+          ∙ sym (drop-drop piece_size (piece_size * k) text))
         ∙ take-append-drop piece_size rest
-    step false e = sym (drop_all (piece_size * k) text (ltb-false (piece_size * k) (length text) e))
+    step false e spelled = sym (drop_all (piece_size * k) text (ltb-false (piece_size * k) (length text) e))
 
 -- ---- messages that carry a build
 
@@ -141,7 +136,7 @@ pub split_good : (m : Message Value) → IsMessage m → All IsDatagram (split_o
 split_good m good = by (carried_in m.body) refl
   where
     by : (o : Option (Carrier × Value)) → carried_in m.body ≡ o → All IsDatagram (split_by m o)
-    by None e = all_more IsDatagram (datagrams.Whole m) [] (good, e) (all_none IsDatagram)
+    by None e = All-cons IsDatagram (datagrams.Whole m) [] (good, e) (All-nil IsDatagram)
     by (Some x) e = pieces_good (header_with m x.0 x.1) (build_text x.1) most_pieces 0 (header_good m x.0 x.1 good e) refl
 
 pub split_pieces : (m : Message Value) (carrier : Carrier) (v : Value) → IsMessage m → carried_in m.body ≡ Some (carrier, v) → AreItsPieces (header_with m carrier v) v (split_of m)

@@ -34,8 +34,8 @@ abbrev pub gives : {A : Type 0} → A → Text → Result (A × Text) WireFault
 gives x rest = Ok (x, rest)
 
 -- What was read is good, and with what is behind it, is the text.
-pub record Took {A : Type 0} (good : A → Type 0) (spell : A → Text) (text : Text) (y : A × Text) : Type 0 where
-  pub good : good y.0
+pub record Took {A : Type 0} (is_good : A → Type 0) (spell : A → Text) (text : Text) (y : A × Text) : Type 0 where
+  pub good : is_good y.0
   pub spelled : text ≡ spell y.0 ++ y.1
   pub bytes : AreBytes y.1
 
@@ -61,7 +61,7 @@ are_bytes_before n text bytes enough k = elim (cases_lt k n) [
     | inl below ↦ rw (get_or-take n text k 0 below) (bytes k)
     | inr above ↦
         let size : length (take n text) ≤ k = omega (arith, length-take-le n text enough) in
-        rw (get_or-past (take n text) k 0 size) (omega arith)
+        rw (get_or_past (take n text) k 0 size) (omega arith)
   ]
 
 -- what was taken of n bytes
