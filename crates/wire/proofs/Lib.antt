@@ -2,6 +2,7 @@ pub mod Steps
 pub mod Numbers
 pub mod FieldTexts
 pub mod Readers
+pub mod Builds
 pub mod NoteTexts
 pub mod Fronts
 pub mod WholeTexts

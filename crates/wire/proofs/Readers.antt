@@ -1,5 +1,5 @@
 -- What follows for whole texts from a reader that leaves what is behind.
-use Rattle.std.proofs.Common.{◌≡◌, Bool, true, false, cond, ◌||◌, ℕ, List, [], ◌∷◌, ◌++◌, Result, Ok, Err, ◌⊎◌, inl, inr, refl, sym, ap, subst, ◌∙◌}
+use Rattle.std.proofs.Common.{◌≡◌, Bool, true, false, cond, ◌||◌, eqb, ℕ, List, [], ◌∷◌, ◌++◌, length, Result, Ok, Err, ◌⊎◌, inl, inr, refl, sym, ap, subst, ◌∙◌}
 use Rattle.std.proofs.lemmas.Bool.{eqb-true}
 use Rattle.std.proofs.lemmas.List.{append-nil}
 use Rattle.faults.specs.Bytes.{Text, is_empty, is_one_of}
@@ -40,6 +40,10 @@ whole_took at good spell text x took e =
       subst good same front.good,
       front.spelled ∙ ap (λ (t : Text). spell a.0.0 ++ t) (nothing a.0.1 t.0) ∙ append-nil (spell a.0.0) ∙ ap spell same,
     )
+
+pub some_bytes : (bytes : Text) → eqb (length bytes) 0 ≡ false → is_empty bytes ≡ false
+some_bytes [] e = absurd cc
+some_bytes (b ∷ bytes) e = refl
 
 or_ways : (a b : Bool) → (a || b) ≡ true → (a ≡ true) ⊎ (b ≡ true)
 or_ways true b e = inl refl

@@ -1,8 +1,8 @@
 //! The texts of datagrams and notes.
 ghost use Rattle.std.specs.Prelude.{◌≡◌, ◌++◌, ◌∷◌, ◌<◌, ◌≤◌, ◌^◌, None, IfOk, OnErr, OnOk, length};
 ghost use Rattle.byteorder.specs.Endian.{big_bytes};
-ghost use Rattle.package_record.specs.Build.{build_text};
-ghost use Rattle.pkgpath.specs.PkgPath.{IsPath};
+ghost use Rattle.package_record.specs.Build.{IsBuild, build_text};
+ghost use Rattle.wire.specs.Inside.Parts.{HasGoodBuild};
 ghost use Rattle.wire.specs.Messages.{IsFact};
 ghost use Rattle.wire.specs.Pieces.{carried_in};
 ghost use Rattle.wire.specs.Spelling.{
@@ -182,6 +182,7 @@ fn kind_of_fact(fact: &Fact) -> u8
 
 /// Appends how long the build's text is, and gives that text.
 fn put_size(alloc: Global, out: &mut Vec<u8>, build: &Build) -> Result<Vec<u8>, Memory>
+    requires { IsBuild build.now }
     ensures { IfOk result (λ text. out.new.items ++ text.items ≡ out.old.items ++ sized_build build.now) }
 {
     let mut text = Vec::new(alloc);
@@ -190,8 +191,10 @@ fn put_size(alloc: Global, out: &mut Vec<u8>, build: &Build) -> Result<Vec<u8>, 
     Ok(text)
 }
 
-/// Appends what is known of the unit up to the text of a build, and gives that text, which is empty where there is no build.
+/// Appends what is known of the unit up to the text of a build, and gives that text, which is empty
+/// where there is no build.
 fn put_fact(alloc: Global, out: &mut Vec<u8>, fact: &Fact) -> Result<Vec<u8>, Memory>
+    requires { HasGoodBuild fact.now }
     ensures { IfOk result (λ text. out.new.items ++ text.items ≡ out.old.items ++ fact_text fact.now) }
 {
     match fact {
@@ -213,7 +216,9 @@ fn put_fact(alloc: Global, out: &mut Vec<u8>, fact: &Fact) -> Result<Vec<u8>, Me
 
 /// The text of a note up to the text of a build, and that text.
 pub fn note(alloc: Global, path: &PkgPath, fact: &Fact) -> Result<(Vec<u8>, Vec<u8>), Memory>
-    ensures { IfOk result (λ parts. parts.0.items ++ parts.1.items ≡ note_kind fact.now ∷ path_text path.now ++ fact_text fact.now) }
+    requires { IsFact path.now fact.now }
+    ensures { IfOk result (λ parts. parts.0.items ++ parts.1.items
+        ≡ note_kind fact.now ∷ path_text path.now ++ fact_text fact.now) }
 {
     let mut front = Vec::new(alloc);
     front.push(kind_of_fact(fact))?;
