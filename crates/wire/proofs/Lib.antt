@@ -8,6 +8,7 @@ pub mod Fronts
 pub mod WholeTexts
 pub mod PieceTexts
 pub mod DatagramTexts
+pub mod PieceNumbers
 pub mod Cutting
 pub mod Refused
 mod Rows

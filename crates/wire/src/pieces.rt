@@ -5,7 +5,7 @@ ghost use Rattle.package_record.specs.Content.{most_bytes};
 ghost use Rattle.wire.specs.Inside.Parts.{TakenApart};
 ghost use Rattle.wire.specs.Inside.Given.{Gives};
 ghost use Rattle.wire.specs.Joining.{bytes_numbered, bytes_of};
-ghost use Rattle.wire.specs.Pieces.{body_with, most_pieces, pieces_from};
+ghost use Rattle.wire.specs.Pieces.{body_with, pieces_of};
 ghost use Rattle.wire.specs.Reading.{joined};
 
 use crate::datagram::{Bytes, Carrier, Datagram, Header, MOST_PIECES, PIECE_SIZE, Piece};
@@ -80,7 +80,7 @@ fn piece(alloc: Global, header: &Header, number: u16, bytes: &[u8]) -> Result<Da
 /// The pieces of a build's text, in order of number.
 pub fn cut(alloc: Global, header: &Header, text: &[u8]) -> Result<Vec<Datagram>, Memory>
     requires { length text.now ≤ most_bytes }
-    ensures { IfOk result (λ pieces. pieces.items ≡ pieces_from header.now text.now most_pieces 0) }
+    ensures { IfOk result (λ pieces. pieces.items ≡ pieces_of header.now text.now) }
 {
     let mut pieces = Vec::new(alloc);
     let mut number: u16 = 0;
