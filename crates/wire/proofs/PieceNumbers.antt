@@ -1,10 +1,10 @@
 -- The numbers of the pieces of a text.
-use Rattle.std.proofs.Common.{◌≡◌, ℕ, zero, suc, ◌+◌, ◌*◌, ◌<◌, ◌≤◌, Bool, true, false, cond, ltb, List, [], ◌∷◌, ◌++◌, length, get_or, map, take, drop, refl, sym, ap, subst, ◌∙◌, arith, ◌⊎◌, inl, inr}
+use Rattle.std.proofs.Common.{◌≡◌, ℕ, zero, suc, ◌+◌, ◌-◌, ◌*◌, ◌<◌, ◌≤◌, Bool, true, false, cond, eqb, ltb, List, [], ◌∷◌, ◌++◌, length, get_or, map, take, drop, min, refl, sym, ap, subst, ◌∙◌, arith, ◌⊎◌, inl, inr}
 use Rattle.std.specs.Prelude.{All, filter, flat_map}
 use Rattle.std.specs.List.{range_with_len}
-use Rattle.std.proofs.lemmas.Bool.{cases_lt, le-ltb, lt-ltb, ltb-false, ltb-true}
+use Rattle.std.proofs.lemmas.Bool.{cases_lt, eqb-false, eqb-true, le-ltb, lt-ltb}
 use Rattle.std.proofs.lemmas.Grind.{flat_map-append}
-use Rattle.std.proofs.lemmas.List.{append-nil, map-id}
+use Rattle.std.proofs.lemmas.List.{append-nil, drop-drop, drop_min, length-drop, map-append, map-id, take_min}
 use Rattle.std.proofs.lemmas.List.Elements.{filter-append}
 use Rattle.std.proofs.lemmas.List.FromFn.{get_or-range_with_len, length-range_with_len, map-range_with_len_more}
 use Rattle.std.proofs.Math.Seq.{take-add}
@@ -137,3 +137,52 @@ first_bytes text (suc n) =
     ∙ ap (λ (t : Text). take (piece_size * n) text ++ t) (append-nil (cut_at text n))
     ∙ sym (take-add (piece_size * n) piece_size text)
     ∙ ap (λ (m : ℕ). take m text) places
+
+-- ---- going on to the next number
+
+pub flat_within : (f : ℕ → Text) (n size : ℕ) (before after : Text) → before ≡ flat_map f (numbers_below n size) → piece_size * n < size → after ≡ before ++ f n
+    → after ≡ flat_map f (numbers_below (n + 1) size)
+flat_within f n size before after so_far within more =
+    more ∙ ap (λ (t : Text). t ++ f n) so_far
+    ∙ ap (λ (t : Text). flat_map f (numbers_below n size) ++ t) (sym (append-nil (f n)))
+    ∙ sym (flat_map-append f (numbers_below n size) (n ∷ []))
+    ∙ ap (flat_map f) (sym (number_within n size within))
+
+pub flat_past : (f : ℕ → Text) (n size : ℕ) (before : Text) → before ≡ flat_map f (numbers_below n size) → size ≤ piece_size * n
+    → before ≡ flat_map f (numbers_below (n + 1) size)
+flat_past f n size before so_far past = so_far ∙ ap (flat_map f) (sym (number_past n size past))
+
+pub map_within : {X : Type 0} (f : ℕ → X) (n size : ℕ) (before after : List X) → before ≡ map f (numbers_below n size) → piece_size * n < size → after ≡ before ++ f n ∷ []
+    → after ≡ map f (numbers_below (n + 1) size)
+map_within f n size before after so_far within more =
+    more ∙ ap (λ (xs : List _). xs ++ f n ∷ []) so_far
+    ∙ sym (map-append f (numbers_below n size) (n ∷ []))
+    ∙ ap (map f) (sym (number_within n size within))
+
+-- ---- what is left of a text
+
+pub left_more : (text rest behind : Text) (n m : ℕ) → rest ≡ drop (piece_size * n) text → m ≡ min (length rest) piece_size → behind ≡ drop m rest
+    → behind ≡ drop (piece_size * (n + 1)) text
+left_more text rest behind n m left few is =
+    is ∙ ap (λ (k : ℕ). drop k rest) (few ∙ (let e : min (length rest) piece_size ≡ min piece_size (length rest) = omega arith in e))
+    ∙ drop_min piece_size rest ∙ ap (drop piece_size) left
+    ∙ drop-drop piece_size (piece_size * n) text ∙ ap (λ (k : ℕ). drop k text) (let e : piece_size * n + piece_size ≡ piece_size * (n + 1) = omega arith in e)
+
+pub cut_is : (text rest front : Text) (n m : ℕ) → rest ≡ drop (piece_size * n) text → m ≡ min (length rest) piece_size → front ≡ take m rest → front ≡ cut_at text n
+cut_is text rest front n m left few is =
+    is ∙ ap (λ (k : ℕ). take k rest) (few ∙ (let e : min (length rest) piece_size ≡ min piece_size (length rest) = omega arith in e))
+    ∙ take_min piece_size rest ∙ ap (take piece_size) left
+
+-- something is left where the next piece begins within the text, and only there
+pub left_within : (text rest : Text) (n : ℕ) → rest ≡ drop (piece_size * n) text → eqb (length rest) 0 ≡ false → piece_size * n < length text
+left_within text rest n left some = omega (arith, eqb-false (length rest) 0 some, ap length left, length-drop (piece_size * n) text)
+
+pub left_past : (text rest : Text) (n : ℕ) → rest ≡ drop (piece_size * n) text → eqb (length rest) 0 ≡ true → length text ≤ piece_size * n
+left_past text rest n left none = omega (arith, eqb-true (length rest) 0 none, ap length left, length-drop (piece_size * n) text)
+
+-- where nothing is left, these are all numbers
+pub numbers_end : (n size : ℕ) → n ≤ most_pieces → size ≤ piece_size * n → numbers_below n size ≡ numbers_of size
+numbers_end n size most past =
+    sym (numbers_past (most_pieces - n) n size past)
+    ∙ ap (λ (k : ℕ). numbers_below k size) (let few : n ≤ 128 = most in let e : n + (128 - n) ≡ 128 = omega arith in e)
+    ∙ numbers_all size
