@@ -6,7 +6,7 @@ use Rattle.package_record.specs.Content.{most_bytes}
 use Rattle.ballots.specs.Value.{Value}
 use Rattle.ballots.specs.declared.message.Fact.{Fact}
 use Rattle.ballots.specs.declared.message.Fact.TheVariants.{Opened, Promised, Voted, Held}
-use Rattle.wire.specs.Inside.Parts.{HasGoodBuild}
+use Rattle.wire.specs.inside.Parts.{HasGoodBuild}
 use Rattle.wire.specs.Messages.{IsFact}
 
 -- what can be known carries no build but a good one

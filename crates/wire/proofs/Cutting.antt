@@ -1,5 +1,5 @@
 -- The datagrams of a message, and what its pieces join to.
-use Rattle.std.proofs.Common.{◌≡◌, ℕ, zero, suc, ◌+◌, ◌-◌, ◌*◌, ◌<◌, ◌≤◌, min, Bool, true, false, cond, ltb, List, [], ◌∷◌, ◌++◌, length, get_or, map, take, drop, Option, None, Some, Result, Ok, Err, refl, sym, ap, subst, ◌∙◌, arith}
+use Rattle.std.proofs.Common.{◌≡◌, ℕ, suc, ◌+◌, ◌-◌, ◌*◌, ◌<◌, ◌≤◌, min, List, [], ◌∷◌, ◌++◌, length, get_or, map, drop, Option, None, Some, Result, Ok, refl, sym, ap, subst, ◌∙◌, arith}
 use Rattle.std.specs.Prelude.{◌↔◌, All, flat_map, option_map, slice_get}
 use Rattle.std.specs.List.{range_with_len}
 use Rattle.std.proofs.lemmas.List.{append-nil, length-append, length-drop, length-take, take_all}
@@ -55,7 +55,7 @@ pieces_good h text good size =
     let numbers = all_numbers (length text) in
     All-map IsDatagram (sent h text) (numbers_of (length text))
     (subst (All (λ (k : ℕ). IsDatagram (sent h text k))) (sym numbers.1.same)
-      (all_first (λ (k : ℕ). IsDatagram (sent h text k)) numbers.0 (λ k below. piece_good h text k good size (numbers.1.within k below))))
+    (all_first (λ (k : ℕ). IsDatagram (sent h text k)) numbers.0 (λ k below. piece_good h text k good size (numbers.1.within k below))))
 
 -- the first pieces, so many of them, are numbered from 0 on
 first_numbered : (h : Header) (text : Text) (count : ℕ)
@@ -71,8 +71,8 @@ first_full h text count k more below =
     let numbers = range_with_len 0 count in
     let full : length (cut_at text k) ≡ piece_size = cut_length text k ∙ omega arith in
     ap (option_map (λ d. length (bytes_in d))) (slice_get-map (sent h text) numbers k
-      ∙ ap (option_map (sent h text)) (slice_get-get_or numbers k 0 (omega (arith, length-range_with_len 0 count))
-        ∙ ap Some (at_place count k 0 below)))
+    ∙ ap (option_map (sent h text)) (slice_get-get_or numbers k 0 (omega (arith, length-range_with_len 0 count))
+    ∙ ap Some (at_place count k 0 below)))
     ∙ ap Some full
 
 -- the datagrams of a text are its pieces
@@ -90,7 +90,7 @@ are_its_pieces h v few =
       bytes = flat_map-map bytes_in piece (range_with_len 0 count) ∙ first_bytes text count ∙ take_all (piece_size * count) text (are.enough few);
       full = λ k below. let within = are.within (k + 1) (omega (arith, many)) in first_full h text count k within (omega (arith, many));
       last = All-map (λ d. (1 ≤ length (bytes_in d)) × (length (bytes_in d) ≤ piece_size)) piece (range_with_len 0 count)
-        (all_first (λ k. (1 ≤ length (cut_at text k)) × (length (cut_at text k) ≤ piece_size)) count
+          (all_first (λ k. (1 ≤ length (cut_at text k)) × (length (cut_at text k) ≤ piece_size)) count
           (λ k below. let within = are.within k below in (omega (arith, cut_length text k), omega (arith, cut_length text k))));
     } in
     subst (λ (ks : List ℕ). AreItsPieces h v (map piece ks)) (sym are.same) first
@@ -214,12 +214,12 @@ joined_is made h text m good size e =
     let v = whole_build_taken made h.path text a.0 a.1 in
     let length_is : length (build_text a.0) ≡ h.length = sym (ap length v.1) ∙ size in
     subst (λ (m : Message Value). IsJoined h text m) (ok_is (message_with h a.0) m a.2) (record {
-        message = record { sender = good.sender; tree = good.tree; path = good.path; body = body_good h.path h.carrier a.0 good.carrier v.0 };
-        build = a.0;
-        carried = carried_with h.carrier a.0;
-        spelled = v.1;
-        header = ap (λ (n : ℕ). record h { length = n }) length_is;
-      })
+      message = record { sender = good.sender; tree = good.tree; path = good.path; body = body_good h.path h.carrier a.0 good.carrier v.0 };
+      build = a.0;
+      carried = carried_with h.carrier a.0;
+      spelled = v.1;
+      header = ap (λ (n : ℕ). record h { length = n }) length_is;
+    })
 
 pub headers_say_all : (m n : Message Value) (carrier other : Carrier) (v : Value) → carried_in m.body ≡ Some (carrier, v) → carried_in n.body ≡ Some (other, v) → header_with m carrier v ≡ header_with n other v → m ≡ n
 headers_say_all m n carrier other v first second same =
@@ -242,6 +242,7 @@ equal_headers m n c d v w first second = (alike, equal)
       carrier = ap (λ (h : Header). h.carrier) same;
       as_long = ap (λ (h : Header). h.length) same;
     }
+
     equal : AreAlikeButForTheBuild m n c d v w → header_with m c v ≡ header_with n d w
     equal alike =
         let size = length (build_text v) in

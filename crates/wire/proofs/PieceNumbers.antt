@@ -1,5 +1,5 @@
 -- The numbers of the pieces of a text.
-use Rattle.std.proofs.Common.{◌≡◌, ℕ, zero, suc, ◌+◌, ◌-◌, ◌*◌, ◌<◌, ◌≤◌, Bool, true, false, cond, eqb, ltb, List, [], ◌∷◌, ◌++◌, length, get_or, map, take, drop, min, refl, sym, ap, subst, ◌∙◌, arith, ◌⊎◌, inl, inr}
+use Rattle.std.proofs.Common.{◌≡◌, ℕ, zero, suc, ◌+◌, ◌-◌, ◌*◌, ◌<◌, ◌≤◌, Bool, true, false, cond, eqb, ltb, List, [], ◌∷◌, ◌++◌, length, get_or, map, take, drop, min, refl, sym, ap, subst, ◌∙◌, arith, inl, inr}
 use Rattle.std.specs.Prelude.{All, filter, flat_map}
 use Rattle.std.specs.List.{range_with_len}
 use Rattle.std.proofs.lemmas.Bool.{cases_lt, eqb-false, eqb-true, le-ltb, lt-ltb}
@@ -98,15 +98,17 @@ all_numbers size =
     let first = first_numbers most_pieces size in
     let count = first.0 in
     let are = first.1 in
-    let most : count ≤ 128 = are.most in
-    (count, record {
+    let most : count ≤ 128 = are.most in (
+      count,
+      record {
         same = sym (numbers_all size) ∙ are.same;
         within = are.within;
         enough = λ (few : size ≤ 4194304). elim (cases_lt count 128) [
           | inl fewer ↦ are.all fewer
           | inr all ↦ omega arith
         ];
-      })
+      },
+    )
 
 -- the first numbers are each at its own place
 pub at_place : (count k d : ℕ) → k < count → get_or (range_with_len 0 count) k d ≡ k

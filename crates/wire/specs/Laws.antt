@@ -1,5 +1,5 @@
 -- What holds of the texts of datagrams and notes, and of pieces.
-use Rattle.std.specs.Prelude.{◌≡◌, ◌<◌, ◌≤◌, ◌+◌, ◌++◌, ◌↔◌, ℕ, All, List, [], ◌∷◌, flat_map, length, map, slice_get, slice_index, Option, None, Some, option_map, Result, Ok}
+use Rattle.std.specs.Prelude.{◌≡◌, ◌<◌, ◌≤◌, ◌+◌, ◌++◌, ◌↔◌, ℕ, All, List, [], flat_map, length, map, slice_get, slice_index, Option, None, Some, option_map, Ok}
 use Rattle.std.specs.List.{range_with_len}
 use Rattle.faults.specs.Bytes.{Text}
 use Rattle.package_record.specs.Build.{build_text}

@@ -2,7 +2,7 @@
 ghost use Rattle.std.specs.Prelude.{◌≡◌, ◌++◌, ◌∷◌, ◌<◌, ◌≤◌, ◌^◌, None, IfOk, OnErr, OnOk, length};
 ghost use Rattle.byteorder.specs.Endian.{big_bytes};
 ghost use Rattle.package_record.specs.Build.{IsBuild, build_text};
-ghost use Rattle.wire.specs.Inside.Parts.{HasGoodBuild};
+ghost use Rattle.wire.specs.inside.Parts.{HasGoodBuild};
 ghost use Rattle.wire.specs.Messages.{IsFact};
 ghost use Rattle.wire.specs.Pieces.{carried_in};
 ghost use Rattle.wire.specs.Spelling.{
@@ -69,7 +69,8 @@ fn put_front(
     sender: u8,
     tree: &[u8],
 ) -> Result<(), Memory>
-    ensures { OnOk result (out.new.items ≡ out.old.items ++ (magic.now ++ kind ∷ sender ∷ tree.now)) }
+    ensures { OnOk result (out.new.items
+        ≡ out.old.items ++ (magic.now ++ kind ∷ sender ∷ tree.now)) }
 {
     out.extend_from_slice(magic)?;
     out.push(kind)?;
@@ -122,7 +123,13 @@ pub fn message(alloc: Global, message: &Message) -> Result<Vec<u8>, Memory>
     ensures { IfOk result (λ text. text.items ≡ message_text message.now) }
 {
     let mut text = Vec::new(alloc);
-    put_front(&mut text, b"DPB1", kind(&message.body), message.sender, &message.tree)?;
+    put_front(
+        &mut text,
+        b"DPB1",
+        kind(&message.body),
+        message.sender,
+        &message.tree,
+    )?;
     put_path(&mut text, &message.path)?;
     put_body(&mut text, &message.body)?;
     Ok(text)
@@ -183,7 +190,8 @@ fn kind_of_fact(fact: &Fact) -> u8
 /// Appends how long the build's text is, and gives that text.
 fn put_size(alloc: Global, out: &mut Vec<u8>, build: &Build) -> Result<Vec<u8>, Memory>
     requires { IsBuild build.now }
-    ensures { IfOk result (λ text. out.new.items ++ text.items ≡ out.old.items ++ sized_build build.now) }
+    ensures { IfOk result (λ text. out.new.items ++ text.items
+        ≡ out.old.items ++ sized_build build.now) }
 {
     let mut text = Vec::new(alloc);
     build.write_to(&mut text)?;
@@ -195,7 +203,8 @@ fn put_size(alloc: Global, out: &mut Vec<u8>, build: &Build) -> Result<Vec<u8>, 
 /// where there is no build.
 fn put_fact(alloc: Global, out: &mut Vec<u8>, fact: &Fact) -> Result<Vec<u8>, Memory>
     requires { HasGoodBuild fact.now }
-    ensures { IfOk result (λ text. out.new.items ++ text.items ≡ out.old.items ++ fact_text fact.now) }
+    ensures { IfOk result (λ text. out.new.items ++ text.items
+        ≡ out.old.items ++ fact_text fact.now) }
 {
     match fact {
         Fact::Opened(round) => {

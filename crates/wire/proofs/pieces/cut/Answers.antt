@@ -1,6 +1,6 @@
-use Rattle.std.proofs.Common.{◌*◌, ◌<◌, ◌≤◌, ◌≡◌, ◌∙◌, ◌++◌, ◌∷◌, [], ap, sym, map, arith, length}
+use Rattle.std.proofs.Common.{◌∙◌, ◌++◌, ◌∷◌, [], ap, sym, map, arith, length}
 use Rattle.faults.specs.Bytes.{Text}
-use Rattle.wire.specs.Pieces.{piece_at, piece_size}
+use Rattle.wire.specs.Pieces.{piece_at}
 use Rattle.wire.specs.declared.datagram.Datagram.{Datagram}
 use Rattle.wire.specs.declared.datagram.Datagram.TheVariants.{Piece}
 use Rattle.wire.proofs.PieceNumbers.{cut_is, left_more, left_past, left_within, map_within, numbers_end}
