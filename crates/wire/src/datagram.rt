@@ -1,0 +1,182 @@
+//! What goes out in one piece: a message in whole, or a piece of one that carries a build.
+ghost use Rattle.std.specs.Prelude.{◌≡◌, IfOk};
+ghost use Rattle.agreement.specs.Claims.{claim_same};
+ghost use Rattle.wire.specs.Joining.{same_carrier, same_header};
+
+use ballots::Message;
+use claims::Claim;
+use faults::Memory;
+use pkgpath::PkgPath;
+use std::marker::Model;
+
+/// The bytes of each piece but the last.
+pub const PIECE_SIZE: usize = 32_768;
+
+/// The most pieces that a message has.
+pub const MOST_PIECES: u16 = 128;
+
+/// Bytes, which contracts see as a list.
+#[derive(Drop)]
+pub struct Bytes {
+    items: Vec<u8>,
+}
+
+impl Model for Bytes {
+    ghost use Rattle.std.specs.Prelude.{List, ℕ};
+
+    ghost Value = { List ℕ };
+
+    ghost view = { λ b. b.items.items };
+}
+
+impl Bytes {
+    /// These bytes.
+    pub fn new(items: Vec<u8>) -> Bytes
+        ensures { result ≡ items.items }
+    {
+        Bytes { items }
+    }
+
+    /// The bytes.
+    pub fn as_slice(&self) -> &[u8]
+        ensures { result.now ≡ self.now }
+    {
+        self.items.as_slice()
+    }
+
+    /// The bytes.
+    pub fn into_vec(self) -> Vec<u8>
+        ensures { result.items ≡ self }
+    {
+        self.items
+    }
+
+    /// Equal bytes. It fails only for want of memory.
+    pub fn copy(&self) -> Result<Bytes, Memory>
+        ensures { IfOk result (λ bytes. bytes ≡ self.now) }
+    {
+        let items = self.items.clone()?;
+        Ok(Bytes { items })
+    }
+}
+
+/// What a message that carries a build says besides.
+#[derive(Clone, Copy, Debug, PartialEq, Eq)]
+pub enum Carrier {
+    /// A promise of the first claim, which reports a vote for the build under the second.
+    Promise(Claim, Claim),
+    /// The claim's proposal.
+    Propose(Claim),
+    /// The build is agreed.
+    Agreed,
+}
+
+/// What the pieces of one message have in common: all that the message says but the build, and how
+/// long the build's text is.
+#[derive(Drop)]
+pub struct Header {
+    /// The number of the member that sends it.
+    pub sender: u8,
+    /// The digest of the sender's tree.
+    pub tree: [u8; 32],
+    /// The name of the unit.
+    pub path: PkgPath,
+    /// What it says of the unit.
+    pub carrier: Carrier,
+    /// How many bytes the build's text has.
+    pub length: u32,
+}
+
+/// A piece of a message: some of its build's text.
+#[derive(Drop)]
+pub struct Piece {
+    pub header: Header,
+    /// Which piece it is, counted from 0.
+    pub number: u16,
+    /// 32,768 bytes, fewer only in the last piece.
+    pub bytes: Bytes,
+}
+
+/// What goes out at once.
+#[derive(Drop)]
+pub enum Datagram {
+    /// A message that carries no build.
+    Whole(Message),
+    Piece(Piece),
+}
+
+impl Carrier {
+    /// Whether both are one.
+    pub fn is_same(self, other: Carrier) -> bool
+        ensures { result ≡ same_carrier self other }
+    {
+        match (self, other) {
+            (Carrier::Promise(a, b), Carrier::Promise(c, d)) => is_same_claim(a, c)
+                && is_same_claim(b, d),
+            (Carrier::Propose(a), Carrier::Propose(b)) => is_same_claim(a, b),
+            (Carrier::Agreed, Carrier::Agreed) => true,
+            _ => false,
+        }
+    }
+}
+
+/// Whether both are one.
+fn is_same_claim(a: Claim, b: Claim) -> bool
+    ensures { result ≡ claim_same a b }
+{
+    a.round == b.round && a.member == b.member
+}
+
+impl Piece {
+    /// An equal piece. It fails only for want of memory.
+    pub fn copy(&self) -> Result<Piece, Memory>
+        ensures { IfOk result (λ piece. piece ≡ self.now) }
+    {
+        let header = self.header.copy()?;
+        let bytes = self.bytes.copy()?;
+        Ok(Piece {
+            header,
+            number: self.number,
+            bytes,
+        })
+    }
+}
+
+impl Datagram {
+    /// An equal datagram. It fails only for want of memory.
+    pub fn copy(&self) -> Result<Datagram, Memory>
+        ensures { IfOk result (λ datagram. datagram ≡ self.now) }
+    {
+        match self {
+            Datagram::Whole(message) => Ok(Datagram::Whole(message.copy()?)),
+            Datagram::Piece(piece) => Ok(Datagram::Piece(piece.copy()?)),
+        }
+    }
+}
+
+impl Header {
+    /// Whether both are one: no field differs.
+    pub fn is_same(&self, other: &Header) -> bool
+        ensures { result ≡ same_header self.now other.now }
+    {
+        self.sender == other.sender
+            && self.tree == other.tree
+            && self.path.as_bytes() == other.path.as_bytes()
+            && self.carrier.is_same(other.carrier)
+            && self.length == other.length
+    }
+
+    /// An equal header. It fails only for want of memory.
+    pub fn copy(&self) -> Result<Header, Memory>
+        ensures { IfOk result (λ header. header ≡ self.now) }
+    {
+        let path = self.path.copy()?;
+        Ok(Header {
+            sender: self.sender,
+            tree: self.tree,
+            path,
+            carrier: self.carrier,
+            length: self.length,
+        })
+    }
+}

@@ -1,0 +1,50 @@
+//! Why bytes could not be read.
+ghost use Rattle.std.specs.Prelude.{◌≡◌};
+ghost use Rattle.wire.specs.inside.Given.{refusal_of};
+ghost use Rattle.wire.specs.declared.fault.ReadError.TheVariants.{Memory as out_of_memory};
+
+use crate::WireFault;
+use faults::Memory;
+use std::alloc::{AllocError, AllocFailed};
+
+/// Memory ran out, or the bytes have this fault.
+#[derive(Debug, Drop)]
+pub enum ReadError {
+    Memory,
+    Fault(WireFault),
+}
+
+impl From<Memory> for ReadError {
+    ghost from_gives = { λ _ e. e ≡ out_of_memory };
+
+    fn from(_e: Memory) -> ReadError {
+        ReadError::Memory
+    }
+}
+
+impl From<AllocError> for ReadError {
+    ghost from_gives = { λ _ e. e ≡ out_of_memory };
+
+    fn from(_e: AllocError) -> ReadError {
+        ReadError::Memory
+    }
+}
+
+impl<T: Drop> From<AllocFailed<T>> for ReadError {
+    ghost from_gives = { λ _ e. e ≡ out_of_memory };
+
+    fn from(_e: AllocFailed<T>) -> ReadError {
+        ReadError::Memory
+    }
+}
+
+impl From<ReadError> for WireFault {
+    ghost from_gives = { λ e f. f ≡ refusal_of e };
+
+    fn from(e: ReadError) -> WireFault {
+        match e {
+            ReadError::Memory => WireFault::Memory,
+            ReadError::Fault(fault) => fault,
+        }
+    }
+}

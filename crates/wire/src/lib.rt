@@ -1,0 +1,199 @@
+//! The bytes of datagrams and of notes.
+#![tactic(auto)]
+
+ghost use Rattle.std.specs.Prelude.{◌≡◌, ◌++◌, [], ◌∷◌, None, IfOk, OnErr, OnOk};
+ghost use Rattle.faults.specs.Answers.{IsRightUnless};
+ghost use Rattle.package_record.specs.Build.{build_text};
+ghost use Rattle.wire.specs.Joining.{bytes_of};
+ghost use Rattle.wire.specs.Messages.{IsMessage, IsNote};
+ghost use Rattle.wire.specs.Pieces.{IsDatagram, split_of};
+ghost use Rattle.wire.specs.Reading.{datagram_of, joined, note_of};
+ghost use Rattle.wire.specs.Refusals.{number_of};
+ghost use Rattle.wire.specs.declared.WireFault.TheVariants.{Memory as out_of_memory};
+ghost use Rattle.wire.specs.Spelling.{datagram_text, note_text};
+
+use ballots::{Message, Note};
+use faults::{Fault, Memory};
+use package_record::Build;
+use std::alloc::Global;
+use thiserror::Error;
+
+mod datagram;
+mod datagrams;
+mod fault;
+mod fields;
+mod laws;
+mod notes;
+mod pieces;
+mod writing;
+
+pub use crate::datagram::{Bytes, Carrier, Datagram, Header, Piece};
+pub use crate::laws::{no_text_begins_another, pieces_join, texts_are_read_again};
+
+/// The most bytes that a datagram may have.
+pub const LONGEST: usize = 65_507;
+
+/// Why bytes are no datagram, or no note: the first fault from the left.
+#[derive(Clone, Copy, Debug, PartialEq, Eq, Error)]
+pub enum WireFault {
+    #[error("out of memory")]
+    Memory,
+    #[error("more bytes than a datagram may have")]
+    TooLong,
+    #[error("the bytes end early")]
+    Truncated,
+    #[error("the bytes do not begin as a datagram does")]
+    Magic,
+    #[error("there is no such kind")]
+    Kind,
+    #[error("a field is out of its range")]
+    BadField,
+    #[error("bytes follow")]
+    Trailing,
+}
+
+impl From<Memory> for WireFault {
+    ghost from_gives = { λ _ e. e ≡ out_of_memory };
+
+    fn from(_e: Memory) -> WireFault {
+        WireFault::Memory
+    }
+}
+
+impl Fault for WireFault {
+    ghost number_of = { number_of };
+
+    ghost place_of = { λ _. None };
+
+    fn number(&self) -> u32 {
+        match self {
+            WireFault::Memory => 1,
+            WireFault::Truncated => 1101,
+            WireFault::Magic => 1102,
+            WireFault::Kind => 1103,
+            WireFault::BadField => 1104,
+            WireFault::Trailing => 1105,
+            WireFault::TooLong => 1106,
+        }
+    }
+
+    fn place(&self) -> Option<u64> {
+        None
+    }
+}
+
+/// A message that goes out in one datagram.
+fn alone(alloc: Global, datagram: Datagram) -> Result<Vec<Datagram>, Memory>
+    ensures { IfOk result (λ datagrams. datagrams.items ≡ datagram ∷ []) }
+{
+    let mut datagrams = Vec::new(alloc);
+    datagrams.push(datagram)?;
+    Ok(datagrams)
+}
+
+/// The text of a build, which is let go.
+fn text_of(alloc: Global, build: Build) -> Result<Vec<u8>, Memory>
+    ensures { IfOk result (λ text. text.items ≡ build_text build) }
+{
+    let mut text = Vec::new(alloc);
+    build.write_to(&mut text)?;
+    Ok(text)
+}
+
+/// The datagrams in which the message goes out: one, or its pieces in order of number if it carries
+/// a build. The message is taken apart, and its build is let go before the first piece is made.
+pub fn split(alloc: Global, message: Message) -> Result<Vec<Datagram>, Memory>
+    requires { IsMessage message }
+    ensures { IfOk result (λ datagrams. datagrams.items ≡ split_of message) }
+{
+    let Message {
+        sender,
+        tree,
+        path,
+        body,
+    } = message;
+    let (carrier, build) = match pieces::taken_apart(body) {
+        Ok(parts) => parts,
+        Err(body) => {
+            let message = Message {
+                sender,
+                tree,
+                path,
+                body,
+            };
+            return alone(alloc, Datagram::Whole(message));
+        }
+    };
+    let text = text_of(alloc, build)?;
+    let header = Header {
+        sender,
+        tree,
+        path,
+        carrier,
+        length: text.len() as u32,
+    };
+    pieces::cut(alloc, &header, text.as_slice())
+}
+
+/// The message that these pieces make: those with the header, in order of number, in whichever
+/// order they came. Bytes that are no build, or the build of another unit, are `BadField`.
+pub fn join(alloc: Global, header: Header, pieces: &[Piece]) -> Result<Message, WireFault>
+    ensures { IsRightUnless WireFault.Memory result (joined header (bytes_of header pieces.now)) }
+{
+    let text = pieces::in_order(alloc, &header, pieces)?;
+    let message = pieces::message(alloc, header, text.as_slice())?;
+    Ok(message)
+}
+
+/// Appends the datagram's text, or nothing.
+pub fn encode(datagram: &Datagram, out: &mut Vec<u8>) -> Result<(), Memory>
+    requires { IsDatagram datagram.now }
+    ensures ok { OnOk result (out.new.items ≡ out.old.items ++ datagram_text datagram.now) }
+    ensures err { OnErr result (out.new.items ≡ out.old.items) }
+{
+    let alloc: Global = *out.allocator();
+    match datagram {
+        Datagram::Whole(message) => {
+            let text = writing::message(alloc, message)?;
+            out.extend_from_slice(text.as_slice())?;
+            Ok(())
+        }
+        Datagram::Piece(piece) => {
+            let front = writing::header(alloc, &piece.header, piece.number)?;
+            writing::append(out, front.as_slice(), piece.bytes.as_slice())
+        }
+    }
+}
+
+/// The datagram whose text this is. It is tested in this order: the length, which is `TooLong` over
+/// `LONGEST`, and then its fields from the left, each whole (`Truncated`) and then in its range:
+/// the four bytes in front (`Magic`), the kind (`Kind`), and all others (`BadField`). Bytes behind
+/// the last are `Trailing`.
+pub fn decode(alloc: Global, text: &[u8]) -> Result<Datagram, WireFault>
+    ensures datagram { IfOk result (λ d. IsDatagram d × (text.now ≡ datagram_text d)) }
+    ensures exact { IsRightUnless WireFault.Memory result (datagram_of text.now) }
+{
+    let datagram = datagrams::datagram(alloc, text)?;
+    Ok(datagram)
+}
+
+/// Appends the note's text, or nothing.
+pub fn encode_note(note: &Note, out: &mut Vec<u8>) -> Result<(), Memory>
+    requires { IsNote note.now }
+    ensures ok { OnOk result (out.new.items ≡ out.old.items ++ note_text note.now) }
+    ensures err { OnErr result (out.new.items ≡ out.old.items) }
+{
+    let alloc: Global = *out.allocator();
+    let (front, text) = writing::note(alloc, &note.path, &note.fact)?;
+    writing::append(out, front.as_slice(), text.as_slice())
+}
+
+/// The note whose text this is. Its fields are tested from the left, as those of a datagram, and
+/// bytes behind the last are `Trailing`. There is no test of the length.
+pub fn decode_note(alloc: Global, text: &[u8]) -> Result<Note, WireFault>
+    ensures note { IfOk result (λ n. IsNote n × (text.now ≡ note_text n)) }
+    ensures exact { IsRightUnless WireFault.Memory result (note_of text.now) }
+{
+    let note = notes::note(alloc, text)?;
+    Ok(note)
+}

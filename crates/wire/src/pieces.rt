@@ -1,0 +1,127 @@
+//! A message in the datagrams in which it goes out, and pieces as the message that they make.
+ghost use Rattle.std.specs.Prelude.{◌≡◌, ◌++◌, ◌≤◌, IfOk, OnOk, length};
+ghost use Rattle.package_record.specs.Build.{build_text};
+ghost use Rattle.package_record.specs.Content.{most_bytes};
+ghost use Rattle.wire.specs.inside.Parts.{TakenApart};
+ghost use Rattle.wire.specs.inside.Given.{Gives};
+ghost use Rattle.wire.specs.Joining.{bytes_numbered, bytes_of};
+ghost use Rattle.wire.specs.Pieces.{body_with, pieces_of};
+ghost use Rattle.wire.specs.Reading.{joined};
+
+use crate::datagram::{Bytes, Carrier, Datagram, Header, MOST_PIECES, PIECE_SIZE, Piece};
+use crate::fault::ReadError;
+use crate::fields::whole_build;
+use ballots::{Body, Message};
+use faults::Memory;
+use package_record::Build;
+use std::alloc::Global;
+
+/// What carries the build and the build, or the body of a message that carries none.
+pub fn taken_apart(body: Body) -> Result<(Carrier, Build), Body>
+    ensures { TakenApart body result }
+{
+    match body {
+        Body::Offer(claim) => Err(Body::Offer(claim)),
+        Body::Promise(claim, None) => Err(Body::Promise(claim, None)),
+        Body::Promise(claim, Some((voted, build))) => Ok((Carrier::Promise(claim, voted), build)),
+        Body::Propose(claim, build) => Ok((Carrier::Propose(claim), build)),
+        Body::Vote(claim) => Err(Body::Vote(claim)),
+        Body::Agreed(build) => Ok((Carrier::Agreed, build)),
+        Body::Ask => Err(Body::Ask),
+        Body::Nay(offered, promised) => Err(Body::Nay(offered, promised)),
+    }
+}
+
+/// The body that carries the build so.
+pub fn body_with(carrier: Carrier, build: Build) -> Body
+    ensures { result ≡ body_with carrier build }
+{
+    match carrier {
+        Carrier::Promise(promised, voted) => Body::Promise(promised, Some((voted, build))),
+        Carrier::Propose(claim) => Body::Propose(claim, build),
+        Carrier::Agreed => Body::Agreed(build),
+    }
+}
+
+/// The message with the header whose build's text this is.
+pub fn message(alloc: Global, header: Header, text: &[u8]) -> Result<Message, ReadError>
+    ensures { Gives (λ message. message) result (joined header text.now) }
+{
+    let build = whole_build(alloc, &header.path, text)?;
+    let Header {
+        sender,
+        tree,
+        path,
+        carrier,
+        length: _,
+    } = header;
+    let body = body_with(carrier, build);
+    Ok(Message {
+        sender,
+        tree,
+        path,
+        body,
+    })
+}
+
+/// The piece of this number, with these bytes.
+fn piece(alloc: Global, header: &Header, number: u16, bytes: &[u8]) -> Result<Datagram, Memory>
+    ensures { IfOk result (λ d. d
+        ≡ Datagram.Piece (record { header = header.now; number = number; bytes = bytes.now })) }
+{
+    let header = header.copy()?;
+    let bytes = Bytes::new(Vec::from_slice(alloc, bytes)?);
+    Ok(Datagram::Piece(Piece {
+        header,
+        number,
+        bytes,
+    }))
+}
+
+/// The pieces of a build's text, in order of number.
+pub fn cut(alloc: Global, header: &Header, text: &[u8]) -> Result<Vec<Datagram>, Memory>
+    requires { length text.now ≤ most_bytes }
+    ensures { IfOk result (λ pieces. pieces.items ≡ pieces_of header.now text.now) }
+{
+    let mut pieces = Vec::new(alloc);
+    let mut number: u16 = 0;
+    let mut rest = text;
+    while !rest.is_empty() {
+        let (front, behind) = rest.split_at(rest.len().min(PIECE_SIZE));
+        pieces.push(piece(alloc, header, number, front)?)?;
+        number += 1;
+        rest = behind;
+    }
+    Ok(pieces)
+}
+
+/// Appends the bytes of the header's piece of this number.
+fn put_numbered(
+    out: &mut Vec<u8>,
+    header: &Header,
+    number: u16,
+    pieces: &[Piece],
+) -> Result<(), Memory>
+    ensures { OnOk result (out.new.items
+        ≡ out.old.items ++ bytes_numbered header.now pieces.now number) }
+{
+    for piece in pieces {
+        if piece.number == number && header.is_same(&piece.header) {
+            out.extend_from_slice(piece.bytes.as_slice())?;
+        }
+    }
+    Ok(())
+}
+
+/// The bytes of the header's pieces, in order of number.
+pub fn in_order(alloc: Global, header: &Header, pieces: &[Piece]) -> Result<Vec<u8>, Memory>
+    ensures { IfOk result (λ text. text.items ≡ bytes_of header.now pieces.now) }
+{
+    let mut text = Vec::new(alloc);
+    for number in 0..MOST_PIECES {
+        if PIECE_SIZE as u32 * u32::from(number) < header.length {
+            put_numbered(&mut text, header, number, pieces)?;
+        }
+    }
+    Ok(text)
+}
