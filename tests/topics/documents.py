@@ -21,7 +21,9 @@ def manual(tally):
         return
     for page in sorted(os.listdir(f"{TOP}/man")):
         done = subprocess.run(["mandoc", "-Tlint", f"{TOP}/man/{page}"], capture_output=True, text=True)
-        tally.add(f"man/{page}", (done.stdout + done.stderr).strip())
+        # OpenBSD's own pages, to which they refer, stand on few other machines
+        said = [line for line in (done.stdout + done.stderr).split("\n") if "referenced manual not found" not in line]
+        tally.add(f"man/{page}", "\n".join(said).strip())
 
 
 def lines_of(path):
