@@ -10,10 +10,11 @@ check:
 	tests/run
 
 install: all
-	install -d $(DESTDIR)$(BINDIR) $(DESTDIR)$(MANDIR)/man1
+	install -d $(DESTDIR)$(BINDIR) $(DESTDIR)$(MANDIR)/man1 $(DESTDIR)$(MANDIR)/man5
 	install -m 755 crates/dpbr/out/dpbr $(DESTDIR)$(BINDIR)/dpbr
 	install -m 755 tools/expand-listing $(DESTDIR)$(BINDIR)/expand-listing
 	install -m 644 man/dpbr.1 $(DESTDIR)$(MANDIR)/man1/dpbr.1
+	install -m 644 man/dpbn-formats.5 $(DESTDIR)$(MANDIR)/man5/dpbn-formats.5
 
 dist: all
 	tools/dist
