@@ -1,5 +1,5 @@
 -- The counts of letters as they are met one after another.
-use Rattle.std.proofs.Common.{◌≡◌, ◌+◌, ◌==◌, ℕ, zero, suc, List, [], ◌∷◌, ◌++◌, length, cond, refl, sym, ap, ◌∙◌, subst, arith}
+use Rattle.std.proofs.Common.{◌≡◌, ◌+◌, ◌==◌, ℕ, suc, List, [], ◌∷◌, length, cond, refl, sym, ap, ◌∙◌, arith}
 use Rattle.std.specs.List.{AllZip, range_with_len}
 use Rattle.std.proofs.lemmas.List.FromFn.{length-range_with_len}
 use Rattle.std.proofs.lemmas.List.Sums.{sum_by-cons}
@@ -20,25 +20,11 @@ total_of-counts (B ∷ ls) = omega (arith, total_of-counts ls, count_of-cons I B
 total_of-counts (I ∷ ls) = omega (arith, total_of-counts ls, count_of-cons I I ls, count_of-cons B I ls, count_of-cons Q I ls, count_of-cons T I ls, count_of-cons Ignored I ls)
 total_of-counts (Ignored ∷ ls) = omega (arith, total_of-counts ls, count_of-cons I Ignored ls, count_of-cons B Ignored ls, count_of-cons Q Ignored ls, count_of-cons T Ignored ls, count_of-cons Ignored Ignored ls)
 
-range-push : (a n : ℕ) → range_with_len a (suc n) ≡ range_with_len a n ++ (a + n) ∷ []
-range-push a zero = ap (λ x. x ∷ []) (omega arith)
-range-push a (suc n) = ap (λ xs. a ∷ xs) (range-push (a + 1) n ∙ ap (λ x. range_with_len (a + 1) n ++ x ∷ []) (omega arith))
-
-all_zip_push : {A C : Type 0} (R : A → C → Type 0) (xs : List A) (ys : List C) (x : A) (y : C) → AllZip R xs ys → R x y → AllZip R (xs ++ x ∷ []) (ys ++ y ∷ [])
-all_zip_push R [] [] x y all r = (r, tt)
-all_zip_push R [] (z ∷ ys) x y all r = absurd all
-all_zip_push R (z ∷ xs) [] x y all r = absurd all
-all_zip_push R (z ∷ xs) (w ∷ ys) x y all r = (all.0, all_zip_push R xs ys x y all.1 r)
-
 length_all_zip_of : {A C : Type 0} (R : A → C → Type 0) (xs : List A) (ys : List C) → AllZip R xs ys → length xs ≡ length ys
 length_all_zip_of R [] [] all = refl
 length_all_zip_of R [] (y ∷ ys) all = absurd all
 length_all_zip_of R (x ∷ xs) [] all = absurd all
 length_all_zip_of R (x ∷ xs) (y ∷ ys) all = ap suc (length_all_zip_of R xs ys all.1)
-
-one_more : (n : ℕ) → range_with_len 0 (n + 1) ≡ range_with_len 0 n ++ n ∷ []
-one_more n = let e : n + 1 ≡ suc n = omega arith in
-    ap (range_with_len 0) e ∙ range-push 0 n ∙ ap (λ x. range_with_len 0 n ++ x ∷ []) (omega arith)
 
 -- ---- the letters of the first n packages
 
@@ -48,12 +34,3 @@ HasCounted s n counts = (letters : List Letter) × AllZip (HasLetter s) (range_w
 pub HasCounted-total : (s : State) (n : ℕ) (counts : Counts) → HasCounted s n counts → total_of counts ≡ n
 HasCounted-total s n counts (letters, are, is) =
     ap total_of is ∙ total_of-counts letters ∙ sym (length_all_zip_of (HasLetter s) (range_with_len 0 n) letters are) ∙ length-range_with_len 0 n
-
-pub HasCounted-more : (s : State) (n : ℕ) (counts more : Counts) (letter : Letter) → HasCounted s n counts → HasLetter s n letter
-    → ((letters : List Letter) → counts ≡ counts_of letters → more ≡ counts_of (letters ++ letter ∷ [])) → HasCounted s (n + 1) more
-HasCounted-more s n counts more letter (letters, are, is) has_letter adds = (
-  letters ++ letter ∷ [],
-  subst (λ (ps : List ℕ). AllZip (HasLetter s) ps (letters ++ letter ∷ [])) (sym (one_more n))
-      (all_zip_push (HasLetter s) (range_with_len 0 n) letters n letter are has_letter),
-  adds letters is,
-)

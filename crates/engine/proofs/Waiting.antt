@@ -37,12 +37,6 @@ queued-installed a b queued p = elim (queued.same p) [
   | inr (t, q) ↦ ap is_installed q ∙ sym (ap is_installed t)
 ]
 
-pub queued-held : (a b : List Letter) → AreQueued a b → (p : ℕ) → is_held (letter_at b p) ≡ is_held (letter_at a p)
-queued-held a b queued p = elim (queued.same p) [
-  | inl e ↦ ap is_held e
-  | inr (t, q) ↦ ap is_held q ∙ sym (ap is_held t)
-]
-
 -- ---- how many are waited for
 
 pub waited_for-same : (a b : List Letter) (ps : List ℕ) → ((p : ℕ) → is_installed (letter_at b p) ≡ is_installed (letter_at a p)) → waited_for b ps ≡ waited_for a ps

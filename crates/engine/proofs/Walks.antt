@@ -52,9 +52,6 @@ module _ {marks : List Bool} {found : List ℕ} (are : AreFound marks found) whe
   pub marked-found : (p : ℕ) → has_mark marks p ≡ true → Contains found p
   marked-found p marked = contained-times p found (omega (arith, are.once p, ap one_if marked))
 
-  pub found-few : length found ≤ length marks
-  found-few = omega (arith, are.as_many, count_by-le-length (λ m. m) marks)
-
   pub found-room : (p : ℕ) → p < length marks → has_mark marks p ≡ false → length found < length marks
   found-room p within unmarked =
       omega (arith, are.as_many, one_more_marked marks p within unmarked, count_by-le-length (λ m. m) (set marks p true), length-set marks p true)
