@@ -10,8 +10,8 @@ from topics.tally import TOP, contents
 WIDEST = 100
 LONGEST = 12
 # crates that are still to be brought within these limits; none is added
-STILL_WIDE = {"engine", "listing", "package_record", "pkgpath", "record_probe"}
-STILL_LONG = {"package_record", "units"}
+STILL_WIDE = set()
+STILL_LONG = set()
 
 
 def manual(tally):

@@ -1,4 +1,4 @@
-//! What members send each other about a path, and what they note.
+//! What members send each other about a unit, and what they note.
 ghost use Rattle.std.specs.Prelude.{◌≡◌, IfOk};
 
 use crate::Value;
@@ -8,7 +8,7 @@ use faults::Memory;
 use package_record::Build;
 use pkgpath::PkgPath;
 
-/// What a message says of its path.
+/// What a message says of its unit.
 #[derive(Drop)]
 pub enum Body<V = Build> {
     /// The claim's member asks for promises.
@@ -28,20 +28,20 @@ pub enum Body<V = Build> {
     Nay(Claim, Claim),
 }
 
-/// What a member tells another about a path.
+/// What a member tells another about a unit.
 #[derive(Drop)]
 pub struct Message<V = Build> {
     /// The number of the member that sends it.
     pub sender: u8,
     /// The digest of the sender's tree.
     pub tree: [u8; 32],
-    /// The path that it is about.
+    /// The name of the unit that it is about.
     pub path: PkgPath,
-    /// What it says of that path.
+    /// What it says of that unit.
     pub body: Body<V>,
 }
 
-/// What a member has to know of a path after a stop.
+/// What a member has to know of a unit after a stop.
 #[derive(Drop)]
 pub enum Fact<V = Build> {
     /// It opened a claim of this round.
@@ -54,12 +54,12 @@ pub enum Fact<V = Build> {
     Held(V),
 }
 
-/// What a member writes down of a path before it answers.
+/// What a member writes down of a unit before it answers.
 #[derive(Drop)]
 pub struct Note<V = Build> {
-    /// The path that it is about.
+    /// The name of the unit that it is about.
     pub path: PkgPath,
-    /// What is to be known of that path.
+    /// What is to be known of that unit.
     pub fact: Fact<V>,
 }
 
