@@ -16,7 +16,7 @@ ghost use Rattle.listing.specs.inside.Table.{name_in};
 ghost use Rattle.listing.specs.Tree.{most_paths};
 
 use crate::ListingFault;
-use crate::line::is_blank;
+use crate::line::first_word;
 use crate::table::Row;
 use indexmap::{IndexMap, IndexSet};
 use pkgname::{PkgName, first_piece};
@@ -248,15 +248,13 @@ impl<'a> Dependencies<'a> {
         ensures grows { Grows self.old self.new }
     {
         let mut numbers = Vec::new(alloc);
-        for (count, word) in value
-            .split(|byte| is_blank(*byte))
-            .filter(|word| !word.is_empty())
-            .enumerate()
-        {
-            if count >= MOST_DEPENDENCIES {
+        let mut left = value;
+        'words: while let Some((word, behind)) = first_word(left) {
+            if numbers.len() >= MOST_DEPENDENCIES {
                 return Err(ListingFault::TooMany(line));
             }
             numbers.push(self.number(alloc, line, word)?)?;
+            left = behind;
         }
         Ok(numbers)
     }

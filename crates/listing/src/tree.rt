@@ -9,6 +9,7 @@ ghost use Rattle.listing.specs.Tree.{ArePositions, IsTree, build_at, group_at, i
 
 use crate::ListingFault;
 use crate::groups::Groups;
+use crate::line::first_line;
 use crate::node::Node;
 use crate::table::Table;
 use indexmap::IndexSet;
@@ -74,9 +75,12 @@ impl Tree {
     {
         let mut table = Table::new(alloc);
         let mut number = 0;
-        for line in text.split(|byte| *byte == b'\n') {
+        let mut left = Some(text);
+        'lines: while let Some(text) = left {
+            let (line, behind) = first_line(text);
             number += 1;
             table.read(alloc, number, line)?;
+            left = behind;
         }
         Tree::of_table(alloc, table, is_single)
     }
