@@ -10,7 +10,7 @@ use Rattle.pkgspec.specs.Spec.{Alternative}
 use Rattle.listing.specs.Dependencies.{specs_of}
 use Rattle.listing.specs.inside.Parts.{position_of_word}
 use Rattle.listing.specs.Rules.{names_and_specs}
-use Rattle.listing.specs.inside.Table.{name_in, new_row}
+use Rattle.listing.specs.inside.Table.{name_in, no_row}
 use Rattle.listing.specs.Tree.{Package, Tree}
 use Rattle.listing.specs.declared.dependency.Dependency.{Dependency}
 use Rattle.listing.specs.declared.dependency.Resolution.{Resolution}
@@ -64,7 +64,7 @@ unlisted = record { position = None; is_met = false }
 -- what becomes of a dependency whose path stands at this position: the name in the row there has to be one that will do
 abbrev pub resolution_at : List Row → (Text → Bool) → Option ℕ → Resolution
 resolution_at rows will_do None = unlisted
-resolution_at rows will_do (Some p) = record { position = Some p; is_met = option_map_or will_do (name_in (slice_index_or rows p (new_row 0))) false }
+resolution_at rows will_do (Some p) = record { position = Some p; is_met = option_map_or will_do (name_in (slice_index_or rows p no_row)) false }
 
 -- all these specs match the name
 abbrev pub all_match : List (List Alternative) → Text → Bool
