@@ -1,6 +1,7 @@
 //! A package of a tree, without its path.
-ghost use Rattle.std.specs.Prelude.{◌≡◌, ◌⊎◌, ◌<◌, ◌++◌, All, Some, length, MatchResult};
-ghost use Rattle.listing.specs.inside.Nodes.{HasNumbersBelow, IsNodeOf, IsSetOf, are_met, is_marked_by, listed_positions, numbers_of_value, text_of_value};
+ghost use Rattle.std.specs.Prelude.{◌≡◌, ◌⊎◌, ◌<◌, ◌++◌, All, None, Some, length, MatchResult};
+ghost use Rattle.faults.specs.Answers.{first_given};
+ghost use Rattle.listing.specs.inside.Nodes.{AreNodesOf, HasNumbersBelow, IsNodeOf, IsSetOf, are_met, is_marked_by, listed_positions, numbers_of_value, text_of_value};
 ghost use Rattle.listing.specs.inside.Table.{row_fault};
 
 use crate::ListingFault;
@@ -42,6 +43,25 @@ impl Node {
             is_marked: is_marked(row, resolutions),
         })
     }
+}
+
+/// The packages of the rows, in turn, by what has become of each dependency, by its number.
+pub fn nodes_of(
+    alloc: Global,
+    rows: &[Row<'_>],
+    resolutions: &[Resolution],
+) -> Result<Vec<Node>, ListingFault>
+    requires { All (HasNumbersBelow (length resolutions.now)) rows.now }
+    ensures { MatchResult result
+        (λ nodes. (first_given row_fault rows.now ≡ None)
+        × AreNodesOf resolutions.now rows.now nodes.items)
+        (λ e. (e ≡ ListingFault.Memory) ⊎ (first_given row_fault rows.now ≡ Some e)) }
+{
+    let mut nodes = Vec::with_capacity(alloc, rows.len())?;
+    for row in rows {
+        nodes.push(Node::of_row(alloc, row, resolutions)?)?;
+    }
+    Ok(nodes)
 }
 
 /// Whether IGNORE isn't empty in the row, or a dependency in it isn't met.

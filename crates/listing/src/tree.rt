@@ -1,16 +1,17 @@
 //! A tree, which contracts see as the list of its packages.
 ghost use Rattle.std.specs.Prelude.{◌≡◌, ◌⊎◌, ◌<◌, List, None, Some, length, map, MatchResult};
-ghost use Rattle.faults.specs.Answers.{IsRightUnless};
+ghost use Rattle.faults.specs.Answers.{IsRightUnless, first_given};
 ghost use Rattle.listing.specs.Lines.{Setting};
 ghost use Rattle.listing.specs.Listing.{nameless_fault, tree_of, tree_of_settings};
 ghost use Rattle.listing.specs.Rules.{group_by, names_and_specs, single_paths, with_groups};
-ghost use Rattle.listing.specs.inside.Table.{Stands};
+ghost use Rattle.listing.specs.inside.Nodes.{AreNodesOfTable};
+ghost use Rattle.listing.specs.inside.Table.{Stands, row_fault};
 ghost use Rattle.listing.specs.Tree.{ArePositions, IsTree, build_at, group_at, is_marked_at, name_at, path_at, position_of, run_at};
 
 use crate::ListingFault;
 use crate::groups::Groups;
 use crate::line::first_line;
-use crate::node::Node;
+use crate::node::{Node, nodes_of};
 use crate::table::Table;
 use indexmap::IndexSet;
 use pkgname::PkgName;
@@ -92,20 +93,10 @@ impl Tree {
             → MatchResult result (λ t. (nameless_fault settings ≡ None) × (t ≡ tree_of_settings (with_groups (group_by is_single)) settings))
             (λ e. (e ≡ ListingFault.Memory) ⊎ (nameless_fault settings ≡ Some e)) }
     {
-        let Table {
-            paths,
-            rows,
-            dependencies,
-        } = table;
-        let resolutions = dependencies.resolve(alloc, &paths, rows.as_slice())?;
-        let mut nodes = Vec::with_capacity(alloc, rows.len())?;
-        for row in &rows {
-            nodes.push(Node::of_row(alloc, row, resolutions.as_slice())?)?;
-        }
-        let listed = paths.as_slice();
-        let groups = Groups::of(alloc, listed, is_single)?;
+        let nodes = nodes_of_table(alloc, &table)?;
+        let groups = Groups::of(alloc, table.paths.as_slice(), is_single)?;
         Ok(Tree {
-            paths,
+            paths: table.paths,
             nodes,
             groups,
             is_single,
@@ -188,4 +179,17 @@ impl Tree {
     {
         self.nodes[position as usize].is_marked
     }
+}
+
+/// The packages of all that the lines set, without their paths, if each has a name.
+fn nodes_of_table(alloc: Global, table: &Table<'_>) -> Result<Vec<Node>, ListingFault>
+    requires { (settings : List Setting) × Stands table.now settings }
+    ensures { MatchResult result
+        (λ nodes. (first_given row_fault table.now.rows.items ≡ None)
+        × AreNodesOfTable table.now nodes.items)
+        (λ e. (e ≡ ListingFault.Memory) ⊎ (first_given row_fault table.now.rows.items ≡ Some e)) }
+{
+    let rows = table.rows.as_slice();
+    let resolutions = table.dependencies.resolve(alloc, &table.paths, rows)?;
+    nodes_of(alloc, rows, resolutions.as_slice())
 }

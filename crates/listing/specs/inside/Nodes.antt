@@ -1,5 +1,5 @@
 -- What a contract sees of the nodes of a tree.
-use Rattle.std.specs.Prelude.{ℕ, ◌≡◌, ◌<◌, ◌&&◌, ◌||◌, ◌==◌, Bool, false, not, List, [], All, ◌++◌, map, filter_map, position, Option, None, Some, slice_index_or}
+use Rattle.std.specs.Prelude.{ℕ, ◌≡◌, ◌<◌, ◌&&◌, ◌||◌, ◌==◌, Bool, false, not, List, [], All, ◌++◌, length, map, filter_map, position, Option, None, Some, slice_index_or}
 use Rattle.std.specs.List.{list_all, list_any, zip}
 use Rattle.std.specs.List.Sorted.{IsStrictlyIncreasing}
 use Rattle.std.specs.Option.{option_map_or}
@@ -18,6 +18,7 @@ use Rattle.listing.specs.declared.node.Node.{Node}
 use Rattle.listing.specs.declared.table.Reading.{Reading}
 use Rattle.listing.specs.declared.table.Reading.TheVariants.{Name, Numbers, Unread}
 use Rattle.listing.specs.declared.table.Row.{Row}
+use Rattle.listing.specs.declared.table.Table.{Table}
 use Rattle.listing.specs.declared.table.Value.{Value}
 
 -- the package that the node of a path stands for, where paths are of such groups
@@ -106,3 +107,17 @@ pub record IsNodeOf (resolutions : List Resolution) (row : Row) (n : Node) : Typ
   pub build : IsSetOf n.build.items (listed_positions resolutions (numbers_of_value row.build) ++ listed_positions resolutions (numbers_of_value row.lib))
   pub run : IsSetOf n.run.items (listed_positions resolutions (numbers_of_value row.lib) ++ listed_positions resolutions (numbers_of_value row.run))
   pub marked : n.is_marked ≡ is_marked_by resolutions row
+
+-- the nodes are those of the rows, in turn
+pub record AreNodesOf (resolutions : List Resolution) (rows : List Row) (nodes : List Node) : Type 0 where
+  pub lengths : length nodes ≡ length rows
+  pub each : (k : ℕ) (d : Row) (e : Node) → k < length rows
+      → IsNodeOf resolutions (slice_index_or rows k d) (slice_index_or nodes k e)
+
+-- what becomes of each dependency of the table
+abbrev pub resolutions_in : Table → List Resolution
+resolutions_in table = map (resolution_of_word table.paths.keys table.rows.items) table.dependencies
+
+-- the nodes are those of the table's rows
+abbrev pub AreNodesOfTable : Table → List Node → Type 0
+AreNodesOfTable table nodes = AreNodesOf (resolutions_in table) table.rows.items nodes
