@@ -22,7 +22,8 @@ pub enum Variable {
 impl Variable {
     /// The variable of this name, if it is one that is read.
     pub fn named(name: &[u8]) -> Option<Variable>
-        ensures { MatchOption result (is_among variables name.now ≡ false) (λ v. name.now ≡ name_of_variable v) }
+        ensures { MatchOption result (is_among variables name.now ≡ false)
+            (λ v. name.now ≡ name_of_variable v) }
     {
         if name == b"FULLPKGNAME".as_slice() {
             Some(Variable::FullName)
@@ -40,7 +41,8 @@ impl Variable {
     }
 }
 
-/// What stands in a line: a path, the name of a variable, and a value without spaces and tabs at its ends.
+/// What stands in a line: a path, the name of a variable, and a value without spaces and tabs at
+/// its ends.
 #[derive(Clone, Copy)]
 pub struct Parts<'a> {
     pub path: &'a [u8],
@@ -88,8 +90,8 @@ pub fn is_blank(byte: u8) -> bool
     byte == b' ' || byte == b'\t'
 }
 
-/// The first word of a value, and what stands behind the space or tab that ends it, if the value has
-/// a word.
+/// The first word of a value, and what stands behind the space or tab that ends it, if the value
+/// has a word.
 pub fn first_word(value: &[u8]) -> Option<(&[u8], &[u8])>
     ensures words { MatchOption result
         (words_of value.now ≡ [])

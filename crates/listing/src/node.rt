@@ -10,7 +10,8 @@ use crate::table::{Reading, Row, Value};
 use pkgname::PkgName;
 use std::alloc::Global;
 
-/// A package without its path. Its dependencies stand as their positions in the tree: sets, ascending, each once.
+/// A package without its path. Its dependencies stand as their positions in the tree: sets,
+/// ascending, each once.
 #[derive(Drop)]
 pub struct Node {
     pub name: PkgName,
@@ -118,7 +119,9 @@ fn positions_of(
     requires first { All (λ n. n < length resolutions.now) first.now }
     requires second { All (λ n. n < length resolutions.now) second.now }
     ensures { MatchResult result
-        (λ v. IsSetOf v.items (listed_positions resolutions.now first.now ++ listed_positions resolutions.now second.now))
+        (λ v. IsSetOf v.items
+        (listed_positions resolutions.now first.now
+        ++ listed_positions resolutions.now second.now))
         (λ e. e ≡ ListingFault.Memory) }
 {
     let mut found = Vec::new(alloc);

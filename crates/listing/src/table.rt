@@ -93,8 +93,10 @@ impl<'a> Row<'a> {
     /// Sets a variable. One that is set stays, if the value is the same.
     fn set(&mut self, line: u64, variable: Variable, value: Value<'a>) -> Result<(), ListingFault>
         ensures { MatchResult result
-            (λ _. (self.new ≡ with_value self.old variable value.entry) × (is_another value.entry.text.now (text_in variable self.old) ≡ false))
-            (λ e. (is_another value.entry.text.now (text_in variable self.old) ≡ true) × (e ≡ ListingFault.TwiceSet line)) }
+            (λ _. (self.new ≡ with_value self.old variable value.entry)
+            × (is_another value.entry.text.now (text_in variable self.old) ≡ false))
+            (λ e. (is_another value.entry.text.now (text_in variable self.old) ≡ true)
+            × (e ≡ ListingFault.TwiceSet line)) }
     {
         match variable {
             Variable::FullName => put(&mut self.name, line, value),
@@ -109,8 +111,10 @@ impl<'a> Row<'a> {
 /// Puts the value where none is. One that is there stays, if it is the same.
 fn put<'a>(place: &mut Option<Value<'a>>, line: u64, value: Value<'a>) -> Result<(), ListingFault>
     ensures { MatchResult result
-        (λ _. (place.new ≡ option_or place.old (Some value.entry)) × (is_another value.entry.text.now (option_map (λ x. x.text.now) place.old) ≡ false))
-        (λ e. (is_another value.entry.text.now (option_map (λ x. x.text.now) place.old) ≡ true) × (e ≡ ListingFault.TwiceSet line)) }
+        (λ _. (place.new ≡ option_or place.old (Some value.entry))
+        × (is_another value.entry.text.now (option_map (λ x. x.text.now) place.old) ≡ false))
+        (λ e. (is_another value.entry.text.now (option_map (λ x. x.text.now) place.old) ≡ true)
+        × (e ≡ ListingFault.TwiceSet line)) }
 {
     match place {
         None => {
@@ -132,9 +136,14 @@ fn set_in<'a>(
 ) -> Result<(), ListingFault>
     requires { position < length rows.old.items }
     ensures { (d : Row) → MatchResult result
-        (λ _. (rows.new.items ≡ slice_set rows.old.items position (with_value (slice_index_or rows.old.items position d) variable value.entry))
-        × (is_another value.entry.text.now (text_in variable (slice_index_or rows.old.items position d)) ≡ false))
-        (λ e. (is_another value.entry.text.now (text_in variable (slice_index_or rows.old.items position d)) ≡ true) × (e ≡ ListingFault.TwiceSet line)) }
+        (λ _. (rows.new.items
+        ≡ slice_set rows.old.items position
+        (with_value (slice_index_or rows.old.items position d) variable value.entry))
+        × (is_another value.entry.text.now
+        (text_in variable (slice_index_or rows.old.items position d)) ≡ false))
+        (λ e. (is_another value.entry.text.now
+        (text_in variable (slice_index_or rows.old.items position d)) ≡ true)
+        × (e ≡ ListingFault.TwiceSet line)) }
 {
     rows[position].set(line, variable, value)
 }
@@ -142,7 +151,8 @@ fn set_in<'a>(
 /// The name that the value in a line is.
 fn read_name(alloc: Global, line: u64, text: &[u8]) -> Result<PkgName, ListingFault>
     ensures { MatchResult result (λ n. name_of text.now ≡ Ok n)
-        (λ e. (e ≡ ListingFault.Memory) ⊎ (is_ok (name_of text.now) ≡ false) × (e ≡ ListingFault.BadLine line)) }
+        (λ e. (e ≡ ListingFault.Memory)
+        ⊎ (is_ok (name_of text.now) ≡ false) × (e ≡ ListingFault.BadLine line)) }
 {
     match PkgName::parse(alloc, text) {
         Ok(name) => Ok(name),
@@ -167,8 +177,10 @@ impl<'a> Table<'a> {
     pub fn read(&mut self, alloc: Global, number: u64, line: &'a [u8]) -> Result<(), ListingFault>
         requires { length self.old.rows.items ≡ length self.old.paths.keys }
         ensures { (earlier : List Setting) → Stands self.old earlier → MatchResult result
-            (λ _. (line_fault names_and_specs earlier (number, line.now) ≡ None) × Stands self.new (earlier ++ option_to_list (setting_of (number, line.now))))
-            (λ e. (e ≡ ListingFault.Memory) ⊎ (line_fault names_and_specs earlier (number, line.now) ≡ Some e)) }
+            (λ _. (line_fault names_and_specs earlier (number, line.now) ≡ None)
+            × Stands self.new (earlier ++ option_to_list (setting_of (number, line.now))))
+            (λ e. (e ≡ ListingFault.Memory)
+            ⊎ (line_fault names_and_specs earlier (number, line.now) ≡ Some e)) }
     {
         if is_skipped(line) {
             return Ok(());
@@ -295,7 +307,9 @@ impl<'a> Table<'a> {
         ensures answer { MatchResult result
             (λ r. (value_fault names_and_specs line (name_of_variable variable) text.now ≡ None)
             × IsReadAs self.new.dependencies variable text.now r)
-            (λ e. (e ≡ ListingFault.Memory) ⊎ (value_fault names_and_specs line (name_of_variable variable) text.now ≡ Some e)) }
+            (λ e. (e ≡ ListingFault.Memory)
+            ⊎ (value_fault names_and_specs line (name_of_variable variable) text.now
+            ≡ Some e)) }
         ensures paths { self.new.paths ≡ self.old.paths }
         ensures rows { self.new.rows ≡ self.old.rows }
         ensures grows { Grows self.old.dependencies self.new.dependencies }

@@ -19,8 +19,9 @@ use pkgpath::PkgPath;
 use std::alloc::Global;
 use std::marker::Model;
 
-/// The packages of a listing, by position: at most 16,384, numbered from 0 in the order of their paths' first lines.
-/// Packages whose paths are equal without their subpackages are of one group, or each is a group of its own.
+/// The packages of a listing, by position: at most 16,384, numbered from 0 in the order of their
+/// paths' first lines. Packages whose paths are equal without their subpackages are of one group,
+/// or each is a group of its own.
 #[derive(Drop)]
 pub struct Tree {
     paths: IndexSet<PkgPath>,
@@ -51,8 +52,8 @@ impl Tree {
     ///
     /// # Errors
     ///
-    /// `Memory`, where a growth was refused; else the fault of the first faulty line; and where no line is faulty,
-    /// `NoName` for the first line whose path has no name.
+    /// `Memory`, where a growth was refused; else the fault of the first faulty line; and where no
+    /// line is faulty, `NoName` for the first line whose path has no name.
     pub fn parse(alloc: Global, text: &[u8]) -> Result<Tree, ListingFault>
         ensures { IsRightUnless ListingFault.Memory result (tree_of names_and_specs text.now) }
     {
@@ -72,7 +73,8 @@ impl Tree {
 
     /// The tree that the listing describes, where each package is a group of its own or not.
     fn read(alloc: Global, text: &[u8], is_single: bool) -> Result<Tree, ListingFault>
-        ensures { IsRightUnless ListingFault.Memory result (tree_of (with_groups (group_by is_single)) text.now) }
+        ensures { IsRightUnless ListingFault.Memory result
+            (tree_of (with_groups (group_by is_single)) text.now) }
     {
         let mut table = Table::new(alloc);
         let mut number = 0;
@@ -90,7 +92,9 @@ impl Tree {
     fn of_table(alloc: Global, table: Table<'_>, is_single: bool) -> Result<Tree, ListingFault>
         requires { (settings : List Setting) × Stands table settings }
         ensures { (settings : List Setting) → Stands table.entry settings
-            → MatchResult result (λ t. (nameless_fault settings ≡ None) × (t ≡ tree_of_settings (with_groups (group_by is_single)) settings))
+            → MatchResult result
+            (λ t. (nameless_fault settings ≡ None)
+            × (t ≡ tree_of_settings (with_groups (group_by is_single)) settings))
             (λ e. (e ≡ ListingFault.Memory) ⊎ (nameless_fault settings ≡ Some e)) }
     {
         let nodes = nodes_of_table(alloc, &table)?;
@@ -134,8 +138,8 @@ impl Tree {
         &self.paths.as_slice()[position as usize]
     }
 
-    /// The path that names the package's group: its path without the subpackage, or its path, where each package is a
-    /// group of its own.
+    /// The path that names the package's group: its path without the subpackage, or its path, where
+    /// each package is a group of its own.
     pub fn group(&self, position: u32) -> &PkgPath
         requires { position < length self.now }
         ensures { result.now ≡ group_at self.now position }
@@ -151,8 +155,8 @@ impl Tree {
         &self.nodes[position as usize].name
     }
 
-    /// The positions of the listed dependencies of BUILD_DEPENDS and LIB_DEPENDS, ascending, each once. A dependency
-    /// whose path isn't listed has no position: it marks the package instead.
+    /// The positions of the listed dependencies of BUILD_DEPENDS and LIB_DEPENDS, ascending, each
+    /// once. A dependency whose path isn't listed has no position: it marks the package instead.
     pub fn build_deps(&self, position: u32) -> &[u32]
         requires { position < length self.now }
         ensures value { result.now ≡ build_at self.now position }
@@ -161,8 +165,8 @@ impl Tree {
         self.nodes[position as usize].build.as_slice()
     }
 
-    /// The positions of the listed dependencies of LIB_DEPENDS and RUN_DEPENDS, ascending, each once. A dependency
-    /// whose path isn't listed has no position: it marks the package instead.
+    /// The positions of the listed dependencies of LIB_DEPENDS and RUN_DEPENDS, ascending, each
+    /// once. A dependency whose path isn't listed has no position: it marks the package instead.
     pub fn run_deps(&self, position: u32) -> &[u32]
         requires { position < length self.now }
         ensures value { result.now ≡ run_at self.now position }
@@ -171,8 +175,8 @@ impl Tree {
         self.nodes[position as usize].run.as_slice()
     }
 
-    /// Whether the package's IGNORE isn't empty, or a dependency of it has a path that isn't listed, or one whose
-    /// listed name a spec of the dependency doesn't match.
+    /// Whether the package's IGNORE isn't empty, or a dependency of it has a path that isn't
+    /// listed, or one whose listed name a spec of the dependency doesn't match.
     pub fn marked(&self, position: u32) -> bool
         requires { position < length self.now }
         ensures { result ≡ is_marked_at self.now position }

@@ -38,7 +38,8 @@ impl Model for PkgPath {
 }
 
 impl PkgPath {
-    /// The path that the text spells. Its parts may stand in any order, and a flavor more than once.
+    /// The path that the text spells. Its parts may stand in any order, and a flavor more than
+    /// once.
     ///
     /// # Errors
     ///

@@ -32,7 +32,8 @@ pub record AreGroups (names : List Text) (sizes : List (Text × ℕ)) (places : 
 
 -- a line for a group that is named twice or more
 abbrev pub line_of_group : List Text → Text → Text
-line_of_group names group = if nat_le 2 (size_in names group) then line (codes "G " ++ group) else []
+line_of_group names group =
+    if nat_le 2 (size_in names group) then line (codes "G " ++ group) else []
 
 -- the lines of groups, in the order in which they are first named
 abbrev pub lines_of_groups : List Text → Text

@@ -43,7 +43,12 @@ text_in v row = option_map (λ x. x.text.now) (value_in v row)
 
 -- a line sets a variable of a path to a value
 abbrev pub setting : ℕ → Text → Variable → Text → Setting
-setting line path variable value = record { line = line; path = path; variable = name_of_variable variable; value = value }
+setting line path variable value = record {
+  line = line;
+  path = path;
+  variable = name_of_variable variable;
+  value = value;
+}
 
 -- the name, where the value was read as one
 abbrev pub name_read : Reading → Option Text
@@ -60,7 +65,8 @@ abbrev pub row_fault : Row → Option ListingFault
 row_fault row = if is_some (name_in row) then None else Some (NoName row.line)
 
 -- the row holds what the lines set for the path
-pub record IsRowOf (settings : List Setting) (words : List Text) (path : Text) (row : Row) : Type 0 where
+pub record IsRowOf (settings : List Setting) (words : List Text) (path : Text)
+    (row : Row) : Type 0 where
   pub line : option_map (λ s. s.line) (find (λ s. bytes_eq s.path path) settings) ≡ Some row.line
   pub values : (v : Variable) → value_of settings path (name_of_variable v) ≡ text_in v row
   pub reads : (v : Variable) → IfSome (value_in v row) (λ x. IsReadAs words v x.text.now x.reading)
@@ -84,13 +90,16 @@ no_row = new_row 0 (record { ref_ptr = (0, 0); now = [] })
 
 -- in the first line of the row at the position, this text spells the path
 abbrev pub IsSpelled : List Row → ℕ → Text → Type 0
-IsSpelled rows at spelled = (at < length rows) × ((slice_index_or rows at no_row).spelled.now ≡ spelled)
+IsSpelled rows at spelled =
+    (at < length rows) × ((slice_index_or rows at no_row).spelled.now ≡ spelled)
 
 -- paths, each with its row, hold what the lines set
-pub record AreRowsOf (settings : List Setting) (words : List Text) (paths : List Text) (rows : List Row) : Type 0 where
+pub record AreRowsOf (settings : List Setting) (words : List Text) (paths : List Text)
+    (rows : List Row) : Type 0 where
   pub all : paths ≡ paths_of settings
   pub lengths : length rows ≡ length paths
-  pub each : (k : ℕ) (d : Row) → k < length paths → IsRowOf settings words (slice_index_or paths k []) (slice_index_or rows k d)
+  pub each : (k : ℕ) (d : Row) → k < length paths
+      → IsRowOf settings words (slice_index_or paths k []) (slice_index_or rows k d)
   pub once : IsDistinct bytes_eq paths
   pub few : length paths ≤ most_paths
   pub spelled : All IsPath paths
