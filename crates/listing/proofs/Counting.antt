@@ -1,17 +1,14 @@
 -- Groups that are counted path by path.
-use Rattle.std.proofs.Common.{◌≡◌, ◌<◌, ◌≤◌, ◌+◌, ◌++◌, ◌||◌, ℕ, zero, suc, Bool, true, false, not, cond, List, [], ◌∷◌, Option, None, Some, get_or, length, map, nat_le, refl, sym, ap, subst, ◌∙◌, arith, unwrap_or, if◌then◌else◌}
-use Rattle.std.specs.Prelude.{count_by}
+use Rattle.std.proofs.Common.{◌≡◌, ◌+◌, ◌++◌, ◌||◌, ℕ, suc, Bool, true, false, not, cond, List, [], ◌∷◌, Option, Some, refl, sym, ap, subst, ◌∙◌, arith, unwrap_or, if◌then◌else◌}
 use Rattle.std.specs.List.{list_any, position_or_len}
 use Rattle.std.specs.Map.{keys_of, lookup}
 use Rattle.std.specs.Str.{bytes_eq}
-use Rattle.std.proofs.lemmas.List.{append-nil}
 use Rattle.std.proofs.lemmas.List.Sums.{sum_by-append, sum_by-cons}
 use Rattle.indexmap.specs.IndexMap.{insert_entry}
 use Rattle.indexmap.specs.IndexSet.{insert_key}
 use Rattle.faults.specs.Bytes.{Text}
-use Rattle.faults.specs.Pieces.{in_order_of_appearance}
 use Rattle.listing.specs.inside.Groups.{AreGroups, AreSizes, size_in}
-use Rattle.listing.specs.inside.Parts.{AreNumbersOf, Grows, IsNumberOf}
+use Rattle.listing.specs.inside.Parts.{Grows, IsNumberOf}
 use Rattle.listing.proofs.Numbers.{grows_refl, numbers_push, numbers_stay}
 use Rattle.listing.proofs.Settings.{in_order-push, same_text}
 

@@ -2,9 +2,12 @@ mod Examples
 mod DigestExamples
 pub mod Positions
 pub mod Places
+pub mod Found
+pub mod Words
 pub mod Fields
 pub mod LineLemmas
 pub mod First
+pub mod Left
 pub mod Numbers
 pub mod Settings
 pub mod Rows

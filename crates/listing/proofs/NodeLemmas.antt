@@ -21,7 +21,7 @@ use Rattle.listing.specs.Listing.{dependencies_of, dependency_path, dependency_p
 use Rattle.listing.specs.inside.Nodes.{HasNumbersBelow, IsNodeOf, IsSetOf, are_met, listed_positions, numbers_of_value, numbers_read, package_of_node, packages_of, resolution_at, resolution_of_word, text_of_value, unlisted, word_matches}
 use Rattle.listing.specs.inside.Parts.{AreNumbersOf, IsReadAs, has_dependencies, position_of_word}
 use Rattle.listing.specs.Rules.{group_by, names_and_specs, with_groups}
-use Rattle.listing.specs.inside.Table.{AreRowsOf, IsRowOf, name_in, name_read, new_row}
+use Rattle.listing.specs.inside.Table.{AreRowsOf, IsRowOf, name_in, name_read, no_row}
 use Rattle.listing.specs.Tree.{AreGrouped, ArePositions, AreSingle, IsTree, Package, no_package, path_at}
 use Rattle.listing.specs.declared.dependency.Resolution.{Resolution}
 use Rattle.listing.specs.declared.line.Variable.{Variable}
@@ -167,7 +167,7 @@ name_known ss words path row name h e =
 
 -- each row has a name
 abbrev pub AreNamed : List Row → Type 0
-AreNamed rows = (k : ℕ) → k < length rows → (name : Text) × (name_in (get_or rows k (new_row 0)) ≡ Some name)
+AreNamed rows = (k : ℕ) → k < length rows → (name : Text) × (name_in (get_or rows k no_row) ≡ Some name)
 
 -- ---- whether a dependency is met
 
@@ -184,7 +184,7 @@ met_by ss words paths rows w (Some p) h named e =
     ∙ sym (some_position (bytes_eq (dependency_path w)) paths) ∙ ap is_some e in
     let place = position-Some (bytes_eq (dependency_path w)) paths p [] e in
     let here = named p (omega (arith, place.0, h.lengths)) in
-    let known = name_known ss words (get_or paths p []) (get_or rows p (new_row 0)) here.0 (h.each p (new_row 0) place.0) here.1 in
+    let known = name_known ss words (get_or paths p []) (get_or rows p no_row) here.0 (h.each p no_row place.0) here.1 in
     let name : name_of ss (dependency_path w) ≡ here.0 = ap (name_of ss) (same_text (dependency_path w) (get_or paths p []) place.1) ∙ known.0 in
     ap (λ o. option_map_or (word_matches w) o false) here.1 ∙ ap (word_matches w) (sym name)
     ∙ sym (ap (λ b. b && word_matches w (name_of ss (dependency_path w))) there)
@@ -289,7 +289,7 @@ package_is g ss words paths rows resolutions path row n all named at h node =
 pub named_by : (resolutions : List Resolution) (rows : List Row) (nodes : List Node) → length nodes ≡ length rows
     → ((k : ℕ) (d : Row) (e : Node) → k < length rows → IsNodeOf resolutions (get_or rows k d) (get_or nodes k e)) → AreNamed rows
 named_by resolutions rows [] same each k l = absurd (omega (arith, l, same))
-named_by resolutions rows (m ∷ ms) same each k l = ((get_or (m ∷ ms) k m).name, (each k (new_row 0) m l).name)
+named_by resolutions rows (m ∷ ms) same each k l = ((get_or (m ∷ ms) k m).name, (each k no_row m l).name)
 
 tree_by : (g : Text → Text) (ss : List Setting) (words paths : List Text) (rows : List Row) (resolutions : List Resolution) (nodes : List Node) (m : Node)
     → AreRowsOf ss words paths rows → resolutions ≡ map (resolution_of_word paths rows) words → length nodes ≡ length rows
@@ -302,7 +302,7 @@ tree_by g ss words paths rows resolutions nodes m h at same each =
     (λ i l.
     let within : i < length paths = omega (arith, size, l) in
     let n : Node = get_or nodes i m in
-    let d : Row = new_row 0 in
+    let d : Row = no_row in
     package_at-packages_of g paths nodes i n (same ∙ h.lengths) within (get_or_default nodes i m n (omega (arith, within, same, h.lengths)))
     ∙ package_is g ss words paths rows resolutions (get_or paths i []) (get_or rows i d) n h (named_by resolutions rows nodes same each) at (h.each i d within) (each i d m (omega (arith, within, h.lengths)))
     ∙ ap (λ ps. package_of (with_groups g) ss (get_or ps i [])) h.all
@@ -348,7 +348,7 @@ is_tree is_single ss words paths rows h named =
           (λ k d l.
           let within : k < length paths = omega (arith, l, ap length h.all) in
           let here = named k (omega (arith, within, h.lengths)) in
-          let known = name_known ss words (get_or paths k []) (get_or rows k (new_row 0)) here.0 (h.each k (new_row 0) within) here.1 in
+          let known = name_known ss words (get_or paths k []) (get_or rows k no_row) here.0 (h.each k no_row within) here.1 in
           let path : get_or paths k [] ≡ get_or (paths_of ss) k d = ap (λ ps. get_or ps k []) h.all ∙ get_or_default (paths_of ss) k [] d l in
           subst IsName (sym known.0 ∙ ap (name_of ss) path) known.1);
       once = λ p q lp lq e.

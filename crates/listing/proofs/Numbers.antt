@@ -169,14 +169,6 @@ pub record ReadSoFar (line : ℕ) (value : Text) (old new : List Text) (ns : Lis
   pub are : AreNumbersOf new ns (take k (words_of value))
   pub grows : Grows old new
 
--- the k-th dependency, and what the count says of it
-pub word_at : (value : Text) (k n : ℕ) (w : Text) → k < length (enumerate_from 0 (words_of value)) → (n, w) ≡ get_or (enumerate_from 0 (words_of value)) k (n, w)
-    → (k < length (words_of value)) × (n ≡ k) × (w ≡ get_or (words_of value) k w)
-word_at value k n w within here =
-    let l : k < length (words_of value) = omega (arith, within, length-enumerate_from 0 (words_of value)) in
-    let e : (n, w) ≡ (0 + k, get_or (words_of value) k w) = here ∙ get_or-enumerate_from 0 (words_of value) k (n, w) l in
-    (l, ap (λ (p : ℕ × Text). p.0) e ∙ zero-add k, ap (λ (p : ℕ × Text). p.1) e)
-
 fault_at_place : (line : ℕ) (value : Text) (k : ℕ) (w : Text) → k < length (words_of value) → w ≡ get_or (words_of value) k w
     → dependency_fault names_and_specs line (get_or (enumerate_from 0 (words_of value)) k (k, w))
     ≡ option_or (first_that_applies ((nat_le most_dependencies k, TooMany line) ∷ [])) (word_fault names_and_specs line w)
@@ -220,10 +212,10 @@ faulty_word line value old new numbers k w e so_far within here few bad =
     ∙ (λ i. option_or (first_that_applies ((below i, TooMany line) ∷ [])) (bad i)))
 
 pub all_read : (line : ℕ) (value : Text) (old new : List Text) (numbers : List ℕ) (k : ℕ) → ReadSoFar line value old new numbers k
-    → length (enumerate_from 0 (words_of value)) ≤ k → (dependencies_fault names_and_specs line value ≡ None) × AreNumbersOf new numbers (words_of value)
+    → length (words_of value) ≤ k → (dependencies_fault names_and_specs line value ≡ None) × AreNumbersOf new numbers (words_of value)
 all_read line value old new numbers k so_far all = (
-  none_given_at_all (dependency_fault names_and_specs line) (enumerate_from 0 (words_of value)) k all so_far.faultless,
-  subst (AreNumbersOf new numbers) (take_all k (words_of value) (omega (arith, all, length-enumerate_from 0 (words_of value)))) so_far.are,
+  none_given_at_all (dependency_fault names_and_specs line) (enumerate_from 0 (words_of value)) k (omega (arith, all, length-enumerate_from 0 (words_of value))) so_far.faultless,
+  subst (AreNumbersOf new numbers) (take_all k (words_of value) all) so_far.are,
 )
 
 -- ---- what becomes of what was read

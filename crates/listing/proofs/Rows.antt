@@ -1,5 +1,5 @@
 -- Rows that stand for what lines set, and one more setting.
-use Rattle.std.proofs.Common.{◌≡◌, ◌<◌, ◌≤◌, ◌+◌, ◌++◌, ◌&&◌, ◌||◌, ◌⊎◌, ℕ, suc, zero, Bool, true, false, not, nat_le, List, [], ◌∷◌, length, set, position, option_and_then, option_map, Option, None, Some, IfSome, is_some, ◌≢◌, refl, sym, ap, subst, ◌∙◌, arith, if◌then◌else◌, get_or, inl, inr}
+use Rattle.std.proofs.Common.{◌≡◌, ◌<◌, ◌≤◌, ◌+◌, ◌++◌, ◌&&◌, ◌||◌, ◌⊎◌, ℕ, suc, zero, Bool, true, false, not, nat_le, List, [], ◌∷◌, length, set, option_and_then, option_map, Option, None, Some, Ok, Bor, IfSome, is_some, ◌≢◌, refl, sym, ap, subst, ◌∙◌, arith, if◌then◌else◌, get_or, inl, inr}
 use Rattle.std.specs.List.{list_any, IsDistinct}
 use Rattle.std.specs.Str.{bytes_eq}
 use Rattle.std.specs.Cmp.Lexicographic.{nat_list_eq_equiv}
@@ -7,12 +7,11 @@ use Rattle.std.proofs.lemmas.Bool.{cases_eq, cases_lt}
 use Rattle.std.proofs.lemmas.Bool.Decides.{nat_tests}
 use Rattle.std.proofs.lemmas.List.{get_or_default, get_or-set_same, get_or-set_other, get_or_append_left, get_or_push, length-set, length_push}
 use Rattle.std.proofs.lemmas.List.Elements.{All-push}
-use Rattle.std.proofs.lemmas.List.Quantifiers.{position-Some}
 use Rattle.std.proofs.lemmas.Map.Keys.{apart_from_distinct, IsDistinct-push}
 use Rattle.indexmap.specs.IndexSet.{insert_key}
 use Rattle.faults.specs.Answers.{first_given, first_that_applies, option_or}
 use Rattle.faults.specs.Bytes.{Text, is_among}
-use Rattle.pkgpath.specs.PkgPath.{IsPath}
+use Rattle.pkgpath.specs.PkgPath.{IsPath, path_of}
 use Rattle.listing.specs.Dependencies.{words_of}
 use Rattle.listing.specs.Lines.{Setting, full_name}
 use Rattle.listing.specs.Listing.{is_another, is_one_too_many, is_set_anew, nameless_fault, paths_of, setting_fault, value_fault, value_of}
@@ -39,6 +38,10 @@ first_false false b e = refl
 second_false : (a b : Bool) → (a || b) ≡ false → b ≡ false
 second_false true b e = cc
 second_false false b e = e
+
+or_true : (b : Bool) → (b || true) ≡ true
+or_true true = refl
+or_true false = refl
 
 and_false : (b : Bool) → (b && false) ≡ false
 and_false true = refl
@@ -121,6 +124,7 @@ row_kept ss words more s path row other grows h = record {
       ∙ ap (λ b. option_or (value_of ss path (name_of_variable w)) (if (b && bytes_eq s.variable (name_of_variable w)) then Some s.value else None)) other
       ∙ or_none (value_of ss path (name_of_variable w)) ∙ h.values w;
   reads = reads_kept words more row grows h.reads;
+  spelled = h.spelled;
 }
 
 line-with_value : (row : Row) (v : Variable) (x : Value) → (with_value row v x).line ≡ row.line
@@ -130,6 +134,13 @@ line-with_value row LibDepends x = refl
 line-with_value row RunDepends x = refl
 line-with_value row Ignore x = refl
 
+spelled-with_value : (row : Row) (v : Variable) (x : Value) → (with_value row v x).spelled ≡ row.spelled
+spelled-with_value row FullName x = refl
+spelled-with_value row BuildDepends x = refl
+spelled-with_value row LibDepends x = refl
+spelled-with_value row RunDepends x = refl
+spelled-with_value row Ignore x = refl
+
 -- the row of the path takes the value
 row_set : (ss : List Setting) (words more : List Text) (line : ℕ) (p path : Text) (v : Variable) (x : Value) (row : Row) → bytes_eq p path ≡ true → Grows words more
     → IsReadValue more v x
@@ -138,26 +149,28 @@ row_set ss words more line p path v x row same grows new h = record {
   line = line_of-push ss (setting line p v x.text.now) path ∙ line_kept (line_of ss path) row.line _ h.line ∙ ap Some (sym (line-with_value row v x));
   values = values_set ss line p path v x row same h.values;
   reads = reads_set more v x row (reads_kept words more row grows h.reads) new;
+  spelled = ap (λ (t : Bor Text). path_of t.now) (spelled-with_value row v x) ∙ h.spelled;
 }
 
-pub nothing_in_new : (w : Variable) (line : ℕ) → value_in w (new_row line) ≡ None
-nothing_in_new FullName line = refl
-nothing_in_new BuildDepends line = refl
-nothing_in_new LibDepends line = refl
-nothing_in_new RunDepends line = refl
-nothing_in_new Ignore line = refl
+pub nothing_in_new : (w : Variable) (line : ℕ) (t : Bor Text) → value_in w (new_row line t) ≡ None
+nothing_in_new FullName line t = refl
+nothing_in_new BuildDepends line t = refl
+nothing_in_new LibDepends line t = refl
+nothing_in_new RunDepends line t = refl
+nothing_in_new Ignore line t = refl
 
 -- the first row of a path
-row_first : (ss : List Setting) (more : List Text) (line : ℕ) (p : Text) (v : Variable) (x : Value) → list_any (bytes_eq p) (paths_of ss) ≡ false
-    → IsReadValue more v x
-    → IsRowOf (ss ++ setting line p v x.text.now ∷ []) more p (with_value (new_row line) v x)
-row_first ss more line p v x new read = record {
+row_first : (ss : List Setting) (more : List Text) (line : ℕ) (p : Text) (t : Bor Text) (v : Variable) (x : Value) → list_any (bytes_eq p) (paths_of ss) ≡ false
+    → path_of t.now ≡ Ok p → IsReadValue more v x
+    → IsRowOf (ss ++ setting line p v x.text.now ∷ []) more p (with_value (new_row line t) v x)
+row_first ss more line p t v x new spells read = record {
   line = line_of-push ss (setting line p v x.text.now) p
       ∙ ap (λ o. option_or o (if bytes_eq p p then Some line else None)) (no_line ss p new)
-      ∙ ap (λ b. if b then Some line else None) (eq_self p) ∙ ap Some (sym (line-with_value (new_row line) v x));
-  values = values_set ss line p p v x (new_row line) (eq_self p)
-      (λ w. no_value ss p (name_of_variable w) new ∙ sym (ap (option_map (λ (y : Value). y.text.now)) (nothing_in_new w line)));
-  reads = reads_set more v x (new_row line) (λ w. subst (λ o. IfSome o (IsReadValue more w)) (sym (nothing_in_new w line)) tt) read;
+      ∙ ap (λ b. if b then Some line else None) (eq_self p) ∙ ap Some (sym (line-with_value (new_row line t) v x));
+  values = values_set ss line p p v x (new_row line t) (eq_self p)
+      (λ w. no_value ss p (name_of_variable w) new ∙ sym (ap (option_map (λ (y : Value). y.text.now)) (nothing_in_new w line t)));
+  reads = reads_set more v x (new_row line t) (λ w. subst (λ o. IfSome o (IsReadValue more w)) (sym (nothing_in_new w line t)) tt) read;
+  spelled = ap (λ (s : Bor Text). path_of s.now) (spelled-with_value (new_row line t) v x) ∙ spells;
 }
 
 -- ---- all rows
@@ -172,14 +185,20 @@ other_path ps q j k once inj e ink apart =
       | inr behind ↦ eq_flip (get_or ps j []) (get_or ps k []) ∙ apart_from_distinct bytes_eq ps k j [] once (omega arith) inj
     ]
 
+-- the path at a place is among them
+pub listed_at : (ps : List Text) (p : Text) (k : ℕ) → k < length ps → bytes_eq p (get_or ps k []) ≡ true → list_any (bytes_eq p) ps ≡ true
+listed_at [] p k within same = absurd (omega arith)
+listed_at (q ∷ ps) p zero within same = ap (λ b. b || list_any (bytes_eq p) ps) same
+listed_at (q ∷ ps) p (suc k) within same = ap (λ b. bytes_eq p q || b) (listed_at ps p k (omega arith) same) ∙ or_true (bytes_eq p q)
+
 -- the row of a path that is there takes a value
 pub rows_set : (ss : List Setting) (words more : List Text) (paths : List Text) (rows : List Row) (line : ℕ) (p : Text) (v : Variable) (x : Value) (i : ℕ) (d : Row)
-    → AreRowsOf ss words paths rows → position (bytes_eq p) paths ≡ Some i → list_any (bytes_eq p) paths ≡ true → Grows words more
+    → AreRowsOf ss words paths rows → (i < length paths) × (bytes_eq p (get_or paths i []) ≡ true) → Grows words more
     → IsReadValue more v x
     → AreRowsOf (ss ++ setting line p v x.text.now ∷ []) more paths (set rows i (with_value (get_or rows i d) v x))
-rows_set ss words more paths rows line p v x i d h at there grows read =
+rows_set ss words more paths rows line p v x i d h place grows read =
     let s : Setting = setting line p v x.text.now in
-    let place = position-Some (bytes_eq p) paths i [] at in
+    let there = listed_at paths p i place.0 place.1 in
     let row : Row = with_value (get_or rows i d) v x in
     record {
       all = h.all ∙ sym (old_path ss s (ap (list_any (bytes_eq p)) (sym h.all) ∙ there));
@@ -199,13 +218,13 @@ rows_set ss words more paths rows line p v x i d h at there grows read =
     }
 
 -- a new path gets a row of its own
-pub rows_push : (ss : List Setting) (words more : List Text) (paths : List Text) (rows : List Row) (line : ℕ) (p : Text) (v : Variable) (x : Value)
-    → AreRowsOf ss words paths rows → list_any (bytes_eq p) paths ≡ false → length paths < most_paths → IsPath p → Grows words more
+pub rows_push : (ss : List Setting) (words more : List Text) (paths : List Text) (rows : List Row) (line : ℕ) (p : Text) (t : Bor Text) (v : Variable) (x : Value)
+    → AreRowsOf ss words paths rows → list_any (bytes_eq p) paths ≡ false → length paths < most_paths → IsPath p → path_of t.now ≡ Ok p → Grows words more
     → IsReadValue more v x
-    → AreRowsOf (ss ++ setting line p v x.text.now ∷ []) more (paths ++ p ∷ []) (rows ++ with_value (new_row line) v x ∷ [])
-rows_push ss words more paths rows line p v x h new few spelled grows read =
+    → AreRowsOf (ss ++ setting line p v x.text.now ∷ []) more (paths ++ p ∷ []) (rows ++ with_value (new_row line t) v x ∷ [])
+rows_push ss words more paths rows line p t v x h new few spelled spells grows read =
     let s : Setting = setting line p v x.text.now in
-    let row : Row = with_value (new_row line) v x in
+    let row : Row = with_value (new_row line t) v x in
     let fresh : list_any (bytes_eq p) (paths_of ss) ≡ false = ap (list_any (bytes_eq p)) (sym h.all) ∙ new in
     let size = length_push paths p in
     record {
@@ -220,7 +239,7 @@ rows_push ss words more paths rows line p v x h new few spelled grows read =
             let here : length paths ≡ k = omega (arith, within, size, last) in
             subst (λ q. IsRowOf (ss ++ s ∷ []) more q (get_or (rows ++ row ∷ []) k e)) (sym (get_or_push paths p [] k here))
             (subst (IsRowOf (ss ++ s ∷ []) more p) (sym (get_or_push rows row e k (h.lengths ∙ here)))
-            (row_first ss more line p v x fresh read))
+            (row_first ss more line p t v x fresh spells read))
       ];
       once = IsDistinct-push nat_list_eq_equiv paths p h.once new;
       few = omega (arith, size, few);
@@ -313,10 +332,9 @@ nameless_by_rows ss words paths rows h =
 -- ---- whether the variable is set to another value
 
 pub anew_there : (ss : List Setting) (words paths : List Text) (rows : List Row) (p : Text) (i : ℕ) (line : ℕ) (v : Variable) (text : Text) (d : Row) (b : Bool)
-    → AreRowsOf ss words paths rows → position (bytes_eq p) paths ≡ Some i → is_another text (text_in v (get_or rows i d)) ≡ b
+    → AreRowsOf ss words paths rows → (i < length paths) × (bytes_eq p (get_or paths i []) ≡ true) → is_another text (text_in v (get_or rows i d)) ≡ b
     → is_set_anew ss (setting line p v text) ≡ b
-anew_there ss words paths rows p i line v text d b h at e =
-    let place = position-Some (bytes_eq p) paths i [] at in
+anew_there ss words paths rows p i line v text d b h place e =
     ap (λ q. is_another text (value_of ss q (name_of_variable v))) (same_text p (get_or paths i []) place.1)
     ∙ ap (is_another text) ((h.each i d place.0).values v) ∙ e
 

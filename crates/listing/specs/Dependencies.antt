@@ -43,8 +43,10 @@ dependency_path_text word = before_first is_operator_byte (path_field word)
 abbrev pub bounds_text : Text → Text
 bounds_text word = drop (position_or_len is_operator_byte (path_field word)) (path_field word)
 
--- the specs that the dependency's name has to match: the field before the path, and what the bounds behind the path mean
+-- the specs that the dependency's name has to match: the field before the path, and what the bounds
+-- behind the path mean
 abbrev pub specs_of : Text → List Text
 specs_of word =
     filter (λ s. not (is_empty s)) (take (fields_before_path (fields_of word)) (fields_of word))
-    ++ map (λ bounds. codes "STEM-" ++ bounds) (filter (λ s. not (is_empty s)) (bounds_text word ∷ []))
+    ++ map (λ bounds. codes "STEM-" ++ bounds)
+    (filter (λ s. not (is_empty s)) (bounds_text word ∷ []))

@@ -14,7 +14,8 @@ line text = text ++ line_feed ∷ []
 abbrev pub path_lines : Tree → Text → List ℕ → Text
 path_lines tree word positions = flat_map (λ p. line (word ++ path_at tree p)) positions
 
--- the path, the name, a line if it is marked, then what its build needs and what it needs once installed
+-- the path, the name, a line if it is marked, then what its build needs and what it needs once
+-- installed
 abbrev pub package_lines : Tree → Package → Text
 package_lines tree x =
     line (codes "P " ++ x.path)
@@ -33,7 +34,8 @@ size_of_group tree group = count_by (λ x. bytes_eq x.group group) tree
 
 -- a line with the group's path, where two or more packages are of it
 abbrev pub group_line : Tree → Text → Text
-group_line tree group = if nat_le 2 (size_of_group tree group) then line (codes "G " ++ group) else []
+group_line tree group =
+    if nat_le 2 (size_of_group tree group) then line (codes "G " ++ group) else []
 
 -- the lines of each package, in order of position
 abbrev pub packages_text : Tree → Text

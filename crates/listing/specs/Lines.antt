@@ -9,7 +9,8 @@ use Rattle.pkgpath.specs.PkgPath.{path_of}
 abbrev pub Line : Type 0
 Line = ℕ × Text
 
--- the pieces between LFs, numbered; where a text ends with LF the last piece is an empty line, which is skipped
+-- the pieces between LFs, numbered; where a text ends with LF the last piece is an empty line,
+-- which is skipped
 abbrev pub lines_of : Text → List Line
 lines_of text = enumerate_from 1 (pieces_at line_feed text)
 
@@ -84,7 +85,12 @@ pub record Setting : Type 0 where
 
 -- what the line sets, where its path could be read
 abbrev pub setting_from : {F : Type 0} → Line → Result Text F → Option Setting
-setting_from line (Ok path) = Some (record { line = line.0; path = path; variable = variable_text line.1; value = value_text line.1 })
+setting_from line (Ok path) = Some (record {
+  line = line.0;
+  path = path;
+  variable = variable_text line.1;
+  value = value_text line.1;
+})
 setting_from line (Err e) = None
 
 -- what the line sets, where it is one that is read

@@ -16,7 +16,7 @@ ghost use Rattle.listing.specs.inside.Table.{name_in};
 ghost use Rattle.listing.specs.Tree.{most_paths};
 
 use crate::ListingFault;
-use crate::line::is_blank;
+use crate::line::first_word;
 use crate::table::Row;
 use indexmap::{IndexMap, IndexSet};
 use pkgname::{PkgName, first_piece};
@@ -35,8 +35,8 @@ fn has_slash(text: &[u8]) -> bool
     text.iter().any(|byte| *byte == b'/')
 }
 
-/// The field before the path, which is empty where none stands there, and the field with the path: one field
-/// has a slash, and at most one stands before it and one behind it.
+/// The field before the path, which is empty where none stands there, and the field with the path:
+/// one field has a slash, and at most one stands before it and one behind it.
 fn path_field(word: &[u8]) -> Option<(&[u8], &[u8])>
     ensures { IsPathField word.now (option_map (λ f. (f.0.now, f.1.now)) result) }
 {
@@ -66,8 +66,8 @@ fn path_field(word: &[u8]) -> Option<(&[u8], &[u8])>
     }
 }
 
-/// What a dependency says of the name and the path that it asks for. Where a spec or bounds don't stand, they
-/// are the empty text.
+/// What a dependency says of the name and the path that it asks for. Where a spec or bounds don't
+/// stand, they are the empty text.
 #[derive(Clone, Copy)]
 pub struct Fields<'a> {
     pub spec: &'a [u8],
@@ -104,7 +104,8 @@ fn is_operator(byte: u8) -> bool
 /// The spec that a text in a line spells.
 fn read_spec(alloc: Global, line: u64, text: &[u8]) -> Result<Spec, ListingFault>
     ensures { MatchResult result (λ s. spec_of text.now ≡ Ok s)
-        (λ e. (e ≡ ListingFault.Memory) ⊎ (is_ok (spec_of text.now) ≡ false) × (e ≡ ListingFault.BadLine line)) }
+        (λ e. (e ≡ ListingFault.Memory)
+        ⊎ (is_ok (spec_of text.now) ≡ false) × (e ≡ ListingFault.BadLine line)) }
 {
     match Spec::parse(alloc, text) {
         Ok(spec) => Ok(spec),
@@ -116,7 +117,9 @@ fn read_spec(alloc: Global, line: u64, text: &[u8]) -> Result<Spec, ListingFault
 /// The spec that bounds behind a path mean: a name of any stem within them.
 fn read_bounds(alloc: Global, line: u64, bounds: &[u8]) -> Result<Spec, ListingFault>
     ensures { MatchResult result (λ s. spec_of (codes "STEM-" ++ bounds.now) ≡ Ok s)
-        (λ e. (e ≡ ListingFault.Memory) ⊎ (is_ok (spec_of (codes "STEM-" ++ bounds.now)) ≡ false) × (e ≡ ListingFault.BadLine line)) }
+        (λ e. (e ≡ ListingFault.Memory)
+        ⊎ (is_ok (spec_of (codes "STEM-" ++ bounds.now)) ≡ false)
+        × (e ≡ ListingFault.BadLine line)) }
 {
     let mut text = Vec::from_slice(alloc, b"STEM-")?;
     text.extend_from_slice(bounds)?;
@@ -130,8 +133,11 @@ fn read_specs(
     before: &[u8],
     bounds: &[u8],
 ) -> Result<Vec<Spec>, ListingFault>
-    ensures { MatchResult result (λ v. map spec_of (specs_from before.now bounds.now) ≡ map Ok v.items)
-        (λ e. (e ≡ ListingFault.Memory) ⊎ (list_all names_and_specs.is_spec (specs_from before.now bounds.now) ≡ false) × (e ≡ ListingFault.BadLine line)) }
+    ensures { MatchResult result
+        (λ v. map spec_of (specs_from before.now bounds.now) ≡ map Ok v.items)
+        (λ e. (e ≡ ListingFault.Memory)
+        ⊎ (list_all names_and_specs.is_spec (specs_from before.now bounds.now) ≡ false)
+        × (e ≡ ListingFault.BadLine line)) }
 {
     let mut specs = Vec::new(alloc);
     if !before.is_empty() {
@@ -150,8 +156,8 @@ pub struct Dependency {
     pub specs: Vec<Spec>,
 }
 
-/// What has become of a dependency: the position of its path, if that is listed, and whether the name there is
-/// one that all its specs match.
+/// What has become of a dependency: the position of its path, if that is listed, and whether the
+/// name there is one that all its specs match.
 #[derive(Clone, Copy)]
 pub struct Resolution {
     pub position: Option<u32>,
@@ -243,20 +249,20 @@ impl<'a> Dependencies<'a> {
         value: &'a [u8],
     ) -> Result<Vec<usize>, ListingFault>
         ensures answer { MatchResult result
-            (λ ns. (dependencies_fault names_and_specs line value.now ≡ None) × AreNumbersOf self.new ns.items (words_of value.now))
-            (λ e. (e ≡ ListingFault.Memory) ⊎ (dependencies_fault names_and_specs line value.now ≡ Some e)) }
+            (λ ns. (dependencies_fault names_and_specs line value.now ≡ None)
+            × AreNumbersOf self.new ns.items (words_of value.now))
+            (λ e. (e ≡ ListingFault.Memory)
+            ⊎ (dependencies_fault names_and_specs line value.now ≡ Some e)) }
         ensures grows { Grows self.old self.new }
     {
         let mut numbers = Vec::new(alloc);
-        for (count, word) in value
-            .split(|byte| is_blank(*byte))
-            .filter(|word| !word.is_empty())
-            .enumerate()
-        {
-            if count >= MOST_DEPENDENCIES {
+        let mut left = value;
+        'words: while let Some((word, behind)) = first_word(left) {
+            if numbers.len() >= MOST_DEPENDENCIES {
                 return Err(ListingFault::TooMany(line));
             }
             numbers.push(self.number(alloc, line, word)?)?;
+            left = behind;
         }
         Ok(numbers)
     }
@@ -264,7 +270,8 @@ impl<'a> Dependencies<'a> {
     /// The number of a dependency, which is read where it first comes.
     fn number(&mut self, alloc: Global, line: u64, word: &'a [u8]) -> Result<usize, ListingFault>
         ensures answer { MatchResult result
-            (λ n. (word_fault names_and_specs line word.now ≡ None) × IsNumberOf self.new n word.now)
+            (λ n. (word_fault names_and_specs line word.now ≡ None)
+            × IsNumberOf self.new n word.now)
             (λ e. (e ≡ ListingFault.Memory) ⊎ (word_fault names_and_specs line word.now ≡ Some e)) }
         ensures grows { Grows self.old self.new }
     {
@@ -278,7 +285,8 @@ impl<'a> Dependencies<'a> {
         }
     }
 
-    /// What becomes of each dependency, by its number, where these paths are listed, each with its row.
+    /// What becomes of each dependency, by its number, where these paths are listed, each with its
+    /// row.
     pub fn resolve(
         &self,
         alloc: Global,
@@ -287,7 +295,9 @@ impl<'a> Dependencies<'a> {
     ) -> Result<Vec<Resolution>, ListingFault>
         requires few { index_set_len listed.now ≤ most_paths }
         requires rows { length rows.now ≡ length listed.now.keys }
-        ensures { MatchResult result (λ v. v.items ≡ map (resolution_of_word listed.now.keys rows.now) self.now) (λ e. e ≡ ListingFault.Memory) }
+        ensures { MatchResult result
+            (λ v. v.items ≡ map (resolution_of_word listed.now.keys rows.now) self.now)
+            (λ e. e ≡ ListingFault.Memory) }
     {
         let mut resolutions = Vec::with_capacity(alloc, self.read.len())?;
         for dependency in self.read.values() {
@@ -300,7 +310,8 @@ impl<'a> Dependencies<'a> {
 /// The path that a text in a line spells.
 pub fn read_path(alloc: Global, line: u64, text: &[u8]) -> Result<PkgPath, ListingFault>
     ensures { MatchResult result (λ p. path_of text.now ≡ Ok p)
-        (λ e. (e ≡ ListingFault.Memory) ⊎ (is_err (path_of text.now) ≡ true) × (e ≡ ListingFault.BadPath line)) }
+        (λ e. (e ≡ ListingFault.Memory)
+        ⊎ (is_err (path_of text.now) ≡ true) × (e ≡ ListingFault.BadPath line)) }
 {
     match PkgPath::parse(alloc, text) {
         Ok(path) => Ok(path),

@@ -102,7 +102,8 @@ fn group_of(path: &PkgPath, is_single: bool) -> Result<PkgPath, Memory>
 
 /// Counts one more package of the group, and answers where the group stands.
 fn count(sizes: &mut IndexMap<PkgPath, u32>, group: PkgPath) -> Result<usize, Memory>
-    requires { (names : List Text) × AreSizes names sizes.old.entries × (length names < most_paths) }
+    requires { (names : List Text) × AreSizes names sizes.old.entries
+        × (length names < most_paths) }
     ensures { (names : List Text) → AreSizes names sizes.old.entries → IfOk result (λ place.
         AreSizes (names ++ group ∷ []) sizes.new.entries
         × IsNumberOf (keys_of sizes.new.entries) place group

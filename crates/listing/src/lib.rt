@@ -21,16 +21,16 @@ mod tree;
 pub use crate::laws::lone_packages_have_no_groups;
 pub use crate::tree::Tree;
 
-/// Why a text is no listing. Of several faulty lines the first counts. A line is tested for its form,
-/// its path, the number of paths, its value from the left, and a second setting, in this order. Each fault but `Memory`
-/// has its line as its place, counted from 1.
+/// Why a text is no listing. Of several faulty lines the first counts. A line is tested for its
+/// form, its path, the number of paths, its value from the left, and a second setting, in this
+/// order. Each fault but `Memory` has its line as its place, counted from 1.
 #[derive(Clone, Copy, Debug, PartialEq, Eq, Error)]
 pub enum ListingFault {
     /// Number 1: a growth was refused. It says nothing of the text.
     #[error("out of memory")]
     Memory,
-    /// Number 401: the line has no `=`, or no dot before it; or its FULLPKGNAME is no package name; or a dependency in
-    /// it has not the shape of one, or a spec that is none.
+    /// Number 401: the line has no `=`, or no dot before it; or its FULLPKGNAME is no package name;
+    /// or a dependency in it has not the shape of one, or a spec that is none.
     #[error("line {0} is no line of a listing")]
     BadLine(u64),
     /// Number 402: the line's own path, or the path of a dependency in it, is none.
@@ -42,8 +42,8 @@ pub enum ListingFault {
     /// Number 404: the line has the 16,385th path, or a 513th dependency in its value.
     #[error("line {0} has one path or one dependency too many")]
     TooMany(u64),
-    /// Number 405: no line is faulty, and a path has no FULLPKGNAME. The line is the first that sets a variable of such
-    /// a path.
+    /// Number 405: no line is faulty, and a path has no FULLPKGNAME. The line is the first that
+    /// sets a variable of such a path.
     #[error("the path at line {0} has no name")]
     NoName(u64),
 }

@@ -1,8 +1,13 @@
 //! A line of a listing: `PATH.VARIABLE=VALUE`.
-ghost use Rattle.std.specs.Prelude.{◌≡◌, ℕ, ◌<◌, ◌≤◌, ◌==◌, false, length, slice_index, MatchOption, MatchBool, position};
-ghost use Rattle.faults.specs.Bytes.{dot, is_among};
+ghost use Rattle.std.specs.Prelude.{◌≡◌, ℕ, ◌<◌, ◌≤◌, ◌==◌, ◌∷◌, [], false, length, option_copied, slice_index, IfSome, MatchOption, MatchBool, position};
+ghost use Rattle.faults.specs.Bytes.{dot, is_among, line_feed};
+ghost use Rattle.faults.specs.Pieces.{pieces_at};
+ghost use Rattle.pkgname.specs.Pieces.{pieces_behind};
+ghost use Rattle.listing.specs.Dependencies.{words_of};
 ghost use Rattle.listing.specs.Lines.{is_blank, is_cut, is_skipped, trimmed, variables};
 ghost use Rattle.listing.specs.inside.Parts.{AreParts, name_of_variable};
+
+use memchr::{memchr, memchr2, memrchr};
 
 /// The variables that are read.
 #[derive(Clone, Copy, Debug, PartialEq, Eq)]
@@ -17,7 +22,8 @@ pub enum Variable {
 impl Variable {
     /// The variable of this name, if it is one that is read.
     pub fn named(name: &[u8]) -> Option<Variable>
-        ensures { MatchOption result (is_among variables name.now ≡ false) (λ v. name.now ≡ name_of_variable v) }
+        ensures { MatchOption result (is_among variables name.now ≡ false)
+            (λ v. name.now ≡ name_of_variable v) }
     {
         if name == b"FULLPKGNAME".as_slice() {
             Some(Variable::FullName)
@@ -35,12 +41,25 @@ impl Variable {
     }
 }
 
-/// What stands in a line: a path, the name of a variable, and a value without spaces and tabs at its ends.
+/// What stands in a line: a path, the name of a variable, and a value without spaces and tabs at
+/// its ends.
 #[derive(Clone, Copy)]
 pub struct Parts<'a> {
     pub path: &'a [u8],
     pub variable: &'a [u8],
     pub value: &'a [u8],
+}
+
+/// The first line of a text, and what stands behind the LF that ends it. The last line has no LF.
+pub fn first_line(text: &[u8]) -> (&[u8], Option<&[u8]>)
+    ensures pieces { pieces_at line_feed text.now
+        ≡ result.0.now ∷ pieces_behind line_feed (option_copied result.1) }
+    ensures shorter { IfSome result.1 (λ behind. length behind.now < length text.now) }
+{
+    match memchr(b'\n', text) {
+        Some(at) => (&text[..at], Some(&text[at + 1..])),
+        None => (text, None),
+    }
 }
 
 /// Whether the line is empty or begins with `===>`.
@@ -54,9 +73,9 @@ pub fn is_skipped(line: &[u8]) -> bool
 pub fn parts_of(line: &[u8]) -> Option<Parts<'_>>
     ensures { MatchOption result (is_cut line.now ≡ false) (AreParts line.now) }
 {
-    let equals = line.iter().position(|byte| *byte == b'=')?;
+    let equals = memchr(b'=', line)?;
     let key = &line[..equals];
-    let dot = key.iter().rposition(|byte| *byte == b'.')?;
+    let dot = memrchr(b'.', key)?;
     Some(Parts {
         path: &key[..dot],
         variable: &key[dot + 1..],
@@ -69,6 +88,22 @@ pub fn is_blank(byte: u8) -> bool
     ensures { result ≡ is_blank byte }
 {
     byte == b' ' || byte == b'\t'
+}
+
+/// The first word of a value, and what stands behind the space or tab that ends it, if the value
+/// has a word.
+pub fn first_word(value: &[u8]) -> Option<(&[u8], &[u8])>
+    ensures words { MatchOption result
+        (words_of value.now ≡ [])
+        (λ cut. words_of value.now ≡ cut.0.now ∷ words_of cut.1.now) }
+    ensures shorter { IfSome result (λ cut. length cut.1.now < length value.now) }
+{
+    let start = value.iter().position(|byte| !is_blank(*byte))?;
+    let word = &value[start..];
+    match memchr2(b' ', b'\t', word) {
+        Some(end) => Some((&word[..end], &word[end + 1..])),
+        None => Some((word, b"")),
+    }
 }
 
 /// The text without the spaces and tabs at its ends.

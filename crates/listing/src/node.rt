@@ -1,6 +1,7 @@
 //! A package of a tree, without its path.
-ghost use Rattle.std.specs.Prelude.{◌≡◌, ◌⊎◌, ◌<◌, ◌++◌, All, Some, length, MatchResult};
-ghost use Rattle.listing.specs.inside.Nodes.{HasNumbersBelow, IsNodeOf, IsSetOf, are_met, is_marked_by, listed_positions, numbers_of_value, text_of_value};
+ghost use Rattle.std.specs.Prelude.{◌≡◌, ◌⊎◌, ◌<◌, ◌++◌, All, None, Some, length, MatchResult};
+ghost use Rattle.faults.specs.Answers.{first_given};
+ghost use Rattle.listing.specs.inside.Nodes.{AreNodesOf, HasNumbersBelow, IsNodeOf, IsSetOf, are_met, is_marked_by, listed_positions, numbers_of_value, text_of_value};
 ghost use Rattle.listing.specs.inside.Table.{row_fault};
 
 use crate::ListingFault;
@@ -9,7 +10,8 @@ use crate::table::{Reading, Row, Value};
 use pkgname::PkgName;
 use std::alloc::Global;
 
-/// A package without its path. Its dependencies stand as their positions in the tree: sets, ascending, each once.
+/// A package without its path. Its dependencies stand as their positions in the tree: sets,
+/// ascending, each once.
 #[derive(Drop)]
 pub struct Node {
     pub name: PkgName,
@@ -42,6 +44,25 @@ impl Node {
             is_marked: is_marked(row, resolutions),
         })
     }
+}
+
+/// The packages of the rows, in turn, by what has become of each dependency, by its number.
+pub fn nodes_of(
+    alloc: Global,
+    rows: &[Row<'_>],
+    resolutions: &[Resolution],
+) -> Result<Vec<Node>, ListingFault>
+    requires { All (HasNumbersBelow (length resolutions.now)) rows.now }
+    ensures { MatchResult result
+        (λ nodes. (first_given row_fault rows.now ≡ None)
+        × AreNodesOf resolutions.now rows.now nodes.items)
+        (λ e. (e ≡ ListingFault.Memory) ⊎ (first_given row_fault rows.now ≡ Some e)) }
+{
+    let mut nodes = Vec::with_capacity(alloc, rows.len())?;
+    for row in rows {
+        nodes.push(Node::of_row(alloc, row, resolutions)?)?;
+    }
+    Ok(nodes)
 }
 
 /// Whether IGNORE isn't empty in the row, or a dependency in it isn't met.
@@ -98,7 +119,9 @@ fn positions_of(
     requires first { All (λ n. n < length resolutions.now) first.now }
     requires second { All (λ n. n < length resolutions.now) second.now }
     ensures { MatchResult result
-        (λ v. IsSetOf v.items (listed_positions resolutions.now first.now ++ listed_positions resolutions.now second.now))
+        (λ v. IsSetOf v.items
+        (listed_positions resolutions.now first.now
+        ++ listed_positions resolutions.now second.now))
         (λ e. e ≡ ListingFault.Memory) }
 {
     let mut found = Vec::new(alloc);

@@ -1,14 +1,16 @@
 //! What the lines of a listing set, filled line by line.
-ghost use Rattle.std.specs.Prelude.{◌≡◌, ◌⊎◌, ◌++◌, ◌∷◌, [], List, None, Some, Ok, Err, false, true, is_ok, length, slice_index_or, slice_set, ◌<◌, option_map, option_to_list, MatchResult};
+ghost use Rattle.std.specs.Prelude.{◌≡◌, ◌⊎◌, ◌++◌, ◌∷◌, [], List, None, Some, Ok, Err, false, true, is_ok, length, slice_index_or, slice_set, ◌<◌, option_map, option_to_list, IfSome, MatchResult};
+ghost use Rattle.std.specs.List.{list_any};
 ghost use Rattle.std.specs.Str.{bytes_eq};
 ghost use Rattle.indexmap.specs.IndexSet.{insert_key};
 ghost use Rattle.faults.specs.Answers.{option_or};
 ghost use Rattle.pkgname.specs.PkgName.{name_of};
+ghost use Rattle.pkgpath.specs.PkgPath.{path_of};
 ghost use Rattle.listing.specs.Lines.{Setting, setting_of};
 ghost use Rattle.listing.specs.Listing.{is_another, line_fault, setting_fault, value_fault};
 ghost use Rattle.listing.specs.inside.Parts.{Grows, IsReadAs, name_of_variable};
 ghost use Rattle.listing.specs.Rules.{names_and_specs};
-ghost use Rattle.listing.specs.inside.Table.{Stands, name_in, new_row, setting, text_in, with_value};
+ghost use Rattle.listing.specs.inside.Table.{IsSpelled, IsTakenIn, Stands, name_in, new_row, setting, text_in, with_value};
 
 use crate::ListingFault;
 use crate::dependency::{Dependencies, read_path};
@@ -36,10 +38,12 @@ pub struct Value<'a> {
     pub reading: Reading,
 }
 
-/// What the variables of a path are set to, and the line where the path first stands.
+/// What the variables of a path are set to, and the line where the path first stands, with the text
+/// that spells it there.
 #[derive(Drop)]
 pub struct Row<'a> {
     pub line: u64,
+    pub spelled: &'a [u8],
     pub name: Option<Value<'a>>,
     pub build: Option<Value<'a>>,
     pub lib: Option<Value<'a>>,
@@ -57,11 +61,12 @@ pub struct Table<'a> {
 
 impl<'a> Row<'a> {
     /// A row in which nothing is set.
-    fn new(line: u64) -> Row<'a>
-        ensures { result ≡ new_row line }
+    fn new(line: u64, spelled: &'a [u8]) -> Row<'a>
+        ensures { result ≡ new_row line spelled.entry }
     {
         Row {
             line,
+            spelled,
             name: None,
             build: None,
             lib: None,
@@ -88,8 +93,10 @@ impl<'a> Row<'a> {
     /// Sets a variable. One that is set stays, if the value is the same.
     fn set(&mut self, line: u64, variable: Variable, value: Value<'a>) -> Result<(), ListingFault>
         ensures { MatchResult result
-            (λ _. (self.new ≡ with_value self.old variable value.entry) × (is_another value.entry.text.now (text_in variable self.old) ≡ false))
-            (λ e. (is_another value.entry.text.now (text_in variable self.old) ≡ true) × (e ≡ ListingFault.TwiceSet line)) }
+            (λ _. (self.new ≡ with_value self.old variable value.entry)
+            × (is_another value.entry.text.now (text_in variable self.old) ≡ false))
+            (λ e. (is_another value.entry.text.now (text_in variable self.old) ≡ true)
+            × (e ≡ ListingFault.TwiceSet line)) }
     {
         match variable {
             Variable::FullName => put(&mut self.name, line, value),
@@ -104,8 +111,10 @@ impl<'a> Row<'a> {
 /// Puts the value where none is. One that is there stays, if it is the same.
 fn put<'a>(place: &mut Option<Value<'a>>, line: u64, value: Value<'a>) -> Result<(), ListingFault>
     ensures { MatchResult result
-        (λ _. (place.new ≡ option_or place.old (Some value.entry)) × (is_another value.entry.text.now (option_map (λ x. x.text.now) place.old) ≡ false))
-        (λ e. (is_another value.entry.text.now (option_map (λ x. x.text.now) place.old) ≡ true) × (e ≡ ListingFault.TwiceSet line)) }
+        (λ _. (place.new ≡ option_or place.old (Some value.entry))
+        × (is_another value.entry.text.now (option_map (λ x. x.text.now) place.old) ≡ false))
+        (λ e. (is_another value.entry.text.now (option_map (λ x. x.text.now) place.old) ≡ true)
+        × (e ≡ ListingFault.TwiceSet line)) }
 {
     match place {
         None => {
@@ -127,9 +136,14 @@ fn set_in<'a>(
 ) -> Result<(), ListingFault>
     requires { position < length rows.old.items }
     ensures { (d : Row) → MatchResult result
-        (λ _. (rows.new.items ≡ slice_set rows.old.items position (with_value (slice_index_or rows.old.items position d) variable value.entry))
-        × (is_another value.entry.text.now (text_in variable (slice_index_or rows.old.items position d)) ≡ false))
-        (λ e. (is_another value.entry.text.now (text_in variable (slice_index_or rows.old.items position d)) ≡ true) × (e ≡ ListingFault.TwiceSet line)) }
+        (λ _. (rows.new.items
+        ≡ slice_set rows.old.items position
+        (with_value (slice_index_or rows.old.items position d) variable value.entry))
+        × (is_another value.entry.text.now
+        (text_in variable (slice_index_or rows.old.items position d)) ≡ false))
+        (λ e. (is_another value.entry.text.now
+        (text_in variable (slice_index_or rows.old.items position d)) ≡ true)
+        × (e ≡ ListingFault.TwiceSet line)) }
 {
     rows[position].set(line, variable, value)
 }
@@ -137,7 +151,8 @@ fn set_in<'a>(
 /// The name that the value in a line is.
 fn read_name(alloc: Global, line: u64, text: &[u8]) -> Result<PkgName, ListingFault>
     ensures { MatchResult result (λ n. name_of text.now ≡ Ok n)
-        (λ e. (e ≡ ListingFault.Memory) ⊎ (is_ok (name_of text.now) ≡ false) × (e ≡ ListingFault.BadLine line)) }
+        (λ e. (e ≡ ListingFault.Memory)
+        ⊎ (is_ok (name_of text.now) ≡ false) × (e ≡ ListingFault.BadLine line)) }
 {
     match PkgName::parse(alloc, text) {
         Ok(name) => Ok(name),
@@ -162,8 +177,10 @@ impl<'a> Table<'a> {
     pub fn read(&mut self, alloc: Global, number: u64, line: &'a [u8]) -> Result<(), ListingFault>
         requires { length self.old.rows.items ≡ length self.old.paths.keys }
         ensures { (earlier : List Setting) → Stands self.old earlier → MatchResult result
-            (λ _. (line_fault names_and_specs earlier (number, line.now) ≡ None) × Stands self.new (earlier ++ option_to_list (setting_of (number, line.now))))
-            (λ e. (e ≡ ListingFault.Memory) ⊎ (line_fault names_and_specs earlier (number, line.now) ≡ Some e)) }
+            (λ _. (line_fault names_and_specs earlier (number, line.now) ≡ None)
+            × Stands self.new (earlier ++ option_to_list (setting_of (number, line.now))))
+            (λ e. (e ≡ ListingFault.Memory)
+            ⊎ (line_fault names_and_specs earlier (number, line.now) ≡ Some e)) }
     {
         if is_skipped(line) {
             return Ok(());
@@ -174,35 +191,85 @@ impl<'a> Table<'a> {
         let Some(variable) = Variable::named(parts.variable) else {
             return Ok(());
         };
+        if let Some(position) = self.latest(parts.path) {
+            return self.set_at(alloc, number, position, variable, parts.value);
+        }
         let path = read_path(alloc, number, parts.path)?;
-        self.set(alloc, number, path, variable, parts.value)
+        self.set(alloc, number, path, parts.path, variable, parts.value)
     }
 
-    /// Sets a variable of a path.
+    /// Where the latest path stands, if this text spells it in its first line. The lines of a path
+    /// mostly stand together, so that few paths have to be read and found.
+    fn latest(&self, spelled: &[u8]) -> Option<usize>
+        ensures { IfSome result (λ at. IsSpelled self.now.rows.items at spelled.now) }
+    {
+        let last = self.rows.len().checked_sub(1)?;
+        if self.rows[last].spelled == spelled {
+            Some(last)
+        } else {
+            None
+        }
+    }
+
+    /// Sets a variable of the path that the text spells.
     fn set(
         &mut self,
         alloc: Global,
         line: u64,
         path: PkgPath,
+        spelled: &'a [u8],
         variable: Variable,
         text: &'a [u8],
     ) -> Result<(), ListingFault>
-        requires { length self.old.rows.items ≡ length self.old.paths.keys }
-        ensures { (earlier : List Setting) → Stands self.old earlier → MatchResult result
-            (λ _. (setting_fault names_and_specs earlier (setting line path variable text.now) ≡ None)
-            × Stands self.new (earlier ++ setting line path variable text.now ∷ []))
-            (λ e. (e ≡ ListingFault.Memory) ⊎ (setting_fault names_and_specs earlier (setting line path variable text.now) ≡ Some e)) }
+        requires rows { length self.old.rows.items ≡ length self.old.paths.keys }
+        requires spells { path_of spelled.now ≡ Ok path }
+        ensures { IsTakenIn self.old (setting line path variable text.now) result self.new }
     {
-        let known = self.paths.get_index_of(&path);
-        if known.is_none() && self.paths.len() >= MOST_PATHS {
+        match self.paths.get_index_of(&path) {
+            Some(position) => self.set_at(alloc, line, position, variable, text),
+            None => self.set_first(alloc, line, path, spelled, variable, text),
+        }
+    }
+
+    /// Sets a variable of the path at the position.
+    fn set_at(
+        &mut self,
+        alloc: Global,
+        line: u64,
+        position: usize,
+        variable: Variable,
+        text: &'a [u8],
+    ) -> Result<(), ListingFault>
+        requires rows { length self.old.rows.items ≡ length self.old.paths.keys }
+        requires listed { position < length self.old.paths.keys }
+        ensures { let path = slice_index_or self.old.paths.keys position [] in
+            IsTakenIn self.old (setting line path variable text.now) result self.new }
+    {
+        let reading = self.read_value(alloc, line, variable, text)?;
+        let value = Value { text, reading };
+        set_in(&mut self.rows, position, line, variable, value)
+    }
+
+    /// Sets the first variable of a path that the text spells.
+    fn set_first(
+        &mut self,
+        alloc: Global,
+        line: u64,
+        path: PkgPath,
+        spelled: &'a [u8],
+        variable: Variable,
+        text: &'a [u8],
+    ) -> Result<(), ListingFault>
+        requires new { list_any (bytes_eq path) self.old.paths.keys ≡ false }
+        requires spells { path_of spelled.now ≡ Ok path }
+        ensures { IsTakenIn self.old (setting line path variable text.now) result self.new }
+    {
+        if self.paths.len() >= MOST_PATHS {
             return Err(ListingFault::TooMany(line));
         }
         let reading = self.read_value(alloc, line, variable, text)?;
         let value = Value { text, reading };
-        match known {
-            Some(position) => set_in(&mut self.rows, position, line, variable, value),
-            None => self.add(line, path, variable, value),
-        }
+        self.add(line, path, spelled, variable, value)
     }
 
     /// Adds a path with one variable that is set.
@@ -210,16 +277,18 @@ impl<'a> Table<'a> {
         &mut self,
         line: u64,
         path: PkgPath,
+        spelled: &'a [u8],
         variable: Variable,
         value: Value<'a>,
     ) -> Result<(), ListingFault>
-        ensures { MatchResult result
+        ensures { let row = with_value (new_row line spelled.entry) variable value.entry in
+            MatchResult result
             (λ _. (self.new.paths.keys ≡ insert_key bytes_eq self.old.paths.keys path)
-            × (self.new.rows.items ≡ self.old.rows.items ++ with_value (new_row line) variable value.entry ∷ [])
+            × (self.new.rows.items ≡ self.old.rows.items ++ row ∷ [])
             × (self.new.dependencies ≡ self.old.dependencies))
             (λ e. e ≡ ListingFault.Memory) }
     {
-        let mut row = Row::new(line);
+        let mut row = Row::new(line, spelled);
         // In a new row nothing is set, so that the value is no second one.
         row.set(line, variable, value)?;
         self.paths.insert(path)?;
@@ -238,7 +307,9 @@ impl<'a> Table<'a> {
         ensures answer { MatchResult result
             (λ r. (value_fault names_and_specs line (name_of_variable variable) text.now ≡ None)
             × IsReadAs self.new.dependencies variable text.now r)
-            (λ e. (e ≡ ListingFault.Memory) ⊎ (value_fault names_and_specs line (name_of_variable variable) text.now ≡ Some e)) }
+            (λ e. (e ≡ ListingFault.Memory)
+            ⊎ (value_fault names_and_specs line (name_of_variable variable) text.now
+            ≡ Some e)) }
         ensures paths { self.new.paths ≡ self.old.paths }
         ensures rows { self.new.rows ≡ self.old.rows }
         ensures grows { Grows self.old.dependencies self.new.dependencies }

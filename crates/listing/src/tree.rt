@@ -1,15 +1,17 @@
 //! A tree, which contracts see as the list of its packages.
 ghost use Rattle.std.specs.Prelude.{◌≡◌, ◌⊎◌, ◌<◌, List, None, Some, length, map, MatchResult};
-ghost use Rattle.faults.specs.Answers.{IsRightUnless};
+ghost use Rattle.faults.specs.Answers.{IsRightUnless, first_given};
 ghost use Rattle.listing.specs.Lines.{Setting};
 ghost use Rattle.listing.specs.Listing.{nameless_fault, tree_of, tree_of_settings};
 ghost use Rattle.listing.specs.Rules.{group_by, names_and_specs, single_paths, with_groups};
-ghost use Rattle.listing.specs.inside.Table.{Stands};
+ghost use Rattle.listing.specs.inside.Nodes.{AreNodesOfTable};
+ghost use Rattle.listing.specs.inside.Table.{Stands, row_fault};
 ghost use Rattle.listing.specs.Tree.{ArePositions, IsTree, build_at, group_at, is_marked_at, name_at, path_at, position_of, run_at};
 
 use crate::ListingFault;
 use crate::groups::Groups;
-use crate::node::Node;
+use crate::line::first_line;
+use crate::node::{Node, nodes_of};
 use crate::table::Table;
 use indexmap::IndexSet;
 use pkgname::PkgName;
@@ -17,8 +19,9 @@ use pkgpath::PkgPath;
 use std::alloc::Global;
 use std::marker::Model;
 
-/// The packages of a listing, by position: at most 16,384, numbered from 0 in the order of their paths' first lines.
-/// Packages whose paths are equal without their subpackages are of one group, or each is a group of its own.
+/// The packages of a listing, by position: at most 16,384, numbered from 0 in the order of their
+/// paths' first lines. Packages whose paths are equal without their subpackages are of one group,
+/// or each is a group of its own.
 #[derive(Drop)]
 pub struct Tree {
     paths: IndexSet<PkgPath>,
@@ -49,8 +52,8 @@ impl Tree {
     ///
     /// # Errors
     ///
-    /// `Memory`, where a growth was refused; else the fault of the first faulty line; and where no line is faulty,
-    /// `NoName` for the first line whose path has no name.
+    /// `Memory`, where a growth was refused; else the fault of the first faulty line; and where no
+    /// line is faulty, `NoName` for the first line whose path has no name.
     pub fn parse(alloc: Global, text: &[u8]) -> Result<Tree, ListingFault>
         ensures { IsRightUnless ListingFault.Memory result (tree_of names_and_specs text.now) }
     {
@@ -70,13 +73,17 @@ impl Tree {
 
     /// The tree that the listing describes, where each package is a group of its own or not.
     fn read(alloc: Global, text: &[u8], is_single: bool) -> Result<Tree, ListingFault>
-        ensures { IsRightUnless ListingFault.Memory result (tree_of (with_groups (group_by is_single)) text.now) }
+        ensures { IsRightUnless ListingFault.Memory result
+            (tree_of (with_groups (group_by is_single)) text.now) }
     {
         let mut table = Table::new(alloc);
         let mut number = 0;
-        for line in text.split(|byte| *byte == b'\n') {
+        let mut left = Some(text);
+        'lines: while let Some(text) = left {
+            let (line, behind) = first_line(text);
             number += 1;
             table.read(alloc, number, line)?;
+            left = behind;
         }
         Tree::of_table(alloc, table, is_single)
     }
@@ -85,23 +92,15 @@ impl Tree {
     fn of_table(alloc: Global, table: Table<'_>, is_single: bool) -> Result<Tree, ListingFault>
         requires { (settings : List Setting) × Stands table settings }
         ensures { (settings : List Setting) → Stands table.entry settings
-            → MatchResult result (λ t. (nameless_fault settings ≡ None) × (t ≡ tree_of_settings (with_groups (group_by is_single)) settings))
+            → MatchResult result
+            (λ t. (nameless_fault settings ≡ None)
+            × (t ≡ tree_of_settings (with_groups (group_by is_single)) settings))
             (λ e. (e ≡ ListingFault.Memory) ⊎ (nameless_fault settings ≡ Some e)) }
     {
-        let Table {
-            paths,
-            rows,
-            dependencies,
-        } = table;
-        let resolutions = dependencies.resolve(alloc, &paths, rows.as_slice())?;
-        let mut nodes = Vec::with_capacity(alloc, rows.len())?;
-        for row in &rows {
-            nodes.push(Node::of_row(alloc, row, resolutions.as_slice())?)?;
-        }
-        let listed = paths.as_slice();
-        let groups = Groups::of(alloc, listed, is_single)?;
+        let nodes = nodes_of_table(alloc, &table)?;
+        let groups = Groups::of(alloc, table.paths.as_slice(), is_single)?;
         Ok(Tree {
-            paths,
+            paths: table.paths,
             nodes,
             groups,
             is_single,
@@ -139,8 +138,8 @@ impl Tree {
         &self.paths.as_slice()[position as usize]
     }
 
-    /// The path that names the package's group: its path without the subpackage, or its path, where each package is a
-    /// group of its own.
+    /// The path that names the package's group: its path without the subpackage, or its path, where
+    /// each package is a group of its own.
     pub fn group(&self, position: u32) -> &PkgPath
         requires { position < length self.now }
         ensures { result.now ≡ group_at self.now position }
@@ -156,8 +155,8 @@ impl Tree {
         &self.nodes[position as usize].name
     }
 
-    /// The positions of the listed dependencies of BUILD_DEPENDS and LIB_DEPENDS, ascending, each once. A dependency
-    /// whose path isn't listed has no position: it marks the package instead.
+    /// The positions of the listed dependencies of BUILD_DEPENDS and LIB_DEPENDS, ascending, each
+    /// once. A dependency whose path isn't listed has no position: it marks the package instead.
     pub fn build_deps(&self, position: u32) -> &[u32]
         requires { position < length self.now }
         ensures value { result.now ≡ build_at self.now position }
@@ -166,8 +165,8 @@ impl Tree {
         self.nodes[position as usize].build.as_slice()
     }
 
-    /// The positions of the listed dependencies of LIB_DEPENDS and RUN_DEPENDS, ascending, each once. A dependency
-    /// whose path isn't listed has no position: it marks the package instead.
+    /// The positions of the listed dependencies of LIB_DEPENDS and RUN_DEPENDS, ascending, each
+    /// once. A dependency whose path isn't listed has no position: it marks the package instead.
     pub fn run_deps(&self, position: u32) -> &[u32]
         requires { position < length self.now }
         ensures value { result.now ≡ run_at self.now position }
@@ -176,12 +175,25 @@ impl Tree {
         self.nodes[position as usize].run.as_slice()
     }
 
-    /// Whether the package's IGNORE isn't empty, or a dependency of it has a path that isn't listed, or one whose
-    /// listed name a spec of the dependency doesn't match.
+    /// Whether the package's IGNORE isn't empty, or a dependency of it has a path that isn't
+    /// listed, or one whose listed name a spec of the dependency doesn't match.
     pub fn marked(&self, position: u32) -> bool
         requires { position < length self.now }
         ensures { result ≡ is_marked_at self.now position }
     {
         self.nodes[position as usize].is_marked
     }
+}
+
+/// The packages of all that the lines set, without their paths, if each has a name.
+fn nodes_of_table(alloc: Global, table: &Table<'_>) -> Result<Vec<Node>, ListingFault>
+    requires { (settings : List Setting) × Stands table.now settings }
+    ensures { MatchResult result
+        (λ nodes. (first_given row_fault table.now.rows.items ≡ None)
+        × AreNodesOfTable table.now nodes.items)
+        (λ e. (e ≡ ListingFault.Memory) ⊎ (first_given row_fault table.now.rows.items ≡ Some e)) }
+{
+    let rows = table.rows.as_slice();
+    let resolutions = table.dependencies.resolve(alloc, &table.paths, rows)?;
+    nodes_of(alloc, rows, resolutions.as_slice())
 }

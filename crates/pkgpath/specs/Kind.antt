@@ -9,9 +9,15 @@ use Rattle.pkgpath.specs.declared.parts.Tally.{Tally}
 
 -- the text is a part of this kind, and of no other
 abbrev pub IsOfKind : Kind → Text → Type 0
-IsOfKind Empty part = (is_part part ≡ true) × (is_empty part ≡ true) × (is_subpackage part ≡ false) × (is_flavor part ≡ false)
-IsOfKind Subpackage part = (is_part part ≡ true) × (is_empty part ≡ false) × (is_subpackage part ≡ true) × (is_flavor part ≡ false)
-IsOfKind Flavor part = (is_part part ≡ true) × (is_empty part ≡ false) × (is_subpackage part ≡ false) × (is_flavor part ≡ true)
+IsOfKind Empty part =
+    (is_part part ≡ true)
+    × (is_empty part ≡ true) × (is_subpackage part ≡ false) × (is_flavor part ≡ false)
+IsOfKind Subpackage part =
+    (is_part part ≡ true)
+    × (is_empty part ≡ false) × (is_subpackage part ≡ true) × (is_flavor part ≡ false)
+IsOfKind Flavor part =
+    (is_part part ≡ true)
+    × (is_empty part ≡ false) × (is_subpackage part ≡ false) × (is_flavor part ≡ true)
 
 -- how many parts there are of each kind, and which are first
 pub record IsTally (tally : Tally) (parts : List Text) : Type 0 where

@@ -44,7 +44,8 @@ fn insert_member<'a>(set: &mut Vec<&'a [u8]>, flavor: &'a [u8]) -> Result<(), Al
 /// The flavors among the parts of a text with commas between them: each once, in byte order.
 pub(crate) fn flavor_set<'a>(alloc: Global, parts: &'a [u8]) -> Result<Vec<&'a [u8]>, AllocError>
     ensures { IfOk result (λ set.
-        map (λ x. x.now) set.items ≡ set_of (filter grammar.is_flavor (pieces_at comma parts.now))) }
+        map (λ x. x.now) set.items
+        ≡ set_of (filter grammar.is_flavor (pieces_at comma parts.now))) }
 {
     let is_comma = |byte: &u8| *byte == b',';
     let flavors: Vec<&[u8]> = parts

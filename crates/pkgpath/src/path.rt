@@ -1,10 +1,9 @@
 //! A package path, which contracts see as its canonical text.
-ghost use Rattle.std.specs.Prelude.{◌≡◌, ◌++◌, Ok, Some, IfOk, OnOk, OnErr, nat_eq, refl};
+ghost use Rattle.std.specs.Prelude.{◌≡◌, ◌++◌, ◌∷◌, [], Ok, Some, IfOk, OnOk, OnErr, nat_eq, refl};
 ghost use Rattle.std.proofs.Common.{rules};
 ghost use Rattle.std.specs.Cmp.{partial_equiv_from_equiv};
 ghost use Rattle.std.specs.Cmp.Lexicographic.{nat_list_cmp_total, nat_list_eq_equiv, pointwise, texts_po, texts_ties};
 ghost use Rattle.std.specs.Cmp.Rules.{comparing, hashing};
-ghost use Rattle.std.specs.Hash as fed;
 ghost use Rattle.faults.specs.Answers.{IsRightUnless};
 ghost use Rattle.faults.specs.Pieces.{text_cmp};
 ghost use Rattle.pkgpath.specs.PkgPath.{IsPath, path_of, without_subpackage};
@@ -39,12 +38,14 @@ impl Model for PkgPath {
 }
 
 impl PkgPath {
-    /// The path that the text spells. Its parts may stand in any order, and a flavor more than once.
+    /// The path that the text spells. Its parts may stand in any order, and a flavor more than
+    /// once.
     ///
     /// # Errors
     ///
-    /// `Memory`, where a growth was refused; else the first reason why the text spells none, in the order in which
-    /// `PathFault` lists them. A text of more than 255 bytes is refused, also where its canonical text is shorter.
+    /// `Memory`, where a growth was refused; else the first reason why the text spells none, in the
+    /// order in which `PathFault` lists them. A text of more than 255 bytes is refused, also where
+    /// its canonical text is shorter.
     pub fn parse(alloc: Global, text: &[u8]) -> Result<PkgPath, PathFault>
         ensures { IsRightUnless PathFault.Memory result (path_of text.now) }
     {
@@ -126,11 +127,12 @@ impl Ord for PkgPath {
 }
 
 impl Hash for PkgPath {
-    ghost hash_input = { fed.slice fed.u8 };
+    // The text is fed in one write, so that a hasher takes many bytes at a time.
+    ghost hash_input = { λ text. text ∷ [] };
 
     ghost respects_eq = { Prim.search (hashing, rules) };
 
     fn hash<H: Hasher>(&self, state: &mut H) {
-        self.as_bytes().hash(state);
+        state.write(self.as_bytes());
     }
 }

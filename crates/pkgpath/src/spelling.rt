@@ -46,7 +46,8 @@ fn read_directory(alloc: Global, text: &[u8]) -> Result<Vec<u8>, PathFault>
     requires filled { 0 < length text.now }
     requires short { length text.now ≤ grammar.most_bytes }
     requires alone { pieces_at comma text.now ≡ text.now ∷ [] }
-    ensures { IsRightUnless PathFault.Memory (map_ok (λ v. v.items) result) (grammar.path_of text.now) }
+    ensures { IsRightUnless PathFault.Memory (map_ok (λ v. v.items) result)
+        (grammar.path_of text.now) }
 {
     if let Some(fault) = directory_fault(text) {
         return Err(fault);
@@ -94,7 +95,8 @@ fn push_flavors(
 ) -> Result<(), AllocError>
     requires { IsTally tally.now (pieces_at comma parts.now) }
     ensures { OnOk result (out.new.items ≡ out.old.items
-        ++ flat_map (λ part. comma ∷ part) (set_of (filter grammar.is_flavor (pieces_at comma parts.now)))) }
+        ++ flat_map (λ part. comma ∷ part)
+        (set_of (filter grammar.is_flavor (pieces_at comma parts.now)))) }
 {
     if tally.flavors > 1 {
         let set = flavor_set(alloc, parts)?;
@@ -125,7 +127,8 @@ fn write_canonical(
 ) -> Result<Vec<u8>, AllocError>
     requires { IsTally tally.now (pieces_at comma parts.now) }
     ensures { IfOk result (λ v.
-        v.items ≡ grammar.canonical_text (grammar.value_from directory.now (pieces_at comma parts.now))) }
+        v.items
+        ≡ grammar.canonical_text (grammar.value_from directory.now (pieces_at comma parts.now))) }
 {
     let mut text = Vec::with_capacity(alloc, capacity)?;
     text.extend_from_slice(directory)?;
@@ -145,7 +148,8 @@ fn read_parts(
     requires filled { 0 < length text.now }
     requires short { length text.now ≤ grammar.most_bytes }
     requires cut { pieces_at comma text.now ≡ directory.now ∷ pieces_at comma parts.now }
-    ensures { IsRightUnless PathFault.Memory (map_ok (λ v. v.items) result) (grammar.path_of text.now) }
+    ensures { IsRightUnless PathFault.Memory (map_ok (λ v. v.items) result)
+        (grammar.path_of text.now) }
 {
     if let Some(fault) = directory_fault(directory) {
         return Err(fault);
@@ -164,7 +168,8 @@ fn read_parts(
 
 /// The canonical text of what the text spells.
 pub(crate) fn canonical_text(alloc: Global, text: &[u8]) -> Result<Vec<u8>, PathFault>
-    ensures { IsRightUnless PathFault.Memory (map_ok (λ v. v.items) result) (grammar.path_of text.now) }
+    ensures { IsRightUnless PathFault.Memory (map_ok (λ v. v.items) result)
+        (grammar.path_of text.now) }
 {
     if text.is_empty() {
         return Err(PathFault::Empty);

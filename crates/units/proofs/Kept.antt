@@ -144,7 +144,7 @@ alone_found d keys j path is are found few =
         subst (λ (u : Unit). Contains u.packages f) (sym (ap (λ us. get_or us j no_unit) is.units.are ∙ unit.1)) (into_order d.tree is.tree (made_below d.tree S (length d.tree) f) f first.0 mine) in
         let one = one_unit_has d j f is lt member in
         let good = well_made d.tree f (unit_at d j) is.tree one.1 in
-        let path_is : path_at d.tree f ≡ path = sym (good.alone f (only (unit_at d j).packages f less member)) ∙ name in
+        let path_is : path_at d.tree f ≡ path = sym (good.named.alone f (only (unit_at d j).packages f less member)) ∙ name in
         ap (option_and_then (number_of d)) (has_position d.tree path f is.tree first.0 path_is) ∙ one.0
 
 -- a unit of several packages is found by its group, which is its name
@@ -233,7 +233,7 @@ pub kept_at : (tree : Tree) (ms : List Made) (k : ℕ) (m : Made) → k < length
 kept_at tree ms k m lt here = get_or-map (unit_made tree) ms k m no_unit lt ∙ ap (unit_made tree) (sym here)
 
 pub unit_some : (d : Division) (k : ℕ) → IsDivision d → k < length d.units → 0 < length (unit_at d k).packages
-unit_some d k is lt = let some = (unit_good d k is lt).some in omega (arith, some.1.1)
+unit_some d k is lt = let some = (unit_good d k is lt).named.some in omega (arith, some.1.1)
 
 pub all_listed : (d : Division) (k : ℕ) → IsDivision d → k < length d.units → All (λ p. p < length d.tree) (unit_at d k).packages
 all_listed d k is lt i e within = unit_listed d k (get_or (unit_at d k).packages i e) is lt (Contains-get_or (unit_at d k).packages i e within)
@@ -242,7 +242,7 @@ all_listed d k is lt i e within = unit_listed d k (get_or (unit_at d k).packages
 pub name_alone_at : (d : Division) (k : ℕ) → IsDivision d → k < length d.units → length (unit_at d k).packages ≡ 1 → path_at d.tree (get_or (unit_at d k).packages 0 0) ≡ (unit_at d k).name
 name_alone_at d k is lt one =
     let first = Contains-get_or (unit_at d k).packages 0 0 (omega (arith, one)) in
-    sym ((unit_good d k is lt).alone (get_or (unit_at d k).packages 0 0) (only (unit_at d k).packages _ (omega (arith, one)) first))
+    sym ((unit_good d k is lt).named.alone (get_or (unit_at d k).packages 0 0) (only (unit_at d k).packages _ (omega (arith, one)) first))
 
 -- and with several
 pub name_group_at : (d : Division) (keys : List Text) (k : ℕ) → IsDivision d → AreGroups d keys → k < length d.units → length (unit_at d k).packages ≢ 1

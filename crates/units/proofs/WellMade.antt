@@ -246,11 +246,13 @@ well_made tree p u is unit = subst (IsWellMade tree) (sym unit.is) (
     let alike = made_alike tree S p unit.listed unit.not_ignored in
     let mine = made_contains tree S p p unit.listed unit.not_ignored refl in
     record {
-      name = name_good tree is ps alike;
-      some = (p, there tree is ps alike p mine);
-      in_order = order_paths tree is ps alike.listed ∙ set_once (map (path_at tree) ps) ∙ ap set_of (sym (order_paths tree is ps alike.listed));
-      alike = λ a b ma mb apart. name_shared tree is ps alike a b (back tree is ps alike a ma) (back tree is ps alike b mb) apart;
-      alone = λ a e. name_alone tree is ps alike a e;
+      named = record {
+        name = name_good tree is ps alike;
+        some = (p, there tree is ps alike p mine);
+        in_order = order_paths tree is ps alike.listed ∙ set_once (map (path_at tree) ps) ∙ ap set_of (sym (order_paths tree is ps alike.listed));
+        alike = λ a b ma mb apart. name_shared tree is ps alike a b (back tree is ps alike a ma) (back tree is ps alike b mb) apart;
+        alone = λ a e. name_alone tree is ps alike a e;
+      };
       needed = needed_unit tree is ps alike;
       needs = build_positions tree is ps alike;
       none_ignored = λ q member ignored.

@@ -14,10 +14,11 @@ IgnoredSpreads =
     → Contains (build_at tree p) d ⊎ Contains (run_at tree p) d → IsIgnored tree d
     → IsIgnored tree p
 
--- a tree has one list of units, and a package one unit
+-- a tree has one list of units
 abbrev pub OnlyOneDivision : Type 0
 OnlyOneDivision = (tree : Tree) (us vs : List Unit) → AreUnits tree us → AreUnits tree vs → us ≡ vs
 
+-- a package is of one unit at most
 abbrev pub OnlyOneUnit : Type 0
 OnlyOneUnit = (tree : Tree) (p : ℕ) (u v : Unit) → IsUnitOf tree p u → IsUnitOf tree p v → u ≡ v
 
@@ -33,8 +34,8 @@ PackagesOfOneUnit = (d : Division) (k p : ℕ) → IsDivision d → k < length d
     → Contains (unit_at d k).packages p
     → (number_of d p ≡ Some k) × IsUnitOf d.tree p (unit_at d k)
 
--- what each unit is, whatever the tree
-pub record IsWellMade (tree : Tree) (u : Unit) : Type 0 where
+-- what name and which packages each unit has, whatever the tree
+pub record IsNamedWell (tree : Tree) (u : Unit) : Type 0 where
   -- its name is a path
   pub name : IsPath u.name
   -- it has a package, and its packages stand in order of path, each once
@@ -44,6 +45,10 @@ pub record IsWellMade (tree : Tree) (u : Unit) : Type 0 where
   pub alike : (p q : ℕ) → Contains u.packages p → Contains u.packages q → (p ≡ q → ⊥)
       → u.name ≡ without_subpackage (path_at tree p)
   pub alone : (p : ℕ) → u.packages ≡ p ∷ [] → u.name ≡ path_at tree p
+
+-- what each unit is, whatever the tree
+pub record IsWellMade (tree : Tree) (u : Unit) : Type 0 where
+  pub named : IsNamedWell tree u
   -- Its build needs what any of its packages needs, and none of them, if they are two or more; a
   -- package that is alone may need itself.
   pub needed : (q : ℕ)
@@ -54,6 +59,7 @@ pub record IsWellMade (tree : Tree) (u : Unit) : Type 0 where
   pub needs : ArePositions tree u.build
   pub none_ignored : (q : ℕ) → Contains u.build q → ¬ IsIgnored tree q
 
+-- the unit of a package is well made
 abbrev pub UnitsAreWellMade : Type 0
 UnitsAreWellMade =
     (tree : Tree) (p : ℕ) (u : Unit) → IsTree tree → IsUnitOf tree p u → IsWellMade tree u
@@ -63,22 +69,23 @@ abbrev pub NamesTellUnits : Type 0
 NamesTellUnits = (d : Division) (j k : ℕ) → IsDivision d → j < length d.units → k < length d.units
     → (unit_at d j).name ≡ (unit_at d k).name → j ≡ k
 
--- a unit is found by its name, which messages and notes go by, and by the path of each of its
--- packages
+-- a unit is found by its name, which messages and notes go by
 abbrev pub NamesAreFound : Type 0
 NamesAreFound = (d : Division) (k : ℕ) → IsDivision d → k < length d.units
     → number_named d (unit_at d k).name ≡ Some k
 
+-- a unit is found by the path of each of its packages
 abbrev pub PathsAreFound : Type 0
 PathsAreFound = (d : Division) (k p : ℕ) → IsDivision d → k < length d.units
     → Contains (unit_at d k).packages p
     → number_found d (path_at d.tree p) ≡ Some k
 
--- where each package is a group of its own, the units are the packages that are not ignored, by
--- themselves
+-- the unit of a package by itself
 abbrev pub unit_alone : Tree → ℕ → Unit
 unit_alone tree p = record { name = path_at tree p; packages = p ∷ []; build = build_at tree p }
 
+-- where each package is a group of its own, the units are the packages that are not ignored, by
+-- themselves
 abbrev pub SinglesStandAlone : Type 0
 SinglesStandAlone = (tree : Tree) (ignored : ℕ → Bool) → IsTree tree → AreSingle tree
     → units_with tree ignored

@@ -1,5 +1,5 @@
 -- How the groups of a tree are stored, and what is written of them.
-use Rattle.std.specs.Prelude.{◌≡◌, ◌++◌, ℕ, List, [], codes, count_by, length, map, nat_le, unwrap_or, if◌then◌else◌}
+use Rattle.std.specs.Prelude.{◌≡◌, ◌++◌, ℕ, List, [], codes, count_by, map, nat_le, unwrap_or, if◌then◌else◌}
 use Rattle.std.specs.List.{flat_map, slice_index_or}
 use Rattle.std.specs.Map.{keys_of, lookup}
 use Rattle.std.specs.Str.{bytes_eq}
@@ -32,7 +32,8 @@ pub record AreGroups (names : List Text) (sizes : List (Text × ℕ)) (places : 
 
 -- a line for a group that is named twice or more
 abbrev pub line_of_group : List Text → Text → Text
-line_of_group names group = if nat_le 2 (size_in names group) then line (codes "G " ++ group) else []
+line_of_group names group =
+    if nat_le 2 (size_in names group) then line (codes "G " ++ group) else []
 
 -- the lines of groups, in the order in which they are first named
 abbrev pub lines_of_groups : List Text → Text

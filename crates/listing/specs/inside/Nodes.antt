@@ -1,5 +1,5 @@
 -- What a contract sees of the nodes of a tree.
-use Rattle.std.specs.Prelude.{ℕ, ◌≡◌, ◌<◌, ◌&&◌, ◌||◌, ◌==◌, Bool, false, not, List, [], All, ◌++◌, map, filter_map, position, Option, None, Some, slice_index_or}
+use Rattle.std.specs.Prelude.{ℕ, ◌≡◌, ◌<◌, ◌&&◌, ◌||◌, ◌==◌, Bool, false, not, List, [], All, ◌++◌, length, map, filter_map, position, Option, None, Some, slice_index_or}
 use Rattle.std.specs.List.{list_all, list_any, zip}
 use Rattle.std.specs.List.Sorted.{IsStrictlyIncreasing}
 use Rattle.std.specs.Option.{option_map_or}
@@ -10,7 +10,7 @@ use Rattle.pkgspec.specs.Spec.{Alternative}
 use Rattle.listing.specs.Dependencies.{specs_of}
 use Rattle.listing.specs.inside.Parts.{position_of_word}
 use Rattle.listing.specs.Rules.{names_and_specs}
-use Rattle.listing.specs.inside.Table.{name_in, new_row}
+use Rattle.listing.specs.inside.Table.{name_in, no_row}
 use Rattle.listing.specs.Tree.{Package, Tree}
 use Rattle.listing.specs.declared.dependency.Dependency.{Dependency}
 use Rattle.listing.specs.declared.dependency.Resolution.{Resolution}
@@ -18,6 +18,7 @@ use Rattle.listing.specs.declared.node.Node.{Node}
 use Rattle.listing.specs.declared.table.Reading.{Reading}
 use Rattle.listing.specs.declared.table.Reading.TheVariants.{Name, Numbers, Unread}
 use Rattle.listing.specs.declared.table.Row.{Row}
+use Rattle.listing.specs.declared.table.Table.{Table}
 use Rattle.listing.specs.declared.table.Value.{Value}
 
 -- the package that the node of a path stands for, where paths are of such groups
@@ -61,10 +62,14 @@ pub record HasNumbersBelow (n : ℕ) (row : Row) : Type 0 where
 abbrev pub unlisted : Resolution
 unlisted = record { position = None; is_met = false }
 
--- what becomes of a dependency whose path stands at this position: the name in the row there has to be one that will do
+-- what becomes of a dependency whose path stands at this position: the name in the row there has to
+-- be one that will do
 abbrev pub resolution_at : List Row → (Text → Bool) → Option ℕ → Resolution
 resolution_at rows will_do None = unlisted
-resolution_at rows will_do (Some p) = record { position = Some p; is_met = option_map_or will_do (name_in (slice_index_or rows p (new_row 0))) false }
+resolution_at rows will_do (Some p) = record {
+  position = Some p;
+  is_met = option_map_or will_do (name_in (slice_index_or rows p no_row)) false;
+}
 
 -- all these specs match the name
 abbrev pub all_match : List (List Alternative) → Text → Bool
@@ -76,15 +81,18 @@ word_matches word name = list_all (λ spec. names_and_specs.matches spec name) (
 
 -- what becomes of a dependency that was read, where these paths with their rows are listed
 abbrev pub resolution_of : List Text → List Row → Dependency → Resolution
-resolution_of listed rows d = resolution_at rows (all_match d.specs.items) (position (bytes_eq d.path) listed)
+resolution_of listed rows d =
+    resolution_at rows (all_match d.specs.items) (position (bytes_eq d.path) listed)
 
 -- what becomes of a dependency as it is written, where these paths with their rows are listed
 abbrev pub resolution_of_word : List Text → List Row → Text → Resolution
-resolution_of_word listed rows word = resolution_at rows (word_matches word) (position_of_word listed word)
+resolution_of_word listed rows word =
+    resolution_at rows (word_matches word) (position_of_word listed word)
 
 -- the positions of those that are listed, in turn
 abbrev pub listed_positions : List Resolution → List ℕ → List ℕ
-listed_positions resolutions numbers = filter_map (λ n. (slice_index_or resolutions n unlisted).position) numbers
+listed_positions resolutions numbers =
+    filter_map (λ n. (slice_index_or resolutions n unlisted).position) numbers
 
 -- all dependencies with these numbers are met
 abbrev pub are_met : List Resolution → List ℕ → Bool
@@ -98,11 +106,32 @@ pub record IsSetOf (ps xs : List ℕ) : Type 0 where
 -- IGNORE isn't empty in the row, or a dependency in it isn't met
 abbrev pub is_marked_by : List Resolution → Row → Bool
 is_marked_by resolutions row = not (is_empty (text_of_value row.ignore))
-    || not (are_met resolutions (numbers_of_value row.build) && are_met resolutions (numbers_of_value row.lib) && are_met resolutions (numbers_of_value row.run))
+    || not (are_met resolutions (numbers_of_value row.build)
+    && are_met resolutions (numbers_of_value row.lib)
+    && are_met resolutions (numbers_of_value row.run))
 
 -- the node says of a row's package what these resolutions say of its dependencies
 pub record IsNodeOf (resolutions : List Resolution) (row : Row) (n : Node) : Type 0 where
   pub name : name_in row ≡ Some n.name
-  pub build : IsSetOf n.build.items (listed_positions resolutions (numbers_of_value row.build) ++ listed_positions resolutions (numbers_of_value row.lib))
-  pub run : IsSetOf n.run.items (listed_positions resolutions (numbers_of_value row.lib) ++ listed_positions resolutions (numbers_of_value row.run))
+  pub build : IsSetOf n.build.items
+      (listed_positions resolutions (numbers_of_value row.build)
+      ++ listed_positions resolutions (numbers_of_value row.lib))
+  pub run : IsSetOf n.run.items
+      (listed_positions resolutions (numbers_of_value row.lib)
+      ++ listed_positions resolutions (numbers_of_value row.run))
   pub marked : n.is_marked ≡ is_marked_by resolutions row
+
+-- the nodes are those of the rows, in turn
+pub record AreNodesOf (resolutions : List Resolution) (rows : List Row)
+    (nodes : List Node) : Type 0 where
+  pub lengths : length nodes ≡ length rows
+  pub each : (k : ℕ) (d : Row) (e : Node) → k < length rows
+      → IsNodeOf resolutions (slice_index_or rows k d) (slice_index_or nodes k e)
+
+-- what becomes of each dependency of the table
+abbrev pub resolutions_in : Table → List Resolution
+resolutions_in table = map (resolution_of_word table.paths.keys table.rows.items) table.dependencies
+
+-- the nodes are those of the table's rows
+abbrev pub AreNodesOfTable : Table → List Node → Type 0
+AreNodesOfTable table nodes = AreNodesOf (resolutions_in table) table.rows.items nodes

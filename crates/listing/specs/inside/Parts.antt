@@ -49,7 +49,8 @@ pub record AreParts (line : Text) (parts : Parts) : Type 0 where
 abbrev pub filled : List Text → List Text
 filled texts = filter (λ s. not (is_empty s)) texts
 
--- the dependency's field before the path, or the empty text, and the field with the path, if it has a dependency's shape
+-- the dependency's field before the path, or the empty text, and the field with the path, if it has
+-- a dependency's shape
 abbrev pub IsPathField : Text → Option (Text × Text) → Type 0
 IsPathField word None = is_shaped word ≡ false
 IsPathField word (Some (before, field)) =
@@ -58,7 +59,8 @@ IsPathField word (Some (before, field)) =
 
 -- the specs that the field before a path and the bounds behind it mean
 abbrev pub specs_from : Text → Text → List Text
-specs_from before bounds = filled (before ∷ []) ++ map (λ b. codes "STEM-" ++ b) (filled (bounds ∷ []))
+specs_from before bounds =
+    filled (before ∷ []) ++ map (λ b. codes "STEM-" ++ b) (filled (bounds ∷ []))
 
 -- the word has the shape of a dependency, and these fields
 pub record AreFieldsOf (word : Text) (fields : Fields) : Type 0 where
@@ -83,7 +85,8 @@ pub record AreNumbersOf (words : List Text) (numbers : List ℕ) (these : List T
 -- the value of the variable was read as this
 abbrev pub IsReadAs : List Text → Variable → Text → Reading → Type 0
 IsReadAs words v text (Name name) = (has_name v ≡ true) × (name_of text ≡ Ok name)
-IsReadAs words v text (Numbers numbers) = (has_dependencies v ≡ true) × AreNumbersOf words numbers.items (words_of text)
+IsReadAs words v text (Numbers numbers) =
+    (has_dependencies v ≡ true) × AreNumbersOf words numbers.items (words_of text)
 IsReadAs words v text Unread = v ≡ Ignore
 
 -- where the path of a dependency stands among the listed ones

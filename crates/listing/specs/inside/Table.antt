@@ -1,16 +1,17 @@
 -- How the rows of a table stand for what lines set.
-use Rattle.std.specs.Prelude.{◌≡◌, ◌<◌, ◌≤◌, ℕ, List, [], All, length, find, option_and_then, option_map, Option, None, Some, IfSome, is_some, if◌then◌else◌}
+use Rattle.std.specs.Prelude.{◌≡◌, ◌<◌, ◌≤◌, ◌++◌, ◌∷◌, ◌⊎◌, ℕ, List, [], All, length, find, option_and_then, option_map, Option, None, Some, IfSome, MatchResult, Ok, Result, is_some, if◌then◌else◌}
 use Rattle.std.specs.List.{slice_index_or, IsDistinct}
 use Rattle.std.specs.Str.{bytes_eq}
 use Rattle.faults.specs.Answers.{option_or}
 use Rattle.faults.specs.Bytes.{Text}
-use Rattle.pkgpath.specs.PkgPath.{IsPath}
+use Rattle.pkgpath.specs.PkgPath.{IsPath, path_of}
 use Rattle.listing.specs.Lines.{Setting}
-use Rattle.listing.specs.Listing.{paths_of, value_of}
+use Rattle.listing.specs.Listing.{paths_of, setting_fault, value_of}
 use Rattle.listing.specs.inside.Parts.{IsReadAs, name_of_variable}
+use Rattle.listing.specs.Rules.{names_and_specs}
 use Rattle.listing.specs.Tree.{most_paths}
 use Rattle.listing.specs.declared.ListingFault.{ListingFault}
-use Rattle.listing.specs.declared.ListingFault.TheVariants.{NoName}
+use Rattle.listing.specs.declared.ListingFault.TheVariants.{Memory, NoName}
 use Rattle.listing.specs.declared.line.Variable.{Variable}
 use Rattle.listing.specs.declared.line.Variable.TheVariants.{FullName, BuildDepends, LibDepends, RunDepends, Ignore}
 use Rattle.listing.specs.declared.table.Reading.{Reading}
@@ -18,6 +19,7 @@ use Rattle.listing.specs.declared.table.Reading.TheVariants.{Name, Numbers, Unre
 use Rattle.listing.specs.declared.table.Row.{Row}
 use Rattle.listing.specs.declared.table.Table.{Table}
 use Rattle.listing.specs.declared.table.Value.{Value}
+use denote.Ref.{Bor}
 
 -- what a variable is set to in a row
 abbrev pub value_in : Variable → Row → Option Value
@@ -41,7 +43,12 @@ text_in v row = option_map (λ x. x.text.now) (value_in v row)
 
 -- a line sets a variable of a path to a value
 abbrev pub setting : ℕ → Text → Variable → Text → Setting
-setting line path variable value = record { line = line; path = path; variable = name_of_variable variable; value = value }
+setting line path variable value = record {
+  line = line;
+  path = path;
+  variable = name_of_variable variable;
+  value = value;
+}
 
 -- the name, where the value was read as one
 abbrev pub name_read : Reading → Option Text
@@ -58,20 +65,41 @@ abbrev pub row_fault : Row → Option ListingFault
 row_fault row = if is_some (name_in row) then None else Some (NoName row.line)
 
 -- the row holds what the lines set for the path
-pub record IsRowOf (settings : List Setting) (words : List Text) (path : Text) (row : Row) : Type 0 where
+pub record IsRowOf (settings : List Setting) (words : List Text) (path : Text)
+    (row : Row) : Type 0 where
   pub line : option_map (λ s. s.line) (find (λ s. bytes_eq s.path path) settings) ≡ Some row.line
   pub values : (v : Variable) → value_of settings path (name_of_variable v) ≡ text_in v row
   pub reads : (v : Variable) → IfSome (value_in v row) (λ x. IsReadAs words v x.text.now x.reading)
+  pub spelled : path_of row.spelled.now ≡ Ok path
 
--- a row in which nothing is set
-abbrev pub new_row : ℕ → Row
-new_row line = record { line = line; name = None; build = None; lib = None; run = None; ignore = None }
+-- a row in which nothing is set, of a path that is spelled so
+abbrev pub new_row : ℕ → Bor Text → Row
+new_row line spelled = record {
+  line = line;
+  spelled = spelled;
+  name = None;
+  build = None;
+  lib = None;
+  run = None;
+  ignore = None;
+}
+
+-- read only where a position is past the end
+abbrev pub no_row : Row
+no_row = new_row 0 (record { ref_ptr = (0, 0); now = [] })
+
+-- in the first line of the row at the position, this text spells the path
+abbrev pub IsSpelled : List Row → ℕ → Text → Type 0
+IsSpelled rows at spelled =
+    (at < length rows) × ((slice_index_or rows at no_row).spelled.now ≡ spelled)
 
 -- paths, each with its row, hold what the lines set
-pub record AreRowsOf (settings : List Setting) (words : List Text) (paths : List Text) (rows : List Row) : Type 0 where
+pub record AreRowsOf (settings : List Setting) (words : List Text) (paths : List Text)
+    (rows : List Row) : Type 0 where
   pub all : paths ≡ paths_of settings
   pub lengths : length rows ≡ length paths
-  pub each : (k : ℕ) (d : Row) → k < length paths → IsRowOf settings words (slice_index_or paths k []) (slice_index_or rows k d)
+  pub each : (k : ℕ) (d : Row) → k < length paths
+      → IsRowOf settings words (slice_index_or paths k []) (slice_index_or rows k d)
   pub once : IsDistinct bytes_eq paths
   pub few : length paths ≤ most_paths
   pub spelled : All IsPath paths
@@ -79,3 +107,11 @@ pub record AreRowsOf (settings : List Setting) (words : List Text) (paths : List
 -- the table holds what the lines set
 abbrev pub Stands : Table → List Setting → Type 0
 Stands table settings = AreRowsOf settings table.dependencies table.paths.keys table.rows.items
+
+-- behind what earlier lines set, the table takes in what one more line sets, or the call tells the
+-- fault of that, unless memory ran out
+abbrev pub IsTakenIn : Table → Setting → Result Unit ListingFault → Table → Type 0
+IsTakenIn old s result new =
+    (earlier : List Setting) → Stands old earlier → MatchResult result
+    (λ _. (setting_fault names_and_specs earlier s ≡ None) × Stands new (earlier ++ s ∷ []))
+    (λ e. (e ≡ Memory) ⊎ (setting_fault names_and_specs earlier s ≡ Some e))

@@ -1,9 +1,13 @@
-use Rattle.std.proofs.Common.{length}
+use Rattle.std.proofs.Common.{◌≡◌, drop, length}
+use Rattle.listing.specs.Dependencies.{words_of}
 use Rattle.listing.proofs.Numbers.{ReadSoFar}
 use Rattle.listing.proofs.dependency.Dependencies.read.Given as goal
 
-abbrev pub invariant-loop-count : goal.invariant-loop-count
-invariant-loop-count l =
-    (goal.iterator-loop-count).can_next l.count-iterator ×
-    (goal.iterator-loop-count).is_finite l.count-iterator ×
-    ReadSoFar l.line l.value l.initial.self l.self l.numbers.items (length l.yielded)
+abbrev pub invariant-words : goal.invariant-words
+invariant-words l = record {
+  read : ReadSoFar l.line l.value l.initial.self l.self l.numbers.items (length l.numbers.items);
+  left : drop (length l.numbers.items) (words_of l.value) ≡ words_of l.left;
+}
+
+abbrev pub decreases-words : goal.decreases-words
+decreases-words l = length l.left

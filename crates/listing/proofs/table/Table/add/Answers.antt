@@ -11,5 +11,5 @@ returns-in_err-set c =
     let text = c.args.value.text.now in
     let no_other : is_another text (text_in c.args.variable c.new-row.result) ≡ false =
     ap (λ (row : Row). is_another text (text_in c.args.variable row)) c.new-row.ensures
-    ∙ ap (λ o. is_another text (option_map (λ (x : Value). x.text.now) o)) (nothing_in_new c.args.variable c.args.line) in
+    ∙ ap (λ o. is_another text (option_map (λ (x : Value). x.text.now) o)) (nothing_in_new c.args.variable c.args.line c.args.spelled) in
     absurd (true≢false (sym c.in_err-set.ensures.0 ∙ no_other))
