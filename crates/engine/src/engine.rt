@@ -52,10 +52,11 @@ impl<'a> Model for Engine<'a> {
 }
 
 impl<'a> Engine<'a> {
-    /// The engine of a tree of which nothing is agreed. It makes all the room that its calls need, so that they take no
-    /// memory.
+    /// The engine of a tree of which nothing is agreed. It makes all the room that its calls need,
+    /// so that they take no memory.
     pub fn new(alloc: Global, tree: &'a Tree) -> Result<Engine<'a>, Memory>
-        ensures { IfOk result (λ engine. engine ≡ record { tree = tree.entry.now; agreed = set.empty }) }
+        ensures { IfOk result
+            (λ engine. engine ≡ record { tree = tree.entry.now; agreed = set.empty }) }
     {
         let units = Units::new(alloc, tree)?;
         let waits = first_waits(alloc, &units)?;
@@ -75,7 +76,8 @@ impl<'a> Engine<'a> {
         })
     }
 
-    /// Adds the package at the position, which is not ignored, to the agreed ones. A second time changes nothing.
+    /// Adds the package at the position, which is not ignored, to the agreed ones. A second time
+    /// changes nothing.
     pub fn agree(&mut self, position: u32)
         requires listed { position < length self.old.tree }
         requires not_ignored { ¬ HasLetter self.old position Letter.Ignored }

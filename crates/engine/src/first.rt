@@ -56,7 +56,8 @@ pub(crate) fn first_lacks(
     runs: &Reversed,
     walk: &mut Walk,
 ) -> Result<Vec<u32>, Memory>
-    requires runs { AreReversed (length tree.now) (length tree.now) (run_at tree.now) (lists_of runs.now) }
+    requires runs { AreReversed (length tree.now) (length tree.now) (run_at tree.now)
+        (lists_of runs.now) }
     requires idle { IsIdle (length tree.now) walk.old }
     ensures lacks { IfOk result (λ lacks. (length lacks.items ≡ length tree.now)
         × AreLacks (run_at tree.now) (λ p. false) (length tree.now) lacks.items) }

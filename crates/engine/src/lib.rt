@@ -21,16 +21,19 @@ pub use crate::laws::{
 /// How far a package is, in the letters of dpb(1)'s status line. One letter applies, and only one.
 #[derive(Clone, Copy, Debug, PartialEq, Eq, Hash)]
 pub enum Letter {
-    /// To build: neither held nor ignored, and not all that its unit needs to be built is installable.
+    /// To build: neither held nor ignored, and not all that its unit needs to be built is
+    /// installable.
     T,
-    /// In the queue, to be built now: neither held nor ignored, and all that its unit needs to be built is installable.
+    /// In the queue, to be built now: neither held nor ignored, and all that its unit needs to be
+    /// built is installable.
     Q,
     /// Built: held, but not installable.
     B,
     /// Installable: some held packages contain it and, with each member, all its run dependencies.
     I,
-    /// Ignored and not held: in the least set that has each marked package and each package with a build or run
-    /// dependency in the set. `Tree::marked` says which are marked: a dependency that isn't listed marks its package.
+    /// Ignored and not held: in the least set that has each marked package and each package with a
+    /// build or run dependency in the set. `Tree::marked` says which are marked: a dependency that
+    /// isn't listed marks its package.
     Ignored,
 }
 

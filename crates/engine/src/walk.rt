@@ -84,7 +84,8 @@ fn follow(marks: &mut [bool], found: &mut Vec<u32>, lists: &Reversed)
     ensures room { vec_capacity found.new ≡ vec_capacity found.old }
     ensures kept { (p : ℕ) → has_mark marks.old p ≡ true → has_mark marks.new p ≡ true }
     ensures closed { IsClosed (list_at (lists_of lists.now)) (has_mark marks.new) }
-    ensures only { LeadsTo (list_at (lists_of lists.now)) (has_mark marks.old) (has_mark marks.new) }
+    ensures only { LeadsTo (list_at (lists_of lists.now)) (has_mark marks.old)
+        (has_mark marks.new) }
 {
     let mut followed = 0;
     'follow: while followed < found.len() {
