@@ -11,7 +11,7 @@ WIDEST = 100
 LONGEST = 12
 # crates that are still to be brought within these limits; none is added
 STILL_WIDE = {"engine", "listing", "package_record", "pkgpath", "record_probe"}
-STILL_LONG = {"agreement", "package_record", "units"}
+STILL_LONG = {"package_record", "units"}
 
 
 def manual(tally):

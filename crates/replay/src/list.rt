@@ -9,7 +9,7 @@ use crate::list_line::{ListLine, list_line};
 use crate::pieces::pieces;
 use auditing::Entry;
 use claims::{Dep, Deps};
-use faults::{Fault, Memory};
+use faults::{Fault, Memory, WantOfMemory};
 use std::alloc::{AllocError, Global};
 use thiserror::Error;
 
@@ -42,18 +42,10 @@ impl Fault for ListFault {
     }
 }
 
-impl From<Memory> for ListFault {
+impl<E: WantOfMemory> From<E> for ListFault {
     ghost from_gives = { λ _ e. e ≡ OutOfMemory };
 
-    fn from(_e: Memory) -> ListFault {
-        ListFault::Memory
-    }
-}
-
-impl From<AllocError> for ListFault {
-    ghost from_gives = { λ _ e. e ≡ OutOfMemory };
-
-    fn from(_e: AllocError) -> ListFault {
+    fn from(_error: E) -> ListFault {
         ListFault::Memory
     }
 }
