@@ -24,8 +24,9 @@ joined_so_far (Gathering c joined k) = joined
 joined_so_far (Building c) = []
 joined_so_far (Voting b joined) = joined
 
--- An open claim is for a unit that is not held, is the member's own, and has all that the unit's build needs held. Those
--- that joined are members, each once, in order of number, and are no majority yet.
+-- An open claim is for a unit that is not held, is the member's own, and has all that the unit's
+-- build needs held. Those that joined are members, each once, in order of number, and are no
+-- majority yet.
 pub record IsOpen (s : State) (o : OpenClaim) : Type 0 where
   pub unit : o.unit < length s.division.units
   pub not_held : (facts_at s o.unit).held ≡ None

@@ -1,5 +1,5 @@
--- What a contract sees of a member: its tree with its units, what members weigh, its own number, what it knows of each
--- unit, and its open claim.
+-- What a contract sees of a member: its tree with its units, what members weigh, its own number,
+-- what it knows of each unit, and its open claim.
 use Rattle.std.specs.Prelude.{ℕ, Bool, false, List, Option, None, Some, find, is_some, length, map, option_and_then, slice_set}
 use Rattle.std.specs.List.{slice_index_or}
 use Rattle.std.specs.Str.{bytes_eq}
@@ -76,22 +76,26 @@ record_in path build = find (λ r. bytes_eq r.path path) build
 -- the record that is held for a package path
 abbrev pub held_record : State → Text → Option Content
 held_record s path =
-    option_and_then (λ u. option_and_then (record_in path) (facts_at s u).held) (unit_with s.division path)
+    option_and_then (λ u. option_and_then (record_in path) (facts_at s u).held)
+    (unit_with s.division path)
 
 -- the engine of what is held
 abbrev pub engine_of : State → engine.State
-engine_of s = record { tree = s.division.tree; agreed = set_below (holds_package s) (length s.division.tree) }
+engine_of s =
+    record { tree = s.division.tree; agreed = set_below (holds_package s) (length s.division.tree) }
 
 -- the letter of the unit: that of its first package, and so of each
 abbrev pub HasLetter : State → ℕ → Letter → Type 0
-HasLetter s u letter = engine.HasLetter (engine_of s) (slice_index_or (unit_at s.division u).packages 0 0) letter
+HasLetter s u letter =
+    engine.HasLetter (engine_of s) (slice_index_or (unit_at s.division u).packages 0 0) letter
 
 -- ---- how it changes
 
 -- the facts of all units with one more note on this one, if there is such a unit
 abbrev pub noted_at : Option ℕ → List (Facts Value) → Note Value → List (Facts Value)
 noted_at None facts n = facts
-noted_at (Some u) facts n = slice_set facts u (noted (slice_index_or facts u no_facts) (note_of n.fact))
+noted_at (Some u) facts n =
+    slice_set facts u (noted (slice_index_or facts u no_facts) (note_of n.fact))
 
 -- the facts with the note of a step, if it has one
 abbrev pub facts_then : Division → List (Facts Value) → Option (Note Value) → List (Facts Value)
