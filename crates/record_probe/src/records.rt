@@ -24,29 +24,26 @@ fn first(alloc: Global, text: &[u8]) -> Result<String, AllocError> {
 // What a copy of the record says, and the length of what it writes.
 pub fn said(alloc: Global, record: &Record, length: usize) -> Result<String, AllocError> {
     match copied(alloc, record) {
-        Ok((digest, written)) => line(alloc, record, &digest, length, written),
+        Ok((digest, written)) => {
+            let path = hex::encode(alloc, record.path().as_bytes())?;
+            format!(in alloc; "{path} {digest} {length} {written}")
+        }
         Err(Memory) => no_memory(alloc),
     }
 }
 
-fn copied(alloc: Global, record: &Record) -> Result<([u8; 32], usize), Memory> {
+// The digest of a copy, and the length of what the copy writes.
+fn copied(alloc: Global, record: &Record) -> Result<(String, usize), Memory> {
     let copy = record.copy()?;
-    let digest = copy.digest()?;
+    let digest = digest_text(alloc, &copy)?;
     let mut text = Vec::new(alloc);
     copy.write_to(&mut text)?;
     Ok((digest, text.len()))
 }
 
-fn line(
-    alloc: Global,
-    record: &Record,
-    digest: &[u8; 32],
-    length: usize,
-    written: usize,
-) -> Result<String, AllocError> {
-    let path = hex::encode(alloc, record.path().as_bytes())?;
-    let digest = hex::encode(alloc, digest)?;
-    format!(in alloc; "{path} {digest} {length} {written}")
+fn digest_text(alloc: Global, record: &Record) -> Result<String, Memory> {
+    let digest = record.digest()?;
+    Ok(hex::encode(alloc, &digest)?)
 }
 
 // What the record says of its build, and how many dependencies, paths to run and files it has.
