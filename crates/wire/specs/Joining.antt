@@ -19,8 +19,8 @@ same_carrier a b = false
 -- one header: no field differs
 abbrev pub same_header : Header → Header → Bool
 same_header a b =
-    (a.sender == b.sender) && bytes_eq a.tree b.tree && bytes_eq a.path b.path && same_carrier a.carrier b.carrier
-    && (a.length == b.length)
+    (a.sender == b.sender) && bytes_eq a.tree b.tree && bytes_eq a.path b.path
+    && same_carrier a.carrier b.carrier && (a.length == b.length)
 
 -- the piece of this number, of the header's message
 abbrev pub is_numbered : Header → ℕ → Piece → Bool

@@ -34,21 +34,26 @@ AreBytes text = (k : ℕ) → slice_index text k < 256
 -- a text that is read as a datagram is its text
 abbrev pub WhatIsReadIsSpelledSo : Type 0
 WhatIsReadIsSpelledSo =
-    (text : Text) (d : Datagram) → AreBytes text → datagram_of text ≡ Ok d → IsDatagram d × (text ≡ datagram_text d)
+    (text : Text) (d : Datagram) → AreBytes text → datagram_of text ≡ Ok d
+    → IsDatagram d × (text ≡ datagram_text d)
 
 -- a text that is read as a note is its text
 abbrev pub NoteThatIsReadIsSpelledSo : Type 0
-NoteThatIsReadIsSpelledSo = (text : Text) (n : Note Value) → AreBytes text → note_of text ≡ Ok n → IsNote n × (text ≡ note_text n)
+NoteThatIsReadIsSpelledSo =
+    (text : Text) (n : Note Value) → AreBytes text → note_of text ≡ Ok n
+    → IsNote n × (text ≡ note_text n)
 
 -- where the text of a datagram begins that of another, the two are one datagram with one text
 abbrev pub NoDatagramBeginsAnother : Type 0
 NoDatagramBeginsAnother =
-    (d e : Datagram) (rest : Text) → IsDatagram d → IsDatagram e → datagram_text e ≡ datagram_text d ++ rest → (d ≡ e) × (rest ≡ [])
+    (d e : Datagram) (rest : Text) → IsDatagram d → IsDatagram e
+    → datagram_text e ≡ datagram_text d ++ rest → (d ≡ e) × (rest ≡ [])
 
 -- where the text of a note begins that of another, the two are one note with one text
 abbrev pub NoNoteBeginsAnother : Type 0
 NoNoteBeginsAnother =
-    (m n : Note Value) (rest : Text) → IsNote m → IsNote n → note_text n ≡ note_text m ++ rest → (m ≡ n) × (rest ≡ [])
+    (m n : Note Value) (rest : Text) → IsNote m → IsNote n
+    → note_text n ≡ note_text m ++ rest → (m ≡ n) × (rest ≡ [])
 
 -- ---- pieces
 
@@ -67,39 +72,46 @@ abbrev pub bytes_in : Datagram → Text
 bytes_in (datagrams.Whole m) = []
 bytes_in (datagrams.Piece p) = p.bytes
 
--- The datagrams are the pieces of the build's text, and nothing else: they have one header, their numbers are 0, 1, .., and
--- their bytes are that text. Each has as many as a piece may have, and the last one some of them.
+-- The datagrams are the pieces of the build's text, and nothing else: they have one header, their
+-- numbers are 0, 1, .., and their bytes are that text. Each has as many bytes as a piece may have,
+-- but for the last, which has some and no more.
 pub record AreItsPieces (h : Header) (v : Value) (ds : List Datagram) : Type 0 where
   pub headers : All (λ d. header_in d ≡ Some h) ds
   pub numbers : map number_in ds ≡ map Some (range_with_len 0 (length ds))
   pub bytes : flat_map bytes_in ds ≡ build_text v
-  pub full : (k : ℕ) → k + 1 < length ds → option_map (λ d. length (bytes_in d)) (slice_get ds k) ≡ Some piece_size
+  pub full : (k : ℕ) → k + 1 < length ds
+    → option_map (λ d. length (bytes_in d)) (slice_get ds k) ≡ Some piece_size
   pub last : All (λ d. (1 ≤ length (bytes_in d)) × (length (bytes_in d) ≤ piece_size)) ds
 
 -- each datagram of a message can be written down
 abbrev pub MessagesAreSplitIntoDatagrams : Type 0
 MessagesAreSplitIntoDatagrams = (m : Message Value) → IsMessage m → All IsDatagram (split_of m)
 
--- a message without a build goes out in whole, and one with a build in its pieces
+-- a message that carries a build goes out in its pieces
 abbrev pub MessagesWithABuildGoOutInPieces : Type 0
 MessagesWithABuildGoOutInPieces =
     (m : Message Value) (carrier : Carrier) (v : Value)
-    → IsMessage m → carried_in m.body ≡ Some (carrier, v) → AreItsPieces (header_with m carrier v) v (split_of m)
+    → IsMessage m → carried_in m.body ≡ Some (carrier, v)
+    → AreItsPieces (header_with m carrier v) v (split_of m)
 
 -- what the pieces of a message join to is the message
 abbrev pub PiecesJoinToTheMessage : Type 0
 PiecesJoinToTheMessage =
     (m : Message Value) (carrier : Carrier) (v : Value)
-    → IsMessage m → carried_in m.body ≡ Some (carrier, v) → joined (header_with m carrier v) (build_text v) ≡ Ok m
+    → IsMessage m → carried_in m.body ≡ Some (carrier, v)
+    → joined (header_with m carrier v) (build_text v) ≡ Ok m
 
--- and so do pieces that came in another order, or beside pieces of other messages, if none of them is missing
+-- and so do pieces that came in another order, or beside pieces of other messages, if none of them
+-- is missing
 abbrev pub PiecesJoinInAnyOrder : Type 0
 PiecesJoinInAnyOrder =
     (m : Message Value) (carrier : Carrier) (v : Value) (pieces : List Piece)
-    → IsMessage m → carried_in m.body ≡ Some (carrier, v) → AreAllThere (header_with m carrier v) (build_text v) pieces
+    → IsMessage m → carried_in m.body ≡ Some (carrier, v)
+    → AreAllThere (header_with m carrier v) (build_text v) pieces
     → joined (header_with m carrier v) (bytes_of (header_with m carrier v) pieces) ≡ Ok m
 
--- the two messages say the same, but for the build that each carries; of the builds only the lengths are the same
+-- the two messages say the same, but for the build that each carries; of the builds only the
+-- lengths are the same
 pub record AreAlikeButForTheBuild (m n : Message Value) (c d : Carrier) (v w : Value) : Type 0 where
   pub sender : m.sender ≡ n.sender
   pub tree : m.tree ≡ n.tree
@@ -107,8 +119,9 @@ pub record AreAlikeButForTheBuild (m n : Message Value) (c d : Carrier) (v w : V
   pub carrier : c ≡ d
   pub as_long : length (build_text v) ≡ length (build_text w)
 
--- What equal headers of two messages say, and what makes them equal: the sender, the tree, the unit, the kind and its claims,
--- and how long the build's text is. That the builds are one does not follow: only who sends can see to that.
+-- What equal headers of two messages say, and what makes them equal: the sender, the tree, the
+-- unit, the kind and its claims, and how long the build's text is. That the builds are one does not
+-- follow: only those who send can see to that.
 abbrev pub EqualHeadersSayWhatIsAlike : Type 0
 EqualHeadersSayWhatIsAlike =
     (m n : Message Value) (c d : Carrier) (v w : Value)

@@ -18,6 +18,7 @@ use Rattle.ballots.specs.declared.message.Message.{Message}
 use Rattle.ballots.specs.declared.message.Note.{Note}
 use Rattle.ballots.specs.Value.{Value}
 use Rattle.wire.specs.Pieces.{message_with, piece_size}
+use Rattle.wire.specs.declared.TheConstants.{LONGEST}
 use Rattle.wire.specs.declared.WireFault.{WireFault}
 use Rattle.wire.specs.declared.WireFault.TheVariants.{TooLong, Truncated, Magic, Kind, BadField, Trailing}
 use Rattle.wire.specs.declared.datagram.Carrier.{Carrier}
@@ -29,7 +30,8 @@ use Rattle.wire.specs.declared.fields.Front.{Front}
 
 infixl 10 ◌>>=◌
 -- a fault ends the reading; else it goes on with what was read
-abbrev pub ◌>>=◌ : {A B : Type 0} → Result A WireFault → (A → Result B WireFault) → Result B WireFault
+abbrev pub ◌>>=◌ :
+    {A B : Type 0} → Result A WireFault → (A → Result B WireFault) → Result B WireFault
 (Ok x) >>= f = f x
 (Err e) >>= f = Err e
 
@@ -99,7 +101,8 @@ whole_kinds = 1 ∷ 2 ∷ 4 ∷ 6 ∷ 7 ∷ []
 abbrev pub carrier_kinds : Text
 carrier_kinds = 2 ∷ 3 ∷ 5 ∷ []
 
--- the fields that each datagram begins with: its kind, of these; the sender; its tree's digest; the unit's name
+-- the fields that each datagram begins with: its kind, of these; the sender; its tree's digest; the
+-- unit's name
 unfoldable pub front_at : Text → Text → Result (Front × Text) WireFault
 front_at kinds text = do
   kind ← kind_at kinds text
@@ -208,7 +211,7 @@ datagram_at text = do
 
 -- the most bytes that a datagram may have
 abbrev pub most_datagram_bytes : ℕ
-most_datagram_bytes = 65507
+most_datagram_bytes = LONGEST
 
 -- the datagram that is the whole text, or the first fault
 unfoldable pub datagram_of : Text → Result Datagram WireFault
@@ -235,7 +238,8 @@ voted_at name text = do
 -- the fact of a note of this kind on the unit with this name
 abbrev pub fact_at : Text → ℕ → Text → Result (Fact Value × Text) WireFault
 fact_at name kind text =
-    if kind == 1 then number_at 8 1 greatest_round text >>= (λ round. Ok (facts.Opened round.0, round.1))
+    if kind == 1
+    then number_at 8 1 greatest_round text >>= (λ round. Ok (facts.Opened round.0, round.1))
     else if kind == 2 then claim_at text >>= (λ c. Ok (facts.Promised c.0, c.1))
     else if kind == 3 then voted_at name text
     else build_at name text >>= (λ v. Ok (facts.Held v.0, v.1))
