@@ -80,7 +80,7 @@ pub record AreItsPieces (h : Header) (v : Value) (ds : List Datagram) : Type 0 w
   pub numbers : map number_in ds ≡ map Some (range_with_len 0 (length ds))
   pub bytes : flat_map bytes_in ds ≡ build_text v
   pub full : (k : ℕ) → k + 1 < length ds
-    → option_map (λ d. length (bytes_in d)) (slice_get ds k) ≡ Some piece_size
+      → option_map (λ d. length (bytes_in d)) (slice_get ds k) ≡ Some piece_size
   pub last : All (λ d. (1 ≤ length (bytes_in d)) × (length (bytes_in d) ≤ piece_size)) ds
 
 -- each datagram of a message can be written down
