@@ -1,16 +1,15 @@
 -- Builds that are spelled so are read.
-use Rattle.std.proofs.Common.{◌≡◌, ℕ, zero, suc, ◌+◌, ◌-◌, ◌<◌, ◌≤◌, true, false, ltb, List, [], ◌∷◌, ◌++◌, length, None, Ok, refl, sym, ap, ◌∙◌, append_assoc, arith, codes, decimal}
+use Rattle.std.proofs.Common.{◌≡◌, ℕ, suc, ◌+◌, ◌-◌, ◌<◌, ◌≤◌, true, false, ltb, List, [], ◌∷◌, ◌++◌, length, None, Ok, refl, sym, ap, ◌∙◌, append_assoc, arith, codes, decimal}
 use Rattle.std.specs.List.{All}
 use Rattle.std.proofs.lemmas.Bool.{and_from, le-ltb}
 use Rattle.std.proofs.lemmas.List.{append-nil, length-append}
 use Rattle.std.proofs.lemmas.List.Splits.{join_with_byte-slice_split}
-use Rattle.faults.specs.Answers.{map_ok, unless_fault}
+use Rattle.faults.specs.Answers.{map_ok}
 use Rattle.faults.specs.Bytes.{Text}
 use Rattle.faults.specs.Pieces.{pieces_at}
 use Rattle.package_record.specs.Build.{IsBuild, build_text, most_packages, records_text, several_lines}
-use Rattle.package_record.specs.BuildReading.{alone, first_build_of, is_several, next_fault, next_of, packages_at, packages_of, records_in, several_of, whole_build_of, whole_several_of}
+use Rattle.package_record.specs.BuildReading.{alone, first_build_of, is_several, next_fault, next_of, packages_of, records_in, several_of, whole_build_of, whole_several_of}
 use Rattle.package_record.specs.Content.{Content, IsRecord, ended, most_bytes, record_text}
-use Rattle.package_record.specs.Reading.{first_of, whole_of}
 use Rattle.package_record.proofs.Following.{AllFollow, all_follow}
 use Rattle.package_record.proofs.BuildTexts.{record_begins, several_begins}
 use Rattle.package_record.proofs.Cuts.{some_line}

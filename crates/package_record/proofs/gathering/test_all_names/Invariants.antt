@@ -1,4 +1,4 @@
-use Rattle.std.proofs.Common.{◌≡◌, All, None, take, drop}
+use Rattle.std.proofs.Common.{◌≡◌, All, take, drop}
 use Rattle.faults.specs.Answers.{first_given}
 use Rattle.package_record.specs.Content.{AreFileNames, names_of}
 use Rattle.package_record.specs.Making.{names_fault}

@@ -1,4 +1,4 @@
-use Rattle.std.proofs.Common.{◌≡◌, List, Ok, sym, ap, subst, ◌∙◌}
+use Rattle.std.proofs.Common.{◌≡◌, List, sym, subst}
 use Rattle.package_record.specs.Build.{IsBuild, build_text}
 use Rattle.package_record.specs.Content.{Content}
 use Rattle.package_record.proofs.BuildsTaken.{whole_build_taken}

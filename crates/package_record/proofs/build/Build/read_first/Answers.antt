@@ -1,6 +1,5 @@
-use Rattle.std.proofs.Common.{◌≡◌, List, ℕ, Ok, take, sym, ap, subst, ◌∙◌}
-use Rattle.package_record.specs.Build.{IsBuild, build_text}
-use Rattle.package_record.specs.Content.{Content}
+use Rattle.std.proofs.Common.{List, ℕ, Ok, sym, ap, ◌∙◌}
+use Rattle.package_record.specs.Build.{build_text}
 use Rattle.package_record.proofs.BuildsTaken.{first_build_taken}
 use Rattle.package_record.proofs.Whole.{front_cut}
 use Rattle.package_record.proofs.build.Build.read_first.Goals as goal
