@@ -1,5 +1,5 @@
 -- What a crash leaves of a real file while a note is added.
-use Rattle.std.proofs.Common.{◌≡◌, inl, inr, ℕ, List, [], ◌∷◌, ◌++◌, Result, Ok, Err, OnOk, ◌∙◌, sym, subst}
+use Rattle.std.proofs.Common.{◌≡◌, inl, inr, ℕ, List, [], Result, Ok, Err, OnOk, ◌∙◌, subst}
 use Rattle.stable_record.specs.declared.identity.Identity.{Identity}
 use Rattle.stable_record.specs.Crash.{AllAlong, Leaves, and_then, at_first}
 use Rattle.stable_record.specs.History.{History, seen}

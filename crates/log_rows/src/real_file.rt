@@ -1,12 +1,12 @@
 //! Calls on a real file, over what its past is and what the contracts say, and no more.
-ghost use Rattle.std.specs.Prelude.{◌≡◌, [], ◌∷◌, ◌++◌, List, length, IfOk, IfSome, OnOk, Ok};
+ghost use Rattle.std.specs.Prelude.{[], ◌∷◌, ◌++◌, List, length, IfOk, IfSome, OnOk, Ok};
 ghost use Rattle.stable_record.specs.Crash.{AllAlong, IsOnDisk, Leaves, Torn};
 ghost use Rattle.stable_record.specs.Events.{Past};
 ghost use Rattle.stable_record.specs.Faults.{ReadsAt};
 ghost use Rattle.stable_record.specs.History.{seen};
 ghost use Rattle.stable_record.specs.Log.{HasNotes, Note};
 ghost use Rattle.stable_record.specs.Opening.{Opens};
-ghost use Rattle.stable_record.specs.RealFile.{after_failed_write, file_agrees, file_history};
+ghost use Rattle.stable_record.specs.RealFile.{file_agrees, file_history};
 ghost use Rattle.log_rows.specs.RealFile.{IsAsBeforeOrAfter};
 
 use stable_record::{Disk, DiskFault, FileDisk, Identity, Log, LogFault};

@@ -1,4 +1,4 @@
-use Rattle.std.proofs.Common.{◌≡◌, ◌∷◌, ◌++◌, [], List, Ok, ◌∙◌, ap, map, sym, subst}
+use Rattle.std.proofs.Common.{◌≡◌, ◌∷◌, ◌++◌, [], List, Ok, ◌∙◌, map, sym, subst}
 use Rattle.stable_record.specs.Crash.{AllAlong, Leaves}
 use Rattle.stable_record.specs.History.{seen}
 use Rattle.stable_record.specs.Log.{HasBeforeOrAfter, HasNotes, Note, note_of}
