@@ -241,7 +241,7 @@ module _ (s : State) (u host : ℕ) (c : Claim) (given : Given) (is : IsMember s
   grouped p q has_p has_q =
       elim (cases_eq p q) [
         | inl same ↦ ap (λ k. without_subpackage (path_at tree k)) (sym same)
-        | inr other ↦ sym (good.alike q p has_q has_p (λ e. other (sym e))) ∙ good.alike p q has_p has_q other
+        | inr other ↦ sym (good.named.alike q p has_q has_p (λ e. other (sym e))) ∙ good.named.alike p q has_p has_q other
       ]
 
   all_alike : (ps : List ℕ) → packages ≡ ps → 0 < length ps → AreAlike (map made ps)
@@ -259,16 +259,16 @@ module _ (s : State) (u host : ℕ) (c : Claim) (given : Given) (is : IsMember s
   -- the name of the unit is that of the build
   named_so : (ps : List ℕ) → packages ≡ ps → 0 < length ps → Rising text_cmp (map (path_at tree) ps) → unit_path (map made ps) ≡ name_at s u
   named_so [] e some rising = absurd (omega (arith, some))
-  named_so (p ∷ []) e some rising = sym (good.alone p e)
+  named_so (p ∷ []) e some rising = sym (good.named.alone p e)
   named_so (p ∷ q ∷ ps) e some rising =
       let below = rising.0 (path_at tree q) (contains_first (path_at tree q) (map (path_at tree) ps)) in
       let has_p = subst (λ ks. Contains ks p) (sym e) (contains_first p (q ∷ ps)) in
       let has_q = subst (λ ks. Contains ks q) (sym e) (contains_later p q (q ∷ ps) (contains_first q ps)) in
-      sym (good.alike p q has_p has_q
+      sym (good.named.alike p q has_p has_q
       (λ same. not_below_itself (path_at tree q) (ap (λ k. text_cmp (path_at tree k) (path_at tree q)) (sym same) ∙ below)))
 
   rising_paths : Rising text_cmp (map (path_at tree) packages)
-  rising_paths = subst (Rising text_cmp) (sym good.in_order) (set_rises (map (path_at tree) packages))
+  rising_paths = subst (Rising text_cmp) (sym good.named.in_order) (set_rises (map (path_at tree) packages))
 
   pub build_of_unit : build_fault (map made packages) ≡ None → IsBuild (map made packages) × (unit_path (map made packages) ≡ name_at s u)
   build_of_unit no_fault = (

@@ -7,7 +7,7 @@ use Rattle.faults.specs.Bytes.{Text}
 use Rattle.agreement.specs.declared.claim.Claim.{Claim}
 use Rattle.agreement.specs.Votes.{Ballot}
 use Rattle.agreement.specs.Member.{Facts, no_facts, noted}
-use Rattle.engine.specs.Marks.{set_below}
+use Rattle.engine.specs.inside.Agreed.{set_below}
 use Rattle.engine.specs.State as engine
 use Rattle.engine.specs.declared.Letter.{Letter}
 use Rattle.units.specs.Division.{Division, number_named, number_of, unit_at}
