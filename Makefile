@@ -22,5 +22,7 @@ dist: all
 bench: all
 	bench/status
 	bench/audit
+	tools/prove wire_probe
+	bench/wire
 
 .PHONY: all check install dist bench
