@@ -1,0 +1,15 @@
+pub mod Answering
+pub mod Asked
+mod Examples
+pub mod GivenJobs
+pub mod GoodClaims
+pub mod HeldRecords
+pub mod Heard
+pub mod Known
+pub mod MembersStay
+pub mod OneAnswer
+pub mod Ready
+pub mod Restored
+mod Rows
+pub mod StayingMembers
+pub mod TheTheory

@@ -1,0 +1,15 @@
+use Rattle.protocol.proofs.GivenJobs.{jobs_are_of_claims, jobs_stay}
+use Rattle.protocol.proofs.HeldRecords.{builds_stand, jobs_have_all}
+use Rattle.protocol.proofs.laws.jobs_stay.Goals as goal
+
+pub returns-clause-signed : goal.returns-clause-signed
+returns-clause-signed c = builds_stand
+
+pub returns-clause-needed : goal.returns-clause-needed
+returns-clause-needed c = jobs_have_all
+
+pub returns-clause-given : goal.returns-clause-given
+returns-clause-given c = jobs_are_of_claims
+
+pub returns-clause-stay : goal.returns-clause-stay
+returns-clause-stay c = jobs_stay

@@ -1,0 +1,11 @@
+pub mod Refusals
+pub mod Given
+pub mod Sends
+pub mod State
+pub mod InTheAgreement
+pub mod Member
+pub mod Jobs
+pub mod Answers
+pub mod Step
+pub mod Restoring
+pub mod Laws

@@ -1,0 +1,16 @@
+-- What a member's notes give back.
+use Rattle.std.specs.Prelude.{◌≡◌, ℕ, List, [], ◌∷◌, All, filter, fold, map, Option, None, Some, reverse}
+use Rattle.std.specs.Str.{bytes_eq}
+use Rattle.agreement.specs.Member as members
+use Rattle.ballots.specs.InTheAgreement.{note_of}
+use Rattle.ballots.specs.declared.message.Note.{Note}
+use Rattle.units.specs.Division.{Division, number_named}
+use Rattle.protocol.specs.State.{State, Value, facts_then}
+
+-- the member once it noted these too, the first note first; no claim is open then
+abbrev pub restored : State → List (Note Value) → State
+restored s notes = record s { facts = fold (λ facts n. facts_then s.division facts (Some n)) s.facts notes; claim = None }
+
+-- each is about a unit, by its name
+abbrev pub AreOnUnits : Division → List (Note Value) → Type 0
+AreOnUnits d notes = All (λ n. (u : ℕ) × (number_named d n.path ≡ Some u)) notes

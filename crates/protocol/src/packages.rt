@@ -1,0 +1,58 @@
+//! The files of some packages.
+ghost use Rattle.std.specs.Prelude.{◌≡◌, IfOk};
+
+use faults::Memory;
+use package_record::Files;
+use pkgpath::PkgPath;
+use std::alloc::Global;
+use std::marker::Model;
+
+/// The files of some packages, in any order. Contracts see the list of the paths with their files.
+#[derive(Drop)]
+pub struct Packages {
+    items: Vec<(PkgPath, Files)>,
+}
+
+impl Model for Packages {
+    ghost use Rattle.protocol.specs.Given.{Given};
+
+    ghost Value = { Given };
+
+    ghost view = { λ p. p.items.items };
+}
+
+impl Packages {
+    /// The files of these packages.
+    pub fn new(items: Vec<(PkgPath, Files)>) -> Packages
+        ensures { result ≡ items.items }
+    {
+        Packages { items }
+    }
+
+    /// The packages with their files, in the order in which they were handed in.
+    pub fn into_vec(self) -> Vec<(PkgPath, Files)>
+        ensures { result.items ≡ self }
+    {
+        self.items
+    }
+
+    /// The packages with their files, in the order in which they were handed in.
+    pub fn as_slice(&self) -> &[(PkgPath, Files)]
+        ensures { result.now ≡ self.now }
+    {
+        self.items.as_slice()
+    }
+
+    /// Equal packages. It fails only for want of memory.
+    pub fn copy(&self) -> Result<Packages, Memory>
+        ensures { IfOk result (λ packages. packages ≡ self.now) }
+    {
+        let alloc: Global = *self.items.allocator();
+        let all = self.items.as_slice();
+        let mut items = Vec::with_capacity(alloc, all.len())?;
+        for (path, files) in all {
+            items.push((path.copy()?, files.copy()?))?;
+        }
+        Ok(Packages { items })
+    }
+}

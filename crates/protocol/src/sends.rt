@@ -1,0 +1,70 @@
+//! What goes out, and to whom.
+ghost use Rattle.std.specs.Prelude.{◌≡◌, [], All, IfOk, MatchOption, map};
+ghost use Rattle.std.specs.Option.{option_copied};
+ghost use Rattle.protocol.specs.Sends.{sent_to};
+
+use arrayvec::ArrayVec;
+use ballots::Message;
+use faults::Memory;
+use std::marker::Model;
+
+/// A message, and the member that gets it.
+#[derive(Drop)]
+pub struct Send {
+    /// The number of the receiver, which may be the sender itself.
+    pub to: u8,
+    pub message: Message,
+}
+
+impl Send {
+    /// An equal message to the same member. It fails only for want of memory.
+    pub fn copy(&self) -> Result<Send, Memory>
+        ensures { IfOk result (λ send. send ≡ self.now) }
+    {
+        let message = self.message.copy()?;
+        Ok(Send {
+            to: self.to,
+            message,
+        })
+    }
+}
+
+/// What a step sends: one message, which all its receivers share, or nothing. Contracts see the list
+/// of what is sent, in order of receiver.
+#[derive(Drop)]
+pub struct Sends {
+    message: Option<Message>,
+    receivers: ArrayVec<u8, 9>,
+}
+
+impl Model for Sends {
+    ghost use Rattle.std.specs.Prelude.{List};
+    ghost use Rattle.protocol.specs.Sends.{sent_to};
+    ghost use Rattle.protocol.specs.declared.sends.Send.{Send};
+
+    ghost Value = { List Send };
+
+    ghost view = { λ s. sent_to s.message s.receivers.items };
+}
+
+impl Sends {
+    /// Nothing is sent.
+    pub fn nothing() -> Sends
+        ensures { result ≡ [] }
+    {
+        Sends {
+            message: None,
+            receivers: ArrayVec::new(),
+        }
+    }
+
+    /// The message goes to these members.
+    pub fn new(message: Message, receivers: ArrayVec<u8, 9>) -> Sends
+        ensures { result ≡ sent_to (Some message) receivers.items }
+    {
+        Sends {
+            message: Some(message),
+            receivers,
+        }
+    }
+}
