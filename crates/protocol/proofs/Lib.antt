@@ -10,6 +10,7 @@ pub mod MembersStay
 pub mod OneAnswer
 pub mod Ready
 pub mod Restored
+pub mod MadeBuilds
 mod Rows
 pub mod StayingMembers
 pub mod TheTheory

@@ -1,8 +1,9 @@
 -- Members stay members, whatever they are asked.
 use Rattle.std.proofs.Common.{◌≡◌, ◌<◌, ◌≤◌, ◌&&◌, not, ℕ, suc, max, Bool, true, false, All, List, [], ◌∷◌, Option, Some, None, Result, Ok, Err, IfSome, arith, refl, sym, subst, ap, ◌∙◌, length, nat_le}
+use Rattle.std.specs.Prelude.{cond, unwrap_or}
 use Rattle.std.specs.Option.{ForSome}
 use Rattle.std.specs.List.{list_all}
-use Rattle.std.proofs.lemmas.Bool.{and_parts, leb-true, true≢false}
+use Rattle.std.proofs.lemmas.Bool.{and_parts, leb-false, leb-true}
 use Rattle.agreement.specs.Noted.{IsNoted}
 use Rattle.agreement.specs.Quorums.{is_majority}
 use Rattle.agreement.specs.Member as members
@@ -17,15 +18,15 @@ use Rattle.ballots.specs.InTheAgreement.{said}
 use Rattle.ballots.specs.Weights.{AreWeights, is_weight}
 use Rattle.ballots.specs.declared.message.Message.{Message}
 use Rattle.claims.specs.Job.{Task}
-use Rattle.units.specs.Division.{number_named}
+use Rattle.units.specs.Division.{number_named, unit_at}
 use Rattle.protocol.specs.Given.{Given}
-use Rattle.protocol.specs.State.{OpenClaim, State, Value, facts_at, is_held}
+use Rattle.protocol.specs.State.{OpenClaim, State, Value, facts_at, holds_package, is_held}
 use Rattle.protocol.specs.InTheAgreement.{view}
 use Rattle.protocol.specs.Member.{IsInput, IsMember}
 use Rattle.protocol.specs.Answers.{Answer, after, answered, everyone, others}
 use Rattle.protocol.specs.Jobs.{build_by, job_of}
 use Rattle.protocol.specs.Laws.{MembersStayMembers}
-use Rattle.protocol.specs.Step.{IsLetterOf, answer, answered_or, builds, builds_under, claim_refusal, claims, fails, files_refusal, header_refusal, heard, hears, host_in, is_waiting, job_again, members_of, nudges, outcome_of, receivers, silent, stranger, unit_in}
+use Rattle.protocol.specs.Step.{IsLetterOf, answer, answered_or, builds, builds_under, claim_refusal, claims, fails, files_refusal, header_refusal, heard, hears, host_in, is_waiting, job_again, members_of, nudges, outcome_of, receivers, silent, stranger, unit_claimed, unit_in}
 use Rattle.protocol.specs.Step.{asks as member_asks}
 use Rattle.protocol.specs.declared.input.Input.{Input}
 use Rattle.protocol.specs.declared.input.Input.TheVariants as inputs
@@ -67,13 +68,13 @@ me_is_a_member ws me are lt =
     omega (arith, lt, few)
 
 -- the first tests of a claim
-first_is_not : (b : Bool) (f : Refusal) (rest : Option Refusal) → Rattle.std.specs.Prelude.cond b (Some f) rest ≡ None → (b ≡ false) × (rest ≡ None)
+first_is_not : (b : Bool) (f : Refusal) (rest : Option Refusal) → cond b (Some f) rest ≡ None → (b ≡ false) × (rest ≡ None)
 first_is_not true f rest e = absurd (let no : Some f ≡ None = e in cc)
 first_is_not false f rest e = (refl, e)
 
 -- the claim that is opened is in range, the member's own, and its build is ready
 opened_good : (s : State) (u host above : ℕ) (o : Outcome Value) (h : Option Value) → IsMember s → host ≤ 65535
-    → All (λ p. Rattle.protocol.specs.State.holds_package s p ≡ true) (Rattle.units.specs.Division.unit_at s.division u).build
+    → All (λ p. holds_package s p ≡ true) (unit_at s.division u).build
     → nat_le greatest_round (max above (facts_at s u).opened) ≡ false
     → on_start s.me (view s u) h above ≡ Some o → IsGood s u host o.member.stage
 opened_good s u host above o (Some v) is in_range ready left e = absurd (let no : None ≡ Some o = e in cc)
@@ -82,13 +83,13 @@ opened_good s u host above o None is in_range ready left e =
     let own : IsOwn s u host (record { round = round; member = s.me }) = record {
       host = in_range;
       claim = record {
-        round = (omega arith, let below = Rattle.std.proofs.lemmas.Bool.leb-false greatest_round (max above (facts_at s u).opened) left in omega (arith, below));
+        round = (omega arith, let below = leb-false greatest_round (max above (facts_at s u).opened) left in omega (arith, below));
         member = me_is_a_member s.weights s.me is.weights is.one_of_them;
       };
       own = refl;
       ready = ready;
     } in
-    subst (λ (o : Outcome Value). IsGood s u host o.member.stage) (ap (λ p. Rattle.std.specs.Prelude.unwrap_or p o) e) (own, nobody_is_short s.weights)
+    subst (λ (o : Outcome Value). IsGood s u host o.member.stage) (ap (λ p. unwrap_or p o) e) (own, nobody_is_short s.weights)
 
 claim_stays : (s : State) (letter : Letter) (path : Text) (host above u : ℕ) (a : Answer) → IsMember s → host ≤ 65535 → unit_in s path ≡ Some u
     → IsLetterOf s (Some u) letter → claims s letter host above u ≡ Ok a → IsMember (after s a)
@@ -155,7 +156,7 @@ message_stays s m a is e =
 
 -- ---- the law
 
-stays_by : (s : State) (letter : Letter) (input : Input) (a : Answer) → IsMember s → IsInput input → IsLetterOf s (Rattle.protocol.specs.Step.unit_claimed s input) letter
+stays_by : (s : State) (letter : Letter) (input : Input) (a : Answer) → IsMember s → IsInput input → IsLetterOf s (unit_claimed s input) letter
     → answer s letter input ≡ Ok a → IsMember (after s a)
 stays_by s letter (inputs.Claim path host above) a is in_range shown e =
     let found = has_unit (stranger s path) (claims s letter host above) (unit_in s path) a e in

@@ -8,3 +8,7 @@ use Rattle.protocol.specs.declared.sends.Send.{Send}
 abbrev pub sent_to : Option (Message Value) → List ℕ → List Send
 sent_to None to = []
 sent_to (Some message) to = map (λ k. record { to = k; message = message }) to
+
+-- who gets what is sent
+abbrev pub receivers_of : List Send → List ℕ
+receivers_of sends = map (λ x. x.to) sends

@@ -50,9 +50,19 @@ impl Packages {
         let alloc: Global = *self.items.allocator();
         let all = self.items.as_slice();
         let mut items = Vec::with_capacity(alloc, all.len())?;
-        for (path, files) in all {
-            items.push((path.copy()?, files.copy()?))?;
+        for files in all {
+            items.push(copy_of(files)?)?;
         }
         Ok(Packages { items })
     }
+}
+
+/// An equal path with equal files.
+fn copy_of(files: &(PkgPath, Files)) -> Result<(PkgPath, Files), Memory>
+    ensures { IfOk result (λ copy. copy ≡ files.now) }
+{
+    let (path, files) = files;
+    let path = path.copy()?;
+    let files = files.copy()?;
+    Ok((path, files))
 }

@@ -1,7 +1,7 @@
 //! What goes out, and to whom.
-ghost use Rattle.std.specs.Prelude.{◌≡◌, [], All, IfOk, MatchOption, map};
+ghost use Rattle.std.specs.Prelude.{◌≡◌, [], IfOk, Some};
 ghost use Rattle.std.specs.Option.{option_copied};
-ghost use Rattle.protocol.specs.Sends.{sent_to};
+ghost use Rattle.protocol.specs.Sends.{receivers_of, sent_to};
 
 use arrayvec::ArrayVec;
 use ballots::Message;
@@ -38,13 +38,15 @@ pub struct Sends {
 }
 
 impl Model for Sends {
-    ghost use Rattle.std.specs.Prelude.{List};
+    ghost use Rattle.std.specs.Prelude.{◌≡◌, [], List, None};
     ghost use Rattle.protocol.specs.Sends.{sent_to};
     ghost use Rattle.protocol.specs.declared.sends.Send.{Send};
 
     ghost Value = { List Send };
 
     ghost view = { λ s. sent_to s.message s.receivers.items };
+
+    ghost invariant = { λ s. s.message ≡ None → s.receivers.items ≡ [] };
 }
 
 impl Sends {
@@ -65,6 +67,34 @@ impl Sends {
         Sends {
             message: Some(message),
             receivers,
+        }
+    }
+
+    /// The members that get the message, in order of number.
+    pub fn receivers(&self) -> &[u8]
+        ensures { result.now ≡ receivers_of self.now }
+    {
+        self.receivers.as_slice()
+    }
+
+    /// The message, if one is sent.
+    pub fn message(&self) -> Option<&Message>
+        ensures { self.now ≡ sent_to (option_copied result) (receivers_of self.now) }
+    {
+        self.message.as_ref()
+    }
+
+    /// The same message to the same members. It fails only for want of memory.
+    pub fn copy(&self) -> Result<Sends, Memory>
+        ensures { IfOk result (λ sends. sends ≡ self.now) }
+    {
+        match &self.message {
+            Some(message) => {
+                let message = message.copy()?;
+                let receivers = self.receivers.clone()?;
+                Ok(Sends::new(message, receivers))
+            }
+            None => Ok(Sends::nothing()),
         }
     }
 }

@@ -1,3 +1,4 @@
+use Rattle.protocol.proofs.MadeBuilds.{builds_are_of_units}
 use Rattle.protocol.proofs.GivenJobs.{jobs_are_of_claims, jobs_stay}
 use Rattle.protocol.proofs.HeldRecords.{builds_stand, jobs_have_all}
 use Rattle.protocol.proofs.laws.jobs_stay.Goals as goal
@@ -13,3 +14,6 @@ returns-clause-given c = jobs_are_of_claims
 
 pub returns-clause-stay : goal.returns-clause-stay
 returns-clause-stay c = jobs_stay
+
+pub returns-clause-builds : goal.returns-clause-builds
+returns-clause-builds c = builds_are_of_units
