@@ -1,16 +1,15 @@
 -- A message that is not refused is answered as in the theory.
-use Rattle.std.proofs.Common.{◌≡◌, ◌==◌, ◌||◌, ◌&&◌, ◌≤◌, ◌<◌, ◌+◌, not, ℕ, zero, suc, Bool, true, false, All, Any, List, [], ◌∷◌, Option, Some, None, Result, Ok, Err, refl, sym, subst, ap, ◌∙◌, inl, inr, ⊎_elim, arith, eqb-true, if◌then◌else◌, length, nat_lt, option_map}
-use Rattle.std.proofs.lemmas.Bool.{and_parts, cases_Bool, cond-true, cond-false, cond_both, false≢true, ltb-true, or_cases}
-use Rattle.std.proofs.lemmas.List.Elements.{All-cons, All-get_or, All-nil}
+use Rattle.std.proofs.Common.{◌≡◌, ◌==◌, ◌<◌, ◌+◌, not, ℕ, zero, suc, Bool, true, false, Any, List, [], ◌∷◌, Option, Some, None, Result, Ok, Err, refl, sym, subst, ap, ◌∙◌, ⊎_elim, arith, eqb-true, if◌then◌else◌, length, nat_lt, option_map}
+use Rattle.std.proofs.lemmas.Bool.{and_parts, cond_both, false≢true, ltb-true, or_cases}
+use Rattle.std.proofs.lemmas.List.Elements.{All-get_or}
 use Rattle.std.proofs.lemmas.List.Quantifiers.{position-Some}
 use Rattle.std.proofs.lemmas.Map.Views.{any-filter_same}
 use Rattle.std.proofs.lemmas.Slice.Eq.{bytes_eq-Decides}
-use Rattle.std.specs.List.{list_all, list_any, range_with_len, slice_index_or}
+use Rattle.std.specs.List.{list_all, list_any, range_with_len}
 use Rattle.std.specs.Str.{bytes_eq}
 use Rattle.faults.specs.Answers.{first_that_applies}
 use Rattle.faults.specs.Bytes.{Text}
 use Rattle.agreement.specs.Quorums.{Members, Quorums, is_majority, named_in, with_member}
-use Rattle.agreement.specs.Votes.{Ballot}
 use Rattle.agreement.specs.Member as members
 use Rattle.agreement.specs.Member.{Facts, facts_of, no_facts}
 use Rattle.agreement.specs.Messages as messages

@@ -1,5 +1,5 @@
 -- An input that is no message, where it is not refused, is answered as in the theory.
-use Rattle.std.proofs.Common.{◌≡◌, ◌==◌, ◌<◌, ◌&&◌, ◌+◌, ◌*◌, not, ℕ, suc, zero, Bool, true, false, Any, List, [], ◌∷◌, Option, Some, None, Result, Ok, Err, arith, eqb-true, refl, sym, subst, ap, ◌∙◌, inl, inr, ◌⊎◌, if◌then◌else◌, filter, length, nat_le, option_map, sum, IfSome}
+use Rattle.std.proofs.Common.{◌≡◌, ◌==◌, ◌<◌, ◌&&◌, ◌+◌, ◌*◌, not, ℕ, suc, Bool, true, false, List, [], ◌∷◌, Option, Some, None, Result, Ok, Err, arith, eqb-true, refl, sym, subst, ap, ◌∙◌, if◌then◌else◌, filter, length, nat_le, option_map, sum, IfSome}
 use Rattle.std.proofs.lemmas.Bool.{and_parts, cond-true, eq-eqb, false≢true, leb-true, ltb-false}
 use Rattle.agreement.specs.Quorums.{Members, Quorums, is_majority, named_in, weight}
 use Rattle.agreement.specs.Member as members
@@ -11,12 +11,11 @@ use Rattle.agreement.specs.Noted.{IsNoted}
 use Rattle.agreement.proofs.Restored.{answer_noted}
 use Rattle.agreement.specs.Nodes as nodes
 use Rattle.ballots.specs.Weights.{AreWeights, is_weight}
-use Rattle.ballots.specs.Pledge.{HasPromised}
 use Rattle.std.proofs.lemmas.List.Sums.{sum_by-cons}
 use Rattle.std.proofs.lemmas.Map.Views.{any-filter_same}
 use Rattle.std.proofs.lemmas.List.Quantifiers.{position-Some}
 use Rattle.std.specs.Prelude.{option_and_then}
-use Rattle.std.specs.List.{list_all, list_any, range_with_len}
+use Rattle.std.specs.List.{list_all, list_any}
 use Rattle.std.specs.Str.{bytes_eq}
 use Rattle.faults.specs.Answers.{option_or}
 use Rattle.faults.specs.Bytes.{Text}
@@ -42,7 +41,7 @@ use Rattle.engine.specs.declared.Letter.{Letter}
 use Rattle.protocol.specs.declared.refusal.Refusal.{Refusal}
 use Rattle.protocol.proofs.Heard.{IsFit}
 use Rattle.protocol.proofs.TheTheory.{IsSaidByAny, IsWithin, outcome_is}
-use Rattle.protocol.proofs.Answering.{IsSeen, all_are_some, answer_in, has_unit, is_quiet, loud_goes, not_refused, quiet_is_out, seen_by}
+use Rattle.protocol.proofs.Answering.{all_are_some, answer_in, has_unit, is_quiet, loud_goes, not_refused, quiet_is_out, seen_by}
 
 -- it is not a message, which comes by its place among what was sent
 abbrev pub IsLocal : theory.Input Value → Type 0

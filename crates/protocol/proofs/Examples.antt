@@ -1,23 +1,20 @@
 -- Two trees, and what some members of them come to.
-use Rattle.std.specs.Prelude.{◌≡◌, refl, ℕ, zero, suc, Bool, true, false, List, [], ◌∷◌, Option, None, Some, Result, Ok, Err, codes, map}
+use Rattle.std.specs.Prelude.{◌≡◌, refl, ℕ, zero, suc, Bool, true, false, List, [], ◌∷◌, Option, None, Some, codes, map}
 use Rattle.agreement.specs.declared.claim.Claim.{Claim}
-use Rattle.agreement.specs.Votes.{Ballot, ballot}
+use Rattle.agreement.specs.Votes.{Ballot}
 use Rattle.agreement.specs.Member.{Facts, no_facts}
 use Rattle.std.proofs.lemmas.Bool.{false≢true}
 use Rattle.listing.specs.Tree.{Tree, is_marked_at}
 use Rattle.units.specs.Division.{Division}
 use Rattle.units.specs.Ignored.{AreTheIgnored}
 use Rattle.units.specs.Units.{AreUnits}
-use Rattle.package_record.specs.Content.{NamedFile}
 use Rattle.ballots.specs.declared.message.Body.{Body}
 use Rattle.ballots.specs.declared.message.Fact.{Fact}
 use Rattle.ballots.specs.declared.message.Note.{Note}
-use Rattle.protocol.specs.State.{OpenClaim, Progress, Gathering, Building, Voting, State, Value, fresh}
+use Rattle.protocol.specs.State.{Progress, State, Value, fresh}
 use Rattle.protocol.specs.Given.{Given}
-
-use Rattle.protocol.specs.Answers.{Answer, after, answered}
-use Rattle.protocol.specs.Step.{Told, hears, told_by}
-use Rattle.protocol.specs.declared.refusal.Refusal.{Refusal}
+use Rattle.protocol.specs.Answers.{after}
+use Rattle.protocol.specs.Step.{hears}
 use Rattle.protocol.specs.declared.sends.Send.{Send}
 
 -- one package, which is a unit by itself

@@ -1,5 +1,5 @@
 -- Jobs, and the claims that they are given for.
-use Rattle.std.proofs.Common.{◌≡◌, ◌<◌, ℕ, Bool, true, false, All, List, [], ◌∷◌, length, Option, None, Some, Result, Ok, Err, refl, sym, ap, subst, ◌∙◌, if◌then◌else◌}
+use Rattle.std.proofs.Common.{◌≡◌, ℕ, Bool, true, false, List, [], ◌∷◌, length, Option, None, Some, Ok, Err, refl, sym, ap, subst, ◌∙◌, if◌then◌else◌}
 use Rattle.std.specs.Prelude.{unwrap_or}
 use Rattle.std.specs.Option.{ForSome}
 use Rattle.agreement.specs.Member as members
@@ -8,16 +8,14 @@ use Rattle.agreement.specs.declared.claim.Claim.{Claim}
 use Rattle.ballots.specs.InTheAgreement.{is_building}
 use Rattle.claims.specs.Job.{Task}
 use Rattle.engine.specs.declared.Letter.{Letter}
-use Rattle.faults.specs.Bytes.{Text}
-use Rattle.units.specs.Division.{number_named, unit_at}
+use Rattle.units.specs.Division.{number_named}
 use Rattle.units.proofs.Kept.{unit_good}
 use Rattle.protocol.specs.State.{OpenClaim, Progress, Gathering, Building, Voting, State, Value, name_at}
 use Rattle.protocol.specs.InTheAgreement.{progress_of, stage_of, view}
-use Rattle.protocol.specs.Member.{IsMember}
-use Rattle.protocol.specs.Answers.{Answer, after, answered, claim_then, everyone, job_then}
-use Rattle.protocol.specs.Jobs.{build_by, deps_of, job_of, paths_at}
+use Rattle.protocol.specs.Answers.{Answer, answered, claim_then, everyone, job_then}
+use Rattle.protocol.specs.Jobs.{build_by, job_of, paths_at}
 use Rattle.protocol.specs.Laws.{IsJobGiven, JobsAreOfOpenClaims, JobsStay}
-use Rattle.protocol.specs.Step.{Answers, answer, answered_or, asks, at_unit, builds, builds_under, claim_refusal, claims, fails, files_refusal, header_refusal, heard, hears, host_in, job_again, members_of, nudges, outcome_of, receivers, unit_in, unless, with_job}
+use Rattle.protocol.specs.Step.{answer, answered_or, asks, builds, builds_under, claim_refusal, claims, fails, files_refusal, header_refusal, hears, host_in, job_again, members_of, nudges, outcome_of, receivers, unit_in}
 use Rattle.protocol.specs.declared.input.Input.{Input}
 use Rattle.protocol.specs.declared.input.Input.TheVariants as inputs
 use Rattle.protocol.specs.Given.{Given}
@@ -129,7 +127,7 @@ given_by s letter (inputs.Message m) a e =
     let tested = not_refused (header_refusal s m.tree (m.sender ∷ members_of m.body) m.path) _ a e in
     let found = has_unit refusals.Unlisted (λ u. Ok (hears s u m.sender m.body)) (number_named s.division m.path) a tested.1 in
     let same : hears s found.0 m.sender m.body ≡ a = ap (answer_in a) found.2 in
-    subst (λ (a : Answer). ForSome a.job (IsJobGiven s a)) same 
+    subst (λ (a : Answer). ForSome a.job (IsJobGiven s a)) same
     (given_answered s found.0 (host_in s.claim) (receivers s m.sender m.body) (outcome_of s found.0 m.sender m.body))
 
 pub jobs_are_of_claims : JobsAreOfOpenClaims

@@ -1,5 +1,5 @@
 -- What holds of an open claim before a step of the theory holds of it afterwards.
-use Rattle.std.proofs.Common.{◌≡◌, ◌<◌, ◌≤◌, ℕ, Bool, true, false, Option, None, Some, IfSome, refl}
+use Rattle.std.proofs.Common.{◌≡◌, ℕ, false, Option, None, Some, IfSome}
 use Rattle.std.proofs.lemmas.Bool.{cond_both}
 use Rattle.agreement.specs.declared.claim.Claim.{Claim}
 use Rattle.agreement.specs.Claims.{claim_same, is_above, is_below, is_promised}

@@ -1,13 +1,13 @@
 -- What the theory's member does when a message comes, as far as an answer needs it.
-use Rattle.std.proofs.Common.{◌≡◌, ◌==◌, ◌||◌, ◌&&◌, ◌<◌, not, ℕ, Bool, true, false, List, [], Option, Some, None, refl, sym, subst, ap, ◌∙◌, inl, inr, ⊎_elim, eqb-true, if◌then◌else◌}
+use Rattle.std.proofs.Common.{◌≡◌, ◌==◌, ◌&&◌, ◌<◌, not, ℕ, true, false, Option, Some, None, refl, sym, subst, ⊎_elim, eqb-true}
 use Rattle.std.proofs.lemmas.Bool.{cond_both, false≢true, or_cases}
 use Rattle.agreement.specs.declared.claim.Claim.{Claim}
 use Rattle.agreement.specs.Claims.{claim_same, is_above, is_below, is_promised}
-use Rattle.agreement.specs.Quorums.{Members, Quorums, nobody, with_member}
-use Rattle.agreement.specs.Votes.{Ballot, PromiseOf, ballot, is_voted, kept_report}
+use Rattle.agreement.specs.Quorums.{Members, Quorums, with_member}
+use Rattle.agreement.specs.Votes.{Ballot, PromiseOf, is_voted, kept_report}
 use Rattle.agreement.specs.Member as members
 use Rattle.agreement.specs.Messages as messages
-use Rattle.agreement.specs.Step.{Outcome, notes_and_says, on_agreed, on_ask, on_message, on_offer, on_promise, on_propose, on_quorum, on_vote, says, still}
+use Rattle.agreement.specs.Step.{Outcome, on_agreed, on_ask, on_message, on_offer, on_promise, on_propose, on_quorum, on_vote, still}
 use Rattle.protocol.specs.State.{Value}
 use Rattle.protocol.proofs.TheTheory.{IsSaidBy, IsSaidByAny, IsWithin}
 

@@ -8,7 +8,7 @@ use Rattle.std.proofs.lemmas.List.Elements.{All-contains, All-cons, All-nil}
 use Rattle.faults.specs.Bytes.{Text}
 use Rattle.faults.specs.Pieces.{set_of}
 use Rattle.claims.specs.declared.deps.Dep.{Dep}
-use Rattle.listing.specs.Tree.{IsTree, path_at, position_of}
+use Rattle.listing.specs.Tree.{IsTree, path_at}
 use Rattle.package_record.specs.Content.{Content}
 use Rattle.units.specs.Division.{number_of, unit_at}
 use Rattle.units.proofs.Members.{contains_first, contains_later, has_preimage}
@@ -31,6 +31,7 @@ record_stays s a path r e = by_unit (unit_with s.division path) e
     by_build : (u : ℕ) (h : Option Value) → (facts_at s u).held ≡ h → option_and_then (record_in path) h ≡ Some r → record_at (after s a) path (Some u) ≡ Some r
     by_build u None at e = absurd (let no : None ≡ Some r = e in cc)
     by_build u (Some v) at e = ap (option_and_then (record_in path)) (held_stays s a u v at) ∙ e
+
     by_unit : (u : Option ℕ) → record_at s path u ≡ Some r → record_at (after s a) path u ≡ Some r
     by_unit None e = e
     by_unit (Some u) e = by_build u (facts_at s u).held refl e
@@ -43,12 +44,15 @@ same_record s a p is lt held =
   where
     path : Text
     path = path_at s.division.tree p
+
     found : unit_with s.division path ≡ number_of s.division p
     found = ap (option_and_then (number_of s.division)) (has_position s.division.tree path p is lt refl)
+
     by_build : (u : ℕ) (h : Option Value) → (facts_at s u).held ≡ h → is_some h ≡ true → record_at (after s a) path (Some u) ≡ record_at s path (Some u)
     by_build u None at e = absurd (false≢true e)
     by_build u (Some v) at e =
         ap (option_and_then (record_in path)) (held_stays s a u v at) ∙ sym (ap (option_and_then (record_in path)) at)
+
     by_unit : (u : Option ℕ) → is_held_any s u ≡ true → record_at (after s a) path u ≡ record_at s path u
     by_unit None e = absurd (false≢true e)
     by_unit (Some u) e = by_build u (facts_at s u).held refl e
@@ -67,6 +71,7 @@ deps_stay s a u is listed held =
   where
     needed : List ℕ
     needed = (unit_at s.division u).build
+
     at : (path : Text) → Contains (in_order_of_path s.division.tree needed) path → held_record (after s a) path ≡ held_record s path
     at path member =
         let p = has_preimage (path_at s.division.tree) needed path (from_set (map (path_at s.division.tree) needed) path member) in
@@ -91,6 +96,7 @@ record_has_path s path r e = by_unit (unit_with s.division path) e
     by_build : (h : Option Value) → option_and_then (record_in path) h ≡ Some r → r.path ≡ path
     by_build None e = absurd (let no : None ≡ Some r = e in cc)
     by_build (Some v) e = same_bytes r.path path (found_passes (λ c. bytes_eq c.path path) v r e)
+
     by_unit : (u : Option ℕ) → record_at s path u ≡ Some r → r.path ≡ path
     by_unit None e = absurd (let no : None ≡ Some r = e in cc)
     by_unit (Some u) e = by_build (facts_at s u).held e
@@ -105,6 +111,7 @@ all_signed s (path ∷ paths) = by_record (held_record s path) refl (all_signed 
   where
     rest : List Dep
     rest = filter_map (λ path. option_map signature (held_record s path)) paths
+
     by_record : (o : Option Content) → held_record s path ≡ o → All (IsSignedBy s) rest → All (IsSignedBy s) (cons_option (option_map signature o) rest)
     by_record None e behind = behind
     by_record (Some r) e behind =
@@ -129,6 +136,7 @@ jobs_have_all s u held =
   where
     needed : List ℕ
     needed = (unit_at s.division u).build
+
     at : (path : Text) → Contains (set_of (map (path_at s.division.tree) needed)) path → (r : Content) × (held_record s path ≡ Some r)
     at path member =
         let p = has_preimage (path_at s.division.tree) needed path (from_set (map (path_at s.division.tree) needed) path member) in

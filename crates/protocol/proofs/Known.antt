@@ -1,5 +1,5 @@
 -- What a note changes of what a member knows.
-use Rattle.std.proofs.Common.{◌≡◌, ◌<◌, ◌≤◌, ℕ, Bool, true, false, All, List, length, Option, None, Some, refl, sym, ap, subst, ◌∙◌, inl, inr, arith, option_map, if◌then◌else◌}
+use Rattle.std.proofs.Common.{◌≡◌, ◌<◌, ℕ, Bool, true, false, All, List, length, Option, None, Some, refl, sym, ap, subst, ◌∙◌, inl, inr, if◌then◌else◌}
 use Rattle.std.specs.Prelude.{is_some, slice_set}
 use Rattle.std.specs.List.{slice_index_or}
 use Rattle.std.proofs.lemmas.Bool.{cases_eq, cases_lt, false≢true}
@@ -107,6 +107,7 @@ package_stays_held s a p held = by_unit (number_of s.division p) held
     by_build : (u : ℕ) (h : Option Value) → (facts_at s u).held ≡ h → is_some h ≡ true → is_held_any (after s a) (Some u) ≡ true
     by_build u None at e = absurd (false≢true e)
     by_build u (Some v) at e = ap is_some (held_stays s a u v at)
+
     by_unit : (u : Option ℕ) → is_held_any s u ≡ true → is_held_any (after s a) u ≡ true
     by_unit None e = absurd (false≢true e)
     by_unit (Some u) e = by_build u (facts_at s u).held refl e

@@ -9,6 +9,7 @@ pub mod Known
 pub mod MembersStay
 pub mod OneAnswer
 pub mod Ready
+pub mod Receivers
 pub mod Restored
 pub mod MadeBuilds
 mod Rows

@@ -1,5 +1,5 @@
 -- What is made by a job is a build of its unit.
-use Rattle.std.proofs.Common.{◌≡◌, ◌≢◌, ◌<◌, ◌≤◌, ◌&&◌, ℕ, suc, Bool, true, false, cond, All, List, [], ◌∷◌, filter, length, map, Option, None, Some, Less, Equal, Greater, arith, refl, sym, ap, ap₂, subst, ◌∙◌, inl, inr, option_map}
+use Rattle.std.proofs.Common.{◌≡◌, ◌<◌, ◌≤◌, ◌&&◌, ℕ, suc, Bool, true, false, cond, All, List, [], ◌∷◌, length, map, Option, None, Some, Less, Equal, Greater, arith, refl, sym, ap, subst, ◌∙◌, inl, inr, option_map}
 use Rattle.std.specs.Prelude.{Contains, filter_map, find, not, option_and_then, unwrap_or}
 use Rattle.std.specs.Option.{ForSome}
 use Rattle.std.specs.List.{cons_option, list_all, slice_index_or}
@@ -19,18 +19,17 @@ use Rattle.agreement.specs.Member.{Facts, no_facts}
 use Rattle.agreement.specs.declared.claim.Claim.{Claim}
 use Rattle.claims.specs.Claim.{IsClaim}
 use Rattle.claims.specs.Deps.{AreInOrder, is_ascending}
-use Rattle.claims.specs.Job.{Task}
 use Rattle.claims.specs.declared.deps.Dep.{Dep}
-use Rattle.listing.specs.Tree.{ArePositions, IsTree, Tree, group_at, no_package, path_at, position_of, run_at}
+use Rattle.listing.specs.Tree.{ArePositions, Tree, group_at, no_package, path_at, position_of, run_at}
 use Rattle.pkgname.specs.PkgName.{IsName}
 use Rattle.pkgpath.specs.PkgPath.{IsPath, without_subpackage}
 use Rattle.package_record.specs.Build.{AreAlike, IsAlike, IsBuild, paths_of, unit_path}
-use Rattle.package_record.specs.Content.{Content, HasNames, IsDep, IsRecord}
+use Rattle.package_record.specs.Content.{Content, IsDep, IsRecord}
 use Rattle.package_record.specs.Laws.{CanBeMade}
 use Rattle.package_record.specs.Making.{build_fault}
 use Rattle.package_record.proofs.BuildsMade.{made_is_build}
 use Rattle.package_record.proofs.Digests.{sha256_bytes}
-use Rattle.units.specs.Division.{number_of, unit_at}
+use Rattle.units.specs.Division.{unit_at}
 use Rattle.units.specs.Laws.{IsWellMade}
 use Rattle.units.specs.Units.{is_in, made_with, positions}
 use Rattle.units.specs.Units as units
@@ -42,7 +41,7 @@ use Rattle.units.proofs.WellMade.{one_unit_has}
 use Rattle.protocol.specs.Given.{Given}
 use Rattle.protocol.specs.State.{State, Value, facts_at, held_record, name_at, record_in, unit_with}
 use Rattle.protocol.specs.Member.{IsMember}
-use Rattle.protocol.specs.Jobs.{build_by, deps_of, in_order_of_path, job_of, record_by, signature}
+use Rattle.protocol.specs.Jobs.{deps_of, in_order_of_path, job_of, record_by, signature}
 use Rattle.protocol.specs.Laws.{BuildsAreOfTheirUnit}
 use Rattle.protocol.proofs.HeldRecords.{IsSignedBy, builds_stand, record_has_path}
 use Rattle.protocol.proofs.Known.{at_any}
@@ -94,6 +93,7 @@ module _ (s : State) (are : All (λ (f : Facts Value). ForSome f.held IsBuild) s
       by_build : (h : Option Value) → ForSome h IsBuild → option_and_then (record_in path) h ≡ Some r → IsRecord r
       by_build None is e = absurd (let no : None ≡ Some r = e in cc)
       by_build (Some v) is e = All-contains IsRecord v r (is v refl).records (found_member (λ c. bytes_eq c.path path) v r e)
+
       by_unit : (u : Option ℕ) → option_and_then (λ u. option_and_then (record_in path) (facts_at s u).held) u ≡ Some r → IsRecord r
       by_unit None e = absurd (let no : None ≡ Some r = e in cc)
       by_unit (Some u) e = by_build (facts_at s u).held (held_is_build u) e
@@ -133,6 +133,7 @@ signed_ascend s (path ∷ paths) e =
   where
     later : List Text
     later = map (λ d. d.path) (signed s paths)
+
     by_record : (o : Option Content) → held_record s path ≡ o → list_all (λ u. is_lt (text_cmp path u)) (map (λ d. d.path) (signed s paths)) ≡ true
         → is_ascending (map (λ d. d.path) (signed s paths)) ≡ true
         → is_ascending (map (λ d. d.path) (cons_option (option_map signature o) (signed s paths))) ≡ true
@@ -141,7 +142,7 @@ signed_ascend s (path ∷ paths) e =
         and_from _ _ (ap (λ t. list_all (λ u. is_lt (text_cmp t u)) (map (λ d. d.path) (signed s paths))) (record_has_path s path r at) ∙ above) behind
 
 pub deps_in_order : (s : State) (u : ℕ) → AreInOrder (deps_of s u)
-deps_in_order s u = signed_ascend s (in_order_of_path s.division.tree (unit_at s.division u).build) 
+deps_in_order s u = signed_ascend s (in_order_of_path s.division.tree (unit_at s.division u).build)
     (set_ascends (map (path_at s.division.tree) (unit_at s.division u).build))
 
 -- ---- few packages
@@ -183,8 +184,12 @@ few_packages s u is lt =
   where
     made_few : (tree : Tree) (ignored : ℕ → Bool) (p : ℕ) → length (made_with tree ignored p) ≤ length tree
     made_few tree ignored p =
-        omega (arith, length-filter (λ q. bytes_eq (group_at tree q) (group_at tree p) && not (ignored q)) (positions tree),
-        count_by-le-length (λ q. bytes_eq (group_at tree q) (group_at tree p) && not (ignored q)) (positions tree), length-range_with_len 0 (length tree))
+        omega (
+          arith,
+          length-filter (λ q. bytes_eq (group_at tree q) (group_at tree p) && not (ignored q)) (positions tree),
+          count_by-le-length (λ q. bytes_eq (group_at tree q) (group_at tree p) && not (ignored q)) (positions tree),
+          length-range_with_len 0 (length tree),
+        )
 
 -- ---- the build
 
@@ -268,11 +273,11 @@ module _ (s : State) (u host : ℕ) (c : Claim) (given : Given) (is : IsMember s
   pub build_of_unit : build_fault (map made packages) ≡ None → IsBuild (map made packages) × (unit_path (map made packages) ≡ name_at s u)
   build_of_unit no_fault = (
     made_is_build (map made packages)
-    (All-map CanBeMade made packages (All-weaker (λ p. p < length tree) (λ p. CanBeMade (made p)) can_be_made packages (all_listed s.division u is.division lt)))
-    (omega (arith, length-map packages made, few_packages s u is lt, is.division.tree.few))
-    (ap is_ascending (paths_made packages) ∙ rising_ascends (map (path_at tree) packages) rising_paths)
-    (all_alike packages refl (unit_some s.division u is.division lt))
-    no_fault,
+        (All-map CanBeMade made packages (All-weaker (λ p. p < length tree) (λ p. CanBeMade (made p)) can_be_made packages (all_listed s.division u is.division lt)))
+        (omega (arith, length-map packages made, few_packages s u is lt, is.division.tree.few))
+        (ap is_ascending (paths_made packages) ∙ rising_ascends (map (path_at tree) packages) rising_paths)
+        (all_alike packages refl (unit_some s.division u is.division lt))
+        no_fault,
     named_so packages refl (unit_some s.division u is.division lt) rising_paths,
   )
 

@@ -1,7 +1,6 @@
 -- Members stay members, whatever they are asked.
-use Rattle.std.proofs.Common.{◌≡◌, ◌<◌, ◌≤◌, ◌&&◌, not, ℕ, suc, max, Bool, true, false, All, List, [], ◌∷◌, Option, Some, None, Result, Ok, Err, IfSome, arith, refl, sym, subst, ap, ◌∙◌, length, nat_le}
+use Rattle.std.proofs.Common.{◌≡◌, ◌<◌, ◌≤◌, ◌&&◌, ℕ, suc, max, Bool, true, false, All, List, [], ◌∷◌, Option, Some, None, Ok, Err, IfSome, arith, refl, sym, subst, ap, length, nat_le}
 use Rattle.std.specs.Prelude.{cond, unwrap_or}
-use Rattle.std.specs.Option.{ForSome}
 use Rattle.std.specs.List.{list_all}
 use Rattle.std.proofs.lemmas.Bool.{and_parts, leb-false, leb-true}
 use Rattle.agreement.specs.Noted.{IsNoted}
@@ -9,21 +8,19 @@ use Rattle.agreement.specs.Quorums.{is_majority}
 use Rattle.agreement.specs.Member as members
 use Rattle.agreement.specs.Step.{Outcome, on_built, on_failed, on_inquire, on_nudge, on_start}
 use Rattle.agreement.specs.Step as theory
-use Rattle.agreement.specs.declared.claim.Claim.{Claim}
 use Rattle.agreement.proofs.Restored.{answer_noted, message_noted}
-use Rattle.claims.specs.Claim.{IsClaim, greatest_round}
+use Rattle.claims.specs.Claim.{greatest_round}
 use Rattle.engine.specs.declared.Letter.{Letter}
 use Rattle.faults.specs.Bytes.{Text}
 use Rattle.ballots.specs.InTheAgreement.{said}
 use Rattle.ballots.specs.Weights.{AreWeights, is_weight}
 use Rattle.ballots.specs.declared.message.Message.{Message}
-use Rattle.claims.specs.Job.{Task}
 use Rattle.units.specs.Division.{number_named, unit_at}
 use Rattle.protocol.specs.Given.{Given}
 use Rattle.protocol.specs.State.{OpenClaim, State, Value, facts_at, holds_package, is_held}
 use Rattle.protocol.specs.InTheAgreement.{view}
 use Rattle.protocol.specs.Member.{IsInput, IsMember}
-use Rattle.protocol.specs.Answers.{Answer, after, answered, everyone, others}
+use Rattle.protocol.specs.Answers.{Answer, after, everyone, others}
 use Rattle.protocol.specs.Jobs.{build_by, job_of}
 use Rattle.protocol.specs.Laws.{MembersStayMembers}
 use Rattle.protocol.specs.Step.{IsLetterOf, answer, answered_or, builds, builds_under, claim_refusal, claims, fails, files_refusal, header_refusal, heard, hears, host_in, is_waiting, job_again, members_of, nudges, outcome_of, receivers, silent, stranger, unit_claimed, unit_in}

@@ -1,5 +1,5 @@
 -- Each input has one answer.
-use Rattle.std.proofs.Common.{◌≡◌, ℕ, Option, None, Some, Result, refl, sym, ap, ◌∙◌}
+use Rattle.std.proofs.Common.{◌≡◌, ℕ, Option, None, Some, refl, sym, ap, ◌∙◌}
 use Rattle.std.specs.List.{slice_index_or}
 use Rattle.engine.specs.State.{has_agreed}
 use Rattle.engine.specs.declared.Letter.{Letter}
@@ -7,9 +7,8 @@ use Rattle.engine.proofs.OneLetter.{only_one_letter}
 use Rattle.faults.specs.Bytes.{Text}
 use Rattle.units.specs.Division.{unit_at}
 use Rattle.protocol.specs.State.{State, engine_of}
-use Rattle.protocol.specs.Answers.{Answer}
 use Rattle.protocol.specs.Laws.{OnlyOneAnswerIsRight}
-use Rattle.protocol.specs.Step.{Answers, IsLetterOf, at_unit, claims, stranger, unit_in}
+use Rattle.protocol.specs.Step.{IsLetterOf, at_unit, claims, stranger, unit_in}
 use Rattle.protocol.specs.declared.input.Input.TheVariants as inputs
 
 -- a claim looks at the letter of its unit, which has one

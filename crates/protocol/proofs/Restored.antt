@@ -1,5 +1,5 @@
 -- What the notes of a member restore.
-use Rattle.std.proofs.Common.{◌≡◌, ◌<◌, ℕ, Bool, true, false, All, List, [], ◌∷◌, append_assoc, filter, length, map, Option, None, Some, refl, sym, ap, subst, ◌∙◌, inl, inr, if◌then◌else◌}
+use Rattle.std.proofs.Common.{◌≡◌, ◌<◌, ℕ, Bool, true, All, List, [], ◌∷◌, append_assoc, filter, length, map, None, Some, refl, sym, ap, subst, ◌∙◌, inl, inr, if◌then◌else◌}
 use Rattle.std.specs.Prelude.{fold, reverse, unwrap_or, ◌⊎◌, ◌++◌}
 use Rattle.std.specs.List.{slice_index_or}
 use Rattle.std.specs.Str.{bytes_eq}
@@ -11,13 +11,12 @@ use Rattle.faults.specs.Bytes.{Text}
 use Rattle.agreement.specs.Member as members
 use Rattle.agreement.specs.Member.{Facts, no_facts, noted}
 use Rattle.ballots.specs.InTheAgreement.{note_of}
-use Rattle.ballots.specs.Weights.{AreWeights}
 use Rattle.ballots.specs.declared.message.Note.{Note}
 use Rattle.units.specs.Division.{Division, IsDivision, no_unit, number_named, unit_at}
 use Rattle.units.proofs.Names.{name_is_found}
 use Rattle.units.proofs.Places.{equal_bytes, same_bytes}
-use Rattle.protocol.specs.State.{Value, facts_then, fresh, noted_at}
-use Rattle.protocol.specs.Laws.{NotesRestore, NotesRestoreFacts}
+use Rattle.protocol.specs.State.{Value, facts_then, noted_at}
+use Rattle.protocol.specs.Laws.{NotesRestoreFacts}
 use Rattle.protocol.specs.Restoring.{AreOnUnits}
 use Rattle.protocol.proofs.Known.{Pledged, each_then, pledged_then}
 
@@ -87,10 +86,13 @@ module _ (d : Division) where
       where
         here : Facts Value
         here = slice_index_or facts u no_facts
+
         next : Facts Value
         next = slice_index_or (facts_then d facts (Some n)) u no_facts
+
         kept : Bool → List (Note Value)
         kept b = if b then n ∷ on_unit notes else on_unit notes
+
         by_unit : {v : ℕ} → (u ≡ v) ⊎ (u ≡ v → ⊥) → number_named d n.path ≡ Some v → fold noted next (facts_in (on_unit notes)) ≡ fold noted here (facts_in (kept (bytes_eq n.path name)))
         by_unit {v} (inl same) e =
             let named = e ∙ ap (λ k. Some k) (sym same) in

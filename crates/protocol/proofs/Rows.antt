@@ -1,22 +1,18 @@
 -- Members of one package, computed. Nothing here computes a digest: bodies of messages do.
 use Rattle.std.specs.Prelude.{◌≡◌, refl, ℕ, true, List, [], ◌∷◌, Option, None, Some, Result, Ok, Err, codes, map, option_map}
-use Rattle.agreement.specs.declared.claim.Claim.{Claim}
-use Rattle.agreement.specs.Votes.{Ballot, ballot}
-use Rattle.agreement.specs.Member.{Facts, no_facts}
-use Rattle.claims.specs.Job.{Task}
+use Rattle.agreement.specs.Votes.{ballot}
 use Rattle.engine.specs.declared.Letter.TheVariants as letters
 use Rattle.ballots.specs.declared.message.Body.{Body}
-use Rattle.ballots.specs.declared.message.Body.TheVariants.{Offer, Promise, Propose, Vote, Agreed, Ask, Nay}
+use Rattle.ballots.specs.declared.message.Body.TheVariants.{Offer, Promise, Propose, Vote, Agreed, Nay}
 use Rattle.ballots.specs.declared.message.Fact.{Fact}
 use Rattle.ballots.specs.declared.message.Fact.TheVariants as fact
 use Rattle.units.specs.Division.{number_named}
-use Rattle.protocol.specs.State.{OpenClaim, Progress, Gathering, Building, Voting, State, Value, fresh, is_held}
-use Rattle.protocol.specs.Given.{Given}
+use Rattle.protocol.specs.State.{Gathering, Building, Voting, State, Value}
 use Rattle.protocol.specs.Jobs.{are_given, build_by, job_of}
 use Rattle.protocol.specs.Answers.{Answer, after}
 use Rattle.protocol.specs.Step.{answer, builds, hears, nudges, unit_in}
 use Rattle.protocol.specs.Restoring.{restored}
-use Rattle.protocol.proofs.Examples.{after_hearing, claim, given, heavy_last, known, newcomer, note, one_package, promised, said_to, three, two_packages, voted}
+use Rattle.protocol.proofs.Examples.{after_hearing, claim, given, heavy_last, known, newcomer, note, promised, said_to, three, two_packages, voted}
 use Rattle.protocol.specs.declared.refusal.Refusal.{Refusal}
 use Rattle.protocol.specs.declared.refusal.Refusal.TheVariants as refusals
 use Rattle.protocol.specs.declared.input.Input.TheVariants as inputs

@@ -1,27 +1,24 @@
 -- An answer leaves a member that is one.
-use Rattle.std.proofs.Common.{◌≡◌, ◌==◌, ◌≢◌, ◌<◌, ◌≤◌, ◌+◌, ◌*◌, ◌&&◌, not, ℕ, zero, suc, max, Bool, true, false, All, Any, List, [], ◌∷◌, Option, Some, None, Result, Ok, Err, IfSome, arith, eqb-true, refl, sym, subst, ap, ◌∙◌, inl, inr, if◌then◌else◌, length, nat_le, nat_lt, option_map, sum}
-use Rattle.std.specs.Prelude.{Contains, is_some, unwrap_or}
+use Rattle.std.proofs.Common.{◌≡◌, ◌==◌, ◌<◌, ◌≤◌, ◌*◌, ℕ, true, false, All, List, [], ◌∷◌, Option, Some, None, arith, eqb-true, refl, sym, subst, ap, ◌∙◌, length, option_map, sum}
+use Rattle.std.specs.Prelude.{unwrap_or}
 use Rattle.std.specs.Option.{ForSome}
-use Rattle.std.specs.List.{list_all, slice_index_or}
-use Rattle.std.proofs.lemmas.Bool.{and_parts, cond-false, cond-true, cond_both, eq-eqb, eqb-false, ne_eqb, false≢true, le-ltb, leb-false, leb-true, ltb-true, true≢false}
-use Rattle.std.proofs.lemmas.List.Elements.{All-contains, All-get_or, All-weaker, Contains-get_or}
+use Rattle.std.proofs.lemmas.Bool.{cond-false, cond-true, cond_both, eq-eqb, eqb-false, ne_eqb, le-ltb}
+use Rattle.std.proofs.lemmas.List.Elements.{All-weaker}
 use Rattle.agreement.specs.Noted.{IsClosedWhereHeld, IsNoted}
-use Rattle.agreement.specs.Quorums.{Members, Quorums, is_majority, named_in, nobody, weight}
+use Rattle.agreement.specs.Quorums.{is_majority, named_in, nobody, weight}
 use Rattle.agreement.specs.Member as members
 use Rattle.agreement.specs.Member.{Facts, facts_of, no_facts, noted_any}
 use Rattle.agreement.specs.Nodes as nodes
 use Rattle.agreement.specs.Step.{Outcome}
-use Rattle.agreement.specs.Step as theory
 use Rattle.agreement.specs.World.{put}
 use Rattle.agreement.specs.declared.claim.Claim.{Claim}
-use Rattle.claims.specs.Claim.{IsClaim, greatest_round}
-use Rattle.ballots.specs.Weights.{AreWeights}
-use Rattle.units.specs.Division.{number_named, unit_at}
+use Rattle.claims.specs.Claim.{IsClaim}
+use Rattle.units.specs.Division.{unit_at}
 use Rattle.units.proofs.Names.{name_is_found}
-use Rattle.protocol.specs.State.{OpenClaim, Progress, Gathering, Building, Voting, State, Value, facts_at, facts_then, holds_package, name_at}
+use Rattle.protocol.specs.State.{OpenClaim, Progress, Gathering, Building, Voting, State, Value, facts_at, holds_package}
 use Rattle.protocol.specs.InTheAgreement.{claim_of, members_in, progress_of, stage_of, view}
 use Rattle.protocol.specs.Member.{IsMember, IsOpen, claim_in, joined_so_far}
-use Rattle.protocol.specs.Answers.{Answer, after, answered, claim_then, dropped, note_at}
+use Rattle.protocol.specs.Answers.{after, answered, claim_then, dropped, note_at}
 use Rattle.protocol.specs.Step.{host_in}
 use Rattle.protocol.proofs.GoodClaims.{IsGoodStage}
 use Rattle.protocol.proofs.Heard.{IsFit}

@@ -1,6 +1,6 @@
 -- A member's answer is what the theory's node does.
-use Rattle.std.proofs.Common.{◌≡◌, ◌==◌, ◌||◌, ◌&&◌, ◌≤◌, ◌<◌, ◌+◌, ℕ, zero, suc, Bool, true, false, List, [], ◌∷◌, Option, Some, None, refl, sym, subst, ap, ap₂, ◌∙◌, inl, inr, arith, eqb-true, if◌then◌else◌, length, option_map}
-use Rattle.std.proofs.lemmas.Bool.{cases_Bool, cond-true, cond-false, or_left, or_right, eqb-false, false≢true}
+use Rattle.std.proofs.Common.{◌≡◌, ◌==◌, ◌&&◌, ◌<◌, ℕ, Bool, true, false, List, [], ◌∷◌, Option, Some, None, refl, sym, ap, ap₂, ◌∙◌, inl, inr, arith, eqb-true, if◌then◌else◌, length, option_map}
+use Rattle.std.proofs.lemmas.Bool.{cases_Bool, cond-true, cond-false, eqb-false}
 use Rattle.std.proofs.lemmas.List.{get_or-set_same, get_or-set_other}
 use Rattle.std.proofs.lemmas.List.Elements.{All-cons, All-nil}
 use Rattle.std.proofs.lemmas.Map.Views.{any-filter_same}
@@ -22,7 +22,7 @@ use Rattle.units.specs.Division.{number_named}
 use Rattle.units.proofs.Lists.{in_range}
 use Rattle.protocol.specs.State.{OpenClaim, State, Value, facts_at, facts_then, name_at, noted_at}
 use Rattle.protocol.specs.InTheAgreement.{body_in, claim_of, fact_in, members_in, node_of, pair_of, progress_of}
-use Rattle.protocol.specs.Answers.{Answer, after, answered, claim_then, dropped, note_at, sends_of}
+use Rattle.protocol.specs.Answers.{after, answered, claim_then, dropped, note_at, sends_of}
 use Rattle.protocol.specs.Laws.{IsOutcome, Says}
 
 -- a set whose members are below n has those that are named of it

@@ -1,8 +1,7 @@
 -- What a step gives: the note, what is sent to whom, the job, and the claim that it leaves open.
-use Rattle.std.specs.Prelude.{◌==◌, ℕ, not, List, [], filter, map, Option, None, Some, length, option_map, is_none, if◌then◌else◌}
+use Rattle.std.specs.Prelude.{◌==◌, ℕ, not, List, filter, Option, None, Some, length, option_map, if◌then◌else◌}
 use Rattle.std.specs.List.{list_any, range_with_len}
 use Rattle.sha2.specs.Sha256.{sha256}
-use Rattle.agreement.specs.declared.claim.Claim.{Claim}
 use Rattle.agreement.specs.Member as members
 use Rattle.agreement.specs.Messages as messages
 use Rattle.agreement.specs.Step.{Outcome}
@@ -11,7 +10,6 @@ use Rattle.listing.specs.Digest.{digest_text}
 use Rattle.listing.specs.Tree.{Tree}
 use Rattle.ballots.specs.InTheAgreement.{is_building}
 use Rattle.ballots.specs.declared.message.Body.{Body}
-use Rattle.ballots.specs.declared.message.Fact.{Fact}
 use Rattle.ballots.specs.declared.message.Message.{Message}
 use Rattle.ballots.specs.declared.message.Note.{Note}
 use Rattle.protocol.specs.State.{OpenClaim, Progress, State, Value, facts_then, name_at}

@@ -1,5 +1,5 @@
 -- What a member is in the theory of the agreement, where a unit's number is the path.
-use Rattle.std.specs.Prelude.{ℕ, true, List, filter, Option, None, Some, length, option_map}
+use Rattle.std.specs.Prelude.{ℕ, true, List, filter, Option, None, Some, option_map}
 use Rattle.std.specs.List.{range_with_len}
 use Rattle.agreement.specs.Quorums.{Members, named_in}
 use Rattle.agreement.specs.Votes.{Ballot}

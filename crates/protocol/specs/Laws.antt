@@ -1,5 +1,5 @@
 -- What holds of members.
-use Rattle.std.specs.Prelude.{◌≡◌, ◌<◌, ◌≤◌, ℕ, Bool, true, false, All, Any, List, [], ◌∷◌, Option, None, Some, is_some, length, map, filter, reverse, option_map, Result, Ok, Err}
+use Rattle.std.specs.Prelude.{◌≡◌, ◌<◌, ◌≤◌, ℕ, Bool, true, false, All, Any, List, [], Option, None, Some, length, map, filter, reverse, option_map, Result, Ok}
 use Rattle.std.specs.Option.{ForSome}
 use Rattle.std.specs.Str.{bytes_eq}
 use Rattle.faults.specs.Bytes.{Text}
@@ -22,18 +22,17 @@ use Rattle.ballots.specs.Weights.{AreWeights}
 use Rattle.ballots.specs.declared.message.Message.{Message}
 use Rattle.ballots.specs.declared.message.Note.{Note}
 use Rattle.engine.specs.declared.Letter.{Letter}
-use Rattle.protocol.specs.State.{Building, OpenClaim, State, Value, facts_at, fresh, held_record, is_held, name_at}
+use Rattle.protocol.specs.State.{Building, OpenClaim, State, Value, facts_at, fresh, held_record, name_at}
 use Rattle.protocol.specs.Member.{IsInput, IsMember}
 use Rattle.protocol.specs.InTheAgreement.{node_of, view}
 use Rattle.protocol.specs.Given.{Given}
 use Rattle.protocol.specs.Jobs.{build_by, deps_of, job_of, signature}
-use Rattle.protocol.specs.Answers.{Answer, after, note_at, tree_digest}
-use Rattle.protocol.specs.Step.{Answers, answer, hears, host_in, outcome_of, unit_in}
+use Rattle.protocol.specs.Answers.{Answer, after, tree_digest}
+use Rattle.protocol.specs.Step.{Answers, answer, host_in, outcome_of, unit_in}
 use Rattle.protocol.specs.Restoring.{AreOnUnits, restored}
 use Rattle.protocol.specs.declared.refusal.Refusal.{Refusal}
 use Rattle.protocol.specs.declared.input.Input.{Input}
 use Rattle.protocol.specs.declared.input.Input.TheVariants as inputs
-use Rattle.protocol.specs.declared.sends.Send.{Send}
 
 -- each input has one answer
 abbrev pub OnlyOneAnswerIsRight : Type 0

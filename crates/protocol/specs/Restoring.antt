@@ -1,8 +1,5 @@
 -- What a member's notes give back.
-use Rattle.std.specs.Prelude.{◌≡◌, ℕ, List, [], ◌∷◌, All, filter, fold, map, Option, None, Some, reverse}
-use Rattle.std.specs.Str.{bytes_eq}
-use Rattle.agreement.specs.Member as members
-use Rattle.ballots.specs.InTheAgreement.{note_of}
+use Rattle.std.specs.Prelude.{◌≡◌, ℕ, List, All, fold, None, Some}
 use Rattle.ballots.specs.declared.message.Note.{Note}
 use Rattle.units.specs.Division.{Division, number_named}
 use Rattle.protocol.specs.State.{State, Value, facts_then}

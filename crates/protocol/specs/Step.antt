@@ -5,7 +5,6 @@ use Rattle.std.specs.List.{list_all}
 use Rattle.std.specs.Str.{bytes_eq}
 use Rattle.faults.specs.Answers.{IsRightUnless, first_that_applies, option_or}
 use Rattle.faults.specs.Bytes.{Text}
-use Rattle.agreement.specs.declared.claim.Claim.{Claim}
 use Rattle.agreement.specs.Quorums.{is_majority}
 use Rattle.agreement.specs.Member as members
 use Rattle.agreement.specs.Member.{Facts, no_facts}

@@ -16,13 +16,20 @@ pub enum Input {
         above: u64,
     },
     /// The claim's host built the unit: these are the files of its packages.
-    Built { path: PkgPath, packages: Packages },
+    Built {
+        path: PkgPath,
+        packages: Packages,
+    },
     /// The claim's host could not build the unit.
-    Failed { path: PkgPath },
+    Failed {
+        path: PkgPath,
+    },
     /// Ask again for what the open claim waits for.
     Nudge,
     /// Ask the others for what is agreed for the unit.
-    Ask { path: PkgPath },
+    Ask {
+        path: PkgPath,
+    },
     /// A message came.
     Message(Message),
 }
