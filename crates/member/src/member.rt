@@ -99,12 +99,13 @@ impl<'a> Member<'a> {
         self.claim = None;
         self.job = None;
         for note in notes {
+            let Note { path, fact } = note;
             keep_fact(
                 &self.units,
                 self.known.as_mut_slice(),
                 &mut self.engine,
-                &note.path,
-                note.fact,
+                &path,
+                fact,
             );
         }
     }

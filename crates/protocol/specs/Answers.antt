@@ -1,5 +1,6 @@
 -- What a step gives: the note, what is sent to whom, the job, and the claim that it leaves open.
-use Rattle.std.specs.Prelude.{◌==◌, ℕ, not, List, filter, Option, None, Some, length, option_map, if◌then◌else◌}
+use Rattle.std.specs.Prelude.{◌==◌, ℕ, not, List, filter, Option, None, Some, length, option_map}
+use Rattle.std.specs.Prelude.{if◌then◌else◌}
 use Rattle.std.specs.List.{list_any, range_with_len}
 use Rattle.sha2.specs.Sha256.{sha256}
 use Rattle.agreement.specs.Member as members
@@ -46,7 +47,8 @@ tree_digest tree = sha256 (digest_text tree)
 
 -- the member's message about the unit
 abbrev pub message_of : State → ℕ → Body Value → Message Value
-message_of s u body = record { sender = s.me; tree = tree_digest s.division.tree; path = name_at s u; body = body }
+message_of s u body =
+    record { sender = s.me; tree = tree_digest s.division.tree; path = name_at s u; body = body }
 
 -- what is said, to each of these
 abbrev pub sends_of : State → ℕ → List ℕ → Option (messages.Message Value) → List Send
@@ -66,7 +68,8 @@ claim_then old u host (Some progress) = Some (record { unit = u; host = host; pr
 
 -- a job, once the claim for the unit comes to wait for a build
 abbrev pub job_then : State → ℕ → ℕ → members.Stage Value → Option Task
-job_then s u host (members.Building c) = if is_building (view s u).stage then None else Some (job_of s u host c)
+job_then s u host (members.Building c) =
+    if is_building (view s u).stage then None else Some (job_of s u host c)
 job_then s u host members.Closed = None
 job_then s u host (members.Gathering c S k) = None
 job_then s u host (members.Voting b S) = None
@@ -77,8 +80,8 @@ job_then s u host (members.Voting b S) = None
 abbrev pub note_at : State → ℕ → members.Note Value → Note Value
 note_at s u note = record { path = name_at s u; fact = fact_in note }
 
--- The answer for the unit, where the theory's member takes this step: it notes the same, says the same to these
--- receivers, and its claim, on this host, is as far.
+-- The answer for the unit, where the theory's member takes this step: it notes the same, says the
+-- same to these receivers, and its claim, on this host, is as far.
 abbrev pub answered : State → ℕ → ℕ → List ℕ → Outcome Value → Answer
 answered s u host to outcome = record {
   note = option_map (note_at s u) outcome.note;

@@ -1,5 +1,6 @@
 -- What is to be built, and what was built.
-use Rattle.std.specs.Prelude.{◌==◌, ◌&&◌, ℕ, Bool, List, [], filter_map, find, length, map, option_map, unwrap_or}
+use Rattle.std.specs.Prelude.{◌==◌, ◌&&◌, ℕ, Bool, List, [], filter_map, find, length, map}
+use Rattle.std.specs.Prelude.{option_map, unwrap_or}
 use Rattle.std.specs.List.{list_all}
 use Rattle.std.specs.Str.{bytes_eq}
 use Rattle.sha2.specs.Sha256.{sha256}
@@ -26,7 +27,8 @@ in_order_of_path tree positions = set_of (map (path_at tree) positions)
 -- the signatures of what is held of all that the unit's build needs, in order of path
 abbrev pub deps_of : State → ℕ → List Dep
 deps_of s u =
-    filter_map (λ path. option_map signature (held_record s path)) (in_order_of_path s.division.tree (unit_at s.division u).build)
+    filter_map (λ path. option_map signature (held_record s path))
+    (in_order_of_path s.division.tree (unit_at s.division u).build)
 
 -- the paths of the unit's packages, ascending
 abbrev pub paths_at : State → ℕ → List Text
@@ -44,7 +46,8 @@ job_of s u host c = record {
 
 -- Files are given for just these paths, each once, in any order.
 abbrev pub are_given : List Text → Given → Bool
-are_given paths given = length given == length paths && list_all (is_among (map (λ g. g.0) given)) paths
+are_given paths given =
+    length given == length paths && list_all (is_among (map (λ g. g.0) given)) paths
 
 -- the files that are given for the path
 abbrev pub files_for : Given → Text → List NamedFile

@@ -1,5 +1,6 @@
 -- What holds of members.
-use Rattle.std.specs.Prelude.{◌≡◌, ◌<◌, ◌≤◌, ℕ, Bool, true, false, All, Any, List, [], Option, None, Some, length, map, filter, reverse, option_map, Result, Ok}
+use Rattle.std.specs.Prelude.{◌≡◌, ◌<◌, ◌≤◌, ℕ, Bool, true, false, All, Any, List, [], Option, None}
+use Rattle.std.specs.Prelude.{Some, length, map, filter, reverse, option_map, Result, Ok}
 use Rattle.std.specs.Option.{ForSome}
 use Rattle.std.specs.Str.{bytes_eq}
 use Rattle.faults.specs.Bytes.{Text}
@@ -22,7 +23,8 @@ use Rattle.ballots.specs.Weights.{AreWeights}
 use Rattle.ballots.specs.declared.message.Message.{Message}
 use Rattle.ballots.specs.declared.message.Note.{Note}
 use Rattle.engine.specs.declared.Letter.{Letter}
-use Rattle.protocol.specs.State.{Building, OpenClaim, State, Value, facts_at, fresh, held_record, name_at}
+use Rattle.protocol.specs.State.{Building, OpenClaim, State, Value, facts_at, fresh, held_record}
+use Rattle.protocol.specs.State.{name_at}
 use Rattle.protocol.specs.Member.{IsInput, IsMember}
 use Rattle.protocol.specs.InTheAgreement.{node_of, view}
 use Rattle.protocol.specs.Given.{Given}
@@ -36,18 +38,22 @@ use Rattle.protocol.specs.declared.input.Input.TheVariants as inputs
 
 -- each input has one answer
 abbrev pub OnlyOneAnswerIsRight : Type 0
-OnlyOneAnswerIsRight = (s : State) (input : Input) (a b : Result Answer Refusal) → Answers s input a → Answers s input b → a ≡ b
+OnlyOneAnswerIsRight = (s : State) (input : Input) (a b : Result Answer Refusal) → Answers s input a
+    → Answers s input b → a ≡ b
 
 -- ---- the theory's steps
 
--- The message says about the unit, from this member to those that have its tree, what is said in the theory.
-pub record Says (s : State) (u : ℕ) (what : Option (messages.Message Value)) (m : Message Value) : Type 0 where
+-- The message says about the unit, from this member to those that have its tree, what is said in
+-- the theory.
+pub record Says (s : State) (u : ℕ) (what : Option (messages.Message Value)) (m : Message Value) :
+    Type 0 where
   pub sender : m.sender ≡ s.me
   pub tree : m.tree ≡ tree_digest s.division.tree
   pub path : m.path ≡ name_at s u
   pub body : what ≡ Some (said s.me m.body)
 
--- Whether it goes to somebody, however many members there are: what all others are told goes to nobody where one is alone.
+-- Whether it goes to somebody, however many members there are: what all others are told goes to
+-- nobody where one is alone.
 abbrev pub must_go_out : messages.Message Value → Bool
 must_go_out (messages.Promise p) = true
 must_go_out (messages.Vote m c) = true
@@ -57,18 +63,20 @@ must_go_out (messages.Offer c) = true
 must_go_out (messages.Agreed v) = false
 must_go_out messages.Ask = false
 
--- The answer is what the theory's node does by this outcome for the unit: the member is that node afterwards, notes what
--- is noted there, and sends just what is said there.
+-- The answer is what the theory's node does by this outcome for the unit: the member is that node
+-- afterwards, notes what is noted there, and sends just what is said there.
 pub record IsOutcome (s : State) (u : ℕ) (o : theory.Outcome Value) (a : Answer) : Type 0 where
   pub node : node_of (after s a) ≡ nodes.node_with (node_of s) u o.member
   pub note : option_map (λ n. note_of n.fact) a.note ≡ o.note
   pub noted : ForSome a.note (λ n. n.path ≡ name_at s u)
   pub sends : All (λ x. Says s u o.send x.message) a.sends
 
--- What is said there goes out, where it has to: an answer to the claim's member, an offer or a proposal to all.
+-- What is said there goes out, where it has to: an answer to the claim's member, an offer or a
+-- proposal to all.
 abbrev pub GoesOut : State → theory.Outcome Value → Answer → Type 0
 GoesOut s o a =
-    (y : messages.Message Value) → o.send ≡ Some y → must_go_out y ≡ true → Any (λ x. said s.me x.message.body ≡ y) a.sends
+    (y : messages.Message Value) → o.send ≡ Some y → must_go_out y ≡ true
+    → Any (λ x. said s.me x.message.body ≡ y) a.sends
 
 -- what the theory's member is asked for the unit, if it is one
 abbrev pub for_unit : Option ℕ → (ℕ → theory.Input Value) → Option (ℕ × theory.Input Value)
@@ -88,7 +96,8 @@ nudged o = (o.unit, theory.Nudge)
 -- what an input other than a message is in the theory: the unit that it is for, and what is asked
 abbrev pub asked : State → Input → Option (ℕ × theory.Input Value)
 asked s (inputs.Claim path host above) = for_unit (unit_in s path) (λ u. theory.Start above)
-asked s (inputs.Built path given) = for_unit (unit_in s path) (λ u. theory.Built (built_at s u given (view s u).stage))
+asked s (inputs.Built path given) =
+    for_unit (unit_in s path) (λ u. theory.Built (built_at s u given (view s u).stage))
 asked s (inputs.Failed path) = for_unit (unit_in s path) (λ u. theory.Failed)
 asked s inputs.Nudge = option_map nudged s.claim
 asked s (inputs.Ask path) = for_unit (unit_in s path) (λ u. theory.Inquire)
@@ -144,26 +153,32 @@ MessagesAreAnsweredAsInTheTheory =
 -- a step leaves a member that is one
 abbrev pub MembersStayMembers : Type 0
 MembersStayMembers =
-    (s : State) (input : Input) (a : Answer) → IsMember s → IsInput input → Answers s input (Ok a) → IsMember (after s a)
+    (s : State) (input : Input) (a : Answer) → IsMember s → IsInput input → Answers s input (Ok a)
+    → IsMember (after s a)
 
--- notes leave a member that is one, and make of a fresh one, unit by unit, what the theory restores of them
-pub record NotesRestore (d : Division) (weights : List ℕ) (me : ℕ) (notes : List (Note Value)) : Type 0 where
+-- notes leave a member that is one, and make of a fresh one, unit by unit, what the theory restores
+-- of them
+pub record NotesRestore (d : Division) (weights : List ℕ) (me : ℕ) (notes : List (Note Value)) :
+    Type 0 where
   pub member : IsMember (restored (fresh d weights me) notes)
   pub facts : (u : ℕ) → u < length d.units
       → facts_at (restored (fresh d weights me) notes) u
-      ≡ members.restored (reverse (map (λ n. note_of n.fact) (filter (λ n. bytes_eq n.path (unit_at d u).name) notes)))
+      ≡ members.restored (reverse
+      (map (λ n. note_of n.fact) (filter (λ n. bytes_eq n.path (unit_at d u).name) notes)))
 
 -- for all such notes
 abbrev pub NotesRestoreFacts : Type 0
 NotesRestoreFacts =
     (d : Division) (weights : List ℕ) (me : ℕ) (notes : List (Note Value))
-    → IsDivision d → AreWeights weights → me < length weights → AreOnUnits d notes → NotesRestore d weights me notes
+    → IsDivision d → AreWeights weights → me < length weights → AreOnUnits d notes
+    → NotesRestore d weights me notes
 
 -- a record that is held stays held
 abbrev pub HeldRecordsStay : Type 0
 HeldRecordsStay =
     (s : State) (input : Input) (a : Answer) (path : Text) (r : Content)
-    → IsMember s → Answers s input (Ok a) → held_record s path ≡ Some r → held_record (after s a) path ≡ Some r
+    → IsMember s → Answers s input (Ok a) → held_record s path ≡ Some r
+    → held_record (after s a) path ≡ Some r
 
 -- ---- jobs
 
@@ -171,10 +186,12 @@ HeldRecordsStay =
 abbrev pub JobsStay : Type 0
 JobsStay =
     (s : State) (input : Input) (a : Answer) (o : OpenClaim) (c : Claim)
-    → IsMember s → Answers s input (Ok a) → s.claim ≡ Some o → o.progress ≡ Building c → a.claim ≡ Some o
+    → IsMember s → Answers s input (Ok a) → s.claim ≡ Some o → o.progress ≡ Building c
+    → a.claim ≡ Some o
     → job_of (after s a) o.unit o.host c ≡ job_of s o.unit o.host c
 
--- A job is given for a claim that comes to wait for a build, and again when it is nudged; it is the claim's.
+-- A job is given for a claim that comes to wait for a build, and again when it is nudged; it is the
+-- claim's.
 pub record IsJobGiven (s : State) (a : Answer) (job : Task) : Type 0 where
   pub claim : OpenClaim
   pub is_open : a.claim ≡ Some claim
@@ -184,24 +201,31 @@ pub record IsJobGiven (s : State) (a : Answer) (job : Task) : Type 0 where
 -- for each answer with a job
 abbrev pub JobsAreOfOpenClaims : Type 0
 JobsAreOfOpenClaims =
-    (s : State) (input : Input) (a : Answer) → IsMember s → Answers s input (Ok a) → ForSome a.job (IsJobGiven s a)
+    (s : State) (input : Input) (a : Answer) → IsMember s → Answers s input (Ok a)
+    → ForSome a.job (IsJobGiven s a)
 
 -- what is built for an open claim stands on what is held: each signature is that of a held record
 abbrev pub BuildsStandOnWhatIsHeld : Type 0
 BuildsStandOnWhatIsHeld =
-    (s : State) (u : ℕ) → All (λ d. (r : Content) × (held_record s d.path ≡ Some r) × (d ≡ signature r)) (deps_of s u)
+    (s : State) (u : ℕ) → All
+    (λ d. (r : Content) × (held_record s d.path ≡ Some r) × (d ≡ signature r)) (deps_of s u)
 
 -- and a job signs all that its build needs, where the records of that are held
 abbrev pub JobsHaveAllTheyNeed : Type 0
 JobsHaveAllTheyNeed =
     (s : State) (u : ℕ)
-    → All (λ p. (r : Content) × (held_record s (path_at s.division.tree p) ≡ Some r)) (unit_at s.division u).build
-    → map (λ d. d.path) (deps_of s u) ≡ set_of (map (path_at s.division.tree) (unit_at s.division u).build)
+    → All (λ p. (r : Content) × (held_record s (path_at s.division.tree p) ≡ Some r))
+    (unit_at s.division u).build
+    → map (λ d. d.path) (deps_of s u) ≡ set_of
+    (map (path_at s.division.tree) (unit_at s.division u).build)
 
--- What a member makes of files, where nothing is wrong with them, is a build of the unit, if what it holds are builds.
+-- What a member makes of files, where nothing is wrong with them, is a build of the unit, if what
+-- it holds are builds.
 abbrev pub BuildsAreOfTheirUnit : Type 0
 BuildsAreOfTheirUnit =
     (s : State) (u host : ℕ) (c : Claim) (given : Given)
-    → IsMember s → u < length s.division.units → host ≤ 65535 → IsClaim c → All (λ f. ForSome f.held IsBuild) s.facts
+    → IsMember s → u < length s.division.units → host ≤ 65535 → IsClaim c
+    → All (λ f. ForSome f.held IsBuild) s.facts
     → build_fault (build_by s u (job_of s u host c) given) ≡ None
-    → IsBuild (build_by s u (job_of s u host c) given) × (unit_path (build_by s u (job_of s u host c) given) ≡ name_at s u)
+    → IsBuild (build_by s u (job_of s u host c) given) ×
+    (unit_path (build_by s u (job_of s u host c) given) ≡ name_at s u)

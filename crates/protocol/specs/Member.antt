@@ -7,7 +7,8 @@ use Rattle.claims.specs.Claim.{IsClaim}
 use Rattle.units.specs.Division.{IsDivision, unit_at}
 use Rattle.ballots.specs.Pledge.{HasPromised}
 use Rattle.ballots.specs.Weights.{AreWeights}
-use Rattle.protocol.specs.State.{OpenClaim, Progress, Gathering, Building, Voting, State, facts_at, holds_package}
+use Rattle.protocol.specs.State.{OpenClaim, Progress, Gathering, Building, Voting, State, facts_at}
+use Rattle.protocol.specs.State.{holds_package}
 use Rattle.protocol.specs.InTheAgreement.{progress_of, stage_of}
 use Rattle.protocol.specs.declared.input.Input.{Input}
 use Rattle.protocol.specs.declared.input.Input.TheVariants as inputs
@@ -24,8 +25,9 @@ joined_so_far (Gathering c joined k) = joined
 joined_so_far (Building c) = []
 joined_so_far (Voting b joined) = joined
 
--- An open claim is for a unit that is not held, is the member's own, and has all that the unit's build needs held. Those
--- that joined are members, each once, in order of number, and are no majority yet.
+-- An open claim is for a unit that is not held, is the member's own, and has all that the unit's
+-- build needs held. Those that joined are members, each once, in order of number, and are no
+-- majority yet.
 pub record IsOpen (s : State) (o : OpenClaim) : Type 0 where
   pub unit : o.unit < length s.division.units
   pub not_held : (facts_at s o.unit).held ≡ None

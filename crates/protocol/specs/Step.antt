@@ -1,6 +1,9 @@
--- The member's step. What it notes, says and makes of its claim is what the theory's member does, in the words of crate
--- agreement; here stand who is refused, in the order of the tests, and who gets what is said.
-use Rattle.std.specs.Prelude.{◌≡◌, ℕ, max, Bool, true, false, not, nat_le, nat_lt, List, [], ◌∷◌, Option, None, Some, is_none, is_some, length, option_map, Result, Ok, Err, if◌then◌else◌}
+-- The member's step. What it notes, says and makes of its claim is what the theory's member does,
+-- in the words of crate agreement; here stand who is refused, in the order of the tests, and who
+-- gets what is said.
+use Rattle.std.specs.Prelude.{◌≡◌, ℕ, max, Bool, true, false, not, nat_le, nat_lt, List, [], ◌∷◌}
+use Rattle.std.specs.Prelude.{Option, None, Some, is_none, is_some, length, option_map, Result, Ok}
+use Rattle.std.specs.Prelude.{Err, if◌then◌else◌}
 use Rattle.std.specs.List.{list_all}
 use Rattle.std.specs.Str.{bytes_eq}
 use Rattle.faults.specs.Answers.{IsRightUnless, first_that_applies, option_or}
@@ -8,7 +11,8 @@ use Rattle.faults.specs.Bytes.{Text}
 use Rattle.agreement.specs.Quorums.{is_majority}
 use Rattle.agreement.specs.Member as members
 use Rattle.agreement.specs.Member.{Facts, no_facts}
-use Rattle.agreement.specs.Step.{Outcome, on_built, on_failed, on_inquire, on_message, on_nudge, on_start}
+use Rattle.agreement.specs.Step.{Outcome, on_built, on_failed, on_inquire, on_message, on_nudge}
+use Rattle.agreement.specs.Step.{on_start}
 use Rattle.claims.specs.Claim.{greatest_round}
 use Rattle.claims.specs.Job.{Task}
 use Rattle.engine.specs.declared.Letter.{Letter}
@@ -18,10 +22,12 @@ use Rattle.listing.specs.Tree.{position_of}
 use Rattle.package_record.specs.Making.{build_fault}
 use Rattle.ballots.specs.InTheAgreement.{said}
 use Rattle.ballots.specs.declared.message.Body.{Body}
-use Rattle.ballots.specs.declared.message.Body.TheVariants.{Offer, Promise, Propose, Vote, Agreed, Ask, Nay}
+use Rattle.ballots.specs.declared.message.Body.TheVariants.{Offer, Promise, Propose, Vote, Agreed}
+use Rattle.ballots.specs.declared.message.Body.TheVariants.{Ask, Nay}
 use Rattle.ballots.specs.declared.message.Message.{Message}
 use Rattle.ballots.specs.declared.message.Note.{Note}
-use Rattle.protocol.specs.State.{HasLetter, OpenClaim, Progress, Gathering, Building, Voting, State, Value, facts_at, is_held}
+use Rattle.protocol.specs.State.{HasLetter, OpenClaim, Progress, Gathering, Building, Voting, State}
+use Rattle.protocol.specs.State.{Value, facts_at, is_held}
 use Rattle.protocol.specs.InTheAgreement.{view}
 use Rattle.protocol.specs.Given.{Given}
 use Rattle.protocol.specs.Jobs.{are_given, build_by, job_of, paths_at}
@@ -45,7 +51,8 @@ at_unit refusal answer None = Err refusal
 at_unit refusal answer (Some u) = answer u
 
 -- the answer by what the theory's member does, or this refusal where it refuses
-abbrev pub answered_or : Refusal → State → ℕ → ℕ → List ℕ → Option (Outcome Value) → Result Answer Refusal
+abbrev pub answered_or : Refusal → State → ℕ → ℕ → List ℕ → Option (Outcome Value)
+    → Result Answer Refusal
 answered_or refusal s u host to None = Err refusal
 answered_or refusal s u host to (Some outcome) = Ok (answered s u host to outcome)
 
@@ -60,9 +67,11 @@ unit_in s path = number_found s.division path
 
 -- the refusal of a path that names no unit: it is ignored, or not listed
 abbrev pub stranger : State → Text → Refusal
-stranger s path = if is_some (position_of s.division.tree path) then refusals.Ignored else refusals.Unlisted
+stranger s path = if is_some (position_of s.division.tree path) then refusals.Ignored else
+    refusals.Unlisted
 
--- ---- Claim: a round above the one asked for and all that the member opened is noted, and the claim offered to all
+-- ---- Claim: a round above the one asked for and all that the member opened is noted, and the
+-- claim offered to all
 
 -- Whether the letter says that the unit waits for what its build needs.
 abbrev pub is_waiting : Letter → Bool
@@ -84,11 +93,13 @@ claim_refusal s letter above u = first_that_applies (
 abbrev pub claims : State → Letter → ℕ → ℕ → ℕ → Result Answer Refusal
 claims s letter host above u =
     unless (claim_refusal s letter above u)
-    (answered_or refusals.Held s u host (everyone s) (on_start s.me (view s u) (view s u).held above))
+    (answered_or refusals.Held s u host (everyone s)
+    (on_start s.me (view s u) (view s u).held above))
 
 -- ---- Built and Failed, of a claim that waits for a build
 
--- the first that applies: the files are of other packages, a file's name is bad, the build is too large
+-- the first that applies: the files are of other packages, a file's name is bad, the build is too
+-- large
 abbrev pub files_refusal : State → ℕ → Given → Value → Option Refusal
 files_refusal s u given build = option_or
     (first_that_applies ((not (are_given (paths_at s u) given), refusals.OtherPackages) ∷ []))
@@ -98,11 +109,13 @@ files_refusal s u given build = option_or
 abbrev pub proposes : State → ℕ → ℕ → Given → Value → Result Answer Refusal
 proposes s u host given build =
     unless (files_refusal s u given build)
-    (answered_or refusals.NoClaim s u host (everyone s) (on_built (view s u) (view s u).stage build))
+    (answered_or refusals.NoClaim s u host (everyone s)
+    (on_built (view s u) (view s u).stage build))
 
 -- the claim's host made what its job says, of these files
 abbrev pub builds_under : State → ℕ → ℕ → Given → members.Stage Value → Result Answer Refusal
-builds_under s u host given (members.Building c) = proposes s u host given (build_by s u (job_of s u host c) given)
+builds_under s u host given (members.Building c) =
+    proposes s u host given (build_by s u (job_of s u host c) given)
 builds_under s u host given members.Closed = Err refusals.NoClaim
 builds_under s u host given (members.Gathering c S k) = Err refusals.NoClaim
 builds_under s u host given (members.Voting b S) = Err refusals.NoClaim
@@ -113,7 +126,8 @@ builds s given u = builds_under s u (host_in s.claim) given (view s u).stage
 
 -- the claim is dropped
 abbrev pub fails : State → ℕ → Result Answer Refusal
-fails s u = answered_or refusals.NoClaim s u (host_in s.claim) [] (on_failed (view s u) (view s u).stage)
+fails s u = answered_or refusals.NoClaim s u (host_in s.claim) []
+    (on_failed (view s u) (view s u).stage)
 
 -- ---- Nudge: what the open claim waits for is asked for again
 
@@ -139,13 +153,15 @@ abbrev pub nudges : State → Option OpenClaim → Result Answer Refusal
 nudges s None = Err refusals.NoClaim
 nudges s (Some o) =
     with_job (job_again s o o.progress)
-    (answered_or refusals.NoClaim s o.unit o.host (silent s o.progress) (on_nudge (view s o.unit) (view s o.unit).stage))
+    (answered_or refusals.NoClaim s o.unit o.host (silent s o.progress)
+    (on_nudge (view s o.unit) (view s o.unit).stage))
 
 -- ---- Ask
 
 -- all others are asked for the agreed build
 abbrev pub asks : State → ℕ → Result Answer Refusal
-asks s u = answered_or refusals.Held s u (host_in s.claim) (others s) (on_inquire (view s u) (view s u).held)
+asks s u = answered_or refusals.Held s u (host_in s.claim) (others s)
+    (on_inquire (view s u) (view s u).held)
 
 -- ---- messages
 
@@ -160,7 +176,8 @@ members_of (Agreed v) = []
 members_of Ask = []
 members_of (Nay c promised) = c.member ∷ promised.member ∷ []
 
--- The first that applies: the sender has another tree, a member that is named is none, the path is no unit's name.
+-- The first that applies: the sender has another tree, a member that is named is none, the path is
+-- no unit's name.
 abbrev pub header_refusal : State → List ℕ → List ℕ → Text → Option Refusal
 header_refusal s tree named_members path = first_that_applies (
     (not (bytes_eq tree (tree_digest s.division.tree)), refusals.OtherTree)
@@ -168,8 +185,8 @@ header_refusal s tree named_members path = first_that_applies (
     ∷ (is_none (number_named s.division path), refusals.Unlisted)
     ∷ [])
 
--- Who gets what is said to the message: a vote or a promise the claim's member, a proposal all, and what is agreed all
--- others, or who asked for it.
+-- Who gets what is said to the message: a vote or a promise the claim's member, a proposal all, and
+-- what is agreed all others, or who asked for it.
 abbrev pub receivers : State → ℕ → Body Value → List ℕ
 receivers s from (Offer c) = c.member ∷ []
 receivers s from (Promise c report) = everyone s
@@ -185,20 +202,25 @@ outcome_of s u from body = on_message (is_majority s.weights) s.me (view s u) (s
 
 -- the message about the unit is answered
 abbrev pub hears : State → ℕ → ℕ → Body Value → Answer
-hears s u from body = answered s u (host_in s.claim) (receivers s from body) (outcome_of s u from body)
+hears s u from body =
+    answered s u (host_in s.claim) (receivers s from body) (outcome_of s u from body)
 
 -- a message comes
 abbrev pub heard : State → Message Value → Result Answer Refusal
 heard s m =
     unless (header_refusal s m.tree (m.sender ∷ members_of m.body) m.path)
-    (at_unit refusals.Unlisted (λ u. Ok (hears s u m.sender m.body)) (number_named s.division m.path))
+    (at_unit refusals.Unlisted (λ u. Ok (hears s u m.sender m.body))
+    (number_named s.division m.path))
 
 -- ---- the step
 
--- The answer, or the refusal, where the unit that the input's path names has this letter. Only a claim looks at it.
+-- The answer, or the refusal, where the unit that the input's path names has this letter. Only a
+-- claim looks at it.
 abbrev pub answer : State → Letter → Input → Result Answer Refusal
-answer s letter (inputs.Claim path host above) = at_unit (stranger s path) (claims s letter host above) (unit_in s path)
-answer s letter (inputs.Built path given) = at_unit refusals.NoClaim (builds s given) (unit_in s path)
+answer s letter (inputs.Claim path host above) =
+    at_unit (stranger s path) (claims s letter host above) (unit_in s path)
+answer s letter (inputs.Built path given) =
+    at_unit refusals.NoClaim (builds s given) (unit_in s path)
 answer s letter (inputs.Failed path) = at_unit refusals.NoClaim (fails s) (unit_in s path)
 answer s letter inputs.Nudge = nudges s s.claim
 answer s letter (inputs.Ask path) = at_unit (stranger s path) (asks s) (unit_in s path)
@@ -249,13 +271,14 @@ taken s (Ok a) (Ok t) = after s a
 taken s (Ok a) (Err e) = s
 taken s (Err f) t = s
 
--- What a call that prepares a step and takes it has done: it told what is right and took that step, or it refused, and the
--- member stayed as it was.
-pub record HasHandled (old new : State) (input : Input) (result : Result Told Refusal) : Type 0 where
-  pub right : Result Answer Refusal
-  pub answers : Answers old input right
-  pub given : IsRightUnless refusals.Memory result (told_right right)
-  pub state : new ≡ taken old right result
+-- What a call that prepares a step and takes it has done: it told what is right and took that step,
+-- or it refused, and the member stayed as it was.
+pub record HasHandled (old new : State) (input : Input) (result : Result Told Refusal) : Type 0
+  where
+    pub right : Result Answer Refusal
+    pub answers : Answers old input right
+    pub given : IsRightUnless refusals.Memory result (told_right right)
+    pub state : new ≡ taken old right result
 
 -- what is known of the unit, if it is one; of none nothing is known
 abbrev pub facts_of_unit : State → Option ℕ → Facts Value

@@ -31,8 +31,8 @@ pub fn notes_restore_members()
     ensures held { HeldRecordsStay }
 {}
 
-/// A job is that of an open claim, stands on what is held, on all that its build needs, and stays while the claim waits
-/// for a build. What is built so is a build of the claim's unit.
+/// A job is that of an open claim, stands on what is held, on all that its build needs, and stays
+/// while the claim waits for a build. What is built so is a build of the claim's unit.
 pub fn jobs_stay()
     ensures given { JobsAreOfOpenClaims }
     ensures stay { JobsStay }

@@ -29,8 +29,8 @@ impl Send {
     }
 }
 
-/// What a step sends: one message, which all its receivers share, or nothing. Contracts see the list
-/// of what is sent, in order of receiver.
+/// What a step sends: one message, which all its receivers share, or nothing. Contracts see the
+/// list of what is sent, in order of receiver.
 #[derive(Drop)]
 pub struct Sends {
     message: Option<Message>,
