@@ -24,7 +24,7 @@ use Rattle.protocol.specs.InTheAgreement.{view}
 use Rattle.protocol.specs.Member.{IsInput, IsMember}
 use Rattle.protocol.specs.Answers.{Answer, after, everyone, others}
 use Rattle.protocol.specs.Jobs.{build_by, job_of}
-use Rattle.protocol.specs.Laws.{MembersStayMembers}
+use Rattle.protocol.specs.Laws.{ClaimsWereReady, MembersStayMembers}
 use Rattle.protocol.specs.Step.{IsLetterOf, answer, answered_or, builds, builds_under}
 use Rattle.protocol.specs.Step.{claim_refusal, claims, fails, files_refusal, header_refusal, heard}
 use Rattle.protocol.specs.Step.{hears, host_in, is_waiting, job_again, members_of, nudges}
@@ -42,7 +42,7 @@ use Rattle.protocol.proofs.GoodClaims.{built_good, failed_good, inquire_good, me
 use Rattle.protocol.proofs.GoodClaims.{nudge_good}
 use Rattle.protocol.proofs.Heard.{IsFit}
 use Rattle.protocol.proofs.Ready.{ready_by_letter}
-use Rattle.protocol.proofs.StayingMembers.{IsGood, IsOwn, nobody_is_short, still_a_member}
+use Rattle.protocol.proofs.StayingMembers.{IsGood, IsLeft, IsOwn, nobody_is_short, left_so}
 use Rattle.protocol.proofs.StayingMembers.{view_is_good}
 
 -- ---- what is asked for a unit
@@ -54,7 +54,7 @@ asked_stays : (s : State) (f : Refusal) (u host : ℕ) (to : List ℕ) (asks : t
     → ((o : Outcome Value) → theory.answer (is_majority s.weights) s.me (view s u) [] asks ≡ Some o
     → IsGood s u host o.member.stage)
     → answered_or f s u host to (theory.answer (is_majority s.weights) s.me (view s u) [] asks) ≡ Ok
-    a → IsMember (after s a)
+    a → IsLeft s a
 asked_stays s f u host to asks a is lt local good e =
     let made = by_outcome f s u host to _ a e in
     let seen = seen_by s u s.claim refl is.claim in
@@ -63,8 +63,8 @@ asked_stays s f u host to asks a is lt local good e =
     local) made.1 in
     let noted = of_this (IsNoted Value (view s u)) _ made.0
     (answer_noted Value (is_majority s.weights) (view s u) seen.closed s.me [] asks) made.1 in
-    subst (λ (a : Answer). IsMember (after s a)) made.2
-    (still_a_member s u host to made.0 is lt noted fit (good made.0 made.1))
+    subst (IsLeft s) made.2
+    (left_so s u host to made.0 is lt noted fit (good made.0 made.1))
 
 -- the claim that it has is such
 good_of : (s : State) (u : ℕ) (o : Option (Outcome Value)) (x : Outcome Value)
@@ -118,7 +118,7 @@ opened_good s u host above o None is in_range ready left e =
 
 claim_stays : (s : State) (letter : Letter) (path : Text) (host above u : ℕ) (a : Answer)
     → IsMember s → host ≤ 65535 → unit_in s path ≡ Some u
-    → IsLetterOf s (Some u) letter → claims s letter host above u ≡ Ok a → IsMember (after s a)
+    → IsLetterOf s (Some u) letter → claims s letter host above u ≡ Ok a → IsLeft s a
 claim_stays s letter path host above u a is in_range found shown e =
     let tested = not_refused (claim_refusal s letter above u) _ a e in
     let lt = unit_is_one s path u found in
@@ -134,7 +134,7 @@ claim_stays s letter path host above u a is in_range found shown e =
 
 build_stays : (s : State) (path : Text) (given : Given) (u : ℕ) (a : Answer)
     (stage : members.Stage Value) → IsMember s → unit_in s path ≡ Some u
-    → builds_under s u (host_in s.claim) given stage ≡ Ok a → IsMember (after s a)
+    → builds_under s u (host_in s.claim) given stage ≡ Ok a → IsLeft s a
 build_stays s path given u a members.Closed is found e =
     absurd (let no : Err refusals.NoClaim ≡ Ok a = e in cc)
 build_stays s path given u a (members.Gathering c S k) is found e =
@@ -153,7 +153,7 @@ build_stays s path given u a (members.Building c) is found e =
     tested.1
 
 failure_stays : (s : State) (path : Text) (u : ℕ) (a : Answer) → IsMember s
-    → unit_in s path ≡ Some u → fails s u ≡ Ok a → IsMember (after s a)
+    → unit_in s path ≡ Some u → fails s u ≡ Ok a → IsLeft s a
 failure_stays s path u a is found e =
     let good = view_is_good s u is in
     asked_stays s refusals.NoClaim u (host_in s.claim) [] theory.Failed a is
@@ -163,7 +163,7 @@ failure_stays s path u a is found e =
     (nobody_is_short s.weights) (view s u) good (view s u).stage) eo) e
 
 question_stays : (s : State) (path : Text) (u : ℕ) (a : Answer) → IsMember s
-    → unit_in s path ≡ Some u → member_asks s u ≡ Ok a → IsMember (after s a)
+    → unit_in s path ≡ Some u → member_asks s u ≡ Ok a → IsLeft s a
 question_stays s path u a is found e =
     let good = view_is_good s u is in
     asked_stays s refusals.Held u (host_in s.claim) (others s) theory.Inquire a is
@@ -173,7 +173,7 @@ question_stays s path u a is found e =
     (nobody_is_short s.weights) (view s u) good (view s u).held) eo) e
 
 nudge_stays : (s : State) (claim : Option OpenClaim) (a : Answer) → IsMember s → s.claim ≡ claim
-    → nudges s claim ≡ Ok a → IsMember (after s a)
+    → nudges s claim ≡ Ok a → IsLeft s a
 nudge_stays s None a is at e = absurd (let no : Err refusals.NoClaim ≡ Ok a = e in cc)
 nudge_stays s (Some o) a is at e =
     let given = without_job (job_again s o o.progress) _ a e in
@@ -185,10 +185,10 @@ nudge_stays s (Some o) a is at e =
     (good_of s o.unit _ x
     (nudge_good (IsOwn s o.unit (host_in s.claim)) (is_majority s.weights)
     (nobody_is_short s.weights) (view s o.unit) good (view s o.unit).stage) ex)) given.1 in
-    subst (λ (a : Answer). IsMember (after s a)) given.2 stays
+    subst (IsLeft s) given.2 (record { member = stays.member; ready = stays.ready })
 
 message_stays : (s : State) (m : Message Value) (a : Answer) → IsMember s → heard s m ≡ Ok a
-    → IsMember (after s a)
+    → IsLeft s a
 message_stays s m a is e =
     let tested = not_refused (header_refusal s m.tree (m.sender ∷ members_of m.body) m.path) _ a e
     in
@@ -202,8 +202,8 @@ message_stays s m a is e =
     (said m.sender m.body) in
     let good = message_good (IsOwn s u (host_in s.claim)) (is_majority s.weights)
     (nobody_is_short s.weights) (view s u) (view_is_good s u is) s.me (said m.sender m.body) in
-    subst (λ (a : Answer). IsMember (after s a)) same
-    (still_a_member s u (host_in s.claim) (receivers s m.sender m.body)
+    subst (IsLeft s) same
+    (left_so s u (host_in s.claim) (receivers s m.sender m.body)
     (outcome_of s u m.sender m.body) is (named_is s u m.path found.1).0 noted
     (fits s m u is found.1 from) good)
 
@@ -211,7 +211,7 @@ message_stays s m a is e =
 
 stays_by : (s : State) (letter : Letter) (input : Input) (a : Answer) → IsMember s → IsInput input
     → IsLetterOf s (unit_claimed s input) letter
-    → answer s letter input ≡ Ok a → IsMember (after s a)
+    → answer s letter input ≡ Ok a → IsLeft s a
 stays_by s letter (inputs.Claim path host above) a is in_range shown e =
     let found = has_unit (stranger s path) (claims s letter host above) (unit_in s path) a e in
     claim_stays s letter path host above found.0 a is in_range found.1
@@ -230,4 +230,8 @@ stays_by s letter (inputs.Message m) a is in_range shown e = message_stays s m a
 
 pub members_stay : MembersStayMembers
 members_stay s input a is in_range answers =
-    stays_by s answers.letter input a is in_range answers.shown (sym answers.right)
+    (stays_by s answers.letter input a is in_range answers.shown (sym answers.right)).member
+
+pub claims_were_ready : ClaimsWereReady
+claims_were_ready s input a is in_range answers =
+    (stays_by s answers.letter input a is in_range answers.shown (sym answers.right)).ready

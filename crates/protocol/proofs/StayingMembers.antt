@@ -21,7 +21,9 @@ use Rattle.units.proofs.Names.{name_is_found}
 use Rattle.protocol.specs.State.{OpenClaim, Progress, Gathering, Building, Voting, State, Value}
 use Rattle.protocol.specs.State.{facts_at, holds_package}
 use Rattle.protocol.specs.InTheAgreement.{claim_of, members_in, progress_of, stage_of, view}
+use Rattle.protocol.specs.Laws.{IsReady}
 use Rattle.protocol.specs.Member.{IsMember, IsOpen, claim_in, joined_so_far}
+use Rattle.protocol.specs.Answers.{Answer}
 use Rattle.protocol.specs.Answers.{after, answered, claim_then, dropped, note_at}
 use Rattle.protocol.specs.Step.{host_in}
 use Rattle.protocol.proofs.GoodClaims.{IsGoodStage}
@@ -84,6 +86,12 @@ not_held_while_open (Some v) stage closed is_open = absurd (is_open closed)
 -- what holds of the value holds if it is there
 for_this : {X : Type 0} (P : X → Type 0) (x : X) → P x → ForSome (Some x) P
 for_this P x holds y e = subst P (ap (λ o. unwrap_or o x) e) holds
+
+-- What an answer leaves: a member that is one, and if a claim is open, all that its build needs was
+-- held before.
+pub record IsLeft (s : State) (a : Answer) : Type 0 where
+  pub member : IsMember (after s a)
+  pub ready : ForSome a.claim (IsReady s)
 
 module _ (s : State) (u host : ℕ) (to : List ℕ) (o : Outcome Value) (is : IsMember s)
     (lt : u < length s.division.units) (noted : IsNoted Value (view s u) o) where
@@ -172,8 +180,27 @@ module _ (s : State) (u host : ℕ) (to : List ℕ) (o : Outcome Value) (is : Is
       (own_is_open (Voting b (members_in n S)) (members.Voting b S) at (λ e. cc) good.0
       (ap (λ T. Some (Voting b (members_in n T))) same) (ap (is_majority s.weights) same ∙ good.1))
 
+  -- what the build of the claim needs was held before
+  claim_was_ready : (stage : members.Stage Value) → IsGood s u host stage
+      → ForSome (claim_then s.claim u host (progress_of (length s.weights) stage)) (IsReady s)
+  claim_was_ready members.Closed good = by_claim s.claim is.claim
+    where
+      by_claim : (claim : Option OpenClaim) → ForSome claim (IsOpen s)
+          → ForSome (dropped claim u) (IsReady s)
+      by_claim None are = λ p e. absurd (let no : None ≡ Some p = e in cc)
+      by_claim (Some p) are =
+          cond_both (u == p.unit) None (Some p) (λ claim. ForSome claim (IsReady s))
+          (λ same q e. absurd (let no : None ≡ Some q = e in cc))
+          (λ other. for_this (IsReady s) p (record { unit = (are p refl).unit; ready = (are p refl).ready }))
+  claim_was_ready (members.Gathering c S k) good =
+      for_this (IsReady s) _ (record { unit = lt; ready = good.0.ready })
+  claim_was_ready (members.Building c) good =
+      for_this (IsReady s) _ (record { unit = lt; ready = good.ready })
+  claim_was_ready (members.Voting b S) good =
+      for_this (IsReady s) _ (record { unit = lt; ready = good.0.ready })
+
   -- So it is one, where the outcome's claim is such.
-  pub still_a_member : IsFit (length s.weights) s.me o → IsGood s u host o.member.stage
+  still_a_member : IsFit (length s.weights) s.me o → IsGood s u host o.member.stage
       → IsMember left
   still_a_member fit good = record {
     division = is.division;
@@ -183,3 +210,9 @@ module _ (s : State) (u host : ℕ) (to : List ℕ) (o : Outcome Value) (is : Is
     pledged = pledged_then s.division s.facts (option_map (note_at s u) o.note) is.pledged;
     claim = claim_is_open o.member.stage refl good fit.within;
   }
+
+  -- and what its claim needs was held before
+  pub left_so : IsFit (length s.weights) s.me o → IsGood s u host o.member.stage
+      → IsLeft s (answered s u host to o)
+  left_so fit good =
+      record { member = still_a_member fit good; ready = claim_was_ready o.member.stage good }

@@ -1,6 +1,7 @@
 -- What holds of members.
 use Rattle.std.specs.Prelude.{◌≡◌, ◌<◌, ◌≤◌, ℕ, Bool, true, false, All, Any, List, [], Option, None}
 use Rattle.std.specs.Prelude.{Some, length, map, filter, reverse, option_map, Result, Ok}
+use Rattle.std.specs.Prelude.{◌⊎◌}
 use Rattle.std.specs.Option.{ForSome}
 use Rattle.std.specs.Str.{bytes_eq}
 use Rattle.faults.specs.Bytes.{Text}
@@ -24,6 +25,7 @@ use Rattle.ballots.specs.declared.message.Message.{Message}
 use Rattle.ballots.specs.declared.message.Note.{Note}
 use Rattle.engine.specs.declared.Letter.{Letter}
 use Rattle.protocol.specs.State.{Building, OpenClaim, State, Value, facts_at, fresh, held_record}
+use Rattle.protocol.specs.State.{holds_package}
 use Rattle.protocol.specs.State.{name_at}
 use Rattle.protocol.specs.Member.{IsInput, IsMember}
 use Rattle.protocol.specs.InTheAgreement.{node_of, view}
@@ -189,6 +191,24 @@ JobsStay =
     → IsMember s → Answers s input (Ok a) → s.claim ≡ Some o → o.progress ≡ Building c
     → a.claim ≡ Some o
     → job_of (after s a) o.unit o.host c ≡ job_of s o.unit o.host c
+
+-- The claim is for a unit, and all that the unit's build needs is held.
+pub record IsReady (s : State) (o : OpenClaim) : Type 0 where
+  pub unit : o.unit < length s.division.units
+  pub ready : All (λ p. holds_package s p ≡ true) (unit_at s.division o.unit).build
+
+-- What the build of an open claim needs was held before the step that left it open.
+abbrev pub ClaimsWereReady : Type 0
+ClaimsWereReady =
+    (s : State) (input : Input) (a : Answer) → IsMember s → IsInput input
+    → Answers s input (Ok a) → ForSome a.claim (IsReady s)
+
+-- A claim that waits for a build came to wait in this step, which gives its job, or waited before.
+abbrev pub WaitingClaimsHaveJobs : Type 0
+WaitingClaimsHaveJobs =
+    (s : State) (input : Input) (a : Answer) (o : OpenClaim) (c : Claim)
+    → IsMember s → Answers s input (Ok a) → a.claim ≡ Some o → o.progress ≡ Building c
+    → (a.job ≡ Some (job_of s o.unit o.host c)) ⊎ (s.claim ≡ Some o)
 
 -- A job is given for a claim that comes to wait for a build, and again when it is nudged; it is the
 -- claim's.
