@@ -6,7 +6,7 @@ ghost use Rattle.protocol.specs.State.{noted_at};
 ghost use Rattle.member.specs.inside.Fields.{engine_with, facts_of_known};
 
 use crate::known::Known;
-use crate::units::unit_named;
+use crate::naming::unit_named;
 use ballots::Fact;
 use engine::Engine;
 use pkgpath::PkgPath;

@@ -3,7 +3,7 @@ ghost use Rattle.std.specs.Prelude.{◌≡◌, ◌<◌, length};
 ghost use Rattle.member.specs.inside.Steps.{IsPrepared};
 
 use crate::receivers::{everyone, one, others};
-use crate::units::unit_named;
+use crate::naming::unit_named;
 use crate::{ClaimChange, Member, OpenClaim, Step};
 use arrayvec::ArrayVec;
 use ballots::{Body, ClaimerChange, ClaimerStep, Fact, Message, Next, VoterStep};

@@ -44,11 +44,11 @@ impl<'a> Member<'a> {
 }
 
 /// The signature of the package: its path, its name, and the SHA-256 of its record's text.
-fn signature(record: &Record) -> Result<Dep, Memory>
-    ensures { IfOk result (λ dep. dep ≡ signature record.now) }
+fn signature(held: &Record) -> Result<Dep, Memory>
+    ensures { IfOk result (λ dep. dep ≡ signature held.now) }
 {
-    let path = record.path().copy()?;
-    let name = record.name().copy()?;
-    let digest = record.digest()?;
+    let path = held.path().copy()?;
+    let name = held.name().copy()?;
+    let digest = held.digest()?;
     Ok(Dep { path, name, digest })
 }

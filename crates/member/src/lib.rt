@@ -13,12 +13,12 @@ mod hearing;
 mod jobs;
 mod known;
 mod member;
+mod naming;
 mod nudging;
 mod open_claim;
 mod packages;
 mod receivers;
 mod step;
-mod units;
 
 pub use crate::member::Member;
 pub use crate::open_claim::OpenClaim;

@@ -19,7 +19,7 @@ ghost use Rattle.member.specs.inside.Steps.{IsPrepared};
 use crate::change::{changed, job_of};
 use crate::facts::keep_fact;
 use crate::known::Known;
-use crate::units::unit_named;
+use crate::naming::unit_named;
 use crate::{OpenClaim, Step};
 use ballots::{Note, Weights};
 use claims::{Claim, Job};
