@@ -1,6 +1,8 @@
 //! What becomes of a claim that waits for a build.
-ghost use Rattle.std.specs.Prelude.{◌≡◌, ◌<◌, length};
+ghost use Rattle.std.specs.Prelude.{◌≡◌, ◌<◌, MatchResult, None, Some, length};
+ghost use Rattle.faults.specs.Answers.{IsRightUnless};
 ghost use Rattle.member.specs.inside.Steps.{IsPrepared};
+ghost use Rattle.member.specs.inside.Waiting.{job_at, made_by, waiting_for};
 
 use crate::packages::{by_path, made};
 use crate::receivers::everyone;
@@ -46,7 +48,10 @@ impl<'a> Member<'a> {
     }
 
     /// The unit that the path names, and its job, where the open claim waits for its build.
-    fn building(&self, path: &PkgPath) -> Result<(u32, &Job), Refusal> {
+    fn building(&self, path: &PkgPath) -> Result<(u32, &Job), Refusal>
+        ensures { MatchResult result (λ x. waiting_for self.now path.now ≡ Some (x.0, x.1.now))
+            (λ e. (e ≡ Refusal.NoClaim) × (waiting_for self.now path.now ≡ None)) }
+    {
         let (Some(unit), Some(open), Some(job)) =
             (self.units.find(path), &self.claim, &self.job)
         else {
@@ -60,7 +65,9 @@ impl<'a> Member<'a> {
 
     /// The build of the unit that its job and these files make.
     fn build_of(&self, unit: u32, job: &Job, packages: Packages) -> Result<Build, Refusal>
-        requires { unit < length self.now.division.units }
+        requires unit { unit < length self.now.division.units }
+        requires job { job_at self.now unit ≡ Some job.now }
+        ensures { IsRightUnless Refusal.Memory result (made_by self.now unit job.now packages) }
     {
         let alloc = self.allocator();
         let positions = self.units.packages(unit);

@@ -1,7 +1,8 @@
 //! What a step makes of the open claim.
-ghost use Rattle.std.specs.Prelude.{◌≡◌, List, ℕ, option_map};
-ghost use Rattle.std.specs.Option.{ForSome};
-ghost use Rattle.member.specs.OpenClaims.{IsWeighedBy, open_of};
+ghost use Rattle.std.specs.Prelude.{◌≡◌, List, ℕ, None, if◌then◌else◌, option_map};
+ghost use Rattle.std.specs.Option.{ForSome, option_copied};
+ghost use Rattle.faults.specs.Answers.{option_or};
+ghost use Rattle.member.specs.OpenClaims.{IsWeighedBy, open_of, waits};
 ghost use Rattle.member.specs.Prepared.{IsChangeWeighedBy, changed};
 
 use crate::{ClaimChange, OpenClaim};
@@ -30,7 +31,9 @@ pub(crate) fn changed(claim: Option<OpenClaim>, change: ClaimChange) -> Option<O
 }
 
 /// Whether the claim waits for a build.
-pub(crate) fn is_building(claim: Option<&OpenClaim>) -> bool {
+pub(crate) fn is_building(claim: Option<&OpenClaim>) -> bool
+    ensures { result ≡ waits (option_map open_of (option_copied claim.entry)) }
+{
     match claim {
         Some(open) => match &open.claimer {
             Claimer::Building { .. } => true,
@@ -42,7 +45,14 @@ pub(crate) fn is_building(claim: Option<&OpenClaim>) -> bool {
 
 /// The job of the claim that is open: the one that is given now, and else the one that was given
 /// before, as long as the claim waits for a build.
-pub(crate) fn job_of(claim: Option<&OpenClaim>, given: Option<Job>, before: Option<Job>) -> Option<Job>
+pub(crate) fn job_of(
+    claim: Option<&OpenClaim>,
+    given: Option<Job>,
+    before: Option<Job>,
+) -> Option<Job>
+    ensures { result
+        ≡ (if waits (option_map open_of (option_copied claim.entry)) then option_or given before
+        else None) }
 {
     if !is_building(claim) {
         return None;

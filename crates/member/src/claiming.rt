@@ -1,11 +1,11 @@
 //! Claims, and questions for what is agreed.
-ghost use Rattle.std.specs.Prelude.{◌≡◌, ◌<◌, IfErr, IfOk, OnOk, IfErr, None, Some, length};
-ghost use Rattle.ballots.specs.Value.{Value};
-ghost use Rattle.protocol.specs.Answers.{everyone, message_of, others};
+ghost use Rattle.std.specs.Prelude.{◌≡◌, ◌<◌, IfErr, IfOk, None, Some, length};
+ghost use Rattle.protocol.specs.Answers.{answered, everyone, message_of};
+ghost use Rattle.protocol.specs.InTheAgreement.{view};
 ghost use Rattle.protocol.specs.Sends.{sent_to};
 ghost use Rattle.protocol.specs.State.{HasLetter, name_at};
-ghost use Rattle.protocol.specs.Step.{claim_refusal, stranger, unit_in};
-ghost use Rattle.member.specs.inside.Steps.{IsPrepared};
+ghost use Rattle.protocol.specs.Step.{stranger, unit_in};
+ghost use Rattle.member.specs.inside.Steps.{IsPrepared, Makes, opened_in};
 
 use crate::receivers::{everyone, others};
 use crate::{ClaimChange, Member, OpenClaim, Step};
@@ -41,6 +41,8 @@ impl<'a> Member<'a> {
     /// A claim for the unit is opened in this round.
     fn opening(&self, unit: u32, host: u16, round: u64) -> Result<Step, Memory>
         requires { unit < length self.now.division.units }
+        ensures { IfOk result (Makes self.now (answered self.now unit host (everyone self.now)
+            (opened_in (view self.now unit) self.now.me round))) }
     {
         let claim = Claim {
             round,

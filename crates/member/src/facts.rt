@@ -1,9 +1,9 @@
 //! What is noted becomes what is known.
 ghost use Rattle.std.specs.Prelude.{◌≡◌, ◌<◌, length, map};
-ghost use Rattle.std.specs.FinSet as set;
 ghost use Rattle.units.specs.Division.{number_named, unit_at};
 ghost use Rattle.protocol.specs.State.{noted_at};
 ghost use Rattle.member.specs.inside.Fields.{engine_with, facts_of_known};
+ghost use Rattle.member.specs.inside.Units.{agreed_too, is_held_fact};
 
 use crate::known::Known;
 use crate::naming::unit_named;
@@ -39,7 +39,9 @@ pub(crate) fn keep_fact(
 }
 
 /// Whether the fact is that a build is held.
-fn is_held(fact: &Fact) -> bool {
+fn is_held(fact: &Fact) -> bool
+    ensures { result ≡ is_held_fact fact.now }
+{
     match fact {
         Fact::Held(_) => true,
         _ => false,
@@ -50,6 +52,7 @@ fn is_held(fact: &Fact) -> bool {
 fn agree(units: &Units<'_>, engine: &mut Engine<'_>, unit: u32)
     requires unit { unit < length units.now.units }
     requires tree { engine.old.tree ≡ units.now.tree }
+    ensures { engine.new ≡ agreed_too engine.old (unit_at units.now unit).packages }
 {
     for position in units.packages(unit) {
         engine.agree(*position);

@@ -1,6 +1,9 @@
 //! What a member answers to messages.
-ghost use Rattle.std.specs.Prelude.{◌≡◌, ◌<◌, length};
-ghost use Rattle.member.specs.inside.Steps.{IsPrepared};
+ghost use Rattle.std.specs.Prelude.{◌≡◌, ◌<◌, ◌∷◌, IfOk, MatchOption, Some, false, length};
+ghost use Rattle.protocol.specs.Step.{hears, members_of};
+ghost use Rattle.member.specs.OpenClaims.{IsWeighedBy, is_for, open_of};
+ghost use Rattle.member.specs.inside.Steps.{IsPrepared, Makes};
+ghost use Rattle.member.specs.inside.Counting.{counter_prepared, held_prepared, voter_prepared};
 
 use crate::receivers::{everyone, one, others};
 use crate::naming::unit_named;
@@ -33,7 +36,9 @@ impl<'a> Member<'a> {
 
     /// The message about the unit is answered.
     fn answered(&self, unit: u32, sender: u8, body: Body) -> Result<Step, Memory>
-        requires { unit < length self.now.division.units }
+        requires unit { unit < length self.now.division.units }
+        requires sender { sender < length self.now.weights }
+        ensures { IfOk result (Makes self.now (hears self.now unit sender body)) }
     {
         match body {
             Body::Offer(claim) => self.offered(unit, claim),
@@ -49,6 +54,7 @@ impl<'a> Member<'a> {
     /// A claim is offered: its member gets a promise, or a nay.
     fn offered(&self, unit: u32, claim: Claim) -> Result<Step, Memory>
         requires { unit < length self.now.division.units }
+        ensures { IfOk result (Makes self.now (hears self.now unit 0 (Body.Offer claim))) }
     {
         let step = self.known[unit as usize].voter.offer(claim)?;
         self.voting(unit, claim, step)
@@ -57,6 +63,7 @@ impl<'a> Member<'a> {
     /// A build is proposed: the claim's member gets a vote, or a nay.
     fn proposed(&self, unit: u32, claim: Claim, build: Build) -> Result<Step, Memory>
         requires { unit < length self.now.division.units }
+        ensures { IfOk result (Makes self.now (hears self.now unit 0 (Body.Propose claim build))) }
     {
         let step = self.known[unit as usize].voter.propose(claim, &build)?;
         self.voting(unit, claim, step)
@@ -64,7 +71,10 @@ impl<'a> Member<'a> {
 
     /// The voter's step.
     fn voting(&self, unit: u32, claim: Claim, step: VoterStep) -> Result<Step, Memory>
-        requires { unit < length self.now.division.units }
+        requires unit { unit < length self.now.division.units }
+        requires kept { step.change ≡ step.note }
+        ensures { IfOk result
+            (λ made. made ≡ voter_prepared self.now unit claim.member step.note step.answer) }
     {
         let VoterStep {
             note,
@@ -89,7 +99,11 @@ impl<'a> Member<'a> {
     }
 
     /// The open claim, if it is for the unit.
-    fn claim_for(&self, unit: u32) -> Option<&OpenClaim> {
+    fn claim_for(&self, unit: u32) -> Option<&OpenClaim>
+        ensures { MatchOption result (is_for self.now.claim unit ≡ false)
+            (λ open. (self.now.claim ≡ Some (open_of open.now)) × (open.now.unit ≡ unit)
+            × IsWeighedBy self.now.weights open.now.claimer) }
+    {
         let open = self.claim.as_ref()?;
         if open.unit == unit { Some(open) } else { None }
     }
@@ -102,7 +116,9 @@ impl<'a> Member<'a> {
         claim: Claim,
         report: Option<(Claim, Build)>,
     ) -> Result<Step, Memory>
-        requires { unit < length self.now.division.units }
+        requires unit { unit < length self.now.division.units }
+        requires sender { sender < length self.now.weights }
+        ensures { IfOk result (Makes self.now (hears self.now unit sender (Body.Promise claim report))) }
     {
         let Some(open) = self.claim_for(unit) else {
             return Ok(Step::nothing());
@@ -113,7 +129,9 @@ impl<'a> Member<'a> {
 
     /// The sender votes for the claim's proposal.
     fn voted_by(&self, unit: u32, sender: u8, claim: Claim) -> Result<Step, Memory>
-        requires { unit < length self.now.division.units }
+        requires unit { unit < length self.now.division.units }
+        requires sender { sender < length self.now.weights }
+        ensures { IfOk result (Makes self.now (hears self.now unit sender (Body.Vote claim))) }
     {
         let Some(open) = self.claim_for(unit) else {
             return Ok(Step::nothing());
@@ -123,7 +141,11 @@ impl<'a> Member<'a> {
     }
 
     /// The claimer's step.
-    fn counting(&self, open: &OpenClaim, step: ClaimerStep) -> Result<Step, Memory> {
+    fn counting(&self, open: &OpenClaim, step: ClaimerStep) -> Result<Step, Memory>
+        requires { self.now.claim ≡ Some (open_of open.now) }
+        ensures { IfOk result
+            (λ made. made ≡ counter_prepared self.now (open_of open.now) step.next step.change) }
+    {
         let ClaimerStep { next, change } = step;
         match next {
             Next::Nothing => Ok(Step::saying(
@@ -144,7 +166,11 @@ impl<'a> Member<'a> {
     }
 
     /// A build is to be made: its job is given.
-    fn building_first(&self, open: &OpenClaim, change: ClaimerChange) -> Result<Step, Memory> {
+    fn building_first(&self, open: &OpenClaim, change: ClaimerChange) -> Result<Step, Memory>
+        requires { self.now.claim ≡ Some (open_of open.now) }
+        ensures { IfOk result
+            (λ made. made ≡ counter_prepared self.now (open_of open.now) Next.Build change) }
+    {
         let job = self.job_for(open.unit, open.host, open.claimer.claim())?;
         let kept_job = job.copy()?;
         Ok(Step {
@@ -168,6 +194,8 @@ impl<'a> Member<'a> {
         change: ClaimerChange,
     ) -> Result<Step, Memory>
         requires { unit < length self.now.division.units }
+        ensures { IfOk result
+            (λ made. made ≡ held_prepared self.now unit noted sent change) }
     {
         let kept = noted.copy()?;
         let note = self.note_on(unit, Fact::Held(noted))?;
@@ -187,6 +215,7 @@ impl<'a> Member<'a> {
     /// What is agreed is held, unless a build of the unit is.
     fn agreed(&self, unit: u32, build: Build) -> Result<Step, Memory>
         requires { unit < length self.now.division.units }
+        ensures { IfOk result (Makes self.now (hears self.now unit 0 (Body.Agreed build))) }
     {
         if self.known[unit as usize].held.is_some() {
             return Ok(Step::nothing());
@@ -212,6 +241,7 @@ impl<'a> Member<'a> {
     /// The sender asks for what is agreed, and is told if it is held.
     fn asked_by(&self, unit: u32, sender: u8) -> Result<Step, Memory>
         requires { unit < length self.now.division.units }
+        ensures { IfOk result (Makes self.now (hears self.now unit sender Body.Ask)) }
     {
         match &self.known[unit as usize].held {
             Some(build) => {
@@ -225,7 +255,9 @@ impl<'a> Member<'a> {
 }
 
 /// The sender, and the members of the claims that the body names; that in a record is none of them.
-fn members_of(sender: u8, body: &Body) -> ArrayVec<u8, 9> {
+fn members_of(sender: u8, body: &Body) -> ArrayVec<u8, 9>
+    ensures { result.items ≡ sender ∷ members_of body.now }
+{
     let mut members = ArrayVec::new();
     members.push(sender);
     match body {

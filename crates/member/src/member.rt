@@ -1,6 +1,9 @@
 //! A member, which contracts see as its tree with its units, its weights, its number, what it knows
 //! of each unit, and its open claim.
-ghost use Rattle.std.specs.Prelude.{◌≡◌, ◌<◌, IfErr, IfOk, OnErr, OnOk, None, Some, length, option_map};
+ghost use Rattle.std.specs.Prelude.{◌≡◌, ◌<◌, IfErr, IfOk, OnErr, OnOk, None, Some};
+ghost use Rattle.std.specs.Prelude.{length, map, nat_lt, option_map, replicate};
+ghost use Rattle.std.specs.List.{list_all};
+ghost use Rattle.agreement.specs.Member.{no_facts};
 ghost use Rattle.std.specs.Option.{option_copied};
 ghost use Rattle.faults.specs.Answers.{map_ok};
 ghost use Rattle.agreement.specs.Votes.{report_of};
@@ -9,11 +12,11 @@ ghost use Rattle.units.specs.Division.{IsDivision};
 ghost use Rattle.protocol.specs.Answers.{after};
 ghost use Rattle.protocol.specs.Member.{IsMember};
 ghost use Rattle.protocol.specs.Restoring.{AreOnUnits, restored};
-ghost use Rattle.protocol.specs.State.{engine_of, fresh, held_record};
+ghost use Rattle.protocol.specs.State.{engine_of, fresh, held_record, record_in};
 ghost use Rattle.protocol.specs.Step.{HasAnswered, HasHandled, facts_named, header_refusal};
 ghost use Rattle.member.specs.OpenClaims.{open_of};
 ghost use Rattle.member.specs.Prepared.{MayBeTaken, answer_by};
-ghost use Rattle.member.specs.inside.Fields.{told};
+ghost use Rattle.member.specs.inside.Fields.{facts_of_known, told};
 ghost use Rattle.member.specs.inside.Steps.{IsPrepared};
 
 use crate::change::{changed, job_of};
@@ -279,7 +282,9 @@ impl<'a> Member<'a> {
 }
 
 /// Of so many units nothing is known.
-fn all_unknown(alloc: Global, units: u32) -> Result<Vec<Known>, Memory> {
+fn all_unknown(alloc: Global, units: u32) -> Result<Vec<Known>, Memory>
+    ensures { IfOk result (λ known. map facts_of_known known.items ≡ replicate units no_facts) }
+{
     let mut known = Vec::with_capacity(alloc, units as usize)?;
     for _ in 0..units {
         known.push(Known::nothing())?;
@@ -288,7 +293,9 @@ fn all_unknown(alloc: Global, units: u32) -> Result<Vec<Known>, Memory> {
 }
 
 /// Whether each of these is below the number.
-fn are_below(members: &[u8], number: usize) -> bool {
+fn are_below(members: &[u8], number: usize) -> bool
+    ensures { result ≡ list_all (λ k. nat_lt k number) members.now }
+{
     for member in members {
         if usize::from(*member) >= number {
             return false;
@@ -298,7 +305,9 @@ fn are_below(members: &[u8], number: usize) -> bool {
 }
 
 /// The record of the path, if it is among these.
-fn record_of<'b>(records: &'b [Record], path: &PkgPath) -> Option<&'b Record> {
+fn record_of<'b>(records: &'b [Record], path: &PkgPath) -> Option<&'b Record>
+    ensures { option_copied result ≡ record_in path.now records.entry.now }
+{
     for record in records {
         if record.path() == path {
             return Some(record);

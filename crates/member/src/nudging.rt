@@ -1,5 +1,6 @@
 //! What the open claim waits for is asked for again.
-ghost use Rattle.std.specs.Prelude.{◌≡◌};
+ghost use Rattle.std.specs.Prelude.{◌≡◌, [], IfOk, None};
+ghost use Rattle.member.specs.inside.Fields.{job_in};
 ghost use Rattle.member.specs.inside.Steps.{IsPrepared};
 
 use crate::receivers::missing;
@@ -39,7 +40,14 @@ impl<'a> Member<'a> {
     }
 
     /// The job is given again.
-    fn building_again(&self) -> Result<Step, Memory> {
+    fn building_again(&self) -> Result<Step, Memory>
+        ensures { IfOk result (λ step. step ≡ record {
+          note = None;
+          sends = [];
+          job = job_in self.now;
+          change = ClaimChange.Stays;
+        }) }
+    {
         let (job, kept_job) = match &self.job {
             Some(job) => (Some(job.copy()?), Some(job.copy()?)),
             None => (None, None),
