@@ -286,7 +286,7 @@ fn all_unknown(alloc: Global, units: u32) -> Result<Vec<Known>, Memory>
     ensures { IfOk result (λ known. map facts_of_known known.items ≡ replicate units no_facts) }
 {
     let mut known = Vec::with_capacity(alloc, units as usize)?;
-    for _ in 0..units {
+    for _unit in 0..units {
         known.push(Known::nothing())?;
     }
     Ok(known)

@@ -1,6 +1,8 @@
 -- What is claimed can be built: all that it needs is held.
-use Rattle.std.proofs.Common.{◌≡◌, ◌<◌, ℕ, Bool, true, false, All, length, nat_lt, Some, sym, ap}
+use Rattle.std.proofs.Common.{◌≡◌, ◌<◌, ℕ, Bool, true, false, All, length, Some, sym, ap}
 use Rattle.std.proofs.Common.{subst, ◌∙◌}
+use Rattle.std.specs.Prelude.{filter}
+use Rattle.std.specs.FinSet.{contains-from_list_nat}
 use Rattle.std.specs.List.{slice_index_or}
 use Rattle.std.proofs.lemmas.Bool.{and_parts, true≢false}
 use Rattle.std.proofs.lemmas.List.Elements.{All-weaker, Contains-get_or}
@@ -8,10 +10,10 @@ use Rattle.engine.specs.Letters.{IsInstallable}
 use Rattle.engine.specs.State.{has_agreed}
 use Rattle.engine.specs.declared.Letter.{Letter}
 use Rattle.engine.specs.declared.Letter.TheVariants as letters
-use Rattle.engine.proofs.Marked.{contains-set_below}
 use Rattle.units.specs.Division.{number_of, unit_at}
-use Rattle.units.specs.Units.{IsUnitOf}
+use Rattle.units.specs.Units.{IsUnitOf, is_in, positions}
 use Rattle.units.proofs.Kept.{unit_some}
+use Rattle.units.proofs.Lists.{in_kept}
 use Rattle.units.proofs.Once.{one_unit}
 use Rattle.units.proofs.WellMade.{one_unit_has}
 use Rattle.protocol.specs.State.{HasLetter, State, engine_of, holds_package, is_held, is_held_any}
@@ -25,9 +27,9 @@ held_by s = has_agreed (engine_of s)
 -- what the engine has as agreed is held
 held_package : (s : State) (p : ℕ) → held_by s p ≡ true → holds_package s p ≡ true
 held_package s p e =
-    let n = length s.division.tree in
-    (and_parts (nat_lt p n) (holds_package s p)
-    (sym (contains-set_below (holds_package s) n p) ∙ e)).1
+    let all = positions s.division.tree in
+    let found = sym (contains-from_list_nat (filter (holds_package s) all) p) ∙ e in
+    (and_parts (is_in all p) (holds_package s p) (sym (in_kept (holds_package s) all p) ∙ found)).1
 
 -- What is installable is held.
 installable_held : (s : State) (p : ℕ) → IsInstallable s.division.tree (held_by s) p
