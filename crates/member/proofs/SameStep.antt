@@ -8,13 +8,14 @@ use Rattle.agreement.specs.Member as members
 use Rattle.agreement.specs.Messages as messages
 use Rattle.agreement.specs.Nodes as nodes
 use Rattle.agreement.specs.Step.{Outcome}
-use Rattle.agreement.specs.Votes.{report_of}
+use Rattle.agreement.specs.Quorums.{named_in}
+use Rattle.agreement.specs.Votes.{ballot, report_of}
 use Rattle.agreement.specs.declared.claim.Claim.{Claim}
 use Rattle.ballots.specs.InTheAgreement.{builds_next, is_building, note_of, noted_next, said}
 use Rattle.ballots.specs.InTheAgreement.{IsClaimerStep, claim_of, said_next, stage_then}
 use Rattle.ballots.specs.InTheAgreement.{claimer_then, weights_of}
 use Rattle.ballots.specs.InTheAgreement.{stage_of as stage_of_claimer}
-use Rattle.ballots.specs.Support.{set_of}
+use Rattle.ballots.specs.Support.{Support, set_of}
 use Rattle.ballots.specs.declared.claimer.Claimer.{Claimer}
 use Rattle.ballots.specs.declared.claimer.Claimer.TheVariants as claimers
 use Rattle.ballots.specs.declared.claimer.ClaimerChange.{ClaimerChange}
@@ -24,7 +25,7 @@ use Rattle.ballots.specs.declared.message.Body.TheVariants.{Offer, Promise, Prop
 use Rattle.ballots.specs.declared.message.Body.TheVariants.{Ask, Nay}
 use Rattle.ballots.specs.declared.message.Fact.{Fact}
 use Rattle.ballots.specs.declared.message.Fact.TheVariants as facts
-use Rattle.protocol.specs.State.{OpenClaim, State, Value}
+use Rattle.protocol.specs.State.{OpenClaim, Progress, State, Value}
 use Rattle.protocol.specs.InTheAgreement.{body_in, fact_in, members_in, pair_of, progress_of}
 use Rattle.protocol.specs.InTheAgreement.{stage_of, view}
 use Rattle.protocol.specs.InTheAgreement.{claim_of as node_claim}
@@ -34,8 +35,11 @@ use Rattle.protocol.specs.Answers.{note_at, sends_of}
 use Rattle.protocol.specs.Jobs.{job_of}
 use Rattle.protocol.specs.Sends.{sent_to}
 use Rattle.protocol.specs.Step.{host_in}
-use Rattle.member.specs.OpenClaims.{joined_in, progress_of_claimer}
-use Rattle.member.specs.Prepared.{answer_by, counted}
+use Rattle.protocol.proofs.Asked.{stage_is}
+use Rattle.protocol.proofs.TheTheory.{named}
+use Rattle.member.specs.OpenClaims.{IsWeighedBy, joined_in, open_of, progress_of_claimer}
+use Rattle.member.specs.declared.open_claim.OpenClaim as code
+use Rattle.member.specs.Prepared.{answer_by, counted, moved}
 use Rattle.member.specs.inside.Counting.{on_unit, voter_prepared}
 use Rattle.member.specs.inside.Steps.{Makes}
 
@@ -162,3 +166,94 @@ counted_is n (claimers.Voting c w t) (change.Proposes v r) after before =
 counted_is n (claimers.Gathering c t k) change.Ends after before = refl
 counted_is n (claimers.Building c w) change.Ends after before = refl
 counted_is n (claimers.Voting c v t) change.Ends after before = refl
+
+-- the claim once it is counted is that of the theory's stage
+pub moved_is : (s : State) (p : OpenClaim) (n : ℕ) (t : members.Stage Value) (q : Option Progress)
+    → s.claim ≡ Some p → progress_of n t ≡ q
+    → option_map (moved p) q ≡ claim_then s.claim p.unit (host_in s.claim) (progress_of n t)
+moved_is s p n t q at e =
+    by_progress q
+    ∙ (ap (claim_then (Some p) p.unit p.host) (sym e)
+    ∙ ap (λ claim. claim_then claim p.unit (host_in claim) (progress_of n t)) (sym at))
+  where
+    by_progress : (q : Option Progress)
+        → option_map (moved p) q ≡ claim_then (Some p) p.unit p.host q
+    by_progress None = sym (cond-true (p.unit == p.unit) None (Some p) (eq-eqb p.unit p.unit refl))
+    by_progress (Some q) = refl
+
+-- a claim that comes to wait for a build is the claimer's
+built_now : (o : Claimer Value) (c : ClaimerChange Value) → is_building (stage_then o c) ≡ true
+    → not (is_building (stage_of_claimer o)) ≡ true
+    → stage_then o c ≡ members.Building (claim_of o)
+built_now (claimers.Building d w) c now before = absurd (true≢false (sym before))
+built_now (claimers.Gathering d t k) change.Stays now before = absurd (true≢false (sym now))
+built_now (claimers.Gathering d t k) (change.Joins r report) now before =
+    absurd (true≢false (sym now))
+built_now (claimers.Gathering d t k) change.Builds now before = refl
+built_now (claimers.Gathering d t k) (change.Proposes v r) now before =
+    absurd (true≢false (sym now))
+built_now (claimers.Gathering d t k) change.Ends now before = absurd (true≢false (sym now))
+built_now (claimers.Voting d v t) change.Stays now before = absurd (true≢false (sym now))
+built_now (claimers.Voting d v t) (change.Joins r report) now before =
+    absurd (true≢false (sym now))
+built_now (claimers.Voting d v t) change.Builds now before = refl
+built_now (claimers.Voting d v t) (change.Proposes w r) now before = absurd (true≢false (sym now))
+built_now (claimers.Voting d v t) change.Ends now before = absurd (true≢false (sym now))
+
+-- the job is given where a value is to be built
+pub job_counted : (s : State) (u host : ℕ) (o : Claimer Value) (c : ClaimerChange Value) (b : Bool)
+    → is_building (view s u).stage ≡ is_building (stage_of_claimer o)
+    → b ≡ (is_building (stage_then o c) && not (is_building (stage_of_claimer o)))
+    → (if b then Some (job_of s u host (claim_of o)) else None)
+    ≡ job_then s u host (stage_then o c)
+job_counted s u host o c true shown now =
+    let parts = and_parts (is_building (stage_then o c)) (not (is_building (stage_of_claimer o)))
+    (sym now) in
+    let free = shown ∙ not_true (is_building (stage_of_claimer o)) parts.1 in
+    sym (ap (job_then s u host) (built_now o c parts.0 parts.1)
+    ∙ cond-false (is_building (view s u).stage) None (Some (job_of s u host (claim_of o))) free)
+  where
+    not_true : (b : Bool) → not b ≡ true → b ≡ false
+    not_true true e = absurd (true≢false (sym e))
+    not_true false e = refl
+job_counted s u host o c false shown now = by_stage (stage_then o c) now
+  where
+    waited : (x : Bool) → false ≡ (true && not x) → x ≡ true
+    waited true e = refl
+    waited false e = absurd (true≢false (sym e))
+    by_stage : (t : members.Stage Value)
+        → false ≡ (is_building t && not (is_building (stage_of_claimer o)))
+        → None ≡ job_then s u host t
+    by_stage members.Closed e = refl
+    by_stage (members.Gathering d S k) e = refl
+    by_stage (members.Voting b S) e = refl
+    by_stage (members.Building d) e =
+        sym (cond-true (is_building (view s u).stage) None (Some (job_of s u host d))
+        (shown ∙ waited (is_building (stage_of_claimer o)) e))
+
+-- ---- the claimer's stage
+
+-- those that joined are just those that are named in order of number
+same_members : (t : Support) (weights : List ℕ) → t.weights ≡ weights
+    → ((k : ℕ) → set_of t k ≡ true → k < length weights) → named_in (joined_in t) ≡ set_of t
+same_members t weights same within =
+    λ i k. named (length t.weights) (set_of t)
+    (λ m joined. subst (λ ws. m < length ws) (sym same) (within m joined)) k i
+
+pub claimer_stage : (weights : List ℕ) (o : Claimer Value) → IsWeighedBy weights o
+    → stage_of (progress_of_claimer o) ≡ stage_of_claimer o
+claimer_stage weights (claimers.Gathering c t k) is =
+    ap (λ S. members.Gathering c S (report_of k)) (same_members t weights is.same is.within)
+claimer_stage weights (claimers.Building c w) is = refl
+claimer_stage weights (claimers.Voting c v t) is =
+    ap (λ S. members.Voting (ballot c v) S) (same_members t weights is.same is.within)
+
+pub shown_stage : (s : State) (o : code.OpenClaim) → s.claim ≡ Some (open_of o)
+    → IsWeighedBy s.weights o.claimer → (view s o.unit).stage ≡ stage_of_claimer o.claimer
+shown_stage s o at is = stage_is s (open_of o) at ∙ claimer_stage s.weights o.claimer is
+
+-- the claim that is open is the claimer's
+pub claim_is_own : (o : Claimer Value) → claim_in (progress_of_claimer o) ≡ claim_of o
+claim_is_own (claimers.Gathering c t k) = refl
+claim_is_own (claimers.Building c w) = refl
+claim_is_own (claimers.Voting c v t) = refl

@@ -101,8 +101,8 @@ impl<'a> Member<'a> {
     /// The open claim, if it is for the unit.
     fn claim_for(&self, unit: u32) -> Option<&OpenClaim>
         ensures { MatchOption result (is_for self.now.claim unit ≡ false)
-            (λ open. (self.now.claim ≡ Some (open_of open.now)) × (open.now.unit ≡ unit)
-            × IsWeighedBy self.now.weights open.now.claimer) }
+            (λ o. (self.now.claim ≡ Some (open_of o.now)) × (o.now.unit ≡ unit)
+            × IsWeighedBy self.now.weights o.now.claimer) }
     {
         let open = self.claim.as_ref()?;
         if open.unit == unit { Some(open) } else { None }
@@ -141,10 +141,10 @@ impl<'a> Member<'a> {
     }
 
     /// The claimer's step.
-    fn counting(&self, open: &OpenClaim, step: ClaimerStep) -> Result<Step, Memory>
-        requires { self.now.claim ≡ Some (open_of open.now) }
+    fn counting(&self, own: &OpenClaim, step: ClaimerStep) -> Result<Step, Memory>
+        requires { self.now.claim ≡ Some (open_of own.now) }
         ensures { IfOk result
-            (λ made. made ≡ counter_prepared self.now (open_of open.now) step.next step.change) }
+            (λ made. made ≡ counter_prepared self.now (open_of own.now) step.next step.change) }
     {
         let ClaimerStep { next, change } = step;
         match next {
@@ -152,26 +152,26 @@ impl<'a> Member<'a> {
                 Sends::nothing(),
                 ClaimChange::Counts(change),
             )),
-            Next::Build => self.building_first(open, change),
+            Next::Build => self.building_first(own, change),
             Next::Propose(claim, build) => {
                 let sends = self.sent(
-                    open.unit,
+                    own.unit,
                     everyone(&self.weights),
                     Body::Propose(claim, build),
                 )?;
                 Ok(Step::saying(sends, ClaimChange::Counts(change)))
             }
-            Next::Hold { noted, sent } => self.holding(open.unit, noted, sent, change),
+            Next::Hold { noted, sent } => self.holding(own.unit, noted, sent, change),
         }
     }
 
     /// A build is to be made: its job is given.
-    fn building_first(&self, open: &OpenClaim, change: ClaimerChange) -> Result<Step, Memory>
-        requires { self.now.claim ≡ Some (open_of open.now) }
+    fn building_first(&self, own: &OpenClaim, change: ClaimerChange) -> Result<Step, Memory>
+        requires { self.now.claim ≡ Some (open_of own.now) }
         ensures { IfOk result
-            (λ made. made ≡ counter_prepared self.now (open_of open.now) Next.Build change) }
+            (λ made. made ≡ counter_prepared self.now (open_of own.now) Next.Build change) }
     {
-        let job = self.job_for(open.unit, open.host, open.claimer.claim())?;
+        let job = self.job_for(own.unit, own.host, own.claimer.claim())?;
         let kept_job = job.copy()?;
         Ok(Step {
             outcome: Outcome {
