@@ -1,8 +1,13 @@
 -- The datagrams of a message, and what its pieces join to.
-use Rattle.std.proofs.Common.{◌≡◌, ℕ, zero, suc, ◌+◌, ◌-◌, ◌*◌, ◌<◌, ◌≤◌, min, Bool, true, false, cond, ltb, List, [], ◌∷◌, ◌++◌, length, get_or, take, drop, Option, None, Some, Result, Ok, Err, refl, sym, ap, subst, ◌∙◌, arith}
-use Rattle.std.specs.Prelude.{All, flat_map, slice_get}
-use Rattle.std.proofs.lemmas.Bool.{ltb-false, ltb-true}
-use Rattle.std.proofs.lemmas.List.{drop_all, length-append, length-drop, length-take, take-append-drop}
+use Rattle.std.proofs.Common.{◌≡◌, ℕ, suc, ◌+◌, ◌-◌, ◌*◌, ◌<◌, ◌≤◌, min, List, [], ◌∷◌, ◌++◌, length, get_or, map, drop, Option, None, Some, Result, Ok, refl, sym, ap, subst, ◌∙◌, arith}
+use Rattle.std.specs.Prelude.{◌↔◌, All, flat_map, option_map, slice_get}
+use Rattle.std.specs.List.{range_with_len}
+use Rattle.std.proofs.lemmas.List.{append-nil, length-append, length-drop, length-take, take_all}
+use Rattle.std.proofs.lemmas.List.Elements.{All-cons, All-map, All-nil}
+use Rattle.std.proofs.lemmas.List.Folds.{flat_map-map}
+use Rattle.std.proofs.lemmas.List.FromFn.{length-map-range_with_len, length-range_with_len}
+use Rattle.std.proofs.lemmas.Option.{slice_get-get_or, slice_get-map}
+use Rattle.std.proofs.lemmas.Simd.{map-map}
 use Rattle.faults.specs.Bytes.{Text, line_feed}
 use Rattle.package_record.specs.Build.{AreAlike, build_text, records_text, several_lines}
 use Rattle.package_record.specs.BuildReading.{whole_build_of}
@@ -12,9 +17,10 @@ use Rattle.ballots.specs.Value.{Value}
 use Rattle.ballots.specs.declared.message.Body.{Body}
 use Rattle.ballots.specs.declared.message.Body.TheVariants.{Offer, Promise, Propose, Vote, Agreed, Ask, Nay}
 use Rattle.ballots.specs.declared.message.Message.{Message}
-use Rattle.wire.specs.Laws.{AreItsPieces, IsJoined, bytes_in, header_in, number_in}
+use Rattle.wire.specs.Joining.{AreAllThere, StandsOnce, bytes_numbered, bytes_of}
+use Rattle.wire.specs.Laws.{AreAlikeButForTheBuild, AreItsPieces, IsJoined, bytes_in, header_in, number_in}
 use Rattle.wire.specs.Messages.{IsBody, IsBuildOf, IsMessage}
-use Rattle.wire.specs.Pieces.{IsCarrier, IsDatagram, IsHeader, body_with, carried_in, header_with, message_with, most_pieces, piece_at, piece_size, pieces_from, split_by, split_of}
+use Rattle.wire.specs.Pieces.{IsCarrier, IsDatagram, IsHeader, body_with, carried_in, header_with, message_with, numbers_of, piece_at, piece_size, pieces_of, split_by, split_of}
 use Rattle.wire.specs.Reading.{◌>>=◌, build_in, joined}
 use Rattle.wire.specs.declared.WireFault.{WireFault}
 use Rattle.wire.specs.declared.datagram.Carrier.{Carrier}
@@ -22,80 +28,72 @@ use Rattle.wire.specs.declared.datagram.Carrier.TheVariants as carriers
 use Rattle.wire.specs.declared.datagram.Datagram.{Datagram}
 use Rattle.wire.specs.declared.datagram.Datagram.TheVariants as datagrams
 use Rattle.wire.specs.declared.datagram.Header.{Header}
+use Rattle.wire.specs.declared.datagram.Piece.{Piece}
 use Rattle.wire.proofs.FieldTexts.{whole_build_read, whole_build_taken}
+use Rattle.wire.proofs.PieceNumbers.{all_first, all_numbers, at_place, cut_at, first_bytes}
 use Rattle.wire.proofs.Steps.{bind_ok, ok_is}
-
--- ---- lists
-
-all_none : {X : Type 0} (P : X → Type 0) → All P []
-all_none P k d below = absurd (omega arith)
-
-all_more : {X : Type 0} (P : X → Type 0) (x : X) (xs : List X) → P x → All P xs → All P (x ∷ xs)
-all_more P x xs first rest zero d below = first
-all_more P x xs first rest (suc k) d below = rest k d (omega arith)
-
-drop_further : {X : Type 0} (m n : ℕ) (xs : List X) → drop m (drop n xs) ≡ drop (n + m) xs
-drop_further m zero xs = ap (λ (k : ℕ). drop k xs) (let e : m ≡ 0 + m = omega arith in e)
-drop_further zero (suc n) [] = refl
-drop_further (suc m) (suc n) [] = refl
-drop_further m (suc n) (x ∷ xs) = drop_further m n xs ∙ ap (λ (k : ℕ). drop k (x ∷ xs)) (let e : suc (n + m) ≡ suc n + m = omega arith in e)
 
 -- ---- the pieces of a text
 
-pub pieces_good : (h : Header) (text : Text) (n k : ℕ) → IsHeader h → length text ≡ h.length → All IsDatagram (pieces_from h text n k)
-pieces_good h text zero k good size = all_none IsDatagram
-pieces_good h text (suc n) k good size = step (ltb (piece_size * k) (length text)) refl
-  where
-    step : (b : Bool) → ltb (piece_size * k) (length text) ≡ b → All IsDatagram (cond b (datagrams.Piece (piece_at h text k) ∷ pieces_from h text n (suc k)) [])
-    step true e =
-        all_more IsDatagram (datagrams.Piece (piece_at h text k)) (pieces_from h text n (suc k))
-        (record {
-            header = good;
-            number = omega (arith, ltb-true (piece_size * k) (length text) e);
-            bytes = length-take piece_size (drop (piece_size * k) text) ∙ ap (min piece_size) (length-drop (piece_size * k) text ∙ ap (λ (m : ℕ). m - piece_size * k) size);
-          })
-        (pieces_good h text n (suc k) good size)
-    step false e = all_none IsDatagram
+-- the piece of this number, as a datagram
+abbrev sent : Header → Text → ℕ → Datagram
+sent h text k = datagrams.Piece (piece_at h text k)
 
-abbrev HasHeader : Header → Datagram → Type 0
-HasHeader h d = header_in d ≡ Some h
+-- how many bytes a piece has
+cut_length : (text : Text) (k : ℕ) → length (cut_at text k) ≡ min piece_size (length text - piece_size * k)
+cut_length text k = length-take piece_size (drop (piece_size * k) text) ∙ ap (min piece_size) (length-drop (piece_size * k) text)
 
-pieces_headed : (h : Header) (text : Text) (n k : ℕ) → All (HasHeader h) (pieces_from h text n k)
-pieces_headed h text zero k = all_none (HasHeader h)
-pieces_headed h text (suc n) k = step (ltb (piece_size * k) (length text))
-  where
-    step : (b : Bool) → All (HasHeader h) (cond b (datagrams.Piece (piece_at h text k) ∷ pieces_from h text n (suc k)) [])
-    step true = all_more (HasHeader h) (datagrams.Piece (piece_at h text k)) (pieces_from h text n (suc k)) refl (pieces_headed h text n (suc k))
-    step false = all_none (HasHeader h)
+piece_good : (h : Header) (text : Text) (k : ℕ) → IsHeader h → length text ≡ h.length → piece_size * k < length text → IsDatagram (sent h text k)
+piece_good h text k good size within = record {
+  header = good;
+  number = subst (λ (m : ℕ). piece_size * k < m) size within;
+  bytes = cut_length text k ∙ ap (λ (m : ℕ). min piece_size (m - piece_size * k)) size;
+}
 
-pieces_numbered : (h : Header) (text : Text) (n j i : ℕ) → i < length (pieces_from h text n j) → (d : Datagram) × (slice_get (pieces_from h text n j) i ≡ Some d) × (number_in d ≡ Some (j + i))
-pieces_numbered h text zero j i below = absurd (omega arith)
-pieces_numbered h text (suc n) j i below = step (ltb (piece_size * j) (length text)) i below
-  where
-    list : Bool → List Datagram
-    list b = cond b (datagrams.Piece (piece_at h text j) ∷ pieces_from h text n (suc j)) []
-    step : (b : Bool) (i : ℕ) → i < length (cond b (datagrams.Piece (piece_at h text j) ∷ pieces_from h text n (suc j)) [])
-        → (d : Datagram) × (slice_get (cond b (datagrams.Piece (piece_at h text j) ∷ pieces_from h text n (suc j)) []) i ≡ Some d) × (number_in d ≡ Some (j + i))
-    step true zero below = (datagrams.Piece (piece_at h text j), refl, ap Some (let e : j ≡ j + 0 = omega arith in e))
-    step true (suc i) below =
-        let later = pieces_numbered h text n (suc j) i (omega arith) in
-        (later.0, later.1, later.2 ∙ ap Some (let e : suc j + i ≡ j + suc i = omega arith in e))
-    step false i below = absurd (omega arith)
+pub pieces_good : (h : Header) (text : Text) → IsHeader h → length text ≡ h.length → All IsDatagram (pieces_of h text)
+pieces_good h text good size =
+    let numbers = all_numbers (length text) in
+    All-map IsDatagram (sent h text) (numbers_of (length text))
+    (subst (All (λ (k : ℕ). IsDatagram (sent h text k))) (sym numbers.1.same)
+    (all_first (λ (k : ℕ). IsDatagram (sent h text k)) numbers.0 (λ k below. piece_good h text k good size (numbers.1.within k below))))
 
-pieces_spell : (h : Header) (text : Text) (n k : ℕ) → length text ≤ piece_size * (k + n) → flat_map bytes_in (pieces_from h text n k) ≡ drop (piece_size * k) text
-pieces_spell h text zero k enough = sym (drop_all (piece_size * k) text (omega arith))
-pieces_spell h text (suc n) k enough = step (ltb (piece_size * k) (length text)) refl
-  where
-    step : (b : Bool) → ltb (piece_size * k) (length text) ≡ b
-        → flat_map bytes_in (cond b (datagrams.Piece (piece_at h text k) ∷ pieces_from h text n (suc k)) []) ≡ drop (piece_size * k) text
-    step true e =
-        let rest = drop (piece_size * k) text in
-        ap (λ (t : Text). take piece_size rest ++ t)
-          (pieces_spell h text n (suc k) (omega arith)
-          ∙ ap (λ (m : ℕ). drop m text) (let e : piece_size * suc k ≡ piece_size * k + piece_size = omega arith in e)
-          ∙ sym (drop_further piece_size (piece_size * k) text))
-        ∙ take-append-drop piece_size rest
-    step false e = sym (drop_all (piece_size * k) text (ltb-false (piece_size * k) (length text) e))
+-- the first pieces, so many of them, are numbered from 0 on
+first_numbered : (h : Header) (text : Text) (count : ℕ)
+    → map number_in (map (sent h text) (range_with_len 0 count)) ≡ map Some (range_with_len 0 (length (map (sent h text) (range_with_len 0 count))))
+first_numbered h text count =
+    map-map number_in (sent h text) (range_with_len 0 count)
+    ∙ ap (λ (n : ℕ). map Some (range_with_len 0 n)) (sym (length-map-range_with_len (sent h text) 0 count))
+
+-- each of them but the last is full
+first_full : (h : Header) (text : Text) (count k : ℕ) → piece_size * (k + 1) < length text → k < count
+    → option_map (λ d. length (bytes_in d)) (slice_get (map (sent h text) (range_with_len 0 count)) k) ≡ Some piece_size
+first_full h text count k more below =
+    let numbers = range_with_len 0 count in
+    let full : length (cut_at text k) ≡ piece_size = cut_length text k ∙ omega arith in
+    ap (option_map (λ d. length (bytes_in d))) (slice_get-map (sent h text) numbers k
+    ∙ ap (option_map (sent h text)) (slice_get-get_or numbers k 0 (omega (arith, length-range_with_len 0 count))
+    ∙ ap Some (at_place count k 0 below)))
+    ∙ ap Some full
+
+-- the datagrams of a text are its pieces
+pub are_its_pieces : (h : Header) (v : Value) → length (build_text v) ≤ most_bytes → AreItsPieces h v (pieces_of h (build_text v))
+are_its_pieces h v few =
+    let text = build_text v in
+    let numbers = all_numbers (length text) in
+    let count = numbers.0 in
+    let are = numbers.1 in
+    let piece = sent h text in
+    let many : length (map piece (range_with_len 0 count)) ≡ count = length-map-range_with_len piece 0 count in
+    let first : AreItsPieces h v (map piece (range_with_len 0 count)) = record {
+      headers = All-map (λ d. header_in d ≡ Some h) piece (range_with_len 0 count) (all_first (λ k. header_in (piece k) ≡ Some h) count (λ k below. refl));
+      numbers = first_numbered h text count;
+      bytes = flat_map-map bytes_in piece (range_with_len 0 count) ∙ first_bytes text count ∙ take_all (piece_size * count) text (are.enough few);
+      full = λ k below. let within = are.within (k + 1) (omega (arith, many)) in first_full h text count k within (omega (arith, many));
+      last = All-map (λ d. (1 ≤ length (bytes_in d)) × (length (bytes_in d) ≤ piece_size)) piece (range_with_len 0 count)
+          (all_first (λ k. (1 ≤ length (cut_at text k)) × (length (cut_at text k) ≤ piece_size)) count
+          (λ k below. let within = are.within k below in (omega (arith, cut_length text k), omega (arith, cut_length text k))));
+    } in
+    subst (λ (ks : List ℕ). AreItsPieces h v (map piece ks)) (sym are.same) first
 
 -- ---- messages that carry a build
 
@@ -141,20 +139,13 @@ pub split_good : (m : Message Value) → IsMessage m → All IsDatagram (split_o
 split_good m good = by (carried_in m.body) refl
   where
     by : (o : Option (Carrier × Value)) → carried_in m.body ≡ o → All IsDatagram (split_by m o)
-    by None e = all_more IsDatagram (datagrams.Whole m) [] (good, e) (all_none IsDatagram)
-    by (Some x) e = pieces_good (header_with m x.0 x.1) (build_text x.1) most_pieces 0 (header_good m x.0 x.1 good e) refl
+    by None e = All-cons IsDatagram (datagrams.Whole m) [] (good, e) (All-nil IsDatagram)
+    by (Some x) e = pieces_good (header_with m x.0 x.1) (build_text x.1) (header_good m x.0 x.1 good e) refl
 
 pub split_pieces : (m : Message Value) (carrier : Carrier) (v : Value) → IsMessage m → carried_in m.body ≡ Some (carrier, v) → AreItsPieces (header_with m carrier v) v (split_of m)
 split_pieces m carrier v good e =
     let h = header_with m carrier v in
-    let text = build_text v in
-    let fits : length text ≤ most_bytes = (header_good m carrier v good e).fits in
-    let pieces : AreItsPieces h v (pieces_from h text most_pieces 0) = record {
-      headers = pieces_headed h text most_pieces 0;
-      each = λ k below. let one = pieces_numbered h text most_pieces 0 k below in (one.0, one.1, one.2 ∙ ap Some (let e : 0 + k ≡ k = omega arith in e));
-      bytes = pieces_spell h text most_pieces 0 (omega arith);
-    } in
-    subst (λ (o : Option (Carrier × Value)). AreItsPieces h v (split_by m o)) (sym e) pieces
+    subst (λ (o : Option (Carrier × Value)). AreItsPieces h v (split_by m o)) (sym e) (are_its_pieces h v (header_good m carrier v good e).fits)
 
 -- ---- joining
 
@@ -178,6 +169,35 @@ pieces_join again m carrier v good e =
     ap (λ (r : Result Value WireFault). r >>= λ v. Ok (message_with h v)) (whole_build_read again m.path v is.1)
     ∙ ap Ok (message_again m carrier v e)
 
+-- lists whose items are the same, one by one
+same_flat : {X A : Type 0} (f g : X → List A) (xs : List X) → All (λ x. f x ≡ g x) xs → flat_map f xs ≡ flat_map g xs
+same_flat f g [] same = refl
+same_flat f g (x ∷ xs) same =
+    ap (λ (t : List _). t ++ flat_map f xs) (same 0 x (omega arith)) ∙ ap (λ (t : List _). g x ++ t) (same_flat f g xs (λ k d below. same (suc k) d (omega arith)))
+
+-- the bytes of the only piece of this number
+once_bytes : (h : Header) (text : Text) (pieces : List Piece) (k : ℕ) → StandsOnce pieces (piece_at h text k) → bytes_numbered h pieces k ≡ cut_at text k
+once_bytes h text pieces k once = ap (flat_map (λ p. p.bytes)) once ∙ append-nil (cut_at text k)
+
+-- the bytes of pieces that are all there are the text
+pub pieces_spell : (h : Header) (text : Text) (pieces : List Piece) → length text ≤ most_bytes → length text ≡ h.length → AreAllThere h text pieces → bytes_of h pieces ≡ text
+pieces_spell h text pieces few size there =
+    let numbers = all_numbers (length text) in
+    let count = numbers.0 in
+    let are = numbers.1 in
+    same_flat (bytes_numbered h pieces) (cut_at text) (numbers_of h.length) (λ k d below. once_bytes h text pieces (get_or (numbers_of h.length) k d) (there k d below))
+    ∙ ap (λ (n : ℕ). flat_map (cut_at text) (numbers_of n)) (sym size)
+    ∙ ap (flat_map (cut_at text)) are.same
+    ∙ first_bytes text count
+    ∙ take_all (piece_size * count) text (are.enough few)
+
+pub pieces_join_in_any_order : BuildTextIsReadAgain → (m : Message Value) (carrier : Carrier) (v : Value) (pieces : List Piece)
+    → IsMessage m → carried_in m.body ≡ Some (carrier, v) → AreAllThere (header_with m carrier v) (build_text v) pieces
+    → joined (header_with m carrier v) (bytes_of (header_with m carrier v) pieces) ≡ Ok m
+pieces_join_in_any_order again m carrier v pieces good e there =
+    let h = header_with m carrier v in
+    ap (joined h) (pieces_spell h (build_text v) pieces (header_good m carrier v good e).fits refl there) ∙ pieces_join again m carrier v good e
+
 carried_with : (c : Carrier) (v : Value) → carried_in (body_with c v) ≡ Some (c, v)
 carried_with (carriers.Promise c d) v = refl
 carried_with (carriers.Propose c) v = refl
@@ -194,13 +214,40 @@ joined_is made h text m good size e =
     let v = whole_build_taken made h.path text a.0 a.1 in
     let length_is : length (build_text a.0) ≡ h.length = sym (ap length v.1) ∙ size in
     subst (λ (m : Message Value). IsJoined h text m) (ok_is (message_with h a.0) m a.2) (record {
-        message = record { sender = good.sender; tree = good.tree; path = good.path; body = body_good h.path h.carrier a.0 good.carrier v.0 };
-        build = a.0;
-        carried = carried_with h.carrier a.0;
-        spelled = v.1;
-        header = ap (λ (n : ℕ). record h { length = n }) length_is;
-      })
+      message = record { sender = good.sender; tree = good.tree; path = good.path; body = body_good h.path h.carrier a.0 good.carrier v.0 };
+      build = a.0;
+      carried = carried_with h.carrier a.0;
+      spelled = v.1;
+      header = ap (λ (n : ℕ). record h { length = n }) length_is;
+    })
 
 pub headers_say_all : (m n : Message Value) (carrier other : Carrier) (v : Value) → carried_in m.body ≡ Some (carrier, v) → carried_in n.body ≡ Some (other, v) → header_with m carrier v ≡ header_with n other v → m ≡ n
 headers_say_all m n carrier other v first second same =
     sym (message_again m carrier v first) ∙ ap (λ (h : Header). message_with h v) same ∙ message_again n other v second
+
+-- ---- equal headers
+
+abbrev header_by : ℕ → List ℕ → Text → Carrier → ℕ → Header
+header_by sender tree path carrier size = record { sender = sender; tree = tree; path = path; carrier = carrier; length = size }
+
+pub equal_headers : (m n : Message Value) (c d : Carrier) (v w : Value) → carried_in m.body ≡ Some (c, v) → carried_in n.body ≡ Some (d, w)
+    → (header_with m c v ≡ header_with n d w) ↔ AreAlikeButForTheBuild m n c d v w
+equal_headers m n c d v w first second = (alike, equal)
+  where
+    alike : header_with m c v ≡ header_with n d w → AreAlikeButForTheBuild m n c d v w
+    alike same = record {
+      sender = ap (λ (h : Header). h.sender) same;
+      tree = ap (λ (h : Header). h.tree) same;
+      path = ap (λ (h : Header). h.path) same;
+      carrier = ap (λ (h : Header). h.carrier) same;
+      as_long = ap (λ (h : Header). h.length) same;
+    }
+
+    equal : AreAlikeButForTheBuild m n c d v w → header_with m c v ≡ header_with n d w
+    equal alike =
+        let size = length (build_text v) in
+        ap (λ (s : ℕ). header_by s m.tree m.path c size) alike.sender
+        ∙ ap (λ (t : List ℕ). header_by n.sender t m.path c size) alike.tree
+        ∙ ap (λ (p : Text). header_by n.sender n.tree p c size) alike.path
+        ∙ ap (λ (x : Carrier). header_by n.sender n.tree n.path x size) alike.carrier
+        ∙ ap (λ (k : ℕ). header_by n.sender n.tree n.path d k) alike.as_long

@@ -1,5 +1,5 @@
 -- Datagrams that are spelled so are read, and what was read is spelled so.
-use Rattle.std.proofs.Common.{◌≡◌, ℕ, ◌+◌, ◌-◌, ◌*◌, ◌<◌, ◌≤◌, min, cond, List, [], ◌∷◌, ◌++◌, length, codes, Option, None, Some, Result, Ok, Err, inl, inr, refl, sym, ap, subst, ◌∙◌, arith}
+use Rattle.std.proofs.Common.{◌≡◌, ◌≤◌, true, cond, [], ◌++◌, length, codes, None, Some, Result, Ok, Err, inl, inr, refl, sym, ap, subst, ◌∙◌, arith}
 use Rattle.std.specs.Str.{bytes_eq}
 use Rattle.std.proofs.lemmas.Bool.{le-ltb}
 use Rattle.std.proofs.lemmas.List.{length-append}
@@ -11,7 +11,7 @@ use Rattle.ballots.specs.declared.message.Body.TheVariants.{Offer, Promise, Prop
 use Rattle.ballots.specs.declared.message.Message.{Message}
 use Rattle.wire.specs.Laws.{AreBytes}
 use Rattle.wire.specs.Messages.{IsMessage}
-use Rattle.wire.specs.Pieces.{IsDatagram, IsPiece, carried_in, piece_size}
+use Rattle.wire.specs.Pieces.{IsDatagram, IsPiece, carried_in}
 use Rattle.wire.specs.Reading.{◌>>=◌, bytes_at, datagram_at, datagram_by, datagram_of, ends, most_datagram_bytes, piece_at, whole_at}
 use Rattle.wire.specs.Spelling.{body_text, carrier_text, datagram_text, message_text, path_text, piece_text}
 use Rattle.wire.specs.declared.WireFault.{WireFault}
@@ -42,9 +42,9 @@ whole_behind : (magic text tail : Text) (y : Datagram × Text) → text ≡ magi
 whole_behind magic text tail y split same took = record {
   good = subst IsDatagram (sym took.is) took.good;
   spelled = split
-    ∙ ap (λ (t : Text). t ++ tail) ((bytes_eq-Decides magic (codes "DPB1")).0 same)
-    ∙ ap (λ (t : Text). codes "DPB1" ++ t) took.spelled
-    ∙ ap (λ (d : Datagram). datagram_text d ++ y.1) (sym took.is);
+      ∙ ap (λ (t : Text). t ++ tail) ((bytes_eq-Decides magic (codes "DPB1")).0 same)
+      ∙ ap (λ (t : Text). codes "DPB1" ++ t) took.spelled
+      ∙ ap (λ (d : Datagram). datagram_text d ++ y.1) (sym took.is);
   bytes = took.bytes;
 }
 
@@ -52,9 +52,9 @@ piece_behind : (magic text tail : Text) (y : Datagram × Text) → text ≡ magi
 piece_behind magic text tail y split same took = record {
   good = subst IsDatagram (sym took.is) took.good;
   spelled = split
-    ∙ ap (λ (t : Text). t ++ tail) ((bytes_eq-Decides magic (codes "DPB2")).0 same)
-    ∙ ap (λ (t : Text). codes "DPB2" ++ t) took.spelled
-    ∙ ap (λ (d : Datagram). datagram_text d ++ y.1) (sym took.is);
+      ∙ ap (λ (t : Text). t ++ tail) ((bytes_eq-Decides magic (codes "DPB2")).0 same)
+      ∙ ap (λ (t : Text). codes "DPB2" ++ t) took.spelled
+      ∙ ap (λ (d : Datagram). datagram_text d ++ y.1) (sym took.is);
   bytes = took.bytes;
 }
 

@@ -1,5 +1,5 @@
 -- Fields that are spelled so are read, and what was read is spelled so.
-use Rattle.std.proofs.Common.{◌≡◌, ℕ, ◌+◌, ◌-◌, ◌<◌, ◌≤◌, ◌^◌, ◌%◌, Bool, true, false, cond, ◌&&◌, leb, ltb, List, [], ◌∷◌, ◌++◌, length, get_or, take, drop, Option, Some, None, Result, Ok, Err, refl, sym, ap, subst, ◌∙◌, append_assoc, arith, inl, inr}
+use Rattle.std.proofs.Common.{◌≡◌, ℕ, ◌+◌, ◌<◌, ◌≤◌, ◌^◌, Bool, true, false, cond, ◌&&◌, leb, ltb, [], ◌∷◌, ◌++◌, length, take, drop, Option, Some, None, Result, Ok, Err, refl, sym, ap, subst, ◌∙◌, append_assoc, arith, inl, inr}
 use Rattle.std.specs.Prelude.{slice_index}
 use Rattle.std.specs.Str.{bytes_eq}
 use Rattle.std.proofs.lemmas.Bool.{and_from, and_parts, cases_lt, le-leb, leb-true, ltb-false}
@@ -34,8 +34,8 @@ abbrev pub gives : {A : Type 0} → A → Text → Result (A × Text) WireFault
 gives x rest = Ok (x, rest)
 
 -- What was read is good, and with what is behind it, is the text.
-pub record Took {A : Type 0} (good : A → Type 0) (spell : A → Text) (text : Text) (y : A × Text) : Type 0 where
-  pub good : good y.0
+pub record Took {A : Type 0} (is_good : A → Type 0) (spell : A → Text) (text : Text) (y : A × Text) : Type 0 where
+  pub good : is_good y.0
   pub spelled : text ≡ spell y.0 ++ y.1
   pub bytes : AreBytes y.1
 
@@ -58,11 +58,11 @@ are_bytes_behind n text bytes k = rw (get_or-drop n text k 0) (bytes (n + k))
 
 are_bytes_before : (n : ℕ) (text : Text) → AreBytes text → n ≤ length text → AreBytes (take n text)
 are_bytes_before n text bytes enough k = elim (cases_lt k n) [
-    | inl below ↦ rw (get_or-take n text k 0 below) (bytes k)
-    | inr above ↦
-        let size : length (take n text) ≤ k = omega (arith, length-take-le n text enough) in
-        rw (get_or-past (take n text) k 0 size) (omega arith)
-  ]
+  | inl below ↦ rw (get_or-take n text k 0 below) (bytes k)
+  | inr above ↦
+      let size : length (take n text) ≤ k = omega (arith, length-take-le n text enough) in
+      rw (get_or_past (take n text) k 0 size) (omega arith)
+]
 
 -- what was taken of n bytes
 pub record TookBytes (n : ℕ) (text : Text) (y : Text × Text) : Type 0 where
@@ -76,11 +76,11 @@ bytes_taken n text y bytes e =
     let t = test_ok (leb n (length text)) Truncated (gives (take n text) (drop n text)) y e in
     let enough : n ≤ length text = leb-true n (length text) t.0 in
     subst (λ (z : Text × Text). TookBytes n text z) (ok_is (take n text, drop n text) y t.1) (record {
-        size = length-take-le n text enough;
-        field = are_bytes_before n text bytes enough;
-        spelled = sym (take-append-drop n text);
-        bytes = are_bytes_behind n text bytes;
-      })
+      size = length-take-le n text enough;
+      field = are_bytes_before n text bytes enough;
+      spelled = sym (take-append-drop n text);
+      bytes = are_bytes_behind n text bytes;
+    })
 
 -- ---- numbers
 
@@ -108,10 +108,10 @@ number_taken n least greatest text y bytes e =
     let within = and_parts (leb least value) (leb value greatest) t.0 in
     let took = bytes_taken n text a.0 bytes a.1 in
     subst (λ (z : ℕ × Text). Took (IsFrom least greatest) (big_bytes n) text z) (ok_is (value, a.0.1) y t.1) (record {
-        good = (leb-true least value within.0, leb-true value greatest within.1);
-        spelled = took.spelled ∙ ap (λ (f : Text). f ++ a.0.1) (sym (big_bytes-big_number n a.0.0 took.size took.field));
-        bytes = took.bytes;
-      })
+      good = (leb-true least value within.0, leb-true value greatest within.1);
+      spelled = took.spelled ∙ ap (λ (f : Text). f ++ a.0.1) (sym (big_bytes-big_number n a.0.0 took.size took.field));
+      bytes = took.bytes;
+    })
 
 pub one_byte : (x : ℕ) → x < 256 → big_bytes 1 x ≡ x ∷ []
 one_byte x small = ap (λ (b : ℕ). b ∷ []) (mod-eq_of_lt small)
@@ -145,11 +145,11 @@ claim_taken text y bytes e =
     let m = number_taken 1 0 8 a.0.1 b.0 r.bytes b.1 in
     let eight : b.0.0 ≤ 8 = m.good.1 in
     subst (λ (z : Claim × Text). Took IsClaim claim_text text z) (ok_is (claim_of a.0.0 b.0.0, b.0.1) y b.2) (record {
-        good = record { round = r.good; member = omega arith };
-        spelled = r.spelled ∙ ap (λ (t : Text). big_bytes 8 a.0.0 ++ t) (m.spelled ∙ ap (λ (t : Text). t ++ b.0.1) (one_byte b.0.0 (omega arith)))
+      good = record { round = r.good; member = omega arith };
+      spelled = r.spelled ∙ ap (λ (t : Text). big_bytes 8 a.0.0 ++ t) (m.spelled ∙ ap (λ (t : Text). t ++ b.0.1) (one_byte b.0.0 (omega arith)))
           ∙ sym (append_assoc (big_bytes 8 a.0.0) (b.0.0 ∷ []) b.0.1);
-        bytes = m.bytes;
-      })
+      bytes = m.bytes;
+    })
 
 -- ---- paths
 
@@ -171,9 +171,11 @@ path_length path good = short path (no_fault path good)
     first_fails : {F : Type 0} (b : Bool) (f : F) (rest : Option F) → cond b (Some f) rest ≡ None → (b ≡ false) × (rest ≡ None)
     first_fails true f rest e = absurd cc
     first_fails false f rest e = (refl, e)
+
     filled : (path : Text) → is_empty path ≡ false → 1 ≤ length path
     filled [] e = absurd cc
     filled (b ∷ bs) e = omega arith
+
     short : (path : Text) → fault_of path ≡ None → HasPathLength path
     short path e =
         let a = first_fails (is_empty path) _ _ e in
@@ -202,7 +204,7 @@ path_read path rest good =
     ap (λ (t : Text). number_at 2 1 255 t >>= λ size. bytes_at size.0 size.1 >>= λ field. path_in field.0 >>= λ p. gives p field.1)
     (append_assoc (big_bytes 2 (length path)) path rest)
     ∙ ap (λ (r : Result (ℕ × Text) WireFault). r >>= λ size. bytes_at size.0 size.1 >>= λ field. path_in field.0 >>= λ p. gives p field.1)
-      (number_read 2 1 255 (length path) (path ++ rest) size.some few (omega arith))
+    (number_read 2 1 255 (length path) (path ++ rest) size.some few (omega arith))
     ∙ ap (λ (r : Result (Text × Text) WireFault). r >>= λ field. path_in field.0 >>= λ p. gives p field.1) (bytes_read (length path) path rest refl)
     ∙ ap (λ (r : Result Text WireFault). r >>= λ p. gives p rest) (path_in_read path good)
 
@@ -216,12 +218,12 @@ path_taken text y bytes e =
     let f = bytes_taken a.0.0 a.0.1 b.0 n.bytes b.1 in
     let p = path_in_taken b.0.0 d.0 d.1 in
     subst (λ (z : Text × Text). Took IsPath path_text text z) (ok_is (d.0, b.0.1) y d.2) (record {
-        good = p.1;
-        spelled = n.spelled ∙ ap (λ (t : Text). big_bytes 2 a.0.0 ++ t) (f.spelled ∙ ap (λ (t : Text). t ++ b.0.1) p.0)
+      good = p.1;
+      spelled = n.spelled ∙ ap (λ (t : Text). big_bytes 2 a.0.0 ++ t) (f.spelled ∙ ap (λ (t : Text). t ++ b.0.1) p.0)
           ∙ ap (λ (m : ℕ). big_bytes 2 m ++ (d.0 ++ b.0.1)) (sym f.size ∙ ap length p.0)
           ∙ sym (append_assoc (big_bytes 2 (length d.0)) d.0 b.0.1);
-        bytes = f.bytes;
-      })
+      bytes = f.bytes;
+    })
 
 -- ---- kinds
 
@@ -252,10 +254,10 @@ kind_taken kinds text y bytes e =
     let t = test_ok (is_one_of kinds (slice_index a.0.0 0)) Kind (gives (slice_index a.0.0 0) a.0.1) y a.2 in
     let took = bytes_taken 1 text a.0 bytes a.1 in
     subst (λ (z : ℕ × Text). Took (IsKind kinds) byte_text text z) (ok_is (slice_index a.0.0 0, a.0.1) y t.1) (record {
-        good = t.0;
-        spelled = took.spelled ∙ ap (λ (t : Text). t ++ a.0.1) (one_item a.0.0 took.size);
-        bytes = took.bytes;
-      })
+      good = t.0;
+      spelled = took.spelled ∙ ap (λ (t : Text). t ++ a.0.1) (one_item a.0.0 took.size);
+      bytes = took.bytes;
+    })
 
 -- ---- builds
 
@@ -271,7 +273,7 @@ build_read again name v rest good =
     ap (λ (t : Text). number_at 4 0 most_bytes t >>= λ size. bytes_at size.0 size.1 >>= λ bytes. build_in name (whole_build_of bytes.0) >>= λ build. gives build bytes.1)
     (append_assoc (big_bytes 4 (length text)) text rest)
     ∙ ap (λ (r : Result (ℕ × Text) WireFault). r >>= λ size. bytes_at size.0 size.1 >>= λ bytes. build_in name (whole_build_of bytes.0) >>= λ build. gives build bytes.1)
-      (number_read 4 0 most_bytes (length text) (text ++ rest) (omega arith) fits (omega arith))
+    (number_read 4 0 most_bytes (length text) (text ++ rest) (omega arith) fits (omega arith))
     ∙ ap (λ (r : Result (Text × Text) WireFault). r >>= λ bytes. build_in name (whole_build_of bytes.0) >>= λ build. gives build bytes.1) (bytes_read (length text) text rest refl)
     ∙ ap (λ (r : Result Value WireFault). r >>= λ build. gives build rest) (whole_build_read again name v good)
 
@@ -299,9 +301,9 @@ build_taken made name text y bytes e =
     let f = bytes_taken a.0.0 a.0.1 b.0 n.bytes b.1 in
     let v = whole_build_taken made name b.0.0 d.0 d.1 in
     subst (λ (z : Value × Text). Took (IsBuildOf name) sized_build text z) (ok_is (d.0, b.0.1) y d.2) (record {
-        good = v.0;
-        spelled = n.spelled ∙ ap (λ (t : Text). big_bytes 4 a.0.0 ++ t) (f.spelled ∙ ap (λ (t : Text). t ++ b.0.1) v.1)
+      good = v.0;
+      spelled = n.spelled ∙ ap (λ (t : Text). big_bytes 4 a.0.0 ++ t) (f.spelled ∙ ap (λ (t : Text). t ++ b.0.1) v.1)
           ∙ ap (λ (m : ℕ). big_bytes 4 m ++ (build_text d.0 ++ b.0.1)) (sym f.size ∙ ap length v.1)
           ∙ sym (append_assoc (big_bytes 4 (length (build_text d.0))) (build_text d.0) b.0.1);
-        bytes = f.bytes;
-      })
+      bytes = f.bytes;
+    })

@@ -1,5 +1,5 @@
 -- The fields that each datagram begins with.
-use Rattle.std.proofs.Common.{◌≡◌, ℕ, ◌<◌, ◌≤◌, true, List, [], ◌∷◌, ◌++◌, length, Result, Ok, Err, refl, sym, ap, subst, ◌∙◌, append_assoc, arith}
+use Rattle.std.proofs.Common.{◌≡◌, ℕ, ◌<◌, ◌≤◌, true, List, ◌∷◌, ◌++◌, length, Result, Ok, sym, ap, subst, ◌∙◌, append_assoc, arith}
 use Rattle.faults.specs.Bytes.{Text, is_one_of}
 use Rattle.pkgpath.specs.PkgPath.{IsPath}
 use Rattle.wire.specs.Laws.{AreBytes}
@@ -31,11 +31,11 @@ front_read kinds f rest good =
     ap (λ (t : Text). kind_at kinds (f.kind ∷ f.sender ∷ t) >>= λ kind. number_at 1 0 8 kind.1 >>= λ sender. bytes_at 32 sender.1 >>= λ tree. path_at tree.1 >>= λ path. gives (front_of kind.0 sender.0 tree.0 path.0) path.1)
     (append_assoc f.tree (path_text f.path) rest)
     ∙ ap (λ (r : Result (ℕ × Text) WireFault). r >>= λ kind. number_at 1 0 8 kind.1 >>= λ sender. bytes_at 32 sender.1 >>= λ tree. path_at tree.1 >>= λ path. gives (front_of kind.0 sender.0 tree.0 path.0) path.1)
-      (kind_read kinds f.kind (f.sender ∷ behind) good.kind)
+    (kind_read kinds f.kind (f.sender ∷ behind) good.kind)
     ∙ ap (λ (r : Result (ℕ × Text) WireFault). r >>= λ sender. bytes_at 32 sender.1 >>= λ tree. path_at tree.1 >>= λ path. gives (front_of f.kind sender.0 tree.0 path.0) path.1)
-      (byte_read 0 8 f.sender behind (omega arith) (omega (arith, good.sender)) (omega (arith, good.sender)))
+    (byte_read 0 8 f.sender behind (omega arith) (omega (arith, good.sender)) (omega (arith, good.sender)))
     ∙ ap (λ (r : Result (Text × Text) WireFault). r >>= λ tree. path_at tree.1 >>= λ path. gives (front_of f.kind f.sender tree.0 path.0) path.1)
-      (bytes_read 32 f.tree (path_text f.path ++ rest) good.tree)
+    (bytes_read 32 f.tree (path_text f.path ++ rest) good.tree)
     ∙ ap (λ (r : Result (Text × Text) WireFault). r >>= λ path. gives (front_of f.kind f.sender f.tree path.0) path.1) (path_read f.path rest good.path)
 
 pub front_taken : (kinds text : Text) (y : Front × Text) → AreBytes text → front_at kinds text ≡ Ok y → Took (IsFront kinds) fields_text text y
@@ -51,11 +51,11 @@ front_taken kinds text y bytes e =
     let p = path_taken c.0.1 d.0 t.bytes d.1 in
     let eight : b.0.0 ≤ 8 = s.good.1 in
     subst (λ (z : Front × Text). Took (IsFront kinds) fields_text text z) (ok_is (front_of a.0.0 b.0.0 c.0.0 d.0.0, d.0.1) y d.2) (record {
-        good = record { kind = k.good; sender = omega arith; tree = t.size; path = p.good };
-        spelled = k.spelled
+      good = record { kind = k.good; sender = omega arith; tree = t.size; path = p.good };
+      spelled = k.spelled
           ∙ ap (λ (u : Text). a.0.0 ∷ u) (
-            s.spelled
-            ∙ ap (λ (u : Text). u ++ b.0.1) (one_byte b.0.0 (omega arith))
-            ∙ ap (λ (u : Text). b.0.0 ∷ u) (t.spelled ∙ ap (λ (u : Text). c.0.0 ++ u) p.spelled ∙ sym (append_assoc c.0.0 (path_text d.0.0) d.0.1)));
-        bytes = p.bytes;
-      })
+          s.spelled
+          ∙ ap (λ (u : Text). u ++ b.0.1) (one_byte b.0.0 (omega arith))
+          ∙ ap (λ (u : Text). b.0.0 ∷ u) (t.spelled ∙ ap (λ (u : Text). c.0.0 ++ u) p.spelled ∙ sym (append_assoc c.0.0 (path_text d.0.0) d.0.1)));
+      bytes = p.bytes;
+    })

@@ -1,6 +1,5 @@
 -- Notes that are spelled so are read, and what was read is spelled so.
-use Rattle.std.proofs.Common.{◌≡◌, ℕ, ◌<◌, ◌≤◌, ◌^◌, true, List, [], ◌∷◌, ◌++◌, length, Result, Ok, Err, inl, inr, refl, sym, ap, subst, ◌∙◌, append_assoc, arith}
-use Rattle.byteorder.specs.Endian.{big_bytes}
+use Rattle.std.proofs.Common.{◌≡◌, ℕ, ◌≤◌, true, [], ◌∷◌, ◌++◌, Result, Ok, inl, inr, refl, sym, ap, subst, ◌∙◌, append_assoc, arith}
 use Rattle.faults.specs.Bytes.{Text, is_one_of}
 use Rattle.claims.specs.Claim.{greatest_round}
 use Rattle.agreement.specs.declared.claim.Claim.{Claim}
@@ -14,7 +13,7 @@ use Rattle.wire.specs.Messages.{IsFact, IsNote}
 use Rattle.wire.specs.Reading.{◌>>=◌, build_at, claim_at, fact_at, kind_at, note_at, note_kinds, note_of, number_at, path_at, voted_at}
 use Rattle.wire.specs.Spelling.{claim_text, fact_text, note_kind, note_text, path_text, sized_build}
 use Rattle.wire.specs.declared.WireFault.{WireFault}
-use Rattle.wire.proofs.FieldTexts.{Took, build_read, build_taken, byte_text, claim_read, claim_taken, gives, kind_read, kind_taken, number_read, number_taken, path_read, path_taken}
+use Rattle.wire.proofs.FieldTexts.{Took, build_read, build_taken, claim_read, claim_taken, gives, kind_read, kind_taken, number_read, number_taken, path_read, path_taken}
 use Rattle.wire.proofs.Readers.{begins_none, one_of, read_again, whole_took}
 use Rattle.wire.proofs.Steps.{bind_ok, ok_is}
 
@@ -51,9 +50,9 @@ note_read again n rest good =
     ap (λ (t : Text). kind_at note_kinds (kind ∷ t) >>= λ kind. path_at kind.1 >>= λ path. fact_at path.0 kind.0 path.1 >>= λ fact. gives (note_from path.0 fact.0) fact.1)
     (append_assoc (path_text n.path) (fact_text n.fact) rest)
     ∙ ap (λ (r : Result (ℕ × Text) WireFault). r >>= λ kind. path_at kind.1 >>= λ path. fact_at path.0 kind.0 path.1 >>= λ fact. gives (note_from path.0 fact.0) fact.1)
-      (kind_read note_kinds kind (path_text n.path ++ (fact_text n.fact ++ rest)) (is_a_kind n.fact))
+    (kind_read note_kinds kind (path_text n.path ++ (fact_text n.fact ++ rest)) (is_a_kind n.fact))
     ∙ ap (λ (r : Result (Text × Text) WireFault). r >>= λ path. fact_at path.0 kind path.1 >>= λ fact. gives (note_from path.0 fact.0) fact.1)
-      (path_read n.path (fact_text n.fact ++ rest) good.path)
+    (path_read n.path (fact_text n.fact ++ rest) good.path)
     ∙ ap (λ (r : Result (Fact Value × Text) WireFault). r >>= λ fact. gives (note_from n.path fact.0) fact.1) (fact_read again n.path n.fact rest good.fact)
 
 -- ---- what is read is spelled so
@@ -85,11 +84,11 @@ voted_taken made name text y bytes e =
     let c = claim_taken text a.0 bytes a.1 in
     let v = build_taken made name a.0.1 b.0 c.bytes b.1 in
     subst (λ (z : Fact Value × Text). TookFact name 3 text z) (ok_is (Voted a.0.0 b.0.0, b.0.1) y b.2) (record {
-        good = (c.good, v.good);
-        kind_is = refl;
-        spelled = c.spelled ∙ ap (λ (t : Text). claim_text a.0.0 ++ t) v.spelled ∙ sym (append_assoc (claim_text a.0.0) (sized_build b.0.0) b.0.1);
-        bytes = v.bytes;
-      })
+      good = (c.good, v.good);
+      kind_is = refl;
+      spelled = c.spelled ∙ ap (λ (t : Text). claim_text a.0.0 ++ t) v.spelled ∙ sym (append_assoc (claim_text a.0.0) (sized_build b.0.0) b.0.1);
+      bytes = v.bytes;
+    })
 
 held_taken : WhatIsReadIsABuild → (name text : Text) (y : Fact Value × Text) → AreBytes text → fact_at name 4 text ≡ Ok y → TookFact name 4 text y
 held_taken made name text y bytes e =
@@ -125,12 +124,12 @@ note_taken made text y bytes e =
     let p = path_taken a.0.1 b.0 k.bytes b.1 in
     let f = fact_taken made b.0.0 a.0.0 b.0.1 d.0 k.good p.bytes d.1 in
     subst (λ (z : Note Value × Text). Took IsNote note_text text z) (ok_is (note_from b.0.0 d.0.0, d.0.1) y d.2) (record {
-        good = record { path = p.good; fact = f.good };
-        spelled = k.spelled
+      good = record { path = p.good; fact = f.good };
+      spelled = k.spelled
           ∙ ap (λ (t : Text). a.0.0 ∷ t) (p.spelled ∙ ap (λ (t : Text). path_text b.0.0 ++ t) f.spelled ∙ sym (append_assoc (path_text b.0.0) (fact_text d.0.0) d.0.1))
           ∙ ap (λ (kind : ℕ). kind ∷ ((path_text b.0.0 ++ fact_text d.0.0) ++ d.0.1)) (sym f.kind_is);
-        bytes = f.bytes;
-      })
+      bytes = f.bytes;
+    })
 
 -- ---- whole texts
 

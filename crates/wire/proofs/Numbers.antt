@@ -1,10 +1,10 @@
 -- Bytes and the numbers that they are.
-use Rattle.std.proofs.Common.{◌≡◌, ℕ, zero, suc, ◌+◌, ◌*◌, ◌^◌, ◌<◌, ◌≤◌, List, [], ◌∷◌, ◌++◌, length, get_or, take, drop, refl, sym, ap, ◌∙◌, arith, ◌⊎◌, inl, inr}
+use Rattle.std.proofs.Common.{◌≡◌, ℕ, zero, suc, ◌+◌, ◌*◌, ◌^◌, ◌<◌, ◌≤◌, List, [], ◌∷◌, length, refl, sym, ap, ◌∙◌, arith, inl, inr}
 use Rattle.std.proofs.Math.Nat.{mod-lt, mul-le-mul_right}
 use Rattle.std.proofs.lemmas.Bool.{cases_lt}
 use Rattle.std.proofs.lemmas.List.{append-nil}
-use Rattle.std.specs.Int.{byte_at, bytes_high_first}
-use Rattle.byteorder.specs.Endian.{big_bytes, big_from, big_number}
+use Rattle.std.specs.Int.{byte_at}
+use Rattle.byteorder.specs.Endian.{big_bytes, big_number}
 use Rattle.byteorder.specs.Numbers.{big_from-cons, big_from-lt, big_number-reads_back, length-bytes_high_first}
 use Rattle.wire.specs.Laws.{AreBytes}
 
@@ -34,12 +34,12 @@ digit_below p x y a b small less same =
 
 digits_are : (p x y a b : ℕ) → a < p → b < p → x * p + a ≡ y * p + b → (x ≡ y) × (a ≡ b)
 digits_are p x y a b small other same = elim (cases_lt x y) [
-    | inl less ↦ absurd (digit_below p x y a b small less same)
-    | inr up ↦ elim (cases_lt y x) [
-      | inl less ↦ absurd (digit_below p y x b a other less (sym same))
-      | inr down ↦ let e : x ≡ y = omega arith in (e, omega (arith, ap (λ (z : ℕ). z * p) e))
-    ]
+  | inl less ↦ absurd (digit_below p x y a b small less same)
+  | inr up ↦ elim (cases_lt y x) [
+    | inl less ↦ absurd (digit_below p y x b a other less (sym same))
+    | inr down ↦ let e : x ≡ y = omega arith in (e, omega (arith, ap (λ (z : ℕ). z * p) e))
   ]
+]
 
 same_number : (n : ℕ) (xs ys : List ℕ) → length xs ≡ n → length ys ≡ n → AreBytes xs → AreBytes ys → big_number n xs ≡ big_number n ys → xs ≡ ys
 same_number zero [] [] lx ly bx by same = refl

@@ -1,5 +1,5 @@
 -- Pieces of messages that carry a build.
-use Rattle.std.proofs.Common.{◌≡◌, ℕ, ◌+◌, ◌-◌, ◌*◌, ◌<◌, ◌≤◌, ◌^◌, min, cond, ltb, true, List, [], ◌∷◌, ◌++◌, length, Result, Ok, Err, inl, inr, refl, sym, ap, subst, ◌∙◌, append_assoc, arith}
+use Rattle.std.proofs.Common.{◌≡◌, ℕ, ◌-◌, ◌*◌, ◌<◌, ◌≤◌, min, cond, ltb, true, List, [], ◌∷◌, ◌++◌, Result, Ok, Err, inl, inr, refl, sym, ap, subst, ◌∙◌, append_assoc, arith}
 use Rattle.std.proofs.lemmas.Bool.{lt-ltb, ltb-true}
 use Rattle.byteorder.specs.Endian.{big_bytes}
 use Rattle.faults.specs.Bytes.{Text, is_one_of}
@@ -32,9 +32,9 @@ report_read c d rest first second =
     ap (λ (t : Text). claim_at t >>= λ claim. number_at 1 1 1 claim.1 >>= λ mark. claim_at mark.1 >>= λ voted. gives (Promise claim.0 voted.0) voted.1)
     (append_assoc (claim_text c) (1 ∷ claim_text d) rest)
     ∙ ap (λ (r : Result (Claim × Text) WireFault). r >>= λ claim. number_at 1 1 1 claim.1 >>= λ mark. claim_at mark.1 >>= λ voted. gives (Promise claim.0 voted.0) voted.1)
-      (claim_read c (1 ∷ (claim_text d ++ rest)) first)
+    (claim_read c (1 ∷ (claim_text d ++ rest)) first)
     ∙ ap (λ (r : Result (ℕ × Text) WireFault). r >>= λ mark. claim_at mark.1 >>= λ voted. gives (Promise c voted.0) voted.1)
-      (byte_read 1 1 1 (claim_text d ++ rest) (omega arith) (omega arith) (omega arith))
+    (byte_read 1 1 1 (claim_text d ++ rest) (omega arith) (omega arith) (omega arith))
     ∙ ap (λ (r : Result (Claim × Text) WireFault). r >>= λ voted. gives (Promise c voted.0) voted.1) (claim_read d rest second)
 
 carrier_read : (c : Carrier) (rest : Text) → IsCarrier c → carrier_at (carrier_kind c) (carrier_text c ++ rest) ≡ gives c rest
@@ -67,17 +67,17 @@ report_taken text y bytes e =
     let most : b.0.0 ≤ 1 = m.good.1 in
     let one : b.0.0 ≡ 1 = omega arith in
     subst (λ (z : Carrier × Text). TookCarrier 2 text z) (ok_is (Promise a.0.0 d.0.0, d.0.1) y d.2) (record {
-        good = (c.good, v.good);
-        kind_is = refl;
-        spelled = c.spelled
+      good = (c.good, v.good);
+      kind_is = refl;
+      spelled = c.spelled
           ∙ ap (λ (t : Text). claim_text a.0.0 ++ t) (
-            m.spelled
-            ∙ ap (λ (t : Text). t ++ b.0.1) (one_byte b.0.0 (omega arith))
-            ∙ ap (λ (n : ℕ). n ∷ b.0.1) one
-            ∙ ap (λ (t : Text). 1 ∷ t) v.spelled)
+          m.spelled
+          ∙ ap (λ (t : Text). t ++ b.0.1) (one_byte b.0.0 (omega arith))
+          ∙ ap (λ (n : ℕ). n ∷ b.0.1) one
+          ∙ ap (λ (t : Text). 1 ∷ t) v.spelled)
           ∙ sym (append_assoc (claim_text a.0.0) (1 ∷ claim_text d.0.0) d.0.1);
-        bytes = v.bytes;
-      })
+      bytes = v.bytes;
+    })
 
 proposal_taken : (text : Text) (y : Carrier × Text) → AreBytes text → carrier_at 3 text ≡ Ok y → TookCarrier 3 text y
 proposal_taken text y bytes e =
@@ -119,11 +119,11 @@ header_read h rest good =
     ap (λ (t : Text). front_at carrier_kinds t >>= λ front. carrier_at front.0.kind front.1 >>= λ carrier. number_at 4 1 most_bytes carrier.1 >>= λ size. gives (header_from front.0 carrier.0 size.0) size.1)
     (append_assoc (fields_text (front_in h) ++ carrier_text h.carrier) (big_bytes 4 h.length) rest ∙ append_assoc (fields_text (front_in h)) (carrier_text h.carrier) (big_bytes 4 h.length ++ rest))
     ∙ ap (λ (r : Result (Front × Text) WireFault). r >>= λ front. carrier_at front.0.kind front.1 >>= λ carrier. number_at 4 1 most_bytes carrier.1 >>= λ size. gives (header_from front.0 carrier.0 size.0) size.1)
-      (front_read carrier_kinds (front_in h) (carrier_text h.carrier ++ (big_bytes 4 h.length ++ rest)) front)
+    (front_read carrier_kinds (front_in h) (carrier_text h.carrier ++ (big_bytes 4 h.length ++ rest)) front)
     ∙ ap (λ (r : Result (Carrier × Text) WireFault). r >>= λ carrier. number_at 4 1 most_bytes carrier.1 >>= λ size. gives (header_from (front_in h) carrier.0 size.0) size.1)
-      (carrier_read h.carrier (big_bytes 4 h.length ++ rest) good.carrier)
+    (carrier_read h.carrier (big_bytes 4 h.length ++ rest) good.carrier)
     ∙ ap (λ (r : Result (ℕ × Text) WireFault). r >>= λ size. gives (header_from (front_in h) h.carrier size.0) size.1)
-      (number_read 4 1 most_bytes h.length rest good.some fits (omega arith))
+    (number_read 4 1 most_bytes h.length rest good.some fits (omega arith))
 
 header_taken : (text : Text) (y : Header × Text) → AreBytes text → header_at text ≡ Ok y → Took IsHeader header_tail text y
 unfolding header_at
@@ -136,13 +136,13 @@ header_taken text y bytes e =
     let n = number_taken 4 1 most_bytes b.0.1 d.0 c.bytes d.1 in
     let front = front_of (carrier_kind b.0.0) a.0.0.sender a.0.0.tree a.0.0.path in
     subst (λ (z : Header × Text). Took IsHeader header_tail text z) (ok_is (header_from a.0.0 b.0.0 d.0.0, d.0.1) y d.2) (record {
-        good = record { sender = f.good.sender; tree = f.good.tree; path = f.good.path; carrier = c.good; some = n.good.0; fits = n.good.1 };
-        spelled = f.spelled
+      good = record { sender = f.good.sender; tree = f.good.tree; path = f.good.path; carrier = c.good; some = n.good.0; fits = n.good.1 };
+      spelled = f.spelled
           ∙ ap (λ (t : Text). fields_text a.0.0 ++ t) (c.spelled ∙ ap (λ (t : Text). carrier_text b.0.0 ++ t) n.spelled)
           ∙ ap (λ (k : ℕ). fields_text (front_of k a.0.0.sender a.0.0.tree a.0.0.path) ++ (carrier_text b.0.0 ++ (big_bytes 4 d.0.0 ++ d.0.1))) (sym c.kind_is)
           ∙ sym (append_assoc (fields_text front ++ carrier_text b.0.0) (big_bytes 4 d.0.0) d.0.1 ∙ append_assoc (fields_text front) (carrier_text b.0.0) (big_bytes 4 d.0.0 ++ d.0.1));
-        bytes = n.bytes;
-      })
+      bytes = n.bytes;
+    })
 
 -- ---- pieces
 
@@ -181,11 +181,11 @@ piece_read p rest good =
     ap (λ (t : Text). header_at t >>= λ header. piece_number_at header.0.length header.1 >>= λ number. bytes_at (min piece_size (header.0.length - piece_size * number.0)) number.1 >>= λ bytes. gives (datagrams.Piece (piece_of header.0 number.0 bytes.0)) bytes.1)
     (append_assoc (header_tail h ++ big_bytes 2 p.number) p.bytes rest ∙ append_assoc (header_tail h) (big_bytes 2 p.number) (p.bytes ++ rest))
     ∙ ap (λ (r : Result (Header × Text) WireFault). r >>= λ header. piece_number_at header.0.length header.1 >>= λ number. bytes_at (min piece_size (header.0.length - piece_size * number.0)) number.1 >>= λ bytes. gives (datagrams.Piece (piece_of header.0 number.0 bytes.0)) bytes.1)
-      (header_read h (big_bytes 2 p.number ++ (p.bytes ++ rest)) good.header)
+    (header_read h (big_bytes 2 p.number ++ (p.bytes ++ rest)) good.header)
     ∙ ap (λ (r : Result (ℕ × Text) WireFault). r >>= λ number. bytes_at (min piece_size (h.length - piece_size * number.0)) number.1 >>= λ bytes. gives (datagrams.Piece (piece_of h number.0 bytes.0)) bytes.1)
-      (piece_number_read h.length p.number (p.bytes ++ rest) good.number fits)
+    (piece_number_read h.length p.number (p.bytes ++ rest) good.number fits)
     ∙ ap (λ (r : Result (Text × Text) WireFault). r >>= λ bytes. gives (datagrams.Piece (piece_of h p.number bytes.0)) bytes.1)
-      (bytes_read (min piece_size (h.length - piece_size * p.number)) p.bytes rest good.bytes)
+    (bytes_read (min piece_size (h.length - piece_size * p.number)) p.bytes rest good.bytes)
 
 -- what was taken for a piece
 pub record TookPiece (text : Text) (y : Datagram × Text) : Type 0 where
@@ -205,11 +205,11 @@ piece_taken text y bytes e =
     let n = piece_number_taken a.0.0.length a.0.1 b.0 h.bytes b.1 in
     let f = bytes_taken (min piece_size (a.0.0.length - piece_size * b.0.0)) b.0.1 d.0 n.bytes d.1 in
     subst (λ (z : Datagram × Text). TookPiece text z) (ok_is (datagrams.Piece (piece_of a.0.0 b.0.0 d.0.0), d.0.1) y d.2) (record {
-        piece = piece_of a.0.0 b.0.0 d.0.0;
-        is = refl;
-        good = record { header = h.good; number = n.good; bytes = f.size };
-        spelled = h.spelled
+      piece = piece_of a.0.0 b.0.0 d.0.0;
+      is = refl;
+      good = record { header = h.good; number = n.good; bytes = f.size };
+      spelled = h.spelled
           ∙ ap (λ (t : Text). header_tail a.0.0 ++ t) (n.spelled ∙ ap (λ (t : Text). big_bytes 2 b.0.0 ++ t) f.spelled)
           ∙ sym (append_assoc (header_tail a.0.0 ++ big_bytes 2 b.0.0) d.0.0 d.0.1 ∙ append_assoc (header_tail a.0.0) (big_bytes 2 b.0.0) (d.0.0 ++ d.0.1));
-        bytes = f.bytes;
-      })
+      bytes = f.bytes;
+    })

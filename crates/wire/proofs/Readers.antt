@@ -1,9 +1,8 @@
 -- What follows for whole texts from a reader that leaves what is behind.
-use Rattle.std.proofs.Common.{◌≡◌, Bool, true, false, cond, ◌||◌, ℕ, List, [], ◌∷◌, ◌++◌, Result, Ok, Err, ◌⊎◌, inl, inr, refl, sym, ap, subst, ◌∙◌}
+use Rattle.std.proofs.Common.{◌≡◌, Bool, true, false, ◌||◌, eqb, ℕ, [], ◌∷◌, ◌++◌, length, Result, Ok, ◌⊎◌, inl, inr, refl, sym, ap, subst, ◌∙◌}
 use Rattle.std.proofs.lemmas.Bool.{eqb-true}
 use Rattle.std.proofs.lemmas.List.{append-nil}
 use Rattle.faults.specs.Bytes.{Text, is_empty, is_one_of}
-use Rattle.wire.specs.Laws.{AreBytes}
 use Rattle.wire.specs.Reading.{◌>>=◌, ends}
 use Rattle.wire.specs.declared.WireFault.{WireFault}
 use Rattle.wire.specs.declared.WireFault.TheVariants.{Trailing}
@@ -35,11 +34,14 @@ whole_took at good spell text x took e =
     let a = bind_ok (at text) ends x e in
     let t = test_ok (is_empty a.0.1) Trailing (Ok a.0.0) x a.2 in
     let front = took a.0 a.1 in
-    let same : a.0.0 ≡ x = ok_is a.0.0 x t.1 in
-    (
+    let same : a.0.0 ≡ x = ok_is a.0.0 x t.1 in (
       subst good same front.good,
       front.spelled ∙ ap (λ (t : Text). spell a.0.0 ++ t) (nothing a.0.1 t.0) ∙ append-nil (spell a.0.0) ∙ ap spell same,
     )
+
+pub some_bytes : (bytes : Text) → eqb (length bytes) 0 ≡ false → is_empty bytes ≡ false
+some_bytes [] e = absurd cc
+some_bytes (b ∷ bytes) e = refl
 
 or_ways : (a b : Bool) → (a || b) ≡ true → (a ≡ true) ⊎ (b ≡ true)
 or_ways true b e = inl refl

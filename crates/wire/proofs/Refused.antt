@@ -1,6 +1,6 @@
 -- Readers that failed.
-use Rattle.std.proofs.Common.{◌≡◌, Result, Ok, Err, ◌⊎◌, inl, inr, sym, ap, ◌∙◌}
-use Rattle.wire.specs.Inside.Given.{Fails, refusal_of}
+use Rattle.std.proofs.Common.{◌≡◌, Result, Err, ◌⊎◌, inl, inr, sym, ap, ◌∙◌}
+use Rattle.wire.specs.inside.Given.{Fails, refusal_of}
 use Rattle.wire.specs.declared.WireFault.{WireFault}
 use Rattle.wire.specs.declared.WireFault.TheVariants.{Memory}
 use Rattle.wire.specs.declared.fault.ReadError.{ReadError}

@@ -1,5 +1,5 @@
 -- Messages that go out in whole.
-use Rattle.std.proofs.Common.{◌≡◌, ℕ, ◌<◌, ◌≤◌, true, List, [], ◌∷◌, ◌++◌, length, Option, None, Some, Result, Ok, Err, inl, inr, refl, sym, ap, subst, ◌∙◌, append_assoc, arith}
+use Rattle.std.proofs.Common.{◌≡◌, ℕ, ◌≤◌, true, [], ◌∷◌, ◌++◌, None, Some, Result, Ok, inl, inr, refl, sym, ap, subst, ◌∙◌, append_assoc, arith}
 use Rattle.faults.specs.Bytes.{Text, is_one_of}
 use Rattle.agreement.specs.declared.claim.Claim.{Claim}
 use Rattle.claims.specs.Claim.{IsClaim}
@@ -9,14 +9,14 @@ use Rattle.ballots.specs.declared.message.Body.TheVariants.{Offer, Promise, Prop
 use Rattle.ballots.specs.declared.message.Message.{Message}
 use Rattle.wire.specs.Laws.{AreBytes}
 use Rattle.wire.specs.Messages.{IsBody, IsMessage}
-use Rattle.wire.specs.Pieces.{IsDatagram, carried_in}
+use Rattle.wire.specs.Pieces.{carried_in}
 use Rattle.wire.specs.Reading.{◌>>=◌, body_at, claim_at, front_at, nay_at, number_at, promise_at, whole, whole_at, whole_kinds}
-use Rattle.wire.specs.Spelling.{body_text, claim_text, kind_of, path_text}
+use Rattle.wire.specs.Spelling.{body_text, claim_text, kind_of}
 use Rattle.wire.specs.declared.WireFault.{WireFault}
 use Rattle.wire.specs.declared.datagram.Datagram.{Datagram}
 use Rattle.wire.specs.declared.datagram.Datagram.TheVariants.{Whole}
 use Rattle.wire.specs.declared.fields.Front.{Front}
-use Rattle.wire.proofs.FieldTexts.{Took, byte_read, claim_read, claim_taken, gives, number_taken, one_byte}
+use Rattle.wire.proofs.FieldTexts.{byte_read, claim_read, claim_taken, gives, number_taken, one_byte}
 use Rattle.wire.proofs.Fronts.{IsFront, fields_text, front_of, front_read, front_taken}
 use Rattle.wire.proofs.Readers.{one_of}
 use Rattle.wire.proofs.Steps.{bind_ok, ok_is}
@@ -67,7 +67,7 @@ whole_read m rest good none =
     ap (λ (t : Text). front_at whole_kinds t >>= λ front. body_at front.0.kind front.1 >>= λ body. gives (Whole (whole front.0 body.0)) body.1)
     (append_assoc (fields_text (front_in m)) (body_text m.body) rest)
     ∙ ap (λ (r : Result (Front × Text) WireFault). r >>= λ front. body_at front.0.kind front.1 >>= λ body. gives (Whole (whole front.0 body.0)) body.1)
-      (front_read whole_kinds (front_in m) (body_text m.body ++ rest) front)
+    (front_read whole_kinds (front_in m) (body_text m.body ++ rest) front)
     ∙ ap (λ (r : Result (Body Value × Text) WireFault). r >>= λ body. gives (Whole (whole (front_in m) body.0)) body.1) (body_read m.path m.body rest good.body none)
 
 -- ---- what is read is spelled so
@@ -104,14 +104,14 @@ promise_taken name text y bytes e =
     let most : b.0.0 ≤ 0 = m.good.1 in
     let none : b.0.0 ≡ 0 = omega arith in
     subst (λ (z : Body Value × Text). TookBody name 2 text z) (ok_is (Promise a.0.0 None, b.0.1) y b.2) (record {
-        good = (c.good, tt);
-        whole = refl;
-        kind_is = refl;
-        spelled = c.spelled
+      good = (c.good, tt);
+      whole = refl;
+      kind_is = refl;
+      spelled = c.spelled
           ∙ ap (λ (t : Text). claim_text a.0.0 ++ t) (m.spelled ∙ ap (λ (t : Text). t ++ b.0.1) (one_byte b.0.0 (omega arith)) ∙ ap (λ (n : ℕ). n ∷ b.0.1) none)
           ∙ sym (append_assoc (claim_text a.0.0) (0 ∷ []) b.0.1);
-        bytes = m.bytes;
-      })
+      bytes = m.bytes;
+    })
 
 ask_taken : (name text : Text) (y : Body Value × Text) → AreBytes text → body_at 6 text ≡ Ok y → TookBody name 6 text y
 ask_taken name text y bytes e =
@@ -125,12 +125,12 @@ nay_taken name text y bytes e =
     let c = claim_taken text a.0 bytes a.1 in
     let d = claim_taken a.0.1 b.0 c.bytes b.1 in
     subst (λ (z : Body Value × Text). TookBody name 7 text z) (ok_is (Nay a.0.0 b.0.0, b.0.1) y b.2) (record {
-        good = (c.good, d.good);
-        whole = refl;
-        kind_is = refl;
-        spelled = c.spelled ∙ ap (λ (t : Text). claim_text a.0.0 ++ t) d.spelled ∙ sym (append_assoc (claim_text a.0.0) (claim_text b.0.0) b.0.1);
-        bytes = d.bytes;
-      })
+      good = (c.good, d.good);
+      whole = refl;
+      kind_is = refl;
+      spelled = c.spelled ∙ ap (λ (t : Text). claim_text a.0.0 ++ t) d.spelled ∙ sym (append_assoc (claim_text a.0.0) (claim_text b.0.0) b.0.1);
+      bytes = d.bytes;
+    })
 
 body_taken : (name : Text) (kind : ℕ) (text : Text) (y : Body Value × Text) → is_one_of whole_kinds kind ≡ true → AreBytes text → body_at kind text ≡ Ok y → TookBody name kind text y
 body_taken name kind text y good bytes e =
@@ -173,12 +173,12 @@ whole_taken text y bytes e =
     let f = front_taken whole_kinds text a.0 bytes a.1 in
     let d = body_taken a.0.0.path a.0.0.kind a.0.1 b.0 f.good.kind f.bytes b.1 in
     subst (λ (z : Datagram × Text). TookWhole text z) (ok_is (Whole (whole a.0.0 b.0.0), b.0.1) y b.2) (record {
-        message = whole a.0.0 b.0.0;
-        is = refl;
-        good = (record { sender = f.good.sender; tree = f.good.tree; path = f.good.path; body = d.good }, d.whole);
-        spelled = f.spelled
+      message = whole a.0.0 b.0.0;
+      is = refl;
+      good = (record { sender = f.good.sender; tree = f.good.tree; path = f.good.path; body = d.good }, d.whole);
+      spelled = f.spelled
           ∙ ap (λ (t : Text). fields_text a.0.0 ++ t) d.spelled
           ∙ ap (λ (k : ℕ). fields_text (front_of k a.0.0.sender a.0.0.tree a.0.0.path) ++ (body_text b.0.0 ++ b.0.1)) (sym d.kind_is)
           ∙ sym (append_assoc (fields_text (front_in (whole a.0.0 b.0.0))) (body_text b.0.0) b.0.1);
-        bytes = d.bytes;
-      })
+      bytes = d.bytes;
+    })

@@ -1,10 +1,9 @@
 -- The bytes of pieces that came in any order, put in order of number.
-use Rattle.std.specs.Prelude.{◌*◌, ◌==◌, ◌&&◌, ℕ, Bool, true, false, nat_lt, List, filter, flat_map}
-use Rattle.std.specs.List.{range_with_len}
+use Rattle.std.specs.Prelude.{◌≡◌, ◌==◌, ◌&&◌, ℕ, All, Bool, true, false, List, [], ◌∷◌, filter, flat_map}
 use Rattle.std.specs.Str.{bytes_eq}
 use Rattle.faults.specs.Bytes.{Text}
 use Rattle.agreement.specs.Claims.{claim_same}
-use Rattle.wire.specs.Pieces.{most_pieces, piece_size}
+use Rattle.wire.specs.Pieces.{numbers_of, piece_at}
 use Rattle.wire.specs.declared.datagram.Carrier.{Carrier}
 use Rattle.wire.specs.declared.datagram.Carrier.TheVariants.{Promise, Propose, Agreed}
 use Rattle.wire.specs.declared.datagram.Header.{Header}
@@ -31,10 +30,14 @@ is_numbered h k p = (p.number == k) && same_header h p.header
 abbrev pub bytes_numbered : Header → List Piece → ℕ → Text
 bytes_numbered h pieces k = flat_map (λ p. p.bytes) (filter (is_numbered h k) pieces)
 
--- the numbers of the pieces of the header's message
-abbrev pub numbers_of : Header → List ℕ
-numbers_of h = filter (λ k. nat_lt (piece_size * k) h.length) (range_with_len 0 most_pieces)
-
 -- the bytes of the header's pieces, in order of number
 abbrev pub bytes_of : Header → List Piece → Text
-bytes_of h pieces = flat_map (bytes_numbered h pieces) (numbers_of h)
+bytes_of h pieces = flat_map (bytes_numbered h pieces) (numbers_of h.length)
+
+-- no other of these pieces has its header and its number, and it stands there once
+abbrev pub StandsOnce : List Piece → Piece → Type 0
+StandsOnce pieces p = filter (is_numbered p.header p.number) pieces ≡ p ∷ []
+
+-- all pieces of the text are among these, in whichever order, and beside whichever others
+abbrev pub AreAllThere : Header → Text → List Piece → Type 0
+AreAllThere h text pieces = All (λ k. StandsOnce pieces (piece_at h text k)) (numbers_of h.length)

@@ -1,19 +1,21 @@
 -- What holds of the texts of datagrams and notes, and of pieces.
-use Rattle.std.specs.Prelude.{◌≡◌, ◌<◌, ◌++◌, ℕ, All, List, [], ◌∷◌, flat_map, length, slice_get, slice_index, Option, None, Some, Result, Ok}
+use Rattle.std.specs.Prelude.{◌≡◌, ◌<◌, ◌≤◌, ◌+◌, ◌++◌, ◌↔◌, ℕ, All, List, [], flat_map, length, map, slice_get, slice_index, Option, None, Some, option_map, Ok}
+use Rattle.std.specs.List.{range_with_len}
 use Rattle.faults.specs.Bytes.{Text}
 use Rattle.package_record.specs.Build.{build_text}
 use Rattle.ballots.specs.declared.message.Message.{Message}
 use Rattle.ballots.specs.declared.message.Note.{Note}
 use Rattle.ballots.specs.Value.{Value}
 use Rattle.wire.specs.Messages.{IsMessage, IsNote}
-use Rattle.wire.specs.Pieces.{IsDatagram, IsHeader, carried_in, header_with, message_with, split_of}
+use Rattle.wire.specs.Joining.{AreAllThere, bytes_of}
+use Rattle.wire.specs.Pieces.{IsDatagram, IsHeader, carried_in, header_with, message_with, piece_size, split_of}
 use Rattle.wire.specs.Reading.{datagram_of, joined, note_of}
 use Rattle.wire.specs.Spelling.{datagram_text, note_text}
 use Rattle.wire.specs.declared.datagram.Carrier.{Carrier}
 use Rattle.wire.specs.declared.datagram.Datagram.{Datagram}
-use Rattle.wire.specs.declared.datagram.Datagram.TheVariants.{Whole, Piece}
+use Rattle.wire.specs.declared.datagram.Datagram.TheVariants as datagrams
 use Rattle.wire.specs.declared.datagram.Header.{Header}
-use Rattle.wire.specs.declared.datagram.Piece as pieces
+use Rattle.wire.specs.declared.datagram.Piece.{Piece}
 
 -- ---- texts
 
@@ -52,24 +54,27 @@ NoNoteBeginsAnother =
 
 -- the header of a piece
 abbrev pub header_in : Datagram → Option Header
-header_in (Whole m) = None
-header_in (Piece p) = Some p.header
+header_in (datagrams.Whole m) = None
+header_in (datagrams.Piece p) = Some p.header
 
 -- the number of a piece
 abbrev pub number_in : Datagram → Option ℕ
-number_in (Whole m) = None
-number_in (Piece p) = Some p.number
+number_in (datagrams.Whole m) = None
+number_in (datagrams.Piece p) = Some p.number
 
 -- the bytes of a piece
 abbrev pub bytes_in : Datagram → Text
-bytes_in (Whole m) = []
-bytes_in (Piece p) = p.bytes
+bytes_in (datagrams.Whole m) = []
+bytes_in (datagrams.Piece p) = p.bytes
 
--- the datagrams are all pieces that such a header has, in order of number, and their bytes are the build's text
+-- The datagrams are the pieces of the build's text, and nothing else: they have one header, their numbers are 0, 1, .., and
+-- their bytes are that text. Each has as many as a piece may have, and the last one some of them.
 pub record AreItsPieces (h : Header) (v : Value) (ds : List Datagram) : Type 0 where
   pub headers : All (λ d. header_in d ≡ Some h) ds
-  pub each : (k : ℕ) → k < length ds → (d : Datagram) × (slice_get ds k ≡ Some d) × (number_in d ≡ Some k)
+  pub numbers : map number_in ds ≡ map Some (range_with_len 0 (length ds))
   pub bytes : flat_map bytes_in ds ≡ build_text v
+  pub full : (k : ℕ) → k + 1 < length ds → option_map (λ d. length (bytes_in d)) (slice_get ds k) ≡ Some piece_size
+  pub last : All (λ d. (1 ≤ length (bytes_in d)) × (length (bytes_in d) ≤ piece_size)) ds
 
 -- each datagram of a message can be written down
 abbrev pub MessagesAreSplitIntoDatagrams : Type 0
@@ -86,6 +91,29 @@ abbrev pub PiecesJoinToTheMessage : Type 0
 PiecesJoinToTheMessage =
     (m : Message Value) (carrier : Carrier) (v : Value)
     → IsMessage m → carried_in m.body ≡ Some (carrier, v) → joined (header_with m carrier v) (build_text v) ≡ Ok m
+
+-- and so do pieces that came in another order, or beside pieces of other messages, if none of them is missing
+abbrev pub PiecesJoinInAnyOrder : Type 0
+PiecesJoinInAnyOrder =
+    (m : Message Value) (carrier : Carrier) (v : Value) (pieces : List Piece)
+    → IsMessage m → carried_in m.body ≡ Some (carrier, v) → AreAllThere (header_with m carrier v) (build_text v) pieces
+    → joined (header_with m carrier v) (bytes_of (header_with m carrier v) pieces) ≡ Ok m
+
+-- the two messages say the same, but for the build that each carries; of the builds only the lengths are the same
+pub record AreAlikeButForTheBuild (m n : Message Value) (c d : Carrier) (v w : Value) : Type 0 where
+  pub sender : m.sender ≡ n.sender
+  pub tree : m.tree ≡ n.tree
+  pub path : m.path ≡ n.path
+  pub carrier : c ≡ d
+  pub as_long : length (build_text v) ≡ length (build_text w)
+
+-- What equal headers of two messages say, and what makes them equal: the sender, the tree, the unit, the kind and its claims,
+-- and how long the build's text is. That the builds are one does not follow: only who sends can see to that.
+abbrev pub EqualHeadersSayWhatIsAlike : Type 0
+EqualHeadersSayWhatIsAlike =
+    (m n : Message Value) (c d : Carrier) (v w : Value)
+    → carried_in m.body ≡ Some (c, v) → carried_in n.body ≡ Some (d, w)
+    → (header_with m c v ≡ header_with n d w) ↔ AreAlikeButForTheBuild m n c d v w
 
 -- A header says all of a message but its build: messages with one header and one build are one.
 abbrev pub HeadersSayAllButTheBuild : Type 0
@@ -108,6 +136,7 @@ pub record IsJoined (h : Header) (text : Text) (m : Message Value) : Type 0 wher
   pub spelled : text ≡ build_text build
   pub header : header_with m h.carrier build ≡ h
 
+-- what joins is a message
 abbrev pub WhatIsJoinedIsAMessage : Type 0
 WhatIsJoinedIsAMessage =
     (h : Header) (text : Text) (m : Message Value)

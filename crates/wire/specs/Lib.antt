@@ -5,4 +5,4 @@ pub mod Spelling
 pub mod Reading
 pub mod Joining
 pub mod Laws
-pub mod Inside
+pub mod inside

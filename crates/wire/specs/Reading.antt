@@ -1,5 +1,5 @@
 -- Reading from left to right, with the first fault that is met.
-use Rattle.std.specs.Prelude.{◌*◌, ◌-◌, ◌==◌, ◌&&◌, ℕ, min, Bool, true, false, not, nat_le, nat_lt, List, [], ◌∷◌, None, Some, Result, Ok, Err, codes, drop, length, slice_index, take, if◌then◌else◌}
+use Rattle.std.specs.Prelude.{◌*◌, ◌-◌, ◌==◌, ◌&&◌, ℕ, min, nat_le, nat_lt, [], ◌∷◌, None, Result, Ok, Err, codes, drop, length, slice_index, take, if◌then◌else◌}
 use Rattle.std.specs.Str.{bytes_eq}
 use Rattle.byteorder.specs.Endian.{big_number}
 use Rattle.faults.specs.Bytes.{Text, is_empty, is_one_of}

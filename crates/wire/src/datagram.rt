@@ -71,8 +71,8 @@ pub enum Carrier {
     Agreed,
 }
 
-/// What the pieces of one message have in common: all that the message says but the build, and how long the build's text
-/// is.
+/// What the pieces of one message have in common: all that the message says but the build, and how
+/// long the build's text is.
 #[derive(Drop)]
 pub struct Header {
     /// The number of the member that sends it.
@@ -111,7 +111,8 @@ impl Carrier {
         ensures { result ≡ same_carrier self other }
     {
         match (self, other) {
-            (Carrier::Promise(a, b), Carrier::Promise(c, d)) => is_same_claim(a, c) && is_same_claim(b, d),
+            (Carrier::Promise(a, b), Carrier::Promise(c, d)) => is_same_claim(a, c)
+                && is_same_claim(b, d),
             (Carrier::Propose(a), Carrier::Propose(b)) => is_same_claim(a, b),
             (Carrier::Agreed, Carrier::Agreed) => true,
             _ => false,

@@ -1,6 +1,6 @@
 //! Bytes as a datagram.
 ghost use Rattle.std.specs.Prelude.{◌≡◌};
-ghost use Rattle.wire.specs.Inside.Given.{Gives};
+ghost use Rattle.wire.specs.inside.Given.{Gives};
 ghost use Rattle.wire.specs.Reading.{
   body_at,
   carrier_at,

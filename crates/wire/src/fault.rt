@@ -1,6 +1,6 @@
 //! Why bytes could not be read.
 ghost use Rattle.std.specs.Prelude.{◌≡◌};
-ghost use Rattle.wire.specs.Inside.Given.{refusal_of};
+ghost use Rattle.wire.specs.inside.Given.{refusal_of};
 ghost use Rattle.wire.specs.declared.fault.ReadError.TheVariants.{Memory as out_of_memory};
 
 use crate::WireFault;

@@ -1,7 +1,7 @@
 //! The fields that datagrams and notes are made of, each read from the front of what is left.
 ghost use Rattle.std.specs.Prelude.{◌≡◌, ◌≤◌, IfOk, length};
 ghost use Rattle.package_record.specs.BuildReading.{whole_build_of};
-ghost use Rattle.wire.specs.Inside.Given.{Gives};
+ghost use Rattle.wire.specs.inside.Given.{Gives};
 ghost use Rattle.wire.specs.Reading.{
   build_at,
   build_in,

@@ -100,7 +100,8 @@ fn text_of(alloc: Global, build: Build) -> Result<Vec<u8>, Memory>
     Ok(text)
 }
 
-/// The datagrams in which the message goes out, in order of number: one, or its pieces if it carries a build.
+/// The datagrams in which the message goes out: one, or its pieces in order of number if it carries
+/// a build. The message is taken apart, and its build is let go before the first piece is made.
 pub fn split(alloc: Global, message: Message) -> Result<Vec<Datagram>, Memory>
     requires { IsMessage message }
     ensures { IfOk result (λ datagrams. datagrams.items ≡ split_of message) }
@@ -134,8 +135,8 @@ pub fn split(alloc: Global, message: Message) -> Result<Vec<Datagram>, Memory>
     pieces::cut(alloc, &header, text.as_slice())
 }
 
-/// The message that these pieces make: those with the header, in order of number, in whichever order they came. Bytes that
-/// are no build, or the build of another unit, are `BadField`.
+/// The message that these pieces make: those with the header, in order of number, in whichever
+/// order they came. Bytes that are no build, or the build of another unit, are `BadField`.
 pub fn join(alloc: Global, header: Header, pieces: &[Piece]) -> Result<Message, WireFault>
     ensures { IsRightUnless WireFault.Memory result (joined header (bytes_of header pieces.now)) }
 {
@@ -164,8 +165,10 @@ pub fn encode(datagram: &Datagram, out: &mut Vec<u8>) -> Result<(), Memory>
     }
 }
 
-/// The datagram whose text this is. It is tested in this order: the length, and then its fields from the left, each whole
-/// and then in its range; bytes behind the last are `Trailing`.
+/// The datagram whose text this is. It is tested in this order: the length, which is `TooLong` over
+/// `LONGEST`, and then its fields from the left, each whole (`Truncated`) and then in its range:
+/// the four bytes in front (`Magic`), the kind (`Kind`), and all others (`BadField`). Bytes behind
+/// the last are `Trailing`.
 pub fn decode(alloc: Global, text: &[u8]) -> Result<Datagram, WireFault>
     ensures datagram { IfOk result (λ d. IsDatagram d × (text.now ≡ datagram_text d)) }
     ensures exact { IsRightUnless WireFault.Memory result (datagram_of text.now) }
@@ -185,7 +188,8 @@ pub fn encode_note(note: &Note, out: &mut Vec<u8>) -> Result<(), Memory>
     writing::append(out, front.as_slice(), text.as_slice())
 }
 
-/// The note whose text this is. Its fields are tested from the left; bytes behind the last are `Trailing`.
+/// The note whose text this is. Its fields are tested from the left, as those of a datagram, and
+/// bytes behind the last are `Trailing`. There is no test of the length.
 pub fn decode_note(alloc: Global, text: &[u8]) -> Result<Note, WireFault>
     ensures note { IfOk result (λ n. IsNote n × (text.now ≡ note_text n)) }
     ensures exact { IsRightUnless WireFault.Memory result (note_of text.now) }

@@ -1,6 +1,6 @@
 //! Bytes as a note.
 ghost use Rattle.std.specs.Prelude.{◌≡◌};
-ghost use Rattle.wire.specs.Inside.Given.{Gives};
+ghost use Rattle.wire.specs.inside.Given.{Gives};
 ghost use Rattle.wire.specs.Reading.{fact_at, note_at, note_of, voted_at};
 
 use crate::WireFault;
@@ -16,11 +16,7 @@ const KINDS: [u8; 4] = [1, 2, 3, 4];
 
 /// A vote for a build of this unit.
 #[tactic(auto, unfolding(crate::specs::Reading::voted_at))]
-fn voted<'a>(
-    alloc: Global,
-    unit: &PkgPath,
-    text: &'a [u8],
-) -> Result<(Fact, &'a [u8]), ReadError>
+fn voted<'a>(alloc: Global, unit: &PkgPath, text: &'a [u8]) -> Result<(Fact, &'a [u8]), ReadError>
     ensures { Gives (λ x. (x.0, x.1.now)) result (voted_at unit.now text.entry.now) }
 {
     let (claim, text) = claim(text)?;

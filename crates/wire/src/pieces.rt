@@ -2,10 +2,10 @@
 ghost use Rattle.std.specs.Prelude.{◌≡◌, ◌++◌, ◌≤◌, IfOk, OnOk, length};
 ghost use Rattle.package_record.specs.Build.{build_text};
 ghost use Rattle.package_record.specs.Content.{most_bytes};
-ghost use Rattle.wire.specs.Inside.Parts.{TakenApart};
-ghost use Rattle.wire.specs.Inside.Given.{Gives};
+ghost use Rattle.wire.specs.inside.Parts.{TakenApart};
+ghost use Rattle.wire.specs.inside.Given.{Gives};
 ghost use Rattle.wire.specs.Joining.{bytes_numbered, bytes_of};
-ghost use Rattle.wire.specs.Pieces.{body_with, most_pieces, pieces_from};
+ghost use Rattle.wire.specs.Pieces.{body_with, pieces_of};
 ghost use Rattle.wire.specs.Reading.{joined};
 
 use crate::datagram::{Bytes, Carrier, Datagram, Header, MOST_PIECES, PIECE_SIZE, Piece};
@@ -66,7 +66,8 @@ pub fn message(alloc: Global, header: Header, text: &[u8]) -> Result<Message, Re
 
 /// The piece of this number, with these bytes.
 fn piece(alloc: Global, header: &Header, number: u16, bytes: &[u8]) -> Result<Datagram, Memory>
-    ensures { IfOk result (λ d. d ≡ Datagram.Piece (record { header = header.now; number = number; bytes = bytes.now })) }
+    ensures { IfOk result (λ d. d
+        ≡ Datagram.Piece (record { header = header.now; number = number; bytes = bytes.now })) }
 {
     let header = header.copy()?;
     let bytes = Bytes::new(Vec::from_slice(alloc, bytes)?);
@@ -80,7 +81,7 @@ fn piece(alloc: Global, header: &Header, number: u16, bytes: &[u8]) -> Result<Da
 /// The pieces of a build's text, in order of number.
 pub fn cut(alloc: Global, header: &Header, text: &[u8]) -> Result<Vec<Datagram>, Memory>
     requires { length text.now ≤ most_bytes }
-    ensures { IfOk result (λ pieces. pieces.items ≡ pieces_from header.now text.now most_pieces 0) }
+    ensures { IfOk result (λ pieces. pieces.items ≡ pieces_of header.now text.now) }
 {
     let mut pieces = Vec::new(alloc);
     let mut number: u16 = 0;
@@ -101,7 +102,8 @@ fn put_numbered(
     number: u16,
     pieces: &[Piece],
 ) -> Result<(), Memory>
-    ensures { OnOk result (out.new.items ≡ out.old.items ++ bytes_numbered header.now pieces.now number) }
+    ensures { OnOk result (out.new.items
+        ≡ out.old.items ++ bytes_numbered header.now pieces.now number) }
 {
     for piece in pieces {
         if piece.number == number && header.is_same(&piece.header) {

@@ -1,8 +1,8 @@
 //! The texts of datagrams and notes.
 ghost use Rattle.std.specs.Prelude.{◌≡◌, ◌++◌, ◌∷◌, ◌<◌, ◌≤◌, ◌^◌, None, IfOk, OnErr, OnOk, length};
 ghost use Rattle.byteorder.specs.Endian.{big_bytes};
-ghost use Rattle.package_record.specs.Build.{build_text};
-ghost use Rattle.pkgpath.specs.PkgPath.{IsPath};
+ghost use Rattle.package_record.specs.Build.{IsBuild, build_text};
+ghost use Rattle.wire.specs.inside.Parts.{HasGoodBuild};
 ghost use Rattle.wire.specs.Messages.{IsFact};
 ghost use Rattle.wire.specs.Pieces.{carried_in};
 ghost use Rattle.wire.specs.Spelling.{
@@ -69,7 +69,8 @@ fn put_front(
     sender: u8,
     tree: &[u8],
 ) -> Result<(), Memory>
-    ensures { OnOk result (out.new.items ≡ out.old.items ++ (magic.now ++ kind ∷ sender ∷ tree.now)) }
+    ensures { OnOk result (out.new.items
+        ≡ out.old.items ++ (magic.now ++ kind ∷ sender ∷ tree.now)) }
 {
     out.extend_from_slice(magic)?;
     out.push(kind)?;
@@ -122,7 +123,13 @@ pub fn message(alloc: Global, message: &Message) -> Result<Vec<u8>, Memory>
     ensures { IfOk result (λ text. text.items ≡ message_text message.now) }
 {
     let mut text = Vec::new(alloc);
-    put_front(&mut text, b"DPB1", kind(&message.body), message.sender, &message.tree)?;
+    put_front(
+        &mut text,
+        b"DPB1",
+        kind(&message.body),
+        message.sender,
+        &message.tree,
+    )?;
     put_path(&mut text, &message.path)?;
     put_body(&mut text, &message.body)?;
     Ok(text)
@@ -182,7 +189,9 @@ fn kind_of_fact(fact: &Fact) -> u8
 
 /// Appends how long the build's text is, and gives that text.
 fn put_size(alloc: Global, out: &mut Vec<u8>, build: &Build) -> Result<Vec<u8>, Memory>
-    ensures { IfOk result (λ text. out.new.items ++ text.items ≡ out.old.items ++ sized_build build.now) }
+    requires { IsBuild build.now }
+    ensures { IfOk result (λ text. out.new.items ++ text.items
+        ≡ out.old.items ++ sized_build build.now) }
 {
     let mut text = Vec::new(alloc);
     build.write_to(&mut text)?;
@@ -190,9 +199,12 @@ fn put_size(alloc: Global, out: &mut Vec<u8>, build: &Build) -> Result<Vec<u8>, 
     Ok(text)
 }
 
-/// Appends what is known of the unit up to the text of a build, and gives that text, which is empty where there is no build.
+/// Appends what is known of the unit up to the text of a build, and gives that text, which is empty
+/// where there is no build.
 fn put_fact(alloc: Global, out: &mut Vec<u8>, fact: &Fact) -> Result<Vec<u8>, Memory>
-    ensures { IfOk result (λ text. out.new.items ++ text.items ≡ out.old.items ++ fact_text fact.now) }
+    requires { HasGoodBuild fact.now }
+    ensures { IfOk result (λ text. out.new.items ++ text.items
+        ≡ out.old.items ++ fact_text fact.now) }
 {
     match fact {
         Fact::Opened(round) => {
@@ -213,7 +225,9 @@ fn put_fact(alloc: Global, out: &mut Vec<u8>, fact: &Fact) -> Result<Vec<u8>, Me
 
 /// The text of a note up to the text of a build, and that text.
 pub fn note(alloc: Global, path: &PkgPath, fact: &Fact) -> Result<(Vec<u8>, Vec<u8>), Memory>
-    ensures { IfOk result (λ parts. parts.0.items ++ parts.1.items ≡ note_kind fact.now ∷ path_text path.now ++ fact_text fact.now) }
+    requires { IsFact path.now fact.now }
+    ensures { IfOk result (λ parts. parts.0.items ++ parts.1.items
+        ≡ note_kind fact.now ∷ path_text path.now ++ fact_text fact.now) }
 {
     let mut front = Vec::new(alloc);
     front.push(kind_of_fact(fact))?;

@@ -1,6 +1,6 @@
 use Rattle.package_record.proofs.BuildsRead.{build_is_read}
 use Rattle.package_record.proofs.BuildsTaken.{whole_build_taken}
-use Rattle.wire.proofs.Cutting.{headers_say_all, joined_is, message_again, pieces_join, split_good, split_pieces}
+use Rattle.wire.proofs.Cutting.{equal_headers, headers_say_all, joined_is, message_again, pieces_join, pieces_join_in_any_order, split_good, split_pieces}
 use Rattle.wire.proofs.laws.pieces_join.Goals as goal
 
 pub returns-clause-datagrams : goal.returns-clause-datagrams
@@ -20,3 +20,9 @@ returns-clause-with_header c = message_again
 
 pub returns-clause-headers : goal.returns-clause-headers
 returns-clause-headers c = headers_say_all
+
+pub returns-clause-any_order : goal.returns-clause-any_order
+returns-clause-any_order c = pieces_join_in_any_order build_is_read
+
+pub returns-clause-equal_headers : goal.returns-clause-equal_headers
+returns-clause-equal_headers c = equal_headers
