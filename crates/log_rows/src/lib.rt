@@ -6,7 +6,9 @@ mod chained;
 mod failing;
 #[cfg(test)]
 mod logs;
+mod real_file;
 #[cfg(test)]
 mod rows;
 
 pub use chained::append_two;
+pub use real_file::{append_to_file, write_or_look};

@@ -3,8 +3,9 @@ use Rattle.std.proofs.Common.{◌≡◌, ⊎_elim, inl, inr, ℕ, zero, suc, ◌
 use Rattle.std.proofs.lemmas.Bool.{cases_lt}
 use Rattle.std.proofs.lemmas.List.{get_or_append_left, get_or-append_right, get_or-take, get_or-drop, get_or_past, get_or-replicate, length-replicate}
 use Rattle.stable_record.specs.Crash.{MayLeave}
-use Rattle.stable_record.specs.Events.{Event, replay, writes, cuts}
+use Rattle.stable_record.specs.Events.{Event, Past, replay, writes, cuts, fails_to_write, fails_to_cut}
 use Rattle.stable_record.specs.inside.Noted.{WereBytes}
+use Rattle.stable_record.specs.inside.Possible.{half_cut_is_one, half_written_is_torn}
 use Rattle.stable_record.specs.History.{History, IsBytes, stands, found, written, cut_to, synced, seen, overwritten}
 
 pub no_bytes : IsBytes []
@@ -56,20 +57,38 @@ left_are_bytes (cut_to len file ∷ h) c (d, left, cut) = ⊎_elim
     cut
 left_are_bytes (synced ∷ h) c is = is.1
 
--- one call more, after which a read gives bytes
-pub were_more : (e : Event) (es : List Event) → IsBytes (seen (replay (e ∷ es))) → WereBytes es → WereBytes (e ∷ es)
-were_more e es now were zero = now
-were_more e es now were (suc later) = were later
+-- in a past, which stays, one call more
+module _ (past later : Past) (same : later ≡ past) where
+  at_first : IsBytes (seen past.calls) → WereBytes past []
+  at_first start zero = start
+  at_first start (suc n) = start
 
-pub none_noted : WereBytes []
-none_noted zero = no_bytes
-none_noted (suc later) = no_bytes
+  -- before the first call
+  pub none_noted : (es : List Event) → es ≡ [] → IsBytes (seen past.calls) → WereBytes later es
+  none_noted es none start = subst (λ p. WereBytes p es) (sym same) (subst (WereBytes past) (sym none) (at_first start))
 
-pub noted : (e : Event) (es es' : List Event) → es' ≡ e ∷ es → IsBytes (seen (replay (e ∷ es))) → WereBytes es → WereBytes es'
-noted e es es' is now were = subst WereBytes (sym is) (were_more e es now were)
+  were_more : (e : Event) (es : List Event) → IsBytes (seen (replay past (e ∷ es))) → WereBytes past es → WereBytes past (e ∷ es)
+  were_more e es now were zero = now
+  were_more e es now were (suc n) = were n
 
-pub noted_write : (at : ℕ) (bytes : List ℕ) (es es' : List Event) → es' ≡ writes at bytes ∷ es → IsBytes bytes → WereBytes es → WereBytes es'
-noted_write at bytes es es' is are were = noted (writes at bytes) es es' is (bytes-overwritten at bytes (seen (replay es)) are (were 0)) were
+  module _ (es es' : List Event) (were : WereBytes past es) where
+    -- after which a read gives bytes
+    pub noted : (e : Event) → es' ≡ e ∷ es → IsBytes (seen (replay past (e ∷ es))) → WereBytes later es'
+    noted e is now = subst (λ p. WereBytes p es') (sym same) (subst (WereBytes past) (sym is) (were_more e es now were))
 
-pub noted_cut : (len : ℕ) (es es' : List Event) → es' ≡ cuts len ∷ es → WereBytes es → WereBytes es'
-noted_cut len es es' is were = noted (cuts len) es es' is (bytes-take len (seen (replay es)) (were 0)) were
+    pub noted_write : (at : ℕ) (bytes : List ℕ) → es' ≡ writes at bytes ∷ es → IsBytes bytes → WereBytes later es'
+    noted_write at bytes is are = noted (writes at bytes) is (bytes-overwritten at bytes (seen (replay past es)) are (were 0))
+
+    pub noted_cut : (len : ℕ) → es' ≡ cuts len ∷ es → WereBytes later es'
+    noted_cut len is = noted (cuts len) is (bytes-take len (seen (replay past es)) (were 0))
+
+    -- which failed
+    pub noted_failed_write : (at count : ℕ) → es' ≡ fails_to_write at count ∷ es → WereBytes later es'
+    noted_failed_write at count is = noted (fails_to_write at count) is (half_written_is_torn past es at count (seen (replay past es)) (were 0)).are_bytes
+
+    pub noted_failed_cut : (len : ℕ) → es' ≡ fails_to_cut len ∷ es → WereBytes later es'
+    noted_failed_cut len is = noted (fails_to_cut len) is
+        (⊎_elim
+        (λ all. subst IsBytes (sym all) (were 0))
+        (λ gone. subst IsBytes (sym gone) (bytes-take len (seen (replay past es)) (were 0)))
+        (half_cut_is_one past es len (seen (replay past es))))

@@ -1,15 +1,16 @@
 -- A byte put into ranges of a file, and what a disk in memory may leave.
-use Rattle.std.proofs.Common.{◌≡◌, ⊎_elim, inl, inr, ℕ, zero, suc, ◌+◌, ◌-◌, ◌<◌, ◌==◌, true, false, min, max, List, [], ◌∷◌, ◌++◌, length, take, drop, replicate, refl, sym, ◌∙◌, ap, arith, append_assoc, length-append, length-take, length-drop}
+use Rattle.std.proofs.Common.{◌≡◌, ⊎_elim, inl, inr, ℕ, zero, suc, ◌+◌, ◌-◌, ◌<◌, ◌≤◌, ◌==◌, true, false, min, max, List, [], ◌∷◌, ◌++◌, length, take, drop, replicate, refl, sym, ◌∙◌, ap, subst, arith, append_assoc, length-append, length-take, length-drop}
 use Rattle.std.proofs.lemmas.Bool.{cases_lt}
-use Rattle.std.proofs.lemmas.List.{take_at, drop_all, drop_at, length-replicate}
+use Rattle.std.proofs.lemmas.List.{append-nil, nil_from_length, take_at, take-append-drop, drop_all, drop_at, length-replicate}
 use Rattle.stable_record.specs.declared.mem_disk.Left.{Left}
 use Rattle.stable_record.specs.declared.mem_disk.Left.TheVariants.{Before, Written, Fill}
 use Rattle.stable_record.specs.Crash.{MayLeave, Torn}
-use Rattle.stable_record.specs.Events.{Event, replay, holds, was_there, writes, cuts, syncs, reads, measures, fails}
+use Rattle.stable_record.specs.Events.{Event, half_written, replay, holds, writes, cuts, syncs, reads, measures, fails_to_write, fails_to_cut}
 use Rattle.stable_record.specs.inside.Noted.{WereBytes}
 use Rattle.stable_record.specs.History.{History, IsBytes, written, seen, overwritten}
 use Rattle.stable_record.specs.Memory.{on_disk, unsynced, blanked, filled, left_file}
-use Rattle.stable_record.specs.inside.Possible.{replay_possible, unchanged}
+use Rattle.stable_record.specs.Pasts.{no_past}
+use Rattle.stable_record.specs.inside.Possible.{half_written_is_torn, overwritten_is_torn, replay_possible, unchanged}
 use Rattle.stable_record.proofs.Bytes.{bytes-append, bytes-take, bytes-drop, bytes-replicate}
 
 -- one range, place by place
@@ -97,37 +98,48 @@ bytes-filled : (b : ℕ) → b < 256 → (rs : List (ℕ × ℕ)) (f : List ℕ)
 bytes-filled b byte [] f are = are
 bytes-filled b byte (r ∷ rs) f are = bytes-filled b byte rs (blanked b r f) (bytes-blanked b byte r f are)
 
--- a write whose bytes are any others
-module _ (b at first : ℕ) (more f : List ℕ) (rs : List (ℕ × ℕ)) where
-  abbrev bytes : List ℕ
-  bytes = first ∷ more
+-- a write of no bytes leaves the file as it is
+torn_nowhere : (at : ℕ) (f after : List ℕ) → Torn at 0 f after → after ≡ f
+torn_nowhere at f after torn =
+    let same : length after ≡ length f = omega (arith, torn.no_shorter, torn.no_longer) in
+    let ends : at + 0 ≡ at = omega arith in
+    let long : length after ≡ length (take at f) + length torn.middle + length (drop (at + 0) f) =
+    omega (arith, ap length torn.parts, length-append (take at f ++ torn.middle) (drop (at + 0) f), length-append (take at f) torn.middle) in
+    let none : length torn.middle ≡ 0 = omega (arith, same, long, length-take at f, length-drop (at + 0) f) in
+    torn.parts
+    ∙ ap (λ m. take at f ++ m ++ drop (at + 0) f) (nil_from_length torn.middle none)
+    ∙ ap (λ l. l ++ drop (at + 0) f) (append-nil (take at f))
+    ∙ ap (λ k. take at f ++ drop k f) ends
+    ∙ take-append-drop at f
 
-  abbrev after : List ℕ
-  after = overwritten at bytes f
+-- a write that left any bytes in its range
+module _ (b at more : ℕ) (f after : List ℕ) (torn : Torn at (suc more) f after) (rs : List (ℕ × ℕ)) where
+  abbrev size : ℕ
+  size = suc more
 
   abbrev start : ℕ
   start = min at (length f)
 
-  abbrev zeros : List ℕ
-  zeros = replicate (at - length f) 0
-
   abbrev back : List ℕ
-  back = drop (at + length bytes) f
+  back = drop (at + size) f
 
-  long : length (take at f ++ zeros ++ bytes) ≡ at + length bytes
-  long =
-      omega (arith, length-append (take at f ++ zeros) bytes, length-append (take at f) zeros, length-replicate {A = ℕ} (at - length f) 0, length-take at f)
-
-  length_after : length after ≡ max (length f) (at + length bytes)
-  length_after = omega (arith, long, length-append (take at f ++ zeros ++ bytes) back, length-drop (at + length bytes) f)
+  long : length after ≡ length (take at f) + length torn.middle + length back
+  long = omega (arith, ap length torn.parts, length-append (take at f ++ torn.middle) back, length-append (take at f) torn.middle)
 
   front_same : take start after ≡ take at f
   front_same =
-      ap (take start) (append_assoc (take at f ++ zeros) bytes back ∙ append_assoc (take at f) zeros (bytes ++ back))
-      ∙ take_at (take at f) (zeros ++ (bytes ++ back)) start (length-take at f)
+      ap (take start) (torn.parts ∙ append_assoc (take at f) torn.middle back)
+      ∙ take_at (take at f) (torn.middle ++ back) start (length-take at f)
 
-  back_same : drop (at + length bytes) after ≡ back
-  back_same = drop_at (take at f ++ zeros ++ bytes) back (at + length bytes) long
+  -- the file goes on behind the range, and is as long as before
+  same_size : at + size ≤ length f → length after ≡ length f
+  same_size within = omega (arith, within, torn.no_shorter, torn.no_longer)
+
+  back_same : at + size ≤ length f → drop (at + size) after ≡ back
+  back_same within =
+      ap (drop (at + size)) torn.parts
+      ∙ drop_at (take at f ++ torn.middle) back (at + size)
+      (omega (arith, within, same_size within, long, length-append (take at f) torn.middle, length-take at f, length-drop (at + size) f))
 
   abbrev old : List ℕ
   old = filled b rs f
@@ -135,81 +147,100 @@ module _ (b at first : ℕ) (more f : List ℕ) (rs : List (ℕ × ℕ)) where
   abbrev wet : List ℕ
   wet = filled b rs after
 
-  drop_same : drop (at + length bytes) wet ≡ drop (at + length bytes) old
+  drop_same : drop (at + size) wet ≡ drop (at + size) old
   drop_same = ⊎_elim
-      (λ within. drop-filled b rs (at + length bytes) after f (omega (arith, length_after, within)) back_same)
       (λ past.
-      drop_all (at + length bytes) wet (omega (arith, past, length_after, length-filled b rs after))
-      ∙ sym (drop_all (at + length bytes) old (omega (arith, past, length-filled b rs f)))) (cases_lt (at + length bytes) (length f))
+      drop_all (at + size) wet (omega (arith, past, torn.no_longer, length-filled b rs after))
+      ∙ sym (drop_all (at + size) old (omega (arith, past, length-filled b rs f))))
+      (λ within. drop-filled b rs (at + size) after f (same_size within) (back_same within)) (cases_lt (length f) (at + size))
 
   take_same : take start wet ≡ take at old
   take_same = take-filled b rs start after ∙ ap (filled b rs) front_same ∙ sym (take-filled b rs at f)
 
-  abbrev count : ℕ
-  count = at + length bytes - start
+  abbrev wet_size : ℕ
+  wet_size = at + size - start
 
-  any_bytes : b < 256 → IsBytes after → Torn at (length bytes) old (filled b (rs ++ (start, count) ∷ []) after)
-  any_bytes byte were =
-      let middle = replicate (length (take count (drop start wet))) b in
-      let size : length (filled b (rs ++ (start, count) ∷ []) after) ≡ max (length f) (at + length bytes) = length-filled b (rs ++ (start, count) ∷ []) after ∙ length_after in
-      let ends : start + count ≡ at + length bytes = omega arith in
+  any_bytes : b < 256 → Torn at size old (filled b (rs ++ (start, wet_size) ∷ []) after)
+  any_bytes byte =
+      let middle = replicate (length (take wet_size (drop start wet))) b in
+      let as_long : length (filled b (rs ++ (start, wet_size) ∷ []) after) ≡ length after = length-filled b (rs ++ (start, wet_size) ∷ []) after in
+      let ends : start + wet_size ≡ at + size = omega arith in
       record {
         middle = middle;
         parts =
-            filled-push b rs (start, count) after
-            ∙ ap (λ l. l ++ middle ++ drop (start + count) wet) take_same
+            filled-push b rs (start, wet_size) after
+            ∙ ap (λ l. l ++ middle ++ drop (start + wet_size) wet) take_same
             ∙ ap (λ k. take at old ++ middle ++ drop k wet) ends
             ∙ ap (λ l. take at old ++ middle ++ l) drop_same;
-        no_shorter = omega (arith, size, length-filled b rs f);
-        no_longer = omega (arith, size, length-filled b rs f);
-        are_bytes = bytes-filled b byte (rs ++ (start, count) ∷ []) after were;
+        no_shorter = omega (arith, as_long, length-filled b rs f, torn.no_shorter);
+        no_longer = omega (arith, as_long, length-filled b rs f, torn.no_longer);
+        are_bytes = bytes-filled b byte (rs ++ (start, wet_size) ∷ []) after torn.are_bytes;
       }
 
+-- the calls of a disk in memory
+abbrev calls : List Event → History
+calls es = replay no_past es
+
+abbrev Were : List Event → Type 0
+Were = WereBytes no_past
+
 -- the bytes as of the last sync
-on_disk_bytes : (es : List Event) → WereBytes es → IsBytes (on_disk (replay es))
+on_disk_bytes : (es : List Event) → Were es → IsBytes (on_disk (calls es))
 on_disk_bytes [] were = were 0
 on_disk_bytes (holds file ∷ es) were = were 0
-on_disk_bytes (was_there file ∷ es) were = were 0
 on_disk_bytes (writes at bs ∷ es) were = on_disk_bytes es (λ k. were (suc k))
 on_disk_bytes (cuts len ∷ es) were = on_disk_bytes es (λ k. were (suc k))
 on_disk_bytes (syncs ∷ es) were = were 0
 on_disk_bytes (reads at room bs ∷ es) were = on_disk_bytes es (λ k. were (suc k))
 on_disk_bytes (measures len ∷ es) were = on_disk_bytes es (λ k. were (suc k))
-on_disk_bytes (fails ∷ es) were = on_disk_bytes es (λ k. were (suc k))
+on_disk_bytes (fails_to_write at count ∷ es) were = on_disk_bytes es (λ k. were (suc k))
+on_disk_bytes (fails_to_cut len ∷ es) were = on_disk_bytes es (λ k. were (suc k))
 
-before_possible : (es : List Event) → WereBytes es → MayLeave (replay es) (on_disk (replay es))
+-- a write of so many bytes that left nothing on the disk
+not_there : (at count : ℕ) (es : List Event) → Were es → MayLeave (calls es) (on_disk (calls es))
+    → (d : List ℕ) × MayLeave (calls es) d × Torn at count d (on_disk (calls es))
+not_there at count es were so_far = (on_disk (calls es), so_far, unchanged at count (on_disk (calls es)) (on_disk_bytes es were))
+
+before_possible : (es : List Event) → Were es → MayLeave (calls es) (on_disk (calls es))
 before_possible [] were = refl
 before_possible (holds file ∷ es) were = (refl, were 0)
-before_possible (was_there file ∷ es) were = were 0
-before_possible (writes at bs ∷ es) were =
-    let so_far : WereBytes es = λ k. were (suc k) in
-    (on_disk (replay es), before_possible es so_far, unchanged at (length bs) (on_disk (replay es)) (on_disk_bytes es so_far))
-before_possible (cuts len ∷ es) were = (on_disk (replay es), before_possible es (λ k. were (suc k)), inl refl)
+before_possible (writes at bs ∷ es) were = not_there at (length bs) es (λ k. were (suc k)) (before_possible es (λ k. were (suc k)))
+before_possible (cuts len ∷ es) were = (on_disk (calls es), before_possible es (λ k. were (suc k)), inl refl)
 before_possible (syncs ∷ es) were = (refl, were 0)
 before_possible (reads at room bs ∷ es) were = before_possible es (λ k. were (suc k))
 before_possible (measures len ∷ es) were = before_possible es (λ k. were (suc k))
-before_possible (fails ∷ es) were = before_possible es (λ k. were (suc k))
+before_possible (fails_to_write at count ∷ es) were = not_there at count es (λ k. were (suc k)) (before_possible es (λ k. were (suc k)))
+before_possible (fails_to_cut len ∷ es) were = (on_disk (calls es), before_possible es (λ k. were (suc k)), inl refl)
 
-fill_possible : (b : ℕ) → b < 256 → (es : List Event) → WereBytes es → MayLeave (replay es) (filled b (unsynced (replay es)) (seen (replay es)))
+-- every unsynced place with one byte
+abbrev wetted : ℕ → History → List ℕ
+wetted b h = filled b (unsynced h) (seen h)
+
+-- a write more
+wetted_write : (b at count : ℕ) → b < 256 → (after : List ℕ) (es : List Event) → Were es → Torn at count (seen (calls es)) after → MayLeave (calls es) (wetted b (calls es))
+    → (d : List ℕ) × MayLeave (calls es) d × Torn at count d (wetted b (written at count after ∷ calls es))
+wetted_write b at zero byte after es were torn so_far =
+    let h = calls es in
+    let wet = wetted b h in
+    (wet, so_far, subst (λ f. Torn at 0 wet (filled b (unsynced h) f)) (sym (torn_nowhere at (seen h) after torn)) (unchanged at 0 wet (bytes-filled b byte (unsynced h) (seen h) (were 0))))
+wetted_write b at (suc more) byte after es were torn so_far =
+    let h = calls es in (wetted b h, so_far, any_bytes b at more (seen h) after torn (unsynced h) byte)
+
+fill_possible : (b : ℕ) → b < 256 → (es : List Event) → Were es → MayLeave (calls es) (wetted b (calls es))
 fill_possible b byte [] were = refl
 fill_possible b byte (holds file ∷ es) were = (refl, were 0)
-fill_possible b byte (was_there file ∷ es) were = were 0
-fill_possible b byte (writes at [] ∷ es) were =
-    let h = replay es in
-    let so_far : WereBytes es = λ k. were (suc k) in
-    let wet = filled b (unsynced h) (seen h) in (wet, fill_possible b byte es so_far, unchanged at 0 wet (bytes-filled b byte (unsynced h) (seen h) (so_far 0)))
-fill_possible b byte (writes at (first ∷ more) ∷ es) were =
-    let h = replay es in (
-      filled b (unsynced h) (seen h),
-      fill_possible b byte es (λ k. were (suc k)),
-      any_bytes b at first more (seen h) (unsynced h) byte (were 0),
-    )
+fill_possible b byte (writes at bs ∷ es) were =
+    let so_far : Were es = λ k. were (suc k) in
+    wetted_write b at (length bs) byte (overwritten at bs (seen (calls es))) es so_far (overwritten_is_torn at bs (seen (calls es)) (were 0)) (fill_possible b byte es so_far)
 fill_possible b byte (cuts len ∷ es) were =
-    let h = replay es in (filled b (unsynced h) (seen h), fill_possible b byte es (λ k. were (suc k)), inr (sym (take-filled b (unsynced h) len (seen h))))
+    let h = calls es in (wetted b h, fill_possible b byte es (λ k. were (suc k)), inr (sym (take-filled b (unsynced h) len (seen h))))
 fill_possible b byte (syncs ∷ es) were = (refl, were 0)
 fill_possible b byte (reads at room bs ∷ es) were = fill_possible b byte es (λ k. were (suc k))
 fill_possible b byte (measures len ∷ es) were = fill_possible b byte es (λ k. were (suc k))
-fill_possible b byte (fails ∷ es) were = fill_possible b byte es (λ k. were (suc k))
+fill_possible b byte (fails_to_write at count ∷ es) were =
+    let so_far : Were es = λ k. were (suc k) in
+    wetted_write b at count byte (half_written no_past es at count (seen (calls es))) es so_far (half_written_is_torn no_past es at count (seen (calls es)) (so_far 0)) (fill_possible b byte es so_far)
+fill_possible b byte (fails_to_cut len ∷ es) were = (wetted b (calls es), fill_possible b byte es (λ k. were (suc k)), inl refl)
 
 -- the byte that the disk is told to leave is one
 abbrev pub TellsByte : Left → Type 0
@@ -224,7 +255,7 @@ unsynced_push at [] file h some = absurd (let e : true ≡ false = some in cc)
 unsynced_push at (x ∷ xs) file h some = refl
 
 -- what a disk in memory is told to leave is among what a crash may leave
-pub left_possible : (left : Left) (es : List Event) → TellsByte left → WereBytes es → MayLeave (replay es) (left_file left (replay es))
+pub left_possible : (left : Left) (es : List Event) → TellsByte left → Were es → MayLeave (calls es) (left_file left (calls es))
 left_possible Before es byte were = before_possible es were
-left_possible Written es byte were = replay_possible es were
+left_possible Written es byte were = replay_possible no_past es were
 left_possible (Fill b) es byte were = fill_possible b byte es were

@@ -1,4 +1,4 @@
-mod Along
+pub mod Along
 mod Answered
 mod AsLeft
 mod Bytes

@@ -3,11 +3,12 @@ use Rattle.std.specs.Prelude.{◌-◌, min, length, vec_capacity}
 use Rattle.stable_record.specs.declared.mem_disk.MemDisk.{MemDisk}
 use Rattle.stable_record.specs.Events.{replay}
 use Rattle.stable_record.specs.History.{History}
+use Rattle.stable_record.specs.Pasts.{no_past}
 use Rattle.stable_record.specs.Room.{Room}
 
 -- the calls that touched its file
 abbrev pub mem_history : MemDisk → History
-mem_history disk = replay disk.noted.events
+mem_history disk = replay no_past disk.noted.events
 
 -- what may be written to it without want of memory
 abbrev pub mem_room : MemDisk → Room

@@ -1,3 +1,4 @@
+pub mod Coded
 pub mod Down
 pub mod Noted
 pub mod Possible

@@ -2,6 +2,7 @@
 ghost use Rattle.std.specs.Prelude.{◌≡◌, ◌≤◌, ⊤, if◌then◌else◌, IfOk, length};
 ghost use Rattle.stable_record.specs.Faults.{Cuts, ReadsAt, Syncs, Writes, counted, is_due, one_more};
 ghost use Rattle.stable_record.specs.History.{seen};
+ghost use Rattle.stable_record.specs.Pasts.{no_past};
 ghost use Rattle.stable_record.specs.Room.{UsesRoom};
 ghost use Rattle.stable_record.specs.inside.Possible.{replay_possible};
 
@@ -82,7 +83,7 @@ impl Disk for FaultDisk {
 
     ghost room = { room_of };
 
-    ghost stays_possible = { λ d. replay_possible d.inner.noted.events d.inner.were_bytes };
+    ghost stays_possible = { λ d. replay_possible no_past d.inner.noted.events d.inner.were_bytes };
 
     fn len(&mut self) -> Result<u64, DiskFault>
         ensures not_counted { IsNotCounted self.old self.new result }

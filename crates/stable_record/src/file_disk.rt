@@ -1,12 +1,13 @@
 //! A file of the operating system. Each call is noted with its answer, for clauses alone.
-ghost use Rattle.std.specs.Prelude.{◌≡◌, ◌≢◌, ◌≤◌, ◌^◌, ◌∷◌, [], ℕ, List, true, length, IfOk, IfSome};
+ghost use Rattle.std.specs.Prelude.{◌≡◌, ◌≢◌, ◌≤◌, ◌∷◌, [], length, IfOk, IfSome, IsErrOf};
 ghost use Rattle.std.specs.Path.{path_parent};
-ghost use Rattle.stable_record.specs.Events.{agrees, replay};
+ghost use Rattle.stable_record.specs.Crash.{CutOrNot, Torn};
+ghost use Rattle.stable_record.specs.Events.{Past};
 ghost use Rattle.stable_record.specs.inside.Noted.{WereBytes};
-ghost use Rattle.stable_record.specs.Faults.{one_more};
-ghost use Rattle.stable_record.specs.History.{Bytes, found};
+ghost use Rattle.stable_record.specs.Faults.{Cuts, Writes, counted, one_more};
+ghost use Rattle.stable_record.specs.History.{cut_to, seen, written};
 ghost use Rattle.stable_record.specs.inside.Possible.{replay_possible};
-ghost use Rattle.stable_record.specs.Room.{Room};
+ghost use Rattle.stable_record.specs.Room.{UsesRoom};
 
 use crate::record::Record;
 use crate::{Disk, DiskFault};
@@ -26,21 +27,26 @@ const READ: u64 = 4;
 
 const MEASURED: u64 = 5;
 
-const FAILED: u64 = 6;
+const NOT_WRITTEN: u64 = 6;
+
+const NOT_CUT: u64 = 7;
 
 /// A file of the operating system. What contracts say of its bytes, and of what a crash leaves,
-/// holds as long as each read so far gave what the history says. A write or cut that failed counts
-/// as made, so that what is said of a crash stands; once something was read or synced after it,
-/// nothing is said until the file is opened again.
+/// holds as long as each read so far gave what the history says. The history begins with the past
+/// that the file is opened with. A write or cut that failed is part of it, with a file that such a
+/// call may leave. Which file that is says the past, beforehand: whatever the device leaves, there
+/// is a past that says just that.
 #[derive(Drop)]
 pub struct FileDisk {
     file: File,
     failures: u64,
     noted: Record,
-    ghost were_bytes: { WereBytes noted.events },
+    ghost were_bytes: { WereBytes noted.past noted.events },
 }
 
 impl FileDisk {
+    ghost use Rattle.stable_record.specs.RealFile.{file_agrees, file_history, file_past};
+
     /// Opens the file at a path to read and write it, and makes an empty one where there is none.
     /// It then syncs the folder, so that a crash doesn't take a new file away, and fails where that
     /// can't be done. It has no contract: std's call to open a file says nothing of what it gives.
@@ -52,18 +58,19 @@ impl FileDisk {
         Ok(file)
     }
 
-    /// A disk over an open file. Whatever the file has is taken to be what a read gives, and
-    /// nothing is known of what a crash leaves of it.
+    /// A disk over an open file with a past, which clauses alone see: what is known of the file, and
+    /// of what a crash leaves of it. Reads that don't fit it end what is claimed, as they do later.
     pub fn new(file: File) -> FileDisk
-        ghost content: { Bytes }
-        ensures history { replay result.noted.events ≡ found content.list ∷ [] }
-        ensures kept { agrees result.noted.events ≡ true }
+        ghost past: { Past }
+        ensures past { file_past result ≡ past }
+        ensures history { file_history result ≡ past.calls }
+        ensures kept { file_agrees result }
         ensures no_failure { result.failures ≡ 0 }
     {
         FileDisk {
             file,
             failures: 0,
-            noted: Record::found(),
+            noted: Record::new(),
         }
     }
 
@@ -116,15 +123,18 @@ fn cut_file(file: &File, len: u64) -> io::Result<()> {
 }
 
 impl Disk for FileDisk {
-    ghost history = { λ d. replay d.noted.events };
+    ghost use Rattle.stable_record.specs.RealFile.{after_failed_cut, after_failed_write};
+    ghost use Rattle.stable_record.specs.RealFile.{file_agrees, file_history, file_room};
 
-    ghost is_kept = { λ d. agrees d.noted.events ≡ true };
+    ghost history = { file_history };
+
+    ghost is_kept = { file_agrees };
 
     ghost failures_of = { λ d. d.failures };
 
-    ghost room = { λ _. record { bytes = 2 ^ 64; calls = 2 ^ 32 } };
+    ghost room = { λ _. file_room };
 
-    ghost stays_possible = { λ d. replay_possible d.noted.events d.were_bytes };
+    ghost stays_possible = { λ d. replay_possible d.noted.past d.noted.events d.were_bytes };
 
     fn len(&mut self) -> Result<u64, DiskFault> {
         match self.file.metadata() {
@@ -148,29 +158,54 @@ impl Disk for FileDisk {
         }
     }
 
-    fn write_at(&mut self, at: u64, bytes: &[u8]) -> Result<(), DiskFault> {
+    fn write_at(&mut self, at: u64, bytes: &[u8]) -> Result<(), DiskFault>
+        ensures kept { file_agrees self.new → file_agrees self.old }
+        ensures effect { file_agrees self.new
+            → Writes at bytes.now (file_history self.old) (file_history self.new) result }
+        ensures cause { self.new.failures ≡ counted result self.old.failures }
+        ensures room { at ≤ length (seen (file_history self.old))
+            → UsesRoom (length bytes.now) file_room file_room result }
+
+        // A write that failed is among the calls, and left a file that is torn.
+        ensures failed { IsErrOf result DiskFault.Device
+            → (file_history self.new ≡ written at (length bytes.now)
+            (after_failed_write self.old at (length bytes.now)) ∷ file_history self.old)
+            × Torn at (length bytes.now) (seen (file_history self.old))
+            (after_failed_write self.old at (length bytes.now)) }
+    {
         match self.file.write_all_at(bytes, at) {
             Ok(()) => {
                 self.noted.note(&[WRITTEN, at], bytes);
                 Ok(())
             }
             Err(_error) => {
-                self.noted.note(&[WRITTEN, at], bytes);
-                self.noted.note(&[FAILED], &[]);
+                let count = bytes.len() as u64;
+                self.noted.note(&[NOT_WRITTEN, at, count], &[]);
                 Err(self.failed())
             }
         }
     }
 
-    fn cut(&mut self, len: u64) -> Result<(), DiskFault> {
+    fn cut(&mut self, len: u64) -> Result<(), DiskFault>
+        ensures kept { file_agrees self.new → file_agrees self.old }
+        ensures effect { file_agrees self.new
+            → Cuts len (file_history self.old) (file_history self.new) result }
+        ensures cause { self.new.failures ≡ counted result self.old.failures }
+        ensures room { UsesRoom 0 file_room file_room result }
+
+        // A cut that failed is among the calls, and was done or not.
+        ensures failed { IsErrOf result DiskFault.Device
+            → (file_history self.new ≡ cut_to len (after_failed_cut self.old len)
+            ∷ file_history self.old)
+            × CutOrNot len (seen (file_history self.old)) (after_failed_cut self.old len) }
+    {
         match cut_file(&self.file, len) {
             Ok(()) => {
                 self.noted.note(&[CUT, len], &[]);
                 Ok(())
             }
             Err(_error) => {
-                self.noted.note(&[CUT, len], &[]);
-                self.noted.note(&[FAILED], &[]);
+                self.noted.note(&[NOT_CUT, len], &[]);
                 Err(self.failed())
             }
         }

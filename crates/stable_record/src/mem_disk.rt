@@ -5,6 +5,7 @@ ghost use Rattle.stable_record.specs.Events.{replay};
 ghost use Rattle.stable_record.specs.inside.Noted.{WereBytes};
 ghost use Rattle.stable_record.specs.History.{History, overwritten, seen, stands};
 ghost use Rattle.stable_record.specs.Memory.{after_crash, blanked, filled, left_file, on_disk, unsynced};
+ghost use Rattle.stable_record.specs.Pasts.{no_past};
 ghost use Rattle.stable_record.specs.inside.Possible.{replay_possible};
 ghost use Rattle.stable_record.specs.Room.{Room};
 
@@ -45,13 +46,13 @@ pub struct MemDisk {
     /// Where the ranges begin that were written since then, and how many bytes each has.
     ranges: Vec<(usize, usize)>,
     noted: Record,
-    ghost file_is: { file.items ≡ seen (replay noted.events) },
+    ghost file_is: { file.items ≡ seen (replay no_past noted.events) },
     ghost before_is: { (if is_synced then file.items else before.items)
-        ≡ on_disk (replay noted.events) },
-    ghost ranges_are: { ranges.items ≡ unsynced (replay noted.events) },
+        ≡ on_disk (replay no_past noted.events) },
+    ghost ranges_are: { ranges.items ≡ unsynced (replay no_past noted.events) },
     ghost fits: { length file.items ≤ vec_capacity before },
     ghost fits_back: { length before.items ≤ vec_capacity file },
-    ghost were_bytes: { WereBytes noted.events },
+    ghost were_bytes: { WereBytes no_past noted.events },
 }
 
 impl MemDisk {
@@ -234,7 +235,7 @@ impl Disk for MemDisk {
 
     ghost room = { mem_room };
 
-    ghost stays_possible = { λ d. replay_possible d.noted.events d.were_bytes };
+    ghost stays_possible = { λ d. replay_possible no_past d.noted.events d.were_bytes };
 
     fn len(&mut self) -> Result<u64, DiskFault> {
         Ok(self.file.len() as u64)

@@ -1,7 +1,8 @@
 //! A list of calls that only clauses read.
 ghost use Rattle.std.specs.Prelude.{◌≡◌, ℕ, List, [], ◌∷◌};
 ghost use Rattle.std.specs.Borrow.{ftrue};
-ghost use Rattle.stable_record.specs.Events.{Event, was_there};
+ghost use Rattle.stable_record.specs.Events.{Event, Past};
+ghost use Rattle.stable_record.specs.inside.Coded.{past_code};
 ghost use Rattle.stable_record.specs.inside.Noted.{event_of};
 
 use std::marker::{Model, PhantomData};
@@ -9,6 +10,7 @@ use std::marker::{Model, PhantomData};
 #[derive(Drop)]
 pub struct Record {
     marker: PhantomData<u8>,
+    pub ghost past: { Past } by { past_code },
     pub ghost events: { List Event },
 }
 
@@ -17,19 +19,10 @@ impl Model for Record {
 }
 
 impl Record {
+    /// The record of a file with this past, before its first call.
     pub(crate) fn new() -> Record
-        ensures { result.events ≡ [] }
-    {
-        Record {
-            marker: PhantomData,
-        }
-    }
-
-    /// The record of a file that was there: it begins with the bytes that a read gives then,
-    /// whatever they are.
-    pub(crate) fn found() -> Record
-        ghost content: { List ℕ }
-        ensures { result.events ≡ was_there content ∷ [] }
+        ghost past: { Past }
+        ensures { (result.past ≡ past) × (result.events ≡ []) }
     {
         Record {
             marker: PhantomData,
@@ -38,6 +31,7 @@ impl Record {
 
     /// Notes a call: its kind and its numbers, and its bytes.
     pub(crate) fn note(&mut self, _numbers: &[u64], _bytes: &[u8])
-        ensures { self.new.events ≡ event_of _numbers.now _bytes.now ∷ self.old.events }
+        ensures { (self.new.past ≡ self.old.past)
+            × (self.new.events ≡ event_of _numbers.now _bytes.now ∷ self.old.events) }
     {}
 }

@@ -1,5 +1,6 @@
 use Rattle.std.proofs.Common.{[], arith}
+use Rattle.stable_record.specs.Pasts.{just_found}
 use Rattle.log_probe.proofs.disk_at.Given as goal
 
 abbrev pub ghost-new : goal.ghost-new
-ghost-new a = record { list = []; are_bytes = λ k. omega arith }
+ghost-new a = just_found record { list = []; are_bytes = λ k. omega arith }

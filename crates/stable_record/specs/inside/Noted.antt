@@ -1,11 +1,11 @@
 -- How calls are noted down.
 use Rattle.std.specs.Prelude.{ℕ, ◌==◌, if◌then◌else◌, List, drop, slice_index}
-use Rattle.stable_record.specs.Events.{Event, holds, writes, cuts, syncs, reads, measures, fails, replay}
+use Rattle.stable_record.specs.Events.{Event, Past, holds, writes, cuts, syncs, reads, measures, fails_to_write, fails_to_cut, replay}
 use Rattle.stable_record.specs.History.{IsBytes, seen}
 
 -- at each moment so far a read gives a file of bytes
-abbrev pub WereBytes : List Event → Type 0
-WereBytes events = (later : ℕ) → IsBytes (seen (replay (drop later events)))
+abbrev pub WereBytes : Past → List Event → Type 0
+WereBytes past events = (later : ℕ) → IsBytes (seen (replay past (drop later events)))
 
 -- the event that these numbers and bytes note down
 abbrev pub event_of : List ℕ → List ℕ → Event
@@ -17,4 +17,5 @@ event_of numbers bytes =
     if kind == 3 then syncs else
     if kind == 4 then reads (slice_index numbers 1) (slice_index numbers 2) bytes else
     if kind == 5 then measures (slice_index numbers 1) else
-    fails
+    if kind == 6 then fails_to_write (slice_index numbers 1) (slice_index numbers 2) else
+    fails_to_cut (slice_index numbers 1)

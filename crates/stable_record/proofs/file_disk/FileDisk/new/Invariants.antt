@@ -1,4 +1,4 @@
 use Rattle.stable_record.proofs.file_disk.FileDisk.new.Given as goal
 
-abbrev pub ghost-found : goal.ghost-found
-ghost-found g a = g.content.list
+abbrev pub ghost-new : goal.ghost-new
+ghost-new g a = g.past

@@ -4,4 +4,6 @@ use Rattle.stable_record.proofs.file_disk.FileDiskDisk.sync.Goals as goal
 
 pub invariant_of-self : goal.invariant_of-self
 invariant_of-self c =
-    let self = c.args.self.now in record { were_bytes = noted syncs self.noted.events c.note.new.self.events c.note.ensures (self.were_bytes 0) self.were_bytes }
+    let old = c.args.self.now in
+    let new = c.note.new.self in
+    record { were_bytes = noted old.noted.past new.past c.note.ensures.0 old.noted.events new.events old.were_bytes syncs c.note.ensures.1 (old.were_bytes 0) }

@@ -1,32 +1,42 @@
-use Rattle.std.proofs.Common.{inr, ap, ◌∙◌, ◌∷◌}
+use Rattle.std.proofs.Common.{◌≡◌, ◌∷◌, ◌∙◌, ap, inr, length, Err}
 use Rattle.std.proofs.Math.Facts.{Fits-lt-pow}
-use Rattle.stable_record.specs.Events.{replay, fails}
-use Rattle.stable_record.specs.History.{seen, overwritten}
-use Rattle.stable_record.specs.inside.Possible.{overwritten_is_torn}
-use Rattle.stable_record.proofs.Bytes.{bytes-overwritten, noted, noted_write}
+use Rattle.stable_record.specs.Events.{replay}
+use Rattle.stable_record.specs.History.{seen, written}
+use Rattle.stable_record.specs.RealFile.{after_failed_write, file_history}
+use Rattle.stable_record.specs.inside.Possible.{half_written_is_torn}
+use Rattle.stable_record.proofs.Bytes.{noted_write, noted_failed_write}
 use Rattle.stable_record.proofs.file_disk.FileDiskDisk.write_at.Goals as goal
 
 pub invariant_of-self : goal.invariant_of-self
 invariant_of-self c =
-    let self = c.args.self.now in
-    record { were_bytes = noted_write c.args.at c.args.bytes.now self.noted.events c.note.new.self.events c.note.ensures (λ k. Fits-lt-pow (c.type_inv.bytes k)) self.were_bytes }
+    let old = c.args.self.now in
+    let new = c.note.new.self in
+    record { were_bytes = noted_write old.noted.past new.past c.note.ensures.0 old.noted.events new.events old.were_bytes c.args.at c.args.bytes.now c.note.ensures.1 (λ k. Fits-lt-pow (c.type_inv.bytes k)) }
 
 pub invariant_of-self-in-Err : goal.invariant_of-self-in-Err
 invariant_of-self-in-Err c =
-    let self = c.args.self.now in
-    let were = noted_write c.args.at c.args.bytes.now self.noted.events c.note-in-Err.new.self.events c.note-in-Err.ensures (λ k. Fits-lt-pow (c.type_inv.bytes k)) self.were_bytes in
-    record { were_bytes = noted fails c.note-in-Err.new.self.events c.note-in-Err-2.new.self.events c.note-in-Err-2.ensures (were 0) were }
+    let old = c.args.self.now in
+    let new = c.note-in-Err.new.self in
+    record { were_bytes = noted_failed_write old.noted.past new.past c.note-in-Err.ensures.0 old.noted.events new.events old.were_bytes c.args.at (length c.args.bytes.now) c.note-in-Err.ensures.1 }
 
--- it counts as made
+-- it is among the calls, and torn
+pub returns-in-Err-clause-failed : goal.returns-in-Err-clause-failed
+returns-in-Err-clause-failed c = λ device.
+    let at = c.args.at in
+    let count = length c.args.bytes.now in
+    let old = c.args.self.now in
+    let new = c.note-in-Err.new.self in
+    let made : replay new.past new.events ≡ written at count (after_failed_write old at count) ∷ file_history old =
+    ap (λ p. replay p new.events) c.note-in-Err.ensures.0 ∙ ap (replay old.noted.past) c.note-in-Err.ensures.1 in (
+      ap (λ r. replay r.past r.events) c.failed.ensures.noted ∙ made,
+      half_written_is_torn old.noted.past old.noted.events at count (seen (file_history old)) (old.were_bytes 0),
+    )
+
 pub returns-in-Err-clause-effect : goal.returns-in-Err-clause-effect
 returns-in-Err-clause-effect c = λ kept.
-    let bytes = c.args.bytes.now in
-    let old = c.args.self.now.noted.events in
-    let file = seen (replay old) in
-    let are = bytes-overwritten c.args.at bytes file (λ k. Fits-lt-pow (c.type_inv.bytes k)) (c.args.self.now.were_bytes 0) in
-    let made = ap replay (ap (λ r. r.events) c.failed.ensures.noted ∙ c.note-in-Err-2.ensures ∙ ap (λ es. fails ∷ es) c.note-in-Err.ensures) in
+    let left = returns-in-Err-clause-failed c (ap Err c.failed.ensures.fault) in
     record {
       done = tt;
-      failed = λ device. inr (overwritten c.args.at bytes file, overwritten_is_torn c.args.at bytes file are, made);
+      failed = λ device. inr (after_failed_write c.args.self.now c.args.at (length c.args.bytes.now), left.1, left.0);
       refused = λ none. let fault = c.failed.ensures.fault in absurd cc;
     }

@@ -2,9 +2,10 @@ use Rattle.std.proofs.Common.{◌≡◌, ◌∙◌, ℕ, [], ◌∷◌, rules, r
 use Rattle.stable_record.specs.Events.{holds, replay}
 use Rattle.stable_record.specs.History.{IsBytes}
 use Rattle.stable_record.specs.Memory.{left_file}
+use Rattle.stable_record.specs.Pasts.{no_past}
 use Rattle.stable_record.specs.declared.mem_disk.Left.{Left}
 use Rattle.stable_record.specs.declared.mem_disk.Left.TheVariants.{Before, Written, Fill}
-use Rattle.stable_record.proofs.Bytes.{left_are_bytes, none_noted, noted}
+use Rattle.stable_record.proofs.Bytes.{left_are_bytes, no_bytes, none_noted, noted}
 use Rattle.stable_record.proofs.Filled.{TellsByte, left_possible}
 use Rattle.stable_record.proofs.mem_disk.MemDisk.crash.Goals.{in-Fill, in_default-left}
 use Rattle.stable_record.proofs.mem_disk.MemDisk.crash.Goals as goal
@@ -28,6 +29,6 @@ invariant_of-result-clause-were_bytes c =
       | in-Fill w ↦ subst TellsByte (sym w.in-Fill.is) w.fill.ensures.is_byte
       | in_default-left w ↦ no_byte_told c.args.left w.in_default-left.not-Fill
     ] in
-    let same : c.deref-2.result.now ≡ left_file c.args.left (replay events) = search rules in
-    let are = left_are_bytes (replay events) (left_file c.args.left (replay events)) (left_possible c.args.left events tells c.args.self.were_bytes) in
-    noted (holds c.deref-2.result.now) [] c.note.new.self.events (c.note.ensures ∙ ap (λ es. holds c.deref-2.result.now ∷ es) c.new-noted.ensures) (subst IsBytes (sym same) are) none_noted
+    let same : c.deref-2.result.now ≡ left_file c.args.left (replay no_past events) = search rules in
+    let are = left_are_bytes (replay no_past events) (left_file c.args.left (replay no_past events)) (left_possible c.args.left events tells c.args.self.were_bytes) in
+    noted no_past no_past refl [] c.note.new.self.events (none_noted no_past no_past refl [] refl no_bytes) (holds c.deref-2.result.now) (c.note.ensures.1 ∙ ap (λ es. holds c.deref-2.result.now ∷ es) c.new-noted.ensures.1) (subst IsBytes (sym same) are)

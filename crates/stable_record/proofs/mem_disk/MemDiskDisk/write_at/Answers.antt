@@ -1,7 +1,8 @@
-use Rattle.std.proofs.Common.{◌∙◌, rules, sym}
+use Rattle.std.proofs.Common.{◌∙◌, refl, rules, sym}
 use Rattle.std.proofs.Math.Facts.{Fits-lt-pow}
 use Rattle.stable_record.specs.Events.{replay}
 use Rattle.stable_record.specs.History.{seen, overwritten}
+use Rattle.stable_record.specs.Pasts.{no_past}
 use Rattle.stable_record.proofs.Bytes.{noted_write}
 use Rattle.stable_record.proofs.Filled.{unsynced_push}
 use Rattle.stable_record.proofs.mem_disk.MemDiskDisk.write_at.Goals as goal
@@ -10,16 +11,16 @@ use Rattle.stable_record.proofs.mem_disk.MemDiskDisk.write_at.Goals as goal
 pub invariant_of-self-clause-were_bytes : goal.invariant_of-self-clause-were_bytes
 invariant_of-self-clause-were_bytes c =
     let self = c.args.self.now in
-    noted_write c.args.at c.args.bytes.now self.noted.events c.note.new.self.events c.note.ensures (λ k. Fits-lt-pow (c.type_inv.bytes k)) self.were_bytes
+    noted_write no_past no_past refl self.noted.events c.note.new.self.events self.were_bytes c.args.at c.args.bytes.now c.note.ensures.1 (λ k. Fits-lt-pow (c.type_inv.bytes k))
 
 pub invariant_of-self-2-clause-were_bytes : goal.invariant_of-self-2-clause-were_bytes
 invariant_of-self-2-clause-were_bytes c =
     let self = c.keep_before.new.self in
-    noted_write c.args.at c.args.bytes.now self.noted.events c.note-2.new.self.events c.note-2.ensures (λ k. Fits-lt-pow (c.type_inv.bytes k)) self.were_bytes
+    noted_write no_past no_past refl self.noted.events c.note-2.new.self.events self.were_bytes c.args.at c.args.bytes.now c.note-2.ensures.1 (λ k. Fits-lt-pow (c.type_inv.bytes k))
 
 pub invariant_of-self-2-clause-ranges_are : goal.invariant_of-self-2-clause-ranges_are
 invariant_of-self-2-clause-ranges_are c =
     let bytes = c.args.bytes.now in
-    let h = replay c.keep_before.new.self.noted.events in
+    let h = replay no_past c.keep_before.new.self.noted.events in
     let pushed = unsynced_push c.args.at bytes (overwritten c.args.at bytes (seen h)) h (sym c.is_empty.ensures ∙ c.if-is_empty.false) in
     search rules
