@@ -3,7 +3,7 @@ ghost use Rattle.std.specs.Prelude.{◌≡◌, None};
 ghost use Rattle.protocol.specs.Refusals.{cause_of, number_of};
 ghost use Rattle.protocol.specs.declared.refusal.Refusal.TheVariants.{Memory as out_of_memory};
 
-use faults::{Fault, Memory};
+use faults::{Fault, WantOfMemory};
 use package_record::RecordFault;
 use thiserror::Error;
 
@@ -34,10 +34,10 @@ pub enum Refusal {
     OtherPackages,
 }
 
-impl From<Memory> for Refusal {
+impl<E: WantOfMemory> From<E> for Refusal {
     ghost from_gives = { λ _ e. e ≡ out_of_memory };
 
-    fn from(_e: Memory) -> Refusal {
+    fn from(_e: E) -> Refusal {
         Refusal::Memory
     }
 }
