@@ -1,5 +1,5 @@
 -- What a contract sees of a node: its member, the notes on its log, and the pieces that it keeps.
-use Rattle.std.specs.Prelude.{◌≡◌, ◌++◌, ◌×◌, ℕ, All, AllPairs, Bool, false, List, [], ◌∷◌, Option, None, Some}
+use Rattle.std.specs.Prelude.{◌≡◌, ◌++◌, ℕ, All, AllPairs, Bool, false, List, [], ◌∷◌, Option, None, Some}
 use Rattle.std.specs.Option.{ForSome}
 use Rattle.faults.specs.Bytes.{Text}
 use Rattle.claims.specs.Claim.{IsClaim}

@@ -1,8 +1,7 @@
 //! A node of what a file holds.
-ghost use Rattle.std.specs.Prelude.{◌≡◌, ◌<◌, ◌⊎◌, ◌×◌, All, IfErr, IfOk, Err, List, Ok, length, map, true};
-ghost use Rattle.faults.specs.Answers.{IsRightUnless};
-ghost use Rattle.ballots.specs.Weights.{AreWeights};
-ghost use Rattle.protocol.specs.Restoring.{AreOnUnits};
+ghost use Rattle.std.specs.Prelude.{◌≡◌, ◌<◌, ◌⊎◌, IfErr, IfOk, List, Ok, is_some, length, map};
+ghost use Rattle.ballots.specs.declared.message.Note as notes;
+ghost use Rattle.ballots.specs.Value.{Value};
 ghost use Rattle.stable_record.specs.Crash.{AllAlong};
 ghost use Rattle.stable_record.specs.Faults.{HasRisen};
 ghost use Rattle.stable_record.specs.History.{seen};
@@ -10,7 +9,8 @@ ghost use Rattle.stable_record.specs.Log.{note_of};
 ghost use Rattle.stable_record.specs.Opening.{Opens, OpensAsLeft};
 ghost use Rattle.node.specs.Calls.{AreNotes, IsOpenFault, IsOpened, IsUntouched};
 ghost use Rattle.node.specs.OnLog.{IsOnLog, identity, identity_of, texts_of};
-ghost use Rattle.node.specs.inside.Opening.{IsReadBy, NotesAreRead};
+ghost use Rattle.units.specs.Division.{Division, number_named};
+ghost use Rattle.node.specs.inside.Opening.{IsReadBy, told_by};
 
 use crate::noted::Noted;
 use crate::{Node, NodeFault};
@@ -105,7 +105,7 @@ fn owner(tree: &Tree, weights: &Weights, me: u8) -> Identity
 
 /// What a node answers where its log answers this.
 pub(crate) fn told(fault: LogFault) -> NodeFault
-    ensures { result ≡ Rattle.node.specs.inside.Opening.told_by fault }
+    ensures { result ≡ told_by fault }
 {
     match fault {
         LogFault::Memory => NodeFault::Memory,
@@ -119,7 +119,11 @@ fn all_notes(
     units: &Units<'_>,
     texts: &[Vec<u8>],
 ) -> Result<(Vec<Note>, Noted), NodeFault>
-    ensures { NotesAreRead units.now (map note_of texts.now) result }
+    ensures notes { IfOk result (λ r. AreNotes units.now (map note_of texts.now) r.0.items) }
+    ensures texts { IfOk result (λ r. r.1.texts ≡ map note_of texts.now) }
+    ensures bad { IfErr result (λ f. (f ≡ NodeFault.Memory)
+        ⊎ ((f ≡ NodeFault.Log LogFault.NotALog)
+        × ((given : List (notes.Note Value)) → ¬ AreNotes units.now (map note_of texts.now) given))) }
 {
     let mut notes = Vec::with_capacity(alloc, texts.len())?;
     let mut noted = Noted::new();

@@ -1,5 +1,5 @@
 //! Datagrams with their receivers.
-ghost use Rattle.std.specs.Prelude.{◌≡◌, slice_get, option_map};
+ghost use Rattle.std.specs.Prelude.{◌≡◌, [], List, ℕ, option_map, slice_get};
 ghost use Rattle.node.specs.Parcels.{parcels_to, texts_in};
 
 use std::alloc::Global;

@@ -1,5 +1,5 @@
 //! The steps of a node.
-ghost use Rattle.std.specs.Prelude.{◌≡◌, ◌⊎◌, ◌×◌, IfErr, IfOk, IsErrOf, OnOk, true};
+ghost use Rattle.std.specs.Prelude.{◌≡◌, ◌⊎◌, IfErr, IfOk, IsErrOf, OnOk, true};
 ghost use Rattle.faults.specs.Answers.{map_ok};
 ghost use Rattle.stable_record.specs.Faults.{HasRisen};
 ghost use Rattle.node.specs.Calls.{

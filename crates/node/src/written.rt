@@ -15,7 +15,7 @@ use wire::{Datagram, encode, encode_note, split};
 
 /// The note's text, if there is a note.
 pub(crate) fn note_text(alloc: Global, note: Option<&Note>) -> Result<Option<Vec<u8>>, Memory>
-    requires { ForSome (option_copied note.entry) IsNote }
+    requires { ForSome (option_copied note) IsNote }
     ensures { IfOk result (λ text. option_map (λ t. t.items) text
         ≡ option_map note_text (option_copied note.entry)) }
 {

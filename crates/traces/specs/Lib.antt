@@ -1,0 +1,7 @@
+pub mod Fields
+pub mod Events
+pub mod Trace
+pub mod Builds
+pub mod Written
+pub mod Faults
+pub mod inside
