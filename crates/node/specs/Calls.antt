@@ -18,10 +18,8 @@ use Rattle.stable_record.specs.History.{History, seen}
 use Rattle.stable_record.specs.declared.log.Log as logs
 use Rattle.stable_record.specs.declared.log_fault.LogFault.TheVariants as log
 use Rattle.stable_record.specs.Opening.{Opens}
-use Rattle.protocol.specs.declared.input.Input.{Input}
-use Rattle.protocol.specs.declared.input.Input.TheVariants as inputs
 use Rattle.units.specs.Division.{Division, IsDivision}
-use Rattle.wire.specs.Messages.{IsGoodBody, IsNote}
+use Rattle.wire.specs.Messages.{IsNote}
 use Rattle.wire.specs.Spelling.{note_text}
 
 -- what a refusal leaves of the node: pieces that don't join to a message are dropped, and after a failure of the device it
@@ -132,15 +130,6 @@ IsOpenFault tree weights me file (Log log.MustReopen) = ⊥
 IsOpenFault tree weights me file (Refused r) = ⊥
 IsOpenFault tree weights me file Stopped = ⊥
 IsOpenFault tree weights me file (Foreign f) = ⊥
-
--- A message in the input has its rounds in range, and a build in it is of its unit. Who its members are is tested.
-abbrev pub IsGoodInput : Input → Type 0
-IsGoodInput (inputs.Claim path host above) = Prim.Unit {0}
-IsGoodInput (inputs.Built path files) = Prim.Unit {0}
-IsGoodInput (inputs.Failed path) = Prim.Unit {0}
-IsGoodInput inputs.Nudge = Prim.Unit {0}
-IsGoodInput (inputs.Ask path) = Prim.Unit {0}
-IsGoodInput (inputs.Message m) = IsGoodBody m.path m.body
 
 -- Where a file was not opened nothing but syncs came of it if it is no log of this member, or its owner is another.
 abbrev pub IsUntouched : Tree → List ℕ → ℕ → NodeFault → History → History → Type 0

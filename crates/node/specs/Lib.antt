@@ -1,6 +1,7 @@
 pub mod Events
 pub mod Refusals
 pub mod Kept
+pub mod Ranges
 pub mod State
 pub mod Arrival
 pub mod Parcels

@@ -47,27 +47,20 @@ pub(crate) fn test_header(member: &Member<'_>, header: &Header) -> Result<(), Re
 pub(crate) fn has_number(pieces: &[Piece], header: &Header, number: u16) -> bool
     ensures { result ≡ has_number header.now pieces.now number }
 {
-    for piece in pieces {
-        if piece.number == number && header.is_same(&piece.header) {
-            return true;
-        }
-    }
-    false
+    pieces
+        .iter()
+        .any(|piece| piece.number == number && header.is_same(&piece.header))
 }
 
 /// Whether all pieces of its message are kept once this one is.
 pub(crate) fn is_last(pieces: &[Piece], piece: &Piece) -> bool
     ensures { result ≡ are_all piece.now.header (with_piece pieces.now piece.now) }
 {
-    for number in 0..MOST_PIECES {
-        if PIECE_SIZE * u32::from(number) < piece.header.length
-            && number != piece.number
-            && !has_number(pieces, &piece.header, number)
-        {
-            return false;
-        }
-    }
-    true
+    (0..MOST_PIECES).all(|number| {
+        PIECE_SIZE * u32::from(number) >= piece.header.length
+            || number == piece.number
+            || has_number(pieces, &piece.header, number)
+    })
 }
 
 /// The message that these pieces make with this one, which is not kept.

@@ -4,6 +4,7 @@
 mod event;
 mod fault;
 mod kept;
+mod laws;
 mod node;
 mod noted;
 mod opening;
@@ -14,6 +15,7 @@ mod written;
 
 pub use crate::event::{Event, Left, Torn};
 pub use crate::fault::{Foreign, NodeFault};
+pub use crate::laws::what_is_said_can_be_written;
 pub use crate::node::Node;
 pub use crate::parcels::Parcels;
 pub use crate::ready::{Change, Out, Ready};

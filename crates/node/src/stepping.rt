@@ -7,12 +7,12 @@ ghost use Rattle.node.specs.Calls.{
   HasPrepared,
   HasTaken,
   IsCause,
-  IsGoodInput,
   IsLogCause,
   LeavesItsNoteAtMost,
   left_by,
 };
 ghost use Rattle.node.specs.OnLog.{IsOnLog, LacksRoom, LeavesOneMoreAtMost};
+ghost use Rattle.node.specs.Ranges.{IsGoodInput};
 ghost use Rattle.node.specs.Step.{Comes, Does, IsReadyFor, note_in, taken_by};
 
 use crate::kept::{change_kept, drop_pieces, has_number, is_last, joined, make_room, test_header};

@@ -29,6 +29,10 @@ packages_behind packages no_members = Some packages
 packages_behind packages (member key d ms) =
     keyed key d >>= with_package packages >>= (λ more. packages_behind more ms)
 
+-- the packages of an object's members
+abbrev pub packages_of : Data → Option Given
+packages_of d = as_object d >>= packages_behind []
+
 -- what a text gives as BUILDS, if it is one
 abbrev pub builds_of : Text → Option Given
-builds_of text = value_of text >>= as_object >>= packages_behind []
+builds_of text = value_of text >>= packages_of

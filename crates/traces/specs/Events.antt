@@ -1,5 +1,5 @@
 -- The event that a JSON value is. It has the members of its kind, `event` among them, and no others.
-use Rattle.std.specs.Prelude.{◌==◌, ◌&&◌, ℕ, Bool, false, List, [], ◌∷◌, Option, None, Some, is_some, if◌then◌else◌, codes}
+use Rattle.std.specs.Prelude.{◌==◌, ◌&&◌, ℕ, Bool, false, not, List, [], ◌∷◌, Option, None, Some, is_some, if◌then◌else◌, codes}
 use Rattle.std.specs.Str.{bytes_eq}
 use Rattle.faults.specs.Bytes.{Text}
 use Rattle.protocol.specs.Given.{Given}
@@ -43,8 +43,7 @@ built_several_in d = do
   node ← node_at d
   path ← path_at d
   packages ← get (codes "packages") d >>= packages_in
-  if count_in d == 4 then (if is_alone path packages then None else Some (Built node path packages))
-  else None
+  if (count_in d == 4) && not (is_alone path packages) then Some (Built node path packages) else None
 
 -- a unit was built
 abbrev pub built_in : Data → Option Event
@@ -105,8 +104,8 @@ torn_stop_in d = do
   bytes ← hex_at d
   input ← get (codes "input") d >>= step_in
   word ← text_at (codes "left") d
-  if bytes_eq word (codes "torn") && (count_in d == 4) then Some (StopIn input (left.Torn bytes))
-  else None
+  if bytes_eq word (codes "torn") && (count_in d == 4)
+    then Some (StopIn input (left.Torn bytes)) else None
 
 -- a stop inside a step
 abbrev pub stop_in : Data → Option Event

@@ -73,9 +73,13 @@ abbrev pub all_of : {X : Type 0} → (Data → Option X) → Items → Option (L
 all_of read no_items = Some []
 all_of read (item d ds) = read d >>= (λ x. option_map (λ xs. x ∷ xs) (all_of read ds))
 
+-- the items of the array at the key
+abbrev pub items_at : Text → Data → Option Items
+items_at key d = get key d >>= as_array
+
 -- the array at the key, if each of its items reads as something
 abbrev pub array_at : {X : Type 0} → Text → (Data → Option X) → Data → Option (List X)
-array_at key read d = get key d >>= as_array >>= all_of read
+array_at key read d = items_at key d >>= all_of read
 
 -- ---- files and packages
 

@@ -6,11 +6,11 @@ use Rattle.faults.specs.Bytes.{Text}
 use Rattle.ballots.specs.Weights.{are_weights}
 use Rattle.node.specs.Events.{Event}
 use Rattle.serde_json.specs.Data.{Data, Items, no_items, item}
-use Rattle.serde_json.specs.Find.{as_array, get}
+use Rattle.serde_json.specs.Find.{get}
 use Rattle.serde_json.specs.Read.{read}
 use Rattle.stable_record.specs.Magic.{are_ones}
 use Rattle.traces.specs.Events.{event_in}
-use Rattle.traces.specs.Fields.{◌>>=◌, array_at, count_in, number_at, number_of}
+use Rattle.traces.specs.Fields.{◌>>=◌, array_at, count_in, items_at, number_at, number_of}
 
 -- what each member weighs, and the events, in turn
 pub record Trace : Type 0 where
@@ -39,19 +39,19 @@ events_from before (item d ds) =
 -- the members' weights and the events' items, of members of equal weight: `events` and `members`
 unfoldable pub equals_in : Data → Option (List ℕ × Items)
 equals_in d = do
-  items ← get (codes "events") d >>= as_array
+  items ← items_at (codes "events") d
   members ← number_at (codes "members") 9 d
   if nat_le 1 members && (count_in d == 2) then Some (replicate members 1, items) else None
 
 -- the same of members whose weights are not all 1: `weights` besides, of so many members
 unfoldable pub weighted_in : Data → Option (List ℕ × Items)
 weighted_in d = do
-  items ← get (codes "events") d >>= as_array
+  items ← items_at (codes "events") d
   members ← number_at (codes "members") 9 d
   weights ← array_at (codes "weights") (number_of 255) d
   if are_weights weights && not (are_ones weights) && (length weights == members)
       && (count_in d == 3)
-  then Some (weights, items) else None
+    then Some (weights, items) else None
 
 -- what stands outside the events, and the events' items
 abbrev pub outer_in : Data → Option (List ℕ × Items)

@@ -1,6 +1,6 @@
 -- The text of a trace.
 use Rattle.std.specs.Prelude.{ℕ, List, [], ◌∷◌, length, map, if◌then◌else◌, codes}
-use Rattle.std.specs.Str.{utf8_lossy}
+use Rattle.std.specs.Str.Lossy.{utf8_lossy}
 use Rattle.faults.specs.Bytes.{Text}
 use Rattle.hex.specs.Hex.{encode_lower}
 use Rattle.package_record.specs.Content.{NamedFile}

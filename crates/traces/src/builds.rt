@@ -1,14 +1,12 @@
 //! BUILDS.
 ghost use Rattle.std.specs.Prelude.{◌≡◌, map};
 ghost use Rattle.faults.specs.Bytes.{is_among};
-ghost use Rattle.serde_json.specs.Find.{as_object};
 ghost use Rattle.serde_json.specs.View.{view};
-ghost use Rattle.traces.specs.Builds.{keyed, packages_behind};
-ghost use Rattle.traces.specs.Fields.{◌>>=◌};
+ghost use Rattle.traces.specs.Builds.{packages_of};
 ghost use Rattle.traces.specs.inside.Given.{Gives};
 
 use crate::files::files;
-use crate::reading::ReadError;
+use crate::read_error::ReadError;
 use package_record::Files;
 use pkgpath::{PathFault, PkgPath};
 use protocol::Packages;
@@ -39,7 +37,7 @@ fn is_among(packages: &[(PkgPath, Files)], path: &PkgPath) -> bool
 
 /// The packages of an object's members.
 pub fn packages(alloc: Global, value: &Value) -> Result<Packages, ReadError>
-    ensures { Gives (λ p. p) result (as_object (view value.now) >>= packages_behind []) }
+    ensures { Gives (λ p. p) result (packages_of (view value.now)) }
 {
     let Some(members) = value.as_object() else {
         return Err(ReadError::Bad);

@@ -23,7 +23,7 @@ ghost use Rattle.traces.specs.inside.Given.{Gives};
 
 use crate::fields::{field, hex, members, node, number, path, text};
 use crate::files::{files, packages};
-use crate::reading::ReadError;
+use crate::read_error::ReadError;
 use node::{Event, Left, Torn};
 use package_record::Files;
 use pkgpath::PkgPath;

@@ -1,12 +1,11 @@
 //! The members of an object, and the values that they may have.
-ghost use Rattle.std.specs.Prelude.{◌≡◌, ◌≤◌, IfOk, codes};
-ghost use Rattle.serde_json.specs.Find.{as_array, as_str, get};
+ghost use Rattle.std.specs.Prelude.{◌≡◌, ◌≤◌, IfOk};
+ghost use Rattle.serde_json.specs.Find.{get};
 ghost use Rattle.serde_json.specs.View.{items_view, view};
 ghost use Rattle.traces.specs.Fields.{
-  ◌>>=◌,
-  bytes_in_text,
   count_in,
   hex_at,
+  items_at,
   node_at,
   number_at,
   number_of,
@@ -15,7 +14,7 @@ ghost use Rattle.traces.specs.Fields.{
 };
 ghost use Rattle.traces.specs.inside.Given.{Gives};
 
-use crate::reading::ReadError;
+use crate::read_error::ReadError;
 use hex::FromHexError;
 use pkgpath::{PathFault, PkgPath};
 use serde_json::Value;
@@ -54,7 +53,7 @@ pub fn text<'a>(value: &'a Value, key: &str) -> Result<&'a str, ReadError>
 /// The items of the array at the key.
 pub fn array<'a>(value: &'a Value, key: &str) -> Result<&'a Vec<Value>, ReadError>
     ensures { Gives (λ v. items_view v.now.items) result
-        (get key.now (view value.entry.now) >>= as_array) }
+        (items_at key.now (view value.entry.now)) }
 {
     match field(value, key)?.as_array() {
         Some(items) => Ok(items),

@@ -6,7 +6,7 @@ ghost use Rattle.traces.specs.Fields.{file_in, files_in, package_in, packages_in
 ghost use Rattle.traces.specs.inside.Given.{Gives};
 
 use crate::fields::{field, hex, members, path, text};
-use crate::reading::ReadError;
+use crate::read_error::ReadError;
 use package_record::{File, Files};
 use pkgpath::PkgPath;
 use protocol::Packages;

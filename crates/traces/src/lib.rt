@@ -19,8 +19,8 @@ mod builds;
 mod events;
 mod files;
 mod fields;
+mod read_error;
 mod reading;
-mod trace;
 mod writing;
 
 /// What each member weighs, and the events of a run, in turn.
@@ -95,9 +95,9 @@ pub fn read_trace(alloc: Global, text: &[u8]) -> Result<Trace, TraceFault>
     ensures ok { IfOk result (λ trace. trace_of text.now ≡ Ok (trace_view trace)) }
     ensures err { IfErr result (IsTraceFault text.now) }
 {
-    let value = trace::value(alloc, text)?;
-    let (weights, items) = trace::outer(alloc, &value)?;
-    let events = trace::events(alloc, items.as_slice())?;
+    let value = reading::value(alloc, text)?;
+    let (weights, items) = reading::outer(alloc, &value)?;
+    let events = reading::events(alloc, items.as_slice())?;
     Ok(Trace { weights, events })
 }
 
@@ -109,7 +109,7 @@ pub fn write_trace(trace: &Trace, out: &mut Vec<u8>) -> Result<(), Memory>
     ensures err { OnErr result (out.new.items ≡ out.old.items) }
 {
     let alloc: Global = *out.allocator();
-    let value = writing::trace(alloc, trace)?;
+    let value = writing::value(alloc, trace)?;
     let text = value.to_string(alloc)?;
     out.extend_from_slice(text.as_bytes())?;
     Ok(())
@@ -125,7 +125,7 @@ pub fn read_builds(alloc: Global, text: &[u8]) -> Result<Packages, TraceFault>
     ensures err { IfErr result (λ e. (e ≡ TraceFault.Memory)
         ⊎ ((e ≡ TraceFault.BadTrace 0) × (builds_of text.now ≡ None))) }
 {
-    let value = trace::value(alloc, text)?;
+    let value = reading::value(alloc, text)?;
     let packages = builds::packages(alloc, &value)?;
     Ok(packages)
 }

@@ -23,7 +23,7 @@ ghost use Rattle.traces.specs.Written.{
 
 use crate::Trace;
 use crate::events::is_alone;
-use crate::trace::are_ones;
+use crate::reading::are_ones;
 use faults::Memory;
 use node::{Event, Left};
 use package_record::{File, Files};
@@ -71,10 +71,10 @@ fn files(alloc: Global, files: &Files) -> Result<Value, Memory>
 }
 
 /// A package.
-fn package(alloc: Global, package: &(PkgPath, Files)) -> Result<Value, Memory>
-    ensures { IfOk result (λ v. view v ≡ package_data package.now) }
+fn package(alloc: Global, one: &(PkgPath, Files)) -> Result<Value, Memory>
+    ensures { IfOk result (λ v. view v ≡ package_data one.now) }
 {
-    let (path, contents) = package;
+    let (path, contents) = one;
     let contents = files(alloc, contents)?;
     let path = text(alloc, path.as_bytes())?;
     Ok(json!(in alloc; {"files": contents, "path": path})?)
@@ -206,7 +206,7 @@ fn weights(alloc: Global, all: &[u8]) -> Result<Value, Memory> {
 }
 
 /// A trace.
-pub fn trace(alloc: Global, trace: &Trace) -> Result<Value, Memory>
+pub fn value(alloc: Global, trace: &Trace) -> Result<Value, Memory>
     ensures { IfOk result (λ v. view v ≡ trace_data (trace_view trace.now)) }
 {
     let events = events(alloc, trace.events.as_slice())?;

@@ -2,8 +2,8 @@
 use Rattle.std.specs.Prelude.{◌≡◌, ℕ, Option, None, Some, Result, Ok, Err}
 use Rattle.traces.specs.declared.TraceFault.{TraceFault}
 use Rattle.traces.specs.declared.TraceFault.TheVariants as fault
-use Rattle.traces.specs.declared.reading.ReadError.{ReadError}
-use Rattle.traces.specs.declared.reading.ReadError.TheVariants.{Memory, Bad}
+use Rattle.traces.specs.declared.read_error.ReadError.{ReadError}
+use Rattle.traces.specs.declared.read_error.ReadError.TheVariants.{Memory, Bad}
 
 -- nothing is to be read, unless memory ran out
 abbrev pub Fails : {Y : Type 0} → ReadError → Option Y → Type 0
