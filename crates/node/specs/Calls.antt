@@ -22,8 +22,8 @@ use Rattle.units.specs.Division.{Division, IsDivision}
 use Rattle.wire.specs.Messages.{IsNote}
 use Rattle.wire.specs.Spelling.{note_text}
 
--- what a refusal leaves of the node: pieces that don't join to a message are dropped, and after a failure of the device it
--- is stopped
+-- what a refusal leaves of the node: pieces that don't join to a message are dropped, and after a
+-- failure of the device it is stopped
 abbrev pub left_by : NodeState → Asked → NodeFault → NodeState
 left_by n asked Memory = n
 left_by n asked (Refused r) = n
@@ -41,9 +41,10 @@ abbrev pub prepared : NodeState → Asked → Result Taken NodeFault → NodeSta
 prepared n asked (Ok t) = n
 prepared n asked (Err f) = left_by n asked f
 
--- A call made ready the step that is right, or refused as is right, or memory was wanting; and the node stays, but for the
--- pieces of a message that is none.
-pub record HasPrepared (old new : NodeState) (asked : Asked) (result : Result Taken NodeFault) : Type 0 where
+-- A call made ready the step that is right, or refused as is right, or memory was wanting; and the
+-- node stays, but for the pieces of a message that is none.
+pub record HasPrepared (old new : NodeState) (asked : Asked)
+    (result : Result Taken NodeFault) : Type 0 where
   pub right : Result Taken NodeFault
   pub takes : Takes old asked right
   pub given : IsRightUnless Memory result right
@@ -59,7 +60,8 @@ pub record HasTaken (old new : NodeState) (t : Taken) (out : Out) : Type 0 where
   pub state : new ≡ after old t
   pub tells : IsOutOf t out
 
--- The call took the step that is right: the node is as it says, and what comes out is what it tells.
+-- The call took the step that is right: the node is as it says, and what comes out is what it
+-- tells.
 pub record HasHandled (old new : NodeState) (asked : Asked) (out : Out) : Type 0 where
   pub step : Taken
   pub takes : Takes old asked (Ok step)
@@ -84,7 +86,8 @@ pub record HasFilled {D : Type 0} (n : LoggedNode D) (asked : Asked) : Type 0 wh
   pub takes : Takes n.node asked (Ok step)
   pub lacks : LacksRoom n.log step.answer.note
 
--- Each refusal of what the node was asked, want of memory and failures of the device aside, has its cause.
+-- Each refusal of what the node was asked, want of memory and failures of the device aside, has its
+-- cause.
 abbrev pub IsCause : {D : Type 0} → LoggedNode D → Asked → NodeFault → Type 0
 IsCause n asked Memory = Prim.Unit {0}
 IsCause n asked (Refused r) = Takes n.node asked (Err (Refused r))
@@ -98,7 +101,8 @@ IsCause n asked Stopped = n.node.stopped ≡ true
 IsCause n asked (Foreign f) = Takes n.node asked (Err (Foreign f))
 
 -- The file's notes have a text, and are of the tree's units.
-pub record AreNotes (division : Division) (texts : List Text) (notes : List (Note Value)) : Type 0 where
+pub record AreNotes (division : Division) (texts : List Text)
+    (notes : List (Note Value)) : Type 0 where
   pub read : texts ≡ map note_text notes
   pub each : All IsNote notes
   pub on_units : AreOnUnits division notes
@@ -114,15 +118,19 @@ pub record IsOpened (tree : Tree) (weights : List ℕ) (me : ℕ) (n : NodeState
 
 -- The file's notes are no notes of a member of this tree.
 abbrev pub HasBadNotes : Tree → List Text → Type 0
-HasBadNotes tree texts = (division : Division) (notes : List (Note Value)) → division.tree ≡ tree → IsDivision division → ¬ AreNotes division texts notes
+HasBadNotes tree texts =
+    (division : Division) (notes : List (Note Value)) → division.tree ≡ tree → IsDivision division
+        → ¬ AreNotes division texts notes
 
 -- why a file is not opened, want of memory and failures of the device aside
 abbrev pub IsOpenFault : Tree → List ℕ → ℕ → Text → NodeFault → Type 0
 IsOpenFault tree weights me file Memory = Prim.Unit {0}
 IsOpenFault tree weights me file (Log log.NotALog) =
     Opens (identity tree weights me) file (Err log.NotALog)
-    ⊎ ((texts : List Text) × Opens (identity tree weights me) file (Ok texts) × HasBadNotes tree texts)
-IsOpenFault tree weights me file (Log log.OtherCluster) = Opens (identity tree weights me) file (Err log.OtherCluster)
+    ⊎ ((texts : List Text) × Opens (identity tree weights me) file (Ok texts)
+    × HasBadNotes tree texts)
+IsOpenFault tree weights me file (Log log.OtherCluster) =
+    Opens (identity tree weights me) file (Err log.OtherCluster)
 IsOpenFault tree weights me file (Log log.Device) = Prim.Unit {0}
 IsOpenFault tree weights me file (Log log.Memory) = ⊥
 IsOpenFault tree weights me file (Log log.Full) = ⊥
@@ -131,15 +139,16 @@ IsOpenFault tree weights me file (Refused r) = ⊥
 IsOpenFault tree weights me file Stopped = ⊥
 IsOpenFault tree weights me file (Foreign f) = ⊥
 
--- Where a file was not opened nothing but syncs came of it if it is no log of this member, or its owner is another.
+-- Where a file was not opened nothing but syncs came of it if it is no log of this member, or its
+-- owner is another.
 abbrev pub IsUntouched : Tree → List ℕ → ℕ → NodeFault → History → History → Type 0
 IsUntouched tree weights me fault old new =
     (fault ≡ Log log.OtherCluster)
     ⊎ ((fault ≡ Log log.NotALog) × Opens (identity tree weights me) (seen old) (Err log.NotALog))
     → OnlySyncs old new
 
--- At each moment from the old calls to the new ones a crash leaves the node's notes, with that of the step that the node
--- takes when asked so, or without.
+-- At each moment from the old calls to the new ones a crash leaves the node's notes, with that of
+-- the step that the node takes when asked so, or without.
 abbrev pub LeavesItsNoteAtMost : NodeState → Asked → History → History → Type 0
 LeavesItsNoteAtMost n asked old new =
     (new ≡ old) ⊎ ((t : Taken) × Takes n asked (Ok t) × LeavesOneMoreAtMost n t.answer.note old new)

@@ -1,4 +1,5 @@
--- What may happen to the nodes of a world. This is an event's value: a boxed event in it has no place in memory here.
+-- What may happen to the nodes of a world. This is an event's value: a boxed event in it has no
+-- place in memory here.
 use Rattle.std.specs.Prelude.{ℕ, Bool, true, false}
 use Rattle.faults.specs.Bytes.{Text}
 use Rattle.protocol.specs.Given.{Given}

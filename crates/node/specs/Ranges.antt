@@ -1,4 +1,5 @@
--- What a member knows, notes and says can be written down: numbers are in range, and builds are of their units.
+-- What a member knows, notes and says can be written down: numbers are in range, and builds are of
+-- their units.
 use Rattle.std.specs.Prelude.{◌≡◌, ◌<◌, ◌≤◌, ℕ, All, List, Option, None, Some, Ok, length}
 use Rattle.std.specs.Option.{ForSome}
 use Rattle.faults.specs.Bytes.{Text}
@@ -12,7 +13,7 @@ use Rattle.claims.specs.Claim.{IsClaim, IsRound, greatest_round}
 use Rattle.engine.specs.declared.Letter.{Letter}
 use Rattle.ballots.specs.Weights.{AreWeights}
 use Rattle.ballots.specs.declared.message.Note.{Note}
-use Rattle.units.specs.Division.{Division, IsDivision}
+use Rattle.units.specs.Division.{Division, IsDivision, number_named}
 use Rattle.protocol.specs.Answers.{Answer}
 use Rattle.protocol.specs.Restoring.{AreOnUnits, restored}
 use Rattle.protocol.specs.Member.{IsMember}
@@ -79,7 +80,8 @@ pub record IsInRange (s : State) : Type 0 where
   pub facts : (u : ℕ) → u < length s.division.units → AreFactsOf (name_at s u) (facts_at s u)
   pub claim : IsClaimOf s s.claim
 
--- A message in the input has its rounds in range, and a build in it is of its unit. Who its members are is tested.
+-- A message in the input has its rounds in range, and a build in it is of its unit. Who its members
+-- are is tested.
 abbrev pub IsGoodInput : Input → Type 0
 IsGoodInput (inputs.Claim path host above) = Prim.Unit {0}
 IsGoodInput (inputs.Built path files) = Prim.Unit {0}
@@ -91,6 +93,8 @@ IsGoodInput (inputs.Message m) = IsGoodBody m.path m.body
 -- the answer can be written down, and what the claim keeps that it leaves open
 pub record CanBeWritten (s : State) (a : Answer) : Type 0 where
   pub note : ForSome a.note IsNote
+  -- and its note is on a unit
+  pub named : ForSome a.note (λ n. (u : ℕ) × (number_named s.division n.path ≡ Some u))
   pub sends : All (λ x. IsMessage x.message) a.sends
   pub claim : IsClaimOf s a.claim
 
@@ -104,4 +108,5 @@ AnswersCanBeWritten =
 abbrev pub WhatIsRestoredCanBeWritten : Type 0
 WhatIsRestoredCanBeWritten =
     (d : Division) (weights : List ℕ) (me : ℕ) (notes : List (Note Value))
-    → IsDivision d → AreWeights weights → me < length weights → AreOnUnits d notes → All IsNote notes → IsInRange (restored (fresh d weights me) notes)
+    → IsDivision d → AreWeights weights → me < length weights → AreOnUnits d notes
+    → All IsNote notes → IsInRange (restored (fresh d weights me) notes)

@@ -21,8 +21,8 @@ pub enum Foreign {
     Message(Refusal),
 }
 
-/// Why a node does not take a step, or is not opened. Of several reasons the first that is tested is
-/// the one.
+/// Why a node does not take a step, or is not opened. Of several reasons the first that is tested
+/// is the one.
 #[derive(Clone, Copy, Debug, PartialEq, Eq, Error)]
 pub enum NodeFault {
     #[error("out of memory")]

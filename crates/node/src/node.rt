@@ -21,9 +21,9 @@ use wire::Piece;
 
 /// A member over its log.
 ///
-/// What it keeps of messages that have not come whole is bounded by the headers that the member lets
-/// through: they name its tree, a unit of it, and members. A header has at most 128 pieces of 32,768
-/// bytes, and none of them is kept twice.
+/// What it keeps of messages that have not come whole is bounded by the headers that the member
+/// lets through: they name its tree, a unit of it, and members. A header has at most 128 pieces of
+/// 32,768 bytes, and none of them is kept twice.
 #[derive(Drop)]
 pub struct Node<'a, D: Disk> {
     pub(crate) member: Member<'a>,

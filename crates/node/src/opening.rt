@@ -24,14 +24,14 @@ use units::Units;
 use wire::{WireFault, decode_note};
 
 impl<'a, D: Disk> Node<'a, D> {
-    /// The node that the file's notes restore; of a file that has none it is one that knows nothing.
-    /// It has no open claim, and no pieces. `weights` has one for each member, and `me` is the number
-    /// of one.
+    /// The node that the file's notes restore; of a file that has none it is one that knows
+    /// nothing. It has no open claim, and no pieces. `weights` has one for each member, and `me` is
+    /// the number of one.
     ///
     /// # Errors
     ///
-    /// `Memory`; and those of `Log::open`, of which `NotALog` comes also where a note of the file is
-    /// none, or is of no unit. The disk comes back.
+    /// `Memory`; and those of `Log::open`, of which `NotALog` comes also where a note of the file
+    /// is none, or is of no unit. The disk comes back.
     pub fn open(
         alloc: Global,
         disk: D,
@@ -123,7 +123,8 @@ fn all_notes(
     ensures texts { IfOk result (λ r. r.1.texts ≡ map note_of texts.now) }
     ensures bad { IfErr result (λ f. (f ≡ NodeFault.Memory)
         ⊎ ((f ≡ NodeFault.Log LogFault.NotALog)
-        × ((given : List (notes.Note Value)) → ¬ AreNotes units.now (map note_of texts.now) given))) }
+        × ((given : List (notes.Note Value)) → ¬ AreNotes units.now
+            (map note_of texts.now) given))) }
 {
     let mut notes = Vec::with_capacity(alloc, texts.len())?;
     let mut noted = Noted::new();

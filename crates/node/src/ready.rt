@@ -87,8 +87,8 @@ impl Ready {
 /// What goes out once the step's note is on the disk.
 #[derive(Drop)]
 pub struct Out {
-    /// Datagrams with the member that each goes to, in order of receiver, and the pieces of a message
-    /// in order.
+    /// Datagrams with the member that each goes to, in order of receiver, and the pieces of a
+    /// message in order.
     pub sends: Parcels,
     /// What is to be built, where a majority promised and reported nothing, or where it is told
     /// again.

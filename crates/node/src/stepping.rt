@@ -48,8 +48,8 @@ impl<'a, D: Disk> Node<'a, D> {
         }
     }
 
-    /// Makes the step on bytes that came ready. Nothing has changed, except that pieces which join to
-    /// no message are dropped.
+    /// Makes the step on bytes that came ready. Nothing has changed, except that pieces which join
+    /// to no message are dropped.
     ///
     /// # Errors
     ///
@@ -106,10 +106,10 @@ impl<'a, D: Disk> Node<'a, D> {
         }
     }
 
-    /// Takes a step that was made ready from the present facts. First its note goes to the log; once
-    /// that is on the disk, its datagrams and its job come out. After `Device` nothing has come out,
-    /// and the node is `Stopped` until it is opened again; after every other refusal nothing has
-    /// changed.
+    /// Takes a step that was made ready from the present facts. First its note goes to the log;
+    /// once that is on the disk, its datagrams and its job come out. After `Device` nothing has
+    /// come out, and the node is `Stopped` until it is opened again; after every other refusal
+    /// nothing has changed.
     ///
     /// # Errors
     ///
@@ -121,8 +121,8 @@ impl<'a, D: Disk> Node<'a, D> {
         ensures on_log { D.is_kept self.new.log.disk → IsOnLog D.history self.old
             → OnOk result (IsOnLog D.history self.new) }
 
-        // A crash at any moment of the call, and after it, leaves the notes from before it, with the
-        // step's note or without.
+        // A crash at any moment of the call, and after it, leaves the notes from before it, with
+        // the step's note or without.
         ensures any_moment { D.is_kept self.new.log.disk → IsOnLog D.history self.old
             → LeavesOneMoreAtMost self.old.node (note_in ready.step)
             (D.history self.old.log.disk) (D.history self.new.log.disk) }
@@ -174,8 +174,8 @@ impl<'a, D: Disk> Node<'a, D> {
         ensures on_log { D.is_kept self.new.log.disk → IsOnLog D.history self.old
             → OnOk result (IsOnLog D.history self.new) }
 
-        // A crash at any moment of the call, and after it, leaves the notes from before it, with the
-        // step's note or without.
+        // A crash at any moment of the call, and after it, leaves the notes from before it, with
+        // the step's note or without.
         ensures any_moment { D.is_kept self.new.log.disk → IsOnLog D.history self.old
             → LeavesItsNoteAtMost self.old.node (Does input) (D.history self.old.log.disk)
             (D.history self.new.log.disk) }
@@ -207,8 +207,8 @@ impl<'a, D: Disk> Node<'a, D> {
         ensures on_log { D.is_kept self.new.log.disk → IsOnLog D.history self.old
             → OnOk result (IsOnLog D.history self.new) }
 
-        // A crash at any moment of the call, and after it, leaves the notes from before it, with the
-        // step's note or without.
+        // A crash at any moment of the call, and after it, leaves the notes from before it, with
+        // the step's note or without.
         ensures any_moment { D.is_kept self.new.log.disk → IsOnLog D.history self.old
             → LeavesItsNoteAtMost self.old.node (Comes bytes.now) (D.history self.old.log.disk)
             (D.history self.new.log.disk) }

@@ -1,4 +1,5 @@
--- The event that a JSON value is. It has the members of its kind, `event` among them, and no others.
+-- The event that a JSON value is. It has the members of its kind, `event` among them, and no
+-- others.
 use Rattle.std.specs.Prelude.{◌==◌, ◌&&◌, ℕ, Bool, false, not, List, [], ◌∷◌, Option, None, Some, is_some, if◌then◌else◌, codes}
 use Rattle.std.specs.Str.{bytes_eq}
 use Rattle.faults.specs.Bytes.{Text}
@@ -43,7 +44,8 @@ built_several_in d = do
   node ← node_at d
   path ← path_at d
   packages ← get (codes "packages") d >>= packages_in
-  if (count_in d == 4) && not (is_alone path packages) then Some (Built node path packages) else None
+  if (count_in d == 4) && not (is_alone path packages)
+    then Some (Built node path packages) else None
 
 -- a unit was built
 abbrev pub built_in : Data → Option Event

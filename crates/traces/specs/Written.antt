@@ -94,7 +94,8 @@ first_files (p ∷ ps) = p.1
 abbrev pub built_data : ℕ → Text → Given → Data
 built_data n path packages =
     if is_alone path packages
-    then fields ((codes "event", word (codes "built")) ∷ (codes "files", files_data (first_files packages))
+    then fields ((codes "event", word (codes "built"))
+        ∷ (codes "files", files_data (first_files packages))
         ∷ (codes "node", natural n) ∷ (codes "path", text path) ∷ [])
     else fields ((codes "event", word (codes "built")) ∷ (codes "node", natural n)
         ∷ (codes "packages", packages_data packages) ∷ (codes "path", text path) ∷ [])
@@ -108,12 +109,14 @@ deliver_data d n =
 -- a stop inside this step that leaves nothing torn
 abbrev pub clean_data : Text → Data → Data
 clean_data left input =
-    fields ((codes "event", word (codes "stopin")) ∷ (codes "input", input) ∷ (codes "left", word left) ∷ [])
+    fields ((codes "event", word (codes "stopin")) ∷ (codes "input", input)
+        ∷ (codes "left", word left) ∷ [])
 
 -- a stop inside this step that leaves these bytes
 abbrev pub torn_data : List ℕ → Data → Data
 torn_data bytes input =
-    fields ((codes "event", word (codes "stopin")) ∷ (codes "hex", hex bytes) ∷ (codes "input", input)
+    fields ((codes "event", word (codes "stopin")) ∷ (codes "hex", hex bytes)
+        ∷ (codes "input", input)
     ∷ (codes "left", word (codes "torn")) ∷ [])
 
 -- a stop inside this step

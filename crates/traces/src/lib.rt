@@ -30,8 +30,8 @@ pub struct Trace {
     pub events: Vec<Event>,
 }
 
-/// Why a text is no trace, or no BUILDS. The number is that of an event, counted from 1, or 0 outside
-/// the events.
+/// Why a text is no trace, or no BUILDS. The number is that of an event, counted from 1, or 0
+/// outside the events.
 #[derive(Clone, Copy, Debug, PartialEq, Eq, Error)]
 pub enum TraceFault {
     #[error("out of memory")]

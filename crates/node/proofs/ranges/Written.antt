@@ -26,7 +26,9 @@ use Rattle.ballots.specs.Weights.{AreWeights, is_weight}
 use Rattle.ballots.specs.declared.message.Body.{Body}
 use Rattle.ballots.specs.declared.message.Body.TheVariants as bodies
 use Rattle.ballots.specs.declared.message.Message.{Message}
+use Rattle.units.specs.Division.{number_named}
 use Rattle.units.proofs.Kept.{unit_good}
+use Rattle.units.proofs.Names.{name_is_found}
 use Rattle.protocol.specs.Answers.{Answer, answered, dropped, everyone, claim_then, message_of, note_at, others, sends_of}
 use Rattle.protocol.specs.Given.{Given}
 use Rattle.protocol.specs.InTheAgreement.{body_in, claim_of, fact_in, pair_of, progress_of, stage_of, view}
@@ -105,6 +107,11 @@ note_written s u None is lt told = for_none IsNote
 note_written s u (Some n) is lt told =
     for_this IsNote (note_at s u n) (record { path = (unit_good s.division u is.division lt).name; fact = fact_written (name_at s u) n (told n refl) })
 
+note_named : (s : State) (u : ℕ) (n : Option (members.Note Value)) → IsMember s → u < length s.division.units
+    → ForSome (option_map (note_at s u) n) (λ x. (v : ℕ) × (number_named s.division x.path ≡ Some v))
+note_named s u None is lt = for_none (λ x. (v : ℕ) × (number_named s.division x.path ≡ Some v))
+note_named s u (Some n) is lt = for_this (λ x. (v : ℕ) × (number_named s.division x.path ≡ Some v)) (note_at s u n) (u, name_is_found s.division u is.division lt)
+
 all_get : (m : Message Value) (to : List ℕ) → IsMessage m → All (λ x. IsMessage x.message) (sent_to (Some m) to)
 all_get m to is = All-map (λ x. IsMessage x.message) (λ k. record { to = k; message = m }) to (λ k d lt. is)
 
@@ -134,6 +141,7 @@ answer_written : (s : State) (u host : ℕ) (to : List ℕ) (o : Outcome Value) 
     → CanBeWritten s (answered s u host to o)
 answer_written s u host to o is are lt out = record {
   note = note_written s u o.note is lt out.note;
+  named = note_named s u o.note is lt;
   sends = sends_written s u to o.send is lt out.send;
   claim = claim_written s u host (length s.weights) o.member.stage are.claim out.stage;
 }
@@ -228,7 +236,7 @@ nudge_is_written s (Some o) a is are at e =
     let stage = stage_in s o.unit is are in
     let plain = or_written refusals.NoClaim s o.unit o.host (silent s o.progress) (on_nudge (view s o.unit) (view s o.unit).stage) given.0 is are (is.claim o at).unit
         (nudge_of (name_at s o.unit) (view s o.unit) (view s o.unit).stage stage stage) given.1 in
-    subst (CanBeWritten s) given.2 (record { note = plain.note; sends = plain.sends; claim = plain.claim })
+    subst (CanBeWritten s) given.2 (record { note = plain.note; named = plain.named; sends = plain.sends; claim = plain.claim })
 
 -- ---- a message that comes
 
