@@ -42,7 +42,7 @@ pub record IsNode (n : NodeState) : Type 0 where
   pub claim : IsClaimOf n.member n.member.claim
   pub pieces : All IsPiece n.pieces
   -- no piece is kept twice
-  pub once : AllPairs (λ p q. is_numbered p.header p.number q ≡ false) n.pieces
+  pub once : AllPairs (λ p q. is_numbered q.header q.number p ≡ false) n.pieces
 
 -- A node over its log: they stop together.
 pub record IsLogged {D : Type 0} (n : LoggedNode D) : Type 0 where

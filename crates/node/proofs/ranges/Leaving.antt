@@ -49,7 +49,7 @@ with_all P notes (Some n) all one = All-append P notes (n ∷ []) all (All-cons 
 -- what is left by the answer to such an input is a node
 pub leaves_node : (n : NodeState) (letter : Letter) (input : Input) (a : Answer) (pieces : List Piece) → IsNode n → IsInput input → IsGoodInput input
     → IsLetterOf n.member (unit_claimed n.member input) letter → answer n.member letter input ≡ Ok a
-    → All IsPiece pieces → AllPairs (λ p q. is_numbered p.header p.number q ≡ false) pieces
+    → All IsPiece pieces → AllPairs (λ p q. is_numbered q.header q.number p ≡ false) pieces
     → IsNode (after n (record { answer = a; pieces = pieces }))
 leaves_node n letter input a pieces is in_range good shown e are once =
     let s = n.member in
