@@ -120,7 +120,7 @@ pub record IsOpened (tree : Tree) (weights : List ℕ) (me : ℕ) (n : NodeState
 abbrev pub HasBadNotes : Tree → List Text → Type 0
 HasBadNotes tree texts =
     (division : Division) (notes : List (Note Value)) → division.tree ≡ tree → IsDivision division
-        → ¬ AreNotes division texts notes
+    → ¬ AreNotes division texts notes
 
 -- why a file is not opened, want of memory and failures of the device aside
 abbrev pub IsOpenFault : Tree → List ℕ → ℕ → Text → NodeFault → Type 0

@@ -50,4 +50,4 @@ abbrev pub IsFull : NodeState → Option (Note Value) → Type 0
 IsFull n None = ⊥
 IsFull n (Some note) =
     most_bytes < gate_place (identity_of n.member) (texts_of n.notes) + 1 + 5 + length
-        (note_text note)
+    (note_text note)

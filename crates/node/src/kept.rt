@@ -47,9 +47,7 @@ pub(crate) fn test_header(member: &Member<'_>, header: &Header) -> Result<(), Re
 pub(crate) fn has_number(pieces: &[Piece], header: &Header, number: u16) -> bool
     ensures { result ≡ has_number header.now pieces.now number }
 {
-    pieces
-        .iter()
-        .any(|piece| piece.number == number && header.is_same(&piece.header))
+    pieces.iter().any(|piece| piece.number == number && header.is_same(&piece.header))
 }
 
 /// Whether all pieces of its message are kept once this one is.

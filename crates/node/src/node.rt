@@ -42,24 +42,24 @@ impl<'a, D: Disk> Model for Node<'a, D> {
     ghost Value = { LoggedNode D };
 
     ghost view = { λ n. record {
-        node = record {
-          member = n.member;
-          notes = notes_in n.noted.texts;
-          pieces = n.pieces.items;
-          stopped = n.stopped;
-        };
-        log = n.log;
-      } };
+      node = record {
+        member = n.member;
+        notes = notes_in n.noted.texts;
+        pieces = n.pieces.items;
+        stopped = n.stopped;
+      };
+      log = n.log;
+    } };
 
     ghost invariant = { λ n. IsLogged (record {
-        node = record {
-          member = n.member;
-          notes = notes_in n.noted.texts;
-          pieces = n.pieces.items;
-          stopped = n.stopped;
-        };
-        log = n.log;
-      }) };
+      node = record {
+        member = n.member;
+        notes = notes_in n.noted.texts;
+        pieces = n.pieces.items;
+        stopped = n.stopped;
+      };
+      log = n.log;
+    }) };
 }
 
 impl<'a, D: Disk> Node<'a, D> {

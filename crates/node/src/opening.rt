@@ -124,7 +124,7 @@ fn all_notes(
     ensures bad { IfErr result (λ f. (f ≡ NodeFault.Memory)
         ⊎ ((f ≡ NodeFault.Log LogFault.NotALog)
         × ((given : List (notes.Note Value)) → ¬ AreNotes units.now
-            (map note_of texts.now) given))) }
+        (map note_of texts.now) given))) }
 {
     let mut notes = Vec::with_capacity(alloc, texts.len())?;
     let mut noted = Noted::new();

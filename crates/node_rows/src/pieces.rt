@@ -43,7 +43,9 @@ fn loses_pieces_by_a_stop(rt: HostRuntime) -> Result<(), Fail> {
     assert!(rt; network.deliver(5, 1)?.as_str() == "6");
     assert!(rt; network.deliver(3, 1)?.as_str() == "6");
     let disk = network.nodes.remove(1).into_disk();
-    network.nodes.insert(1, opened(alloc, disk, &tree, &[1, 1, 1], 1)?)?;
+    network
+        .nodes
+        .insert(1, opened(alloc, disk, &tree, &[1, 1, 1], 1)?)?;
     assert!(rt; network.deliver(4, 1)?.as_str() == "6");
     assert!(rt; network.deliver(3, 1)?.as_str() == "6");
     assert!(rt; network.deliver(5, 1)?.as_str() == "7");

@@ -45,7 +45,9 @@ fn starts_again(rt: HostRuntime) -> Result<(), Fail> {
     assert!(rt; network.deliver(3, 0)?.as_str() == "5");
     let node = network.nodes.remove(0);
     let disk = node.into_disk().crash(Left::Before);
-    network.nodes.insert(0, opened(alloc, disk, &tree, &[1, 1, 1], 0)?)?;
+    network
+        .nodes
+        .insert(0, opened(alloc, disk, &tree, &[1, 1, 1], 0)?)?;
     let path = crate::network::path(alloc, "a/b")?;
     let again = &network.nodes[0];
     assert!(rt; again.open_claim().is_none() && again.opened(&path) == 1);

@@ -45,7 +45,7 @@ built_several_in d = do
   path ← path_at d
   packages ← get (codes "packages") d >>= packages_in
   if (count_in d == 4) && not (is_alone path packages)
-    then Some (Built node path packages) else None
+      then Some (Built node path packages) else None
 
 -- a unit was built
 abbrev pub built_in : Data → Option Event
@@ -107,7 +107,7 @@ torn_stop_in d = do
   input ← get (codes "input") d >>= step_in
   word ← text_at (codes "left") d
   if bytes_eq word (codes "torn") && (count_in d == 4)
-    then Some (StopIn input (left.Torn bytes)) else None
+      then Some (StopIn input (left.Torn bytes)) else None
 
 -- a stop inside a step
 abbrev pub stop_in : Data → Option Event

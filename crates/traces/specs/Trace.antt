@@ -51,7 +51,7 @@ weighted_in d = do
   weights ← array_at (codes "weights") (number_of 255) d
   if are_weights weights && not (are_ones weights) && (length weights == members)
       && (count_in d == 3)
-    then Some (weights, items) else None
+      then Some (weights, items) else None
 
 -- what stands outside the events, and the events' items
 abbrev pub outer_in : Data → Option (List ℕ × Items)

@@ -95,10 +95,10 @@ abbrev pub built_data : ℕ → Text → Given → Data
 built_data n path packages =
     if is_alone path packages
     then fields ((codes "event", word (codes "built"))
-        ∷ (codes "files", files_data (first_files packages))
-        ∷ (codes "node", natural n) ∷ (codes "path", text path) ∷ [])
+    ∷ (codes "files", files_data (first_files packages))
+    ∷ (codes "node", natural n) ∷ (codes "path", text path) ∷ [])
     else fields ((codes "event", word (codes "built")) ∷ (codes "node", natural n)
-        ∷ (codes "packages", packages_data packages) ∷ (codes "path", text path) ∷ [])
+    ∷ (codes "packages", packages_data packages) ∷ (codes "path", text path) ∷ [])
 
 -- a datagram that comes to a node
 abbrev pub deliver_data : ℕ → ℕ → Data
@@ -110,13 +110,13 @@ deliver_data d n =
 abbrev pub clean_data : Text → Data → Data
 clean_data left input =
     fields ((codes "event", word (codes "stopin")) ∷ (codes "input", input)
-        ∷ (codes "left", word left) ∷ [])
+    ∷ (codes "left", word left) ∷ [])
 
 -- a stop inside this step that leaves these bytes
 abbrev pub torn_data : List ℕ → Data → Data
 torn_data bytes input =
     fields ((codes "event", word (codes "stopin")) ∷ (codes "hex", hex bytes)
-        ∷ (codes "input", input)
+    ∷ (codes "input", input)
     ∷ (codes "left", word (codes "torn")) ∷ [])
 
 -- a stop inside this step
@@ -147,7 +147,7 @@ trace_data t =
     if are_ones t.weights
     then fields ((codes "events", events) ∷ (codes "members", count) ∷ [])
     else fields ((codes "events", events) ∷ (codes "members", count)
-        ∷ (codes "weights", list_data (map natural t.weights)) ∷ [])
+    ∷ (codes "weights", list_data (map natural t.weights)) ∷ [])
 
 -- the text of a trace, with no blanks
 abbrev pub trace_text : Trace → Text

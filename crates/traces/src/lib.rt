@@ -17,8 +17,8 @@ use thiserror::Error;
 
 mod builds;
 mod events;
-mod files;
 mod fields;
+mod files;
 mod read_error;
 mod reading;
 mod writing;

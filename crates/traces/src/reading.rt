@@ -58,10 +58,7 @@ fn bytes(alloc: Global, value: &Value, key: &str) -> Result<Vec<u8>, ReadError>
 
 /// The members' weights, which are not all 1, and the events' items.
 #[tactic(auto, unfolding(crate::specs::Trace::weighted_in))]
-fn weighted<'a>(
-    alloc: Global,
-    value: &'a Value,
-) -> Result<(Weights, &'a Vec<Value>), ReadError>
+fn weighted<'a>(alloc: Global, value: &'a Value) -> Result<(Weights, &'a Vec<Value>), ReadError>
     ensures { Gives (λ o. (o.0, items_view o.1.now.items)) result
         (weighted_in (view value.entry.now)) }
 {

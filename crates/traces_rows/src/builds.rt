@@ -16,7 +16,12 @@ fn count(alloc: Global, text: &str) -> usize {
 fn reads_builds(rt: HostRuntime) -> Result<(), Fail> {
     let alloc = rt.alloc();
     assert!(rt; count(alloc, "{}") == 0);
-    assert!(rt; count(alloc, "{\"a/b\":[{\"hex\":\"616263\",\"name\":\"x\"}],\"a/c\":[]}") == 2);
+    assert!(rt;
+        count(
+            alloc,
+            "{\"a/b\":[{\"hex\":\"616263\",\"name\":\"x\"}],\"a/c\":[]}"
+        ) == 2
+    );
     assert!(rt; count(alloc, "{\"a/b\":[],\"a/b\":[]}") == 1);
     assert!(rt; count(alloc, "{\"a/b,x,y\":[],\"a/b,y,x\":[]}") == 1305);
     assert!(rt; count(alloc, "{\"vim\":[]}") == 1305);

@@ -235,7 +235,7 @@ nudge_is_written s (Some o) a is are at e =
     let given = without_job (job_again s o o.progress) _ a e in
     let stage = stage_in s o.unit is are in
     let plain = or_written refusals.NoClaim s o.unit o.host (silent s o.progress) (on_nudge (view s o.unit) (view s o.unit).stage) given.0 is are (is.claim o at).unit
-        (nudge_of (name_at s o.unit) (view s o.unit) (view s o.unit).stage stage stage) given.1 in
+    (nudge_of (name_at s o.unit) (view s o.unit) (view s o.unit).stage stage stage) given.1 in
     subst (CanBeWritten s) given.2 (record { note = plain.note; named = plain.named; sends = plain.sends; claim = plain.claim })
 
 -- ---- a message that comes
@@ -278,7 +278,7 @@ message_is_written s m a is are good e =
     let rest = (and_parts (nat_lt m.sender (length s.weights)) _ all).1 in
     let few : length s.weights ≤ most_members = few_members s is in
     let said_so : IsSayable (name_at s u) (said m.sender m.body) =
-        subst (λ name. IsSayable name (said m.sender m.body)) (sym named.1) (sayable (length s.weights) m.sender m.path m.body few rest good) in
+    subst (λ name. IsSayable name (said m.sender m.body)) (sym named.1) (sayable (length s.weights) m.sender m.path m.body few rest good) in
     let same : hears s u m.sender m.body ≡ a = ap (answer_in a) found.2 in
     subst (CanBeWritten s) same
     (answer_written s u (host_in s.claim) (receivers s m.sender m.body) (outcome_of s u m.sender m.body) is are named.0
