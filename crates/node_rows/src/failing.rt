@@ -119,7 +119,7 @@ fn survives(
 /// How many device calls of a run may fail, each in turn, if the node survives each of them.
 fn calls(alloc: Global, tree: &Tree, from_there_on: bool, kind: u8) -> Result<u64, Fail> {
     let run = taken_over(alloc, tree)?;
-    for call in 0..1000u64 {
+    for call in 1..1000u64 {
         let failing = if from_there_on {
             Failing::From(call)
         } else {
