@@ -1,0 +1,7 @@
+pub mod Events
+pub mod Refusals
+pub mod Kept
+pub mod State
+pub mod Arrival
+pub mod Step
+pub mod OnLog
