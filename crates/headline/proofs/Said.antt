@@ -10,7 +10,7 @@ use Rattle.world.specs.Safety.{EachIsOfAMessage}
 use Rattle.world.specs.World.{World}
 
 -- what is among the images of a list is that of one of its elements
-has_preimage : {X Y : Type 0} (f : X → Y) (xs : List X) (y : Y) → Contains (map f xs) y → (x : X) × Contains xs x × (y ≡ f x)
+pub has_preimage : {X Y : Type 0} (f : X → Y) (xs : List X) (y : Y) → Contains (map f xs) y → (x : X) × Contains xs x × (y ≡ f x)
 has_preimage f [] y (k, within, here) = absurd (omega arith)
 has_preimage f (x ∷ xs) y (zero, within, here) = (x, (zero, omega arith, refl), sym here)
 has_preimage f (x ∷ xs) y (suc k, within, here) =

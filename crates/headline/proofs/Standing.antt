@@ -1,20 +1,21 @@
 -- What an event leaves of the match, where one node changed as its member did.
 use Rattle.std.proofs.Common.{◌≡◌, ◌<◌, ◌⊎◌, ℕ, true, List, [], ◌∷◌, length, Option, Some, None, slice_get, slice_set, refl, sym, ap, ap₂, subst, ◌∙◌, ⊎_elim}
-use Rattle.std.specs.Prelude.{Contains}
+use Rattle.std.specs.Prelude.{All, Contains}
 use Rattle.std.proofs.lemmas.Bool.{cases_eq}
 use Rattle.faults.specs.Bytes.{Text}
 use Rattle.agreement.specs.Agreed.{IsValue}
 use Rattle.agreement.specs.AgreedList.{Cluster, cluster_after, elsewhere, lookup}
-use Rattle.agreement.specs.Messages.{Message}
+use Rattle.agreement.specs.Messages as theory_says
 use Rattle.agreement.specs.Nodes as nodes
 use Rattle.agreement.specs.Quorums.{AreQuorums, Quorums}
 use Rattle.agreement.specs.Step.{Outcome}
-use Rattle.agreement.specs.Votes.{Has}
+use Rattle.agreement.specs.Votes.{Has, ballot}
 use Rattle.agreement.specs.World as theory
 use Rattle.agreement.specs.World.{Event, add_note, add_sent, member_of, outcome, run}
 use Rattle.agreement.proofs.AgreedList.{elsewhere_sent}
 use Rattle.agreement.proofs.Kept.{put_same}
 use Rattle.agreement.proofs.Nodes.{elsewhere_other, get_set, put_other}
+use Rattle.ballots.specs.InTheAgreement.{said as says}
 use Rattle.protocol.specs.State.{Value}
 use Rattle.world.specs.World.{World, WorldNode, with_node}
 use Rattle.headline.specs.Matches.{IsSaid, Matches, log_of, node_of, packages_of}
@@ -106,21 +107,17 @@ module _ (w : World) (enough : Quorums) (c : Cluster Value) (m : Matches w c) (u
   pub quiet_matches : AreQuorums enough → IsValue enough (c.at u) (lookup c.list u) → o.send ≡ None
       → Matches (with_node w (member_of e) y) then
   quiet_matches quorums value none = record {
-    members = members_then' ;
+    members = members_then;
     logs = λ j q z g lt. logs_then j q z g lt;
     sent = λ text h. said text (m.sent text h);
-    votes = λ q n b lt h. m.votes q n b lt (subst (λ s. Has s _) (sent_same none q) h);
-    proposals = λ q b v lt h. m.proposals q b v lt (subst (λ s. Has s _) (sent_same none q) h);
+    votes = λ q n b lt h. m.votes q n b lt (subst (λ s. Has s (theory_says.Vote n b)) (sent_same none q) h);
+    proposals = λ q b v lt h. m.proposals q b v lt (subst (λ s. Has s (theory_says.Propose (ballot b v))) (sent_same none q) h);
     list = m.list ∙ ap packages_of (sym same_list);
-    units = subst (λ l. _) (sym same_list) m.units;
+    units = subst (All (λ n. n.path < length w.division.units)) (sym same_list) m.units;
   }
     where
       same_list : then.list ≡ c.list
       same_list = list_stays Value enough quorums c u e o value answered none
-
-      members_then' : (j q : ℕ) (z : WorldNode) → slice_get (slice_set w.nodes (member_of e) y) j ≡ Some z
-          → q < length w.division.units → (then.at q).members j ≡ nodes.view (node_of w j z) q
-      members_then' = members_then
 
       said : (text : Text) → IsSaid w c text → IsSaid (with_node w (member_of e) y) then text
       said text s = record {
@@ -133,5 +130,5 @@ module _ (w : World) (enough : Quorums) (c : Cluster Value) (m : Matches w c) (u
         tree = s.tree;
         sender = s.sender;
         claimers = s.claimers;
-        said_there = subst (λ l. Has l _) (sym (sent_same none s.unit)) s.said_there;
+        said_there = subst (λ l. Has l (says s.message.sender s.message.body)) (sym (sent_same none s.unit)) s.said_there;
       }

@@ -4,12 +4,14 @@ use Rattle.std.specs.Prelude.{◌≡◌, ℕ, List}
 use Rattle.agreement.specs.AgreedList.{Act, IsMonotone}
 use Rattle.std.specs.Prelude.{Option}
 use Rattle.protocol.specs.State.{Value}
-use Rattle.node.specs.Events.{Event}
+use Rattle.node.specs.Events.{Event, Restart, Stop, StopIn}
+use Rattle.node.specs.declared.event.Left.{Left}
+use Rattle.node.specs.declared.event.Left.TheVariants.{Whole}
 use Rattle.headline.specs.Local.{AreLocal}
 use Rattle.headline.specs.Matches.{Matches}
 use Rattle.headline.specs.Mirrored.{IsActOf, Mirrors, after_all_acts, with_act}
 use Rattle.headline.specs.Needs.{may_build}
-use Rattle.world.specs.Happening.{Happens, Leads}
+use Rattle.world.specs.Happening.{Happens, Leads, Restarts, Stops, StopsIn}
 use Rattle.world.specs.Headline.{AtEachMoment, HasOneList}
 use Rattle.world.specs.Safety.{EachIsOfAMessage, EqualHeaders, JobsStood, LaterRepeats, OneProposal, PromisesBound}
 use Rattle.world.specs.World.{IsMade, World, start}
@@ -23,13 +25,36 @@ abbrev pub EachEventKeepsLocal : Type 0
 EachEventKeepsLocal =
     (w v : World) (e : Event) → IsMade w.division w.weights → AreLocal w → EachIsOfAMessage w → Happens w e v → AreLocal v
 
+-- The event is one act more, or none: the world that it leaves matches what the acts leave then.
+abbrev pub IsOneActMore : Division → List ℕ → List (Act Value) → World → Event → World → Type 0
+IsOneActMore division weights acts w e v =
+    (o : Option (Act Value)) × IsActOf w e o × Matches v (after_all_acts division weights (with_act acts o))
+
+-- In a world that matches what some acts leave a stop between two steps is one act more, or none.
+abbrev pub StopsAreActs : Type 0
+StopsAreActs =
+    (division : Division) (weights : List ℕ) (acts : List (Act Value)) (w v : World) (n : ℕ)
+    → Matches w (after_all_acts division weights acts) → Stops w n v → IsOneActMore division weights acts w (Stop n) v
+
+-- So is a stop inside a step that leaves nothing of its note, or a part,
+abbrev pub CutStepsAreActs : Type 0
+CutStepsAreActs =
+    (division : Division) (weights : List ℕ) (acts : List (Act Value)) (w v : World) (e : Event) (l : Left)
+    → Matches w (after_all_acts division weights acts) → (l ≡ Whole → ⊥) → StopsIn w e l v
+    → IsOneActMore division weights acts w (StopIn e l) v
+
+-- and so is a restart.
+abbrev pub RestartsAreActs : Type 0
+RestartsAreActs =
+    (division : Division) (weights : List ℕ) (acts : List (Act Value)) (w v : World) (n : ℕ)
+    → Matches w (after_all_acts division weights acts) → Restarts w n v → IsOneActMore division weights acts w (Restart n) v
+
 -- An event of a world that matches what some acts leave is one act more, or none.
 abbrev pub EachEventIsAnAct : Type 0
 EachEventIsAnAct =
     (division : Division) (weights : List ℕ) (acts : List (Act Value)) (w v : World) (e : Event) → IsMade division weights
     → (w.division ≡ division) × (w.weights ≡ weights) → AreLocal w → Matches w (after_all_acts division weights acts)
-    → Happens w e v
-    → (o : Option (Act Value)) × IsActOf w e o × Matches v (after_all_acts division weights (with_act acts o))
+    → Happens w e v → IsOneActMore division weights acts w e v
 
 -- So each run is some acts.
 abbrev pub EachRunIsActs : Type 0

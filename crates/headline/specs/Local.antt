@@ -7,8 +7,9 @@ use Rattle.ballots.specs.declared.message.Fact.TheVariants as fact
 use Rattle.ballots.specs.declared.message.Note.{Note}
 use Rattle.protocol.specs.Member.{IsOpen}
 use Rattle.protocol.specs.State.{OpenClaim, Value, name_at}
-use Rattle.node.specs.Kept.{are_all, is_numbered}
+use Rattle.node.specs.Kept.{are_all}
 use Rattle.node.specs.State.{IsProgressOf}
+use Rattle.wire.specs.Joining.{is_numbered}
 use Rattle.wire.specs.Messages.{IsNote}
 use Rattle.wire.specs.Spelling.{datagram_text}
 use Rattle.wire.specs.declared.datagram.Datagram.TheVariants as datagram

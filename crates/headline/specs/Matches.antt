@@ -68,3 +68,13 @@ pub record Matches (w : World) (c : Cluster Value) : Type 0 where
   -- the lists are one
   pub list : w.agreed ≡ packages_of c.list
   pub units : All (λ e. e.path < length w.division.units) c.list
+
+-- The message was said for a unit by a member of the world, and the claims in it are of members.
+pub record WasSaid (w : World) (c : Cluster Value) (m : Message Value) : Type 0 where
+  pub unit : ℕ
+  pub listed : unit < length w.division.units
+  pub about : m.path ≡ name_of w unit
+  pub tree : m.tree ≡ tree_digest w.division.tree
+  pub sender : m.sender < length w.weights
+  pub claimers : All (λ k. k < length w.weights) (members_of m.body)
+  pub said_there : Has (c.at unit).sent (said m.sender m.body)
