@@ -17,7 +17,7 @@ use Rattle.agreement.proofs.Majorities.{majorities}
 use Rattle.ballots.specs.InTheAgreement.{said}
 use Rattle.ballots.specs.declared.message.Body.{Body}
 use Rattle.ballots.specs.declared.message.Message.{Message}
-use Rattle.node.specs.Step.{datagrams_of}
+use Rattle.node.specs.Parcels.{datagrams_of}
 use Rattle.package_record.specs.Build.{build_text}
 use Rattle.package_record.specs.Laws.{BuildTextIsReadAgain}
 use Rattle.protocol.specs.State.{Value}
@@ -72,10 +72,10 @@ some_first (d ∷ ds) n some e = (d, (zero, omega arith, refl))
 -- ---- datagrams of messages
 
 -- what was read
-abbrev ok : {X : Type 0} → X → Result X WireFault
+abbrev pub ok : {X : Type 0} → X → Result X WireFault
 ok x = Ok x
 
-ok_same : {X : Type 0} (x y : X) → ok x ≡ ok y → x ≡ y
+pub ok_same : {X : Type 0} (x y : X) → ok x ≡ ok y → x ≡ y
 ok_same x y h = cc
 
 -- a datagram is read off its text
@@ -91,16 +91,16 @@ datagram_was_sent sent n s d h =
     (AllPass-from_list_all (is_among sent) (datagrams_of n) s.went_out) (contains_map datagram_text (split_of n) d h))
 
 -- a message with a piece carries a build, and has the piece's header
-record Carries (n : Message Value) (h : Header) : Type 0 where
-  carrier : Carrier
-  build : Value
-  carried : carried_in n.body ≡ Some (carrier, build)
-  header : header_with n carrier build ≡ h
+pub record Carries (n : Message Value) (h : Header) : Type 0 where
+  pub carrier : Carrier
+  pub build : Value
+  pub carried : carried_in n.body ≡ Some (carrier, build)
+  pub header : header_with n carrier build ≡ h
 
-some_same : {X : Type 0} (x y : X) → Some x ≡ Some y → x ≡ y
+pub some_same : {X : Type 0} (x y : X) → Some x ≡ Some y → x ≡ y
 some_same x y h = cc
 
-carries : (n : Message Value) (d : Datagram) (h : Header) → Contains (split_of n) d → header_in d ≡ Some h → Carries n h
+pub carries : (n : Message Value) (d : Datagram) (h : Header) → Contains (split_of n) d → header_in d ≡ Some h → Carries n h
 carries n d h m e = by (carried_in n.body) refl m
   where
     by : (o : Option (Carrier × Value)) → carried_in n.body ≡ o → Contains (split_by n o) d → Carries n h
@@ -146,7 +146,7 @@ module _ (division : Division) (weights : List ℕ) (acts : List (Act Value)) (w
   one_build u sender carriers.Agreed v x first second = some_same v x (sym (told_there u v first) ∙ told_there u x second)
 
   -- messages that were said and have one header are one
-  said_equal : (a b : Message Value) (h : Header) → WasSaid w reached a → WasSaid w reached b → Carries a h → Carries b h → a ≡ b
+  pub said_equal : (a b : Message Value) (h : Header) → WasSaid w reached a → WasSaid w reached b → Carries a h → Carries b h → a ≡ b
   said_equal a b h sa sb ca cb =
       headers_say_all a b ca.carrier cb.carrier ca.build ca.carried
       (cb.carried ∙ ap (λ z. Some (cb.carrier, z)) (sym builds))

@@ -32,16 +32,16 @@ module _ (V : Type 0) (enough : Quorums) (i : ℕ) (x : Member V) (closed : x.st
       by (Some u) = closed
 
   -- nor has it after an input, unless that opens one
-  built_opens_none : (s : Stage V) → s ≡ Closed → (v : V) (o : Outcome V) → on_built x s v ≡ Some o → ⊥
+  pub built_opens_none : (s : Stage V) → s ≡ Closed → (v : V) (o : Outcome V) → on_built x s v ≡ Some o → ⊥
   built_opens_none s e v o h = let wrong : None ≡ Some o = sym (ap (λ s. on_built x s v) e) ∙ h in cc
 
-  failed_opens_none : (s : Stage V) → s ≡ Closed → (o : Outcome V) → on_failed x s ≡ Some o → ⊥
+  pub failed_opens_none : (s : Stage V) → s ≡ Closed → (o : Outcome V) → on_failed x s ≡ Some o → ⊥
   failed_opens_none s e o h = let wrong : None ≡ Some o = sym (ap (λ s. on_failed x s) e) ∙ h in cc
 
-  nudge_opens_none : (s : Stage V) → s ≡ Closed → (o : Outcome V) → on_nudge x s ≡ Some o → ⊥
+  pub nudge_opens_none : (s : Stage V) → s ≡ Closed → (o : Outcome V) → on_nudge x s ≡ Some o → ⊥
   nudge_opens_none s e o h = let wrong : None ≡ Some o = sym (ap (λ s. on_nudge x s) e) ∙ h in cc
 
-  inquire_opens_none : (h : Option V) (o : Outcome V) → on_inquire x h ≡ Some o → o.member.stage ≡ Closed
+  pub inquire_opens_none : (h : Option V) (o : Outcome V) → on_inquire x h ≡ Some o → o.member.stage ≡ Closed
   inquire_opens_none (Some v) o e = absurd (let wrong : None ≡ Some o = e in cc)
   inquire_opens_none None o e = let is : on_inquire x None ≡ Some o = e in sym (ap (λ (o : Outcome V). o.member.stage) (outcome_same _ o is)) ∙ closed
     where

@@ -25,7 +25,7 @@ use Rattle.ballots.specs.declared.message.Fact.TheVariants as fact
 use Rattle.ballots.specs.declared.message.Message.{Message}
 use Rattle.ballots.specs.declared.message.Note.{Note}
 use Rattle.claims.specs.Claim.{most_members}
-use Rattle.node.specs.Step.{datagrams_of}
+use Rattle.node.specs.Parcels.{datagrams_of}
 use Rattle.package_record.specs.Laws.{BuildTextIsReadAgain}
 use Rattle.protocol.specs.State.{Value}
 use Rattle.units.specs.Division.{Division}

@@ -3,18 +3,27 @@ use Rattle.units.specs.Division.{Division}
 use Rattle.std.specs.Prelude.{◌≡◌, ℕ, List}
 use Rattle.agreement.specs.AgreedList.{Act, IsMonotone}
 use Rattle.std.specs.Prelude.{Option}
+use Rattle.protocol.specs.Laws.{IsNoMessage}
 use Rattle.protocol.specs.State.{Value}
-use Rattle.node.specs.Events.{Event, Restart, Stop, StopIn}
+use Rattle.protocol.specs.declared.input.Input.{Input}
+use Rattle.ballots.specs.declared.message.Message.{Message}
+use Rattle.faults.specs.Bytes.{Text}
+use Rattle.node.specs.Events.{Event, Failed, Restart, Stop, StopIn}
+use Rattle.node.specs.Step.{Asked, Does}
+use Rattle.node.specs.declared.fault.Foreign.{Foreign}
+use Rattle.node.specs.declared.fault.NodeFault.TheVariants as faults
 use Rattle.node.specs.declared.event.Left.{Left}
 use Rattle.node.specs.declared.event.Left.TheVariants.{Whole}
 use Rattle.headline.specs.Local.{AreLocal}
-use Rattle.headline.specs.Matches.{Matches}
+use Rattle.headline.specs.Matches.{Matches, WasSaid}
 use Rattle.headline.specs.Mirrored.{IsActOf, Mirrors, after_all_acts, with_act}
 use Rattle.headline.specs.Needs.{may_build}
-use Rattle.world.specs.Happening.{Happens, Leads, Restarts, Stops, StopsIn}
-use Rattle.world.specs.Headline.{AtEachMoment, HasOneList}
+use Rattle.world.specs.Happening.{Asks, Happens, IsRefused, Leads, Restarts, Steps, Stops, StopsIn}
+use Rattle.world.specs.Headline.{AtEachMoment, HasOneList, HeldIsListed}
+use Rattle.world.specs.Sent.{WasSent}
 use Rattle.world.specs.Safety.{EachIsOfAMessage, EqualHeaders, JobsStood, LaterRepeats, OneProposal, PromisesBound}
 use Rattle.world.specs.World.{IsMade, World, start}
+use Rattle.world.specs.declared.fault.WorldFault.TheVariants as worlds
 
 -- What may be built on some builds may be built on these and more.
 abbrev pub NeedsAreMonotone : Type 0
@@ -49,6 +58,21 @@ RestartsAreActs =
     (division : Division) (weights : List ℕ) (acts : List (Act Value)) (w v : World) (n : ℕ)
     → Matches w (after_all_acts division weights acts) → Restarts w n v → IsOneActMore division weights acts w (Restart n) v
 
+-- So is a stop inside the step of an input that leaves the whole note, where nodes are as they have to be,
+abbrev pub CutInputsAreActs : Type 0
+CutInputsAreActs =
+    (division : Division) (weights : List ℕ) (acts : List (Act Value)) (w v : World) (e : Event) (input : Input) → IsMade division weights
+    → (w.division ≡ division) × (w.weights ≡ weights) → AreLocal w → Matches w (after_all_acts division weights acts)
+    → ((asked : Asked) → Asks w e asked → asked ≡ Does input) → IsNoMessage input → StopsIn w e Whole v
+    → IsOneActMore division weights acts w (StopIn e Whole) v
+
+-- and so is a build that failed.
+abbrev pub FailuresAreActs : Type 0
+FailuresAreActs =
+    (division : Division) (weights : List ℕ) (acts : List (Act Value)) (w v : World) (n : ℕ) (path : Text) → IsMade division weights
+    → (w.division ≡ division) × (w.weights ≡ weights) → AreLocal w → Matches w (after_all_acts division weights acts)
+    → Steps w (Failed n path) v → IsOneActMore division weights acts w (Failed n path) v
+
 -- An event of a world that matches what some acts leave is one act more, or none.
 abbrev pub EachEventIsAnAct : Type 0
 EachEventIsAnAct =
@@ -69,6 +93,35 @@ MatchedHeadersAreEqual =
     (division : Division) (weights : List ℕ) (acts : List (Act Value)) (w : World) → IsMade division weights
     → (w.division ≡ division) × (w.weights ≡ weights) → Matches w (after_all_acts division weights acts)
     → EqualHeaders w × EachIsOfAMessage w
+
+-- In such a world each message whose datagrams were all sent was said.
+abbrev pub SentWasSaid : Type 0
+SentWasSaid =
+    (division : Division) (weights : List ℕ) (acts : List (Act Value)) (w : World) (m : Message Value) → IsMade division weights
+    → (w.division ≡ division) × (w.weights ≡ weights) → Matches w (after_all_acts division weights acts)
+    → WasSent w.sent m → WasSaid w (after_all_acts division weights acts) m
+
+-- There no event is refused as foreign, where nodes are as they have to be.
+abbrev pub MatchedIsNotForeign : Type 0
+MatchedIsNotForeign =
+    (division : Division) (weights : List ℕ) (acts : List (Act Value)) (w : World) (e : Event) (f : Foreign) → IsMade division weights
+    → (w.division ≡ division) × (w.weights ≡ weights) → AreLocal w → Matches w (after_all_acts division weights acts)
+    → IsRefused w e (worlds.Node (faults.Foreign f)) → ⊥
+
+-- There a claim has at most one proposal, a promise bounds the votes of its member, and a proposal at or above a claim for
+-- which a majority sent votes repeats its build.
+abbrev pub MatchedVotesAreLawful : Type 0
+MatchedVotesAreLawful =
+    (division : Division) (weights : List ℕ) (acts : List (Act Value)) (w : World) → IsMade division weights
+    → (w.division ≡ division) × (w.weights ≡ weights) → Matches w (after_all_acts division weights acts)
+    → OneProposal w × PromisesBound w × LaterRepeats w
+
+-- And what nodes hold is in the list, where nodes are as they have to be.
+abbrev pub MatchedHeldIsListed : Type 0
+MatchedHeldIsListed =
+    (division : Division) (weights : List ℕ) (acts : List (Act Value)) (w : World) → IsMade division weights
+    → (w.division ≡ division) × (w.weights ≡ weights) → AreLocal w → Matches w (after_all_acts division weights acts)
+    → HeldIsListed w
 
 -- what each run has at each moment
 pub record IsSafe (division : Division) (weights : List ℕ) (events : List Event) (last : World) : Type 0 where

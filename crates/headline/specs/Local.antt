@@ -1,9 +1,10 @@
 -- What holds of each node of a world by itself, whatever the others do.
 use Rattle.units.specs.Division.{number_named}
-use Rattle.std.specs.Prelude.{◌≡◌, ◌<◌, ℕ, true, false, List, [], ◌∷◌, None, Some, All, AllPairs, Contains, length, slice_get}
+use Rattle.std.specs.Prelude.{◌≡◌, ◌<◌, ℕ, true, false, List, [], ◌∷◌, None, Some, All, AllPairs, length, slice_get}
 use Rattle.std.specs.Option.{ForSome}
 use Rattle.ballots.specs.declared.message.Fact.{Fact}
 use Rattle.ballots.specs.declared.message.Fact.TheVariants as fact
+use Rattle.ballots.specs.declared.message.Message.{Message}
 use Rattle.ballots.specs.declared.message.Note.{Note}
 use Rattle.protocol.specs.Member.{IsOpen}
 use Rattle.protocol.specs.State.{OpenClaim, Value, name_at}
@@ -11,9 +12,8 @@ use Rattle.node.specs.Kept.{are_all}
 use Rattle.node.specs.State.{IsProgressOf}
 use Rattle.wire.specs.Joining.{is_numbered}
 use Rattle.wire.specs.Messages.{IsNote}
-use Rattle.wire.specs.Spelling.{datagram_text}
-use Rattle.wire.specs.declared.datagram.Datagram.TheVariants as datagram
 use Rattle.wire.specs.declared.datagram.Piece.{Piece}
+use Rattle.world.specs.Safety.{WasSentOf}
 use Rattle.world.specs.World.{World, WorldNode, member_at}
 
 -- the members that the claim in a note names
@@ -36,9 +36,9 @@ pub record IsItsClaim (w : World) (k : ℕ) (x : WorldNode) (o : OpenClaim) : Ty
   pub is_open : IsOpen (member_at w k x) o
   pub progress : IsProgressOf (name_at (member_at w k x) o.unit) o.progress
 
--- The pieces that a node keeps were sent, none is kept twice, and their messages are not whole yet.
+-- The pieces that a node keeps are of messages that were sent, none is kept twice, and their messages are not whole yet.
 pub record AreKept (w : World) (pieces : List Piece) : Type 0 where
-  pub sent : All (λ p. Contains w.sent (datagram_text (datagram.Piece p))) pieces
+  pub sent : All (λ p. (m : Message Value) × WasSentOf w.sent m p) pieces
   pub once : AllPairs (λ p q. is_numbered p.header p.number q ≡ false) pieces
   pub waiting : All (λ p. are_all p.header pieces ≡ false) pieces
 

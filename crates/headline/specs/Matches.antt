@@ -17,7 +17,7 @@ use Rattle.protocol.specs.InTheAgreement.{claim_of}
 use Rattle.protocol.specs.State.{Value, facts_at}
 use Rattle.protocol.specs.Answers.{tree_digest}
 use Rattle.protocol.specs.Step.{members_of}
-use Rattle.node.specs.Step.{datagrams_of}
+use Rattle.node.specs.Parcels.{datagrams_of}
 use Rattle.world.specs.Sent.{WasSent, message}
 use Rattle.world.specs.World.{World, WorldNode, member_at}
 

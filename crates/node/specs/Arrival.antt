@@ -1,10 +1,10 @@
 -- What bytes are to a node.
-use Rattle.std.specs.Prelude.{◌++◌, List, [], ◌∷◌, Option, None, Some, Result, Ok, Err, if◌then◌else◌}
+use Rattle.std.specs.Prelude.{List, [], ◌∷◌, Option, None, Some, Result, Ok, Err, if◌then◌else◌}
 use Rattle.ballots.specs.declared.message.Message.{Message}
 use Rattle.protocol.specs.State.{State, Value}
 use Rattle.protocol.specs.Step.{header_refusal}
 use Rattle.protocol.specs.declared.refusal.Refusal.{Refusal}
-use Rattle.node.specs.Kept.{are_all, has_number, members_in, without}
+use Rattle.node.specs.Kept.{are_all, has_number, members_in, with_piece, without}
 use Rattle.node.specs.declared.fault.Foreign.{Foreign}
 use Rattle.node.specs.declared.fault.Foreign.TheVariants as foreign
 use Rattle.wire.specs.Joining.{bytes_of}
@@ -24,21 +24,25 @@ pub data Arrival : Type 0 where
   -- A message is whole, and the node handles it.
   Whole : Message Value → List Piece → Arrival
 
--- Once the last missing piece came the pieces of the message are dropped, whether or not they join to one.
-abbrev pub arrival_of_all : Header → List Piece → Result (Message Value) WireFault → Arrival
-arrival_of_all h pieces (Ok m) = Whole m (without h pieces)
-arrival_of_all h pieces (Err f) = Strange (foreign.Bytes f) (without h pieces)
+-- Once the last missing piece came the pieces of the message are dropped, whether or not they join
+-- to one.
+abbrev pub arrival_of_all : List Piece → Result (Message Value) WireFault → Arrival
+arrival_of_all rest (Ok m) = Whole m rest
+arrival_of_all rest (Err f) = Strange (foreign.Bytes f) rest
 
--- a piece that is among these now, and was not before
-abbrev pub arrival_of_new : Header → List Piece → Arrival
-arrival_of_new h pieces =
-    if are_all h pieces then arrival_of_all h pieces (joined h (bytes_of h pieces)) else Waits pieces
+-- a piece that is not among these, which it joins
+abbrev pub arrival_of_new : List Piece → Piece → Arrival
+arrival_of_new pieces p =
+    let all = with_piece pieces p in
+    if are_all p.header all
+    then arrival_of_all (without p.header pieces) (joined p.header (bytes_of p.header all))
+    else Waits all
 
 -- A piece whose header the member refuses means nothing; one that the node has changes nothing.
 abbrev pub arrival_of_piece : List Piece → Piece → Option Refusal → Arrival
 arrival_of_piece pieces p (Some r) = Strange (foreign.Message r) pieces
 arrival_of_piece pieces p None =
-    if has_number p.header pieces p.number then Waits pieces else arrival_of_new p.header (pieces ++ p ∷ [])
+    if has_number p.header pieces p.number then Waits pieces else arrival_of_new pieces p
 
 -- why the member refuses the fields before the build
 abbrev pub refusal_of : State → Header → Option Refusal

@@ -1,5 +1,6 @@
--- The pieces that a node keeps of messages that are not whole yet.
-use Rattle.std.specs.Prelude.{ℕ, Bool, not, List, [], ◌∷◌, filter}
+-- The pieces that a node keeps of messages that are not whole yet. Headers are one if no field of
+-- them differs.
+use Rattle.std.specs.Prelude.{ℕ, Bool, not, List, [], ◌∷◌, ◌++◌, filter}
 use Rattle.std.specs.List.{list_all, list_any}
 use Rattle.wire.specs.Joining.{is_numbered, same_header}
 use Rattle.wire.specs.Pieces.{numbers_of}
@@ -15,6 +16,10 @@ has_number h pieces k = list_any (is_numbered h k) pieces
 -- Whether all pieces of the header's message are among these.
 abbrev pub are_all : Header → List Piece → Bool
 are_all h pieces = list_all (has_number h pieces) (numbers_of h.length)
+
+-- the pieces with one more
+abbrev pub with_piece : List Piece → Piece → List Piece
+with_piece pieces p = pieces ++ p ∷ []
 
 -- the pieces of other messages
 abbrev pub without : Header → List Piece → List Piece

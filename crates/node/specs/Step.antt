@@ -1,25 +1,21 @@
 -- A node's step: its member's step on an input, or on the message that became whole.
-use Rattle.std.specs.Prelude.{◌≡◌, ℕ, List, [], Option, None, Some, Result, Ok, Err, flat_map, map, if◌then◌else◌}
+use Rattle.std.specs.Prelude.{◌≡◌, ℕ, List, [], Option, None, Some, Result, Ok, Err, if◌then◌else◌}
 use Rattle.faults.specs.Bytes.{Text}
 use Rattle.engine.specs.declared.Letter.{Letter}
-use Rattle.ballots.specs.declared.message.Message.{Message}
 use Rattle.ballots.specs.declared.message.Note.{Note}
 use Rattle.protocol.specs.Answers.{Answer}
 use Rattle.protocol.specs.Member.{IsInput}
 use Rattle.protocol.specs.State.{State, Value}
-use Rattle.protocol.specs.Step as member
+use Rattle.protocol.specs.Step as members
 use Rattle.protocol.specs.Step.{IsLetterOf, answer, unit_claimed}
 use Rattle.protocol.specs.declared.refusal.Refusal.{Refusal}
 use Rattle.protocol.specs.declared.input.Input.{Input}
-use Rattle.protocol.specs.declared.sends.Send.{Send}
 use Rattle.node.specs.Arrival.{Arrival, Strange, Waits, Whole, arrival_of}
 use Rattle.node.specs.State.{NodeState, restored_member, with_note}
 use Rattle.node.specs.declared.fault.Foreign.TheVariants as foreign
 use Rattle.node.specs.declared.fault.NodeFault.{NodeFault}
 use Rattle.node.specs.declared.fault.NodeFault.TheVariants as fault
-use Rattle.wire.specs.Pieces.{split_of}
 use Rattle.wire.specs.Reading.{datagram_of}
-use Rattle.wire.specs.Spelling.{datagram_text}
 use Rattle.wire.specs.declared.datagram.Piece.{Piece}
 
 -- what a node is asked: an input of its own, or to take bytes that came
@@ -55,7 +51,7 @@ heard pieces (Err r) = Err (fault.Foreign (foreign.Message r))
 abbrev pub step_on : State → Arrival → Result Taken NodeFault
 step_on s (Strange f pieces) = Err (fault.Foreign f)
 step_on s (Waits pieces) = Ok (record { answer = nothing s; pieces = pieces })
-step_on s (Whole m pieces) = heard pieces (member.heard s m)
+step_on s (Whole m pieces) = heard pieces (members.heard s m)
 
 -- the step of a node that is not stopped
 abbrev pub running_step : State → List Piece → Letter → Asked → Result Taken NodeFault
@@ -104,13 +100,3 @@ after n t =
       pieces = t.pieces;
       stopped = n.stopped;
     }
-
--- ---- what goes out
-
--- the datagrams that a message goes out as: its pieces in order of number, or itself
-abbrev pub datagrams_of : Message Value → List Text
-datagrams_of m = map datagram_text (split_of m)
-
--- the datagrams of these sends, each with its receiver, in the order of the sends
-abbrev pub datagrams_to : List Send → List (ℕ × Text)
-datagrams_to sends = flat_map (λ s. map (λ text. (s.to, text)) (datagrams_of s.message)) sends

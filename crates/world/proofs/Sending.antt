@@ -9,7 +9,7 @@ use Rattle.std.proofs.lemmas.List.Folds.{Any-from_list_any, list_any_at}
 use Rattle.std.proofs.lemmas.List.Quantifiers.{all_pairs_push}
 use Rattle.faults.specs.Bytes.{Text, is_among}
 use Rattle.units.proofs.Places.{equal_bytes, same_bytes}
-use Rattle.node.specs.Step.{datagrams_to}
+use Rattle.node.specs.Parcels.{datagrams_to}
 use Rattle.protocol.specs.declared.sends.Send.{Send}
 use Rattle.world.specs.Sent.{with_datagram, with_sends}
 

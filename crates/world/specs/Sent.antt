@@ -10,7 +10,7 @@ use Rattle.ballots.specs.declared.message.Message.{Message}
 use Rattle.protocol.specs.State.{Value}
 use Rattle.protocol.specs.Answers.{tree_digest}
 use Rattle.protocol.specs.declared.sends.Send.{Send}
-use Rattle.node.specs.Step.{datagrams_of, datagrams_to}
+use Rattle.node.specs.Parcels.{datagrams_of, datagrams_to}
 use Rattle.wire.specs.Messages.{IsMessage}
 use Rattle.world.specs.World.{World}
 use Rattle.std.specs.Prelude.{Option}
