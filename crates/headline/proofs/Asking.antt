@@ -29,16 +29,16 @@ use Rattle.headline.proofs.Members.{node_is_member}
 
 -- ---- what a step answers
 
-abbrev ok : {X : Type 0} → X → Result X NodeFault
+abbrev pub ok : {X : Type 0} → X → Result X NodeFault
 ok x = Ok x
 
-ok_same : {X : Type 0} (x y : X) → ok x ≡ ok y → x ≡ y
+pub ok_same : {X : Type 0} (x y : X) → ok x ≡ ok y → x ≡ y
 ok_same x y h = cc
 
-never_ok : (t : Taken) (f : NodeFault) → ok t ≡ Err f → ⊥
+pub never_ok : (t : Taken) (f : NodeFault) → ok t ≡ Err f → ⊥
 never_ok t f h = cc
 
-abbrev answers_with : Answer → Result Answer Refusal
+abbrev pub answers_with : Answer → Result Answer Refusal
 answers_with a = Ok a
 
 -- a step that is taken on an input is what the member answers

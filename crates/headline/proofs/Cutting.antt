@@ -41,7 +41,7 @@ module _ (division : Division) (weights : List ℕ) (acts : List (Act Value)) (w
   abbrev here : Cluster Value
   here = after_all_acts division weights acts
 
-  made_here : IsMade w.division w.weights
+  pub made_here : IsMade w.division w.weights
   made_here = subst (λ (d : Division). IsMade d w.weights) (sym of.0) (subst (IsMade division) (sym of.1) made)
 
   -- the answer, as the theory's member with this list of weights gives it at the unit

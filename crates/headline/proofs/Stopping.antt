@@ -116,7 +116,7 @@ module _ (division : Division) (weights : List ℕ) (acts : List (Act Value)) (w
   some_or_none : (n : ℕ) → (0 < n) ⊎ (n ≡ 0)
   some_or_none n = ⊎_elim (λ l. inl l) (λ l. inr (omega (arith, l))) (cases_lt 0 n)
 
-  goes_down : (e : Event) (k : ℕ) (x : WorldNode) (behind : Text) → slice_get w.nodes k ≡ Some x → x.up ≡ true
+  pub goes_down : (e : Event) (k : ℕ) (x : WorldNode) (behind : Text) → slice_get w.nodes k ≡ Some x → x.up ≡ true
       → (v : World) → v ≡ with_node w k (down_node x.notes behind) → IsOneActMore division weights acts w e v
   goes_down e k x behind stands up v is = ⊎_elim
       (λ some. (

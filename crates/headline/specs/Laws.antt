@@ -3,22 +3,18 @@ use Rattle.units.specs.Division.{Division}
 use Rattle.std.specs.Prelude.{◌≡◌, ℕ, List}
 use Rattle.agreement.specs.AgreedList.{Act, IsMonotone}
 use Rattle.std.specs.Prelude.{Option}
-use Rattle.protocol.specs.Laws.{IsNoMessage}
 use Rattle.protocol.specs.State.{Value}
-use Rattle.protocol.specs.declared.input.Input.{Input}
 use Rattle.ballots.specs.declared.message.Message.{Message}
 use Rattle.faults.specs.Bytes.{Text}
 use Rattle.node.specs.Events.{Event, Failed, Restart, Stop, StopIn}
-use Rattle.node.specs.Step.{Asked, Does}
 use Rattle.node.specs.declared.fault.Foreign.{Foreign}
 use Rattle.node.specs.declared.fault.NodeFault.TheVariants as faults
 use Rattle.node.specs.declared.event.Left.{Left}
-use Rattle.node.specs.declared.event.Left.TheVariants.{Whole}
 use Rattle.headline.specs.Local.{AreLocal}
 use Rattle.headline.specs.Matches.{Matches, WasSaid}
 use Rattle.headline.specs.Mirrored.{IsActOf, Mirrors, after_all_acts, with_act}
 use Rattle.headline.specs.Needs.{may_build}
-use Rattle.world.specs.Happening.{Asks, Happens, IsRefused, Leads, Restarts, Steps, Stops, StopsIn}
+use Rattle.world.specs.Happening.{Happens, IsRefused, Leads, Restarts, Steps, Stops, StopsIn}
 use Rattle.world.specs.Headline.{AtEachMoment, HasOneList, HeldIsListed}
 use Rattle.world.specs.Sent.{WasSent}
 use Rattle.world.specs.Safety.{EachIsOfAMessage, EqualHeaders, JobsStood, LaterRepeats, OneProposal, PromisesBound}
@@ -45,26 +41,18 @@ StopsAreActs =
     (division : Division) (weights : List ℕ) (acts : List (Act Value)) (w v : World) (n : ℕ)
     → Matches w (after_all_acts division weights acts) → Stops w n v → IsOneActMore division weights acts w (Stop n) v
 
--- So is a stop inside a step that leaves nothing of its note, or a part,
-abbrev pub CutStepsAreActs : Type 0
-CutStepsAreActs =
-    (division : Division) (weights : List ℕ) (acts : List (Act Value)) (w v : World) (e : Event) (l : Left)
-    → Matches w (after_all_acts division weights acts) → (l ≡ Whole → ⊥) → StopsIn w e l v
-    → IsOneActMore division weights acts w (StopIn e l) v
-
--- and so is a restart.
+-- So is a restart,
 abbrev pub RestartsAreActs : Type 0
 RestartsAreActs =
     (division : Division) (weights : List ℕ) (acts : List (Act Value)) (w v : World) (n : ℕ)
     → Matches w (after_all_acts division weights acts) → Restarts w n v → IsOneActMore division weights acts w (Restart n) v
 
--- So is a stop inside the step of an input that leaves the whole note, where nodes are as they have to be,
-abbrev pub CutInputsAreActs : Type 0
-CutInputsAreActs =
-    (division : Division) (weights : List ℕ) (acts : List (Act Value)) (w v : World) (e : Event) (input : Input) → IsMade division weights
+-- a stop inside any step, whatever it leaves of the note, where nodes are as they have to be,
+abbrev pub StopsInsideAreActs : Type 0
+StopsInsideAreActs =
+    (division : Division) (weights : List ℕ) (acts : List (Act Value)) (w v : World) (e : Event) (l : Left) → IsMade division weights
     → (w.division ≡ division) × (w.weights ≡ weights) → AreLocal w → Matches w (after_all_acts division weights acts)
-    → ((asked : Asked) → Asks w e asked → asked ≡ Does input) → IsNoMessage input → StopsIn w e Whole v
-    → IsOneActMore division weights acts w (StopIn e Whole) v
+    → StopsIn w e l v → IsOneActMore division weights acts w (StopIn e l) v
 
 -- and so is a build that failed.
 abbrev pub FailuresAreActs : Type 0
@@ -86,6 +74,10 @@ EachRunIsActs =
     (division : Division) (weights : List ℕ) (events : List Event) (w : World) → IsMade division weights
     → Leads (start division weights) events w
     → (acts : List (Act Value)) × Mirrors division weights events w acts × Matches w (after_all_acts division weights acts) × AreLocal w
+
+-- Where each event is an act, or none, and leaves nodes as they have to be, each run is some acts.
+abbrev pub RunsFollowEvents : Type 0
+RunsFollowEvents = EachEventIsAnAct → EachEventKeepsLocal → EachRunIsActs
 
 -- In a world that matches what acts leave, equal headers of sent pieces belong to equal messages.
 abbrev pub MatchedHeadersAreEqual : Type 0
@@ -135,6 +127,21 @@ pub record IsSafe (division : Division) (weights : List ℕ) (events : List Even
   pub jobs_stood : AtEachMoment division weights events last (λ early w. JobsStood division weights early w)
   -- equal headers of sent pieces belong to equal messages
   pub equal_headers : AtEachMoment division weights events last (λ early w. EqualHeaders w × EachIsOfAMessage w)
+
+-- Where each run is some acts, this much holds at each moment: votes are lawful, headers tell messages apart, and what nodes
+-- hold is in the list.
+pub record IsSafeSoFar (division : Division) (weights : List ℕ) (events : List Event) (last : World) : Type 0 where
+  pub one_proposal : AtEachMoment division weights events last (λ early w. OneProposal w)
+  pub promises_bound : AtEachMoment division weights events last (λ early w. PromisesBound w)
+  pub later_repeats : AtEachMoment division weights events last (λ early w. LaterRepeats w)
+  pub equal_headers : AtEachMoment division weights events last (λ early w. EqualHeaders w × EachIsOfAMessage w)
+  pub held : AtEachMoment division weights events last (λ early w. HeldIsListed w)
+
+-- for each run
+abbrev pub ActsAreSafe : Type 0
+ActsAreSafe =
+    EachRunIsActs → (division : Division) (weights : List ℕ) (events : List Event) (last : World) → IsMade division weights
+    → Leads (start division weights) events last → IsSafeSoFar division weights events last
 
 -- Each run has one list, and is safe.
 abbrev pub EachRunHasOneList : Type 0

@@ -1,16 +1,18 @@
 //! What the events of a world are in the agreement theory, and what follows for a world that matches
 //! what acts of it leave.
 ghost use Rattle.headline.specs.Laws.{
-  CutInputsAreActs,
-  CutStepsAreActs,
+  ActsAreSafe,
   FailuresAreActs,
   MatchedHeadersAreEqual,
   MatchedHeldIsListed,
+  MatchedIsNotForeign,
   MatchedVotesAreLawful,
   NeedsAreMonotone,
   RestartsAreActs,
+  RunsFollowEvents,
   SentWasSaid,
   StopsAreActs,
+  StopsInsideAreActs,
 };
 
 /// What a build needs is spoiled by nothing that is held besides.
@@ -18,12 +20,10 @@ pub fn needs_are_monotone()
     ensures { NeedsAreMonotone }
 {}
 
-/// A stop between two steps, or inside one that leaves nothing whole, is a stop of the member; inside
-/// an input's step that leaves its note it is such a stop there; and a restart is a restart.
+/// A stop, between two steps or inside one, is a stop of the member, and a restart is a restart.
 pub fn stops_are_acts()
     ensures between { StopsAreActs }
-    ensures inside { CutStepsAreActs }
-    ensures with_note { CutInputsAreActs }
+    ensures inside { StopsInsideAreActs }
     ensures restarts { RestartsAreActs }
 {}
 
@@ -32,15 +32,23 @@ pub fn failures_are_acts()
     ensures { FailuresAreActs }
 {}
 
-/// What was sent, with all its datagrams, was said by a member; and equal headers of sent pieces
-/// belong to equal messages.
+/// What was sent, with all its datagrams, was said by a member; equal headers of sent pieces belong
+/// to equal messages; and nothing that was sent is foreign to a node.
 pub fn sent_was_said()
     ensures said { SentWasSaid }
     ensures headers { MatchedHeadersAreEqual }
+    ensures foreign { MatchedIsNotForeign }
 {}
 
 /// Votes are lawful, and what nodes hold is in the list.
 pub fn matched_worlds_are_safe()
     ensures votes { MatchedVotesAreLawful }
     ensures held { MatchedHeldIsListed }
+{}
+
+/// Where each event is an act, each run is acts; and where each run is, votes are lawful at each
+/// moment, headers tell messages apart, and what nodes hold is in the list.
+pub fn runs_follow_events()
+    ensures runs { RunsFollowEvents }
+    ensures safe { ActsAreSafe }
 {}

@@ -4,6 +4,7 @@ ghost use Rattle.world.specs.Laws.{
   LeadsInParts,
   ListsGrow,
   ListsHaveOneAPath,
+  WhatIsListedIsHeldAlike,
 };
 
 /// Events in two parts lead on from where the first part led.
@@ -21,4 +22,9 @@ pub fn lists_grow()
 /// What was sent keeps its number, and no datagram has two.
 pub fn datagrams_keep_their_numbers()
     ensures { DatagramsKeepTheirNumbers }
+{}
+
+/// Two nodes never hold different packages for one path, where all that they hold is in the list.
+pub fn nodes_hold_alike()
+    ensures { WhatIsListedIsHeldAlike }
 {}
