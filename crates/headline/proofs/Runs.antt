@@ -14,14 +14,18 @@ use Rattle.package_record.specs.Laws.{BuildTextIsReadAgain}
 use Rattle.protocol.specs.State.{Value, facts_at}
 use Rattle.units.specs.Division.{Division, no_unit}
 use Rattle.world.specs.Happening.{Happens, Leads}
-use Rattle.world.specs.Headline.{AtEachMoment, HeldIsListed}
+use Rattle.world.specs.Headline.{AtEachMoment, HeldIsListed, HoldAlike}
+use Rattle.world.specs.Laws.{NothingSentIsForeign}
 use Rattle.world.specs.Safety.{EachIsOfAMessage, EqualHeaders, LaterRepeats, OneProposal, PromisesBound, WasSentOf}
 use Rattle.world.specs.World.{IsMade, World, WorldNode, fresh_node, member_at, start}
+use Rattle.world.proofs.Alike.{held_alike}
+use Rattle.world.proofs.Distinct.{one_there}
 use Rattle.world.proofs.Growing.{each_moment, event_later, leads_later}
 use Rattle.headline.specs.Laws.{EachEventIsAnAct, EachEventKeepsLocal, EachRunIsActs}
 use Rattle.headline.specs.Local.{AreLocal, IsLocal, IsOfUnit}
 use Rattle.headline.specs.Matches.{Matches, log_of, node_of}
 use Rattle.headline.specs.Mirrored.{Mirrors, after_all_acts, and_then, at_start, with_act}
+use Rattle.headline.proofs.Foreign.{never_foreign}
 use Rattle.headline.proofs.Headers.{headers_are_equal}
 use Rattle.headline.proofs.Holding.{held_is_listed}
 use Rattle.headline.proofs.Said.{each_is_of_a_message}
@@ -153,3 +157,18 @@ module _ (runs : EachRunIsActs) (again : BuildTextIsReadAgain) (division : Divis
 
   pub always_listed : AtEachMoment division weights events last (λ early w. HeldIsListed w)
   always_listed = at_each HeldIsListed (λ acts w of m local. held_is_listed division weights acts w made of m local)
+
+  pub always_alike : AtEachMoment division weights events last (λ early w. HoldAlike w)
+  always_alike = each_moment division weights (λ early w. HoldAlike w)
+      (λ early w l.
+      let r = runs division weights early w made l in
+      let later = leads_later (start division weights) w early l in
+      held_alike w (held_is_listed division weights r.0 w made (later.division, later.weights) r.2 r.3) (one_there division weights early w l))
+      events last led
+
+-- Nothing that was sent is foreign, where each run is acts.
+pub none_is_foreign : BuildTextIsReadAgain → EachRunIsActs → NothingSentIsForeign
+none_is_foreign again runs division weights events w e f made led refused =
+    let r = runs division weights events w made led in
+    let later = leads_later (start division weights) w events led in
+    never_foreign division weights r.0 w made (later.division, later.weights) r.2 again r.3 e f refused

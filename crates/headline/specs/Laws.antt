@@ -10,12 +10,14 @@ use Rattle.node.specs.Events.{Event, Failed, Restart, Stop, StopIn}
 use Rattle.node.specs.declared.fault.Foreign.{Foreign}
 use Rattle.node.specs.declared.fault.NodeFault.TheVariants as faults
 use Rattle.node.specs.declared.event.Left.{Left}
+use Rattle.node.specs.declared.event.Left.TheVariants.{Whole}
 use Rattle.headline.specs.Local.{AreLocal}
 use Rattle.headline.specs.Matches.{Matches, WasSaid}
 use Rattle.headline.specs.Mirrored.{IsActOf, Mirrors, after_all_acts, with_act}
 use Rattle.headline.specs.Needs.{may_build}
 use Rattle.world.specs.Happening.{Happens, IsRefused, Leads, Restarts, Steps, Stops, StopsIn}
-use Rattle.world.specs.Headline.{AtEachMoment, HasOneList, HeldIsListed}
+use Rattle.world.specs.Headline.{AtEachMoment, HasOneList, HeldIsListed, HoldAlike}
+use Rattle.world.specs.Laws.{NothingSentIsForeign}
 use Rattle.world.specs.Sent.{WasSent}
 use Rattle.world.specs.Safety.{EachIsOfAMessage, EqualHeaders, JobsStood, LaterRepeats, OneProposal, PromisesBound}
 use Rattle.world.specs.World.{IsMade, World, start}
@@ -29,6 +31,18 @@ NeedsAreMonotone = (division : Division) → IsMonotone (may_build division)
 abbrev pub EachEventKeepsLocal : Type 0
 EachEventKeepsLocal =
     (w v : World) (e : Event) → IsMade w.division w.weights → AreLocal w → EachIsOfAMessage w → Happens w e v → AreLocal v
+
+-- Stops leave it so,
+abbrev pub StopsKeepLocal : Type 0
+StopsKeepLocal = (w v : World) (n : ℕ) → AreLocal w → Stops w n v → AreLocal v
+
+-- restarts do,
+abbrev pub RestartsKeepLocal : Type 0
+RestartsKeepLocal = (w v : World) (n : ℕ) → AreLocal w → Restarts w n v → AreLocal v
+
+-- and so do stops inside a step that leave nothing of its note, or a part.
+abbrev pub CutsKeepLocal : Type 0
+CutsKeepLocal = (w v : World) (e : Event) (l : Left) → AreLocal w → (l ≡ Whole → ⊥) → StopsIn w e l v → AreLocal v
 
 -- The event is one act more, or none: the world that it leaves matches what the acts leave then.
 abbrev pub IsOneActMore : Division → List ℕ → List (Act Value) → World → Event → World → Type 0
@@ -136,12 +150,18 @@ pub record IsSafeSoFar (division : Division) (weights : List ℕ) (events : List
   pub later_repeats : AtEachMoment division weights events last (λ early w. LaterRepeats w)
   pub equal_headers : AtEachMoment division weights events last (λ early w. EqualHeaders w × EachIsOfAMessage w)
   pub held : AtEachMoment division weights events last (λ early w. HeldIsListed w)
+  -- two nodes never hold different packages for one path
+  pub alike : AtEachMoment division weights events last (λ early w. HoldAlike w)
 
 -- for each run
 abbrev pub ActsAreSafe : Type 0
 ActsAreSafe =
     EachRunIsActs → (division : Division) (weights : List ℕ) (events : List Event) (last : World) → IsMade division weights
     → Leads (start division weights) events last → IsSafeSoFar division weights events last
+
+-- And nothing that was sent is foreign to a node.
+abbrev pub ActsAreNotForeign : Type 0
+ActsAreNotForeign = EachRunIsActs → NothingSentIsForeign
 
 -- Each run has one list, and is safe.
 abbrev pub EachRunHasOneList : Type 0

@@ -1,7 +1,9 @@
 //! What the events of a world are in the agreement theory, and what follows for a world that matches
 //! what acts of it leave.
 ghost use Rattle.headline.specs.Laws.{
+  ActsAreNotForeign,
   ActsAreSafe,
+  CutsKeepLocal,
   FailuresAreActs,
   MatchedHeadersAreEqual,
   MatchedHeldIsListed,
@@ -9,10 +11,12 @@ ghost use Rattle.headline.specs.Laws.{
   MatchedVotesAreLawful,
   NeedsAreMonotone,
   RestartsAreActs,
+  RestartsKeepLocal,
   RunsFollowEvents,
   SentWasSaid,
   StopsAreActs,
   StopsInsideAreActs,
+  StopsKeepLocal,
 };
 
 /// What a build needs is spoiled by nothing that is held besides.
@@ -25,6 +29,13 @@ pub fn stops_are_acts()
     ensures between { StopsAreActs }
     ensures inside { StopsInsideAreActs }
     ensures restarts { RestartsAreActs }
+{}
+
+/// They leave nodes as they have to be, where a stop inside a step leaves no whole note.
+pub fn stops_keep_nodes_sound()
+    ensures between { StopsKeepLocal }
+    ensures inside { CutsKeepLocal }
+    ensures restarts { RestartsKeepLocal }
 {}
 
 /// A build that failed drops the claim there, too.
@@ -47,8 +58,9 @@ pub fn matched_worlds_are_safe()
 {}
 
 /// Where each event is an act, each run is acts; and where each run is, votes are lawful at each
-/// moment, headers tell messages apart, and what nodes hold is in the list.
+/// moment, headers tell messages apart, what nodes hold is in the list, and nothing sent is foreign.
 pub fn runs_follow_events()
     ensures runs { RunsFollowEvents }
     ensures safe { ActsAreSafe }
+    ensures foreign { ActsAreNotForeign }
 {}

@@ -82,13 +82,15 @@ one_kept = by_kind (λ w v. HasOneAPath w → HasOneAPath v)
     (λ w v n s one. subst (λ l. AllPairs ◌≢◌ (paths_of l)) (sym (ap (λ u. u.agreed) s.leaves)) one)
     (λ w v n s one. subst (λ l. AllPairs ◌≢◌ (paths_of l)) (sym (ap (λ u. u.agreed) s.leaves)) one)
 
--- At each moment the list has at most one package a path.
+-- The list of a world that is reached has at most one package a path, and so it is at each moment.
+pub one_there : (division : Division) (weights : List ℕ) (events : List Event) (w : World) → Leads (start division weights) events w → HasOneAPath w
+one_there division weights events w led =
+    kept_on HasOneAPath one_kept (start division weights) w events led (λ i j d lt within. absurd (omega arith))
+
 pub one_a_path : (division : Division) (weights : List ℕ) (events : List Event) (last : World)
     → Leads (start division weights) events last
     → AtEachMoment division weights events last (λ early w. HasOneAPath w)
-one_a_path division weights =
-    each_moment division weights (λ early w. HasOneAPath w)
-    (λ events w led. kept_on HasOneAPath one_kept (start division weights) w events led (λ i j d lt within. absurd (omega arith)))
+one_a_path division weights = each_moment division weights (λ early w. HasOneAPath w) (one_there division weights)
 
 -- ---- datagrams
 

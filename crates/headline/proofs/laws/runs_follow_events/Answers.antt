@@ -1,4 +1,4 @@
-use Rattle.headline.proofs.Runs.{always_bound, always_listed, always_one_proposal, always_repeated, always_told_apart, runs_are_acts}
+use Rattle.headline.proofs.Runs.{always_alike, always_bound, always_listed, always_one_proposal, always_repeated, always_told_apart, none_is_foreign, runs_are_acts}
 use Rattle.headline.proofs.laws.runs_follow_events.Goals as goal
 use Rattle.package_record.proofs.BuildsRead.{build_is_read}
 
@@ -12,4 +12,8 @@ returns-clause-safe c = λ runs division weights events last made led. record {
   later_repeats = always_repeated runs build_is_read division weights made events last led;
   equal_headers = always_told_apart runs build_is_read division weights made events last led;
   held = always_listed runs build_is_read division weights made events last led;
+  alike = always_alike runs build_is_read division weights made events last led;
 }
+
+pub returns-clause-foreign : goal.returns-clause-foreign
+returns-clause-foreign c = none_is_foreign build_is_read
