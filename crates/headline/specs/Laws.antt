@@ -1,12 +1,14 @@
 -- What the world's runs are in the agreement theory, and what follows for the list.
-use Rattle.units.specs.Division.{Division}
+use Rattle.units.specs.Division.{Division, number_named}
 use Rattle.std.specs.Prelude.{◌≡◌, ℕ, List}
 use Rattle.agreement.specs.AgreedList.{Act, IsMonotone}
-use Rattle.std.specs.Prelude.{Option}
+use Rattle.std.specs.Prelude.{None, Ok, Option, Some}
 use Rattle.protocol.specs.State.{Value}
+use Rattle.protocol.specs.Step.{heard, outcome_of}
 use Rattle.ballots.specs.declared.message.Message.{Message}
 use Rattle.faults.specs.Bytes.{Text}
-use Rattle.node.specs.Events.{Event, Failed, Restart, Stop, StopIn}
+use Rattle.node.specs.Events.{Deliver, Event, Failed, Restart, Stop, StopIn}
+use Rattle.node.specs.Step.{nothing}
 use Rattle.node.specs.declared.fault.Foreign.{Foreign}
 use Rattle.node.specs.declared.fault.NodeFault.TheVariants as faults
 use Rattle.node.specs.declared.event.Left.{Left}
@@ -20,7 +22,7 @@ use Rattle.world.specs.Headline.{AtEachMoment, HasOneList, HeldIsListed, HoldAli
 use Rattle.world.specs.Laws.{NothingSentIsForeign}
 use Rattle.world.specs.Sent.{WasSent}
 use Rattle.world.specs.Safety.{EachIsOfAMessage, EqualHeaders, JobsStood, LaterRepeats, OneProposal, PromisesBound}
-use Rattle.world.specs.World.{IsMade, World, start}
+use Rattle.world.specs.World.{IsMade, World, member_at, start}
 use Rattle.world.specs.declared.fault.WorldFault.TheVariants as worlds
 
 -- What may be built on some builds may be built on these and more.
@@ -74,6 +76,23 @@ FailuresAreActs =
     (division : Division) (weights : List ℕ) (acts : List (Act Value)) (w v : World) (n : ℕ) (path : Text) → IsMade division weights
     → (w.division ≡ division) × (w.weights ≡ weights) → AreLocal w → Matches w (after_all_acts division weights acts)
     → Steps w (Failed n path) v → IsOneActMore division weights acts w (Failed n path) v
+
+-- So is a delivery that leaves its message waiting, or brings a piece that is kept already,
+abbrev pub WaitingPiecesAreActs : Type 0
+WaitingPiecesAreActs =
+    (division : Division) (weights : List ℕ) (acts : List (Act Value)) (w v : World) (d n : ℕ) → IsMade division weights
+    → (w.division ≡ division) × (w.weights ≡ weights) → AreLocal w → Matches w (after_all_acts division weights acts)
+    → (s : Steps w (Deliver d n) v) → s.taken.answer ≡ nothing (member_at w n s.node)
+    → IsOneActMore division weights acts w (Deliver d n) v
+
+-- and a delivery of a message at which the member says nothing.
+abbrev pub SilentDeliveriesAreActs : Type 0
+SilentDeliveriesAreActs =
+    (division : Division) (weights : List ℕ) (acts : List (Act Value)) (w v : World) (d n : ℕ) → IsMade division weights
+    → (w.division ≡ division) × (w.weights ≡ weights) → AreLocal w → Matches w (after_all_acts division weights acts)
+    → (s : Steps w (Deliver d n) v) (m : Message Value) → WasSent w.sent m → heard (member_at w n s.node) m ≡ Ok s.taken.answer
+    → ((u : ℕ) → number_named w.division m.path ≡ Some u → (outcome_of (member_at w n s.node) u m.sender m.body).send ≡ None)
+    → IsOneActMore division weights acts w (Deliver d n) v
 
 -- An event of a world that matches what some acts leave is one act more, or none.
 abbrev pub EachEventIsAnAct : Type 0

@@ -14,9 +14,11 @@ ghost use Rattle.headline.specs.Laws.{
   RestartsKeepLocal,
   RunsFollowEvents,
   SentWasSaid,
+  SilentDeliveriesAreActs,
   StopsAreActs,
   StopsInsideAreActs,
   StopsKeepLocal,
+  WaitingPiecesAreActs,
 };
 
 /// What a build needs is spoiled by nothing that is held besides.
@@ -41,6 +43,13 @@ pub fn stops_keep_nodes_sound()
 /// A build that failed drops the claim there, too.
 pub fn failures_are_acts()
     ensures { FailuresAreActs }
+{}
+
+/// A delivery that leaves its message waiting is no act, and one at which the member says nothing is
+/// one.
+pub fn silent_deliveries_are_acts()
+    ensures waiting { WaitingPiecesAreActs }
+    ensures silent { SilentDeliveriesAreActs }
 {}
 
 /// What was sent, with all its datagrams, was said by a member; equal headers of sent pieces belong
