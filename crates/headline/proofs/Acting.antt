@@ -1,16 +1,14 @@
 -- What an act makes of the agreements, path by path.
-use Rattle.std.proofs.Common.{◌≡◌, ℕ, Bool, true, false, not, List, [], ◌∷◌, Option, Some, None, refl, sym, ap, ◌∙◌, eqb, eqb-true, eq-eqb, is_some, ◌&&◌}
+use Rattle.std.proofs.Common.{◌≡◌, ℕ, Bool, true, false, not, List, Option, Some, None, refl, sym, ap, ◌∙◌, eqb, eqb-true, eq-eqb, is_some, ◌&&◌}
 use Rattle.std.proofs.lemmas.Bool.{and_from, cond_both, cond-false, cond-true, ne_eqb}
 use Rattle.agreement.specs.Agreed.{IsValue, decided_value}
-use Rattle.agreement.specs.AgreedList.{Act, Cluster, Entry, Needs, after_act, cluster_after, elsewhere, list_with, lookup, may_happen}
-use Rattle.agreement.specs.Member.{Closed, Member, Note}
+use Rattle.agreement.specs.AgreedList.{Cluster, Entry, Needs, after_act, cluster_after, elsewhere, list_with, lookup, may_happen}
+use Rattle.agreement.specs.Member.{Closed, Member}
 use Rattle.agreement.specs.Quorums.{AreQuorums, Quorums}
 use Rattle.agreement.specs.Step.{Built, Deliver, Failed, Inquire, Nudge, Outcome, Start, still}
-use Rattle.agreement.specs.World.{Event, Restart, Stop, StopIn, Take, World, add_note, add_sent, after, after_any, after_event, down, member_of, outcome, put, run, when}
+use Rattle.agreement.specs.World.{Event, Restart, Stop, StopIn, Take, World, add_sent, after, after_any, after_event, down, member_of, outcome, put, run, when}
 use Rattle.agreement.proofs.Agreed.{found}
-use Rattle.agreement.proofs.AgreedList.{elsewhere_sent}
 use Rattle.agreement.proofs.Kept.{put_same}
-use Rattle.agreement.proofs.Nodes.{elsewhere_other, put_other}
 
 module _ (V : Type 0) (enough : Quorums) where
   -- ---- stops and restarts

@@ -1,28 +1,25 @@
 -- What arrives whole at a node was said: in one datagram, or in pieces that it kept.
-use Rattle.std.proofs.Common.{◌≡◌, ◌≢◌, ◌==◌, ◌&&◌, ◌<◌, ◌++◌, ℕ, zero, suc, Bool, true, false, cond, filter, List, [], ◌∷◌, length, get_or, map, Option, None, Some, Result, Ok, Err, eqb-true, refl, sym, ap, ap₂, subst, ◌∙◌, arith, ⊎_elim, inl, inr, true≢false}
+use Rattle.std.proofs.Common.{◌≡◌, ◌==◌, ℕ, zero, suc, Bool, true, false, cond, filter, List, [], ◌∷◌, length, get_or, Option, None, Some, eqb-true, refl, sym, ap, ap₂, subst, ◌∙◌, arith, true≢false}
 use Rattle.std.specs.Prelude.{All, AllPairs, Contains}
-use Rattle.std.specs.List.{list_all, list_any}
 use Rattle.std.specs.Str.{bytes_eq}
-use Rattle.std.proofs.lemmas.Bool.{and_from, and_parts, cond_both, cond-true, false_from_ne_true}
-use Rattle.std.proofs.lemmas.List.Elements.{All-append, All-cons, All-contains, All-nil}
+use Rattle.std.proofs.lemmas.Bool.{and_parts, cond-true, false_from_ne_true}
+use Rattle.std.proofs.lemmas.List.Elements.{All-contains}
 use Rattle.std.proofs.lemmas.List.Folds.{Any-from_list_any}
 use Rattle.std.proofs.lemmas.List.Sums.{AllPass-from_list_all}
 use Rattle.faults.specs.Bytes.{Text}
 use Rattle.agreement.specs.AgreedList.{Act, Cluster}
 use Rattle.agreement.specs.Claims.{claim_same}
-use Rattle.agreement.specs.declared.claim.Claim.{Claim}
 use Rattle.agreement.proofs.Order.{claim_same_true}
 use Rattle.ballots.specs.declared.message.Message.{Message}
 use Rattle.package_record.specs.Build.{build_text}
 use Rattle.package_record.specs.Laws.{BuildTextIsReadAgain}
 use Rattle.protocol.specs.State.{Value}
 use Rattle.units.specs.Division.{Division}
-use Rattle.units.proofs.Places.{equal_bytes, same_bytes}
+use Rattle.units.proofs.Places.{same_bytes}
 use Rattle.wire.specs.Joining.{AreAllThere, StandsOnce, bytes_of, is_numbered, same_carrier, same_header}
 use Rattle.wire.specs.Pieces.{IsDatagram, carried_in, header_with, numbers_of, piece_at, pieces_of, split_by, split_of}
 use Rattle.wire.specs.Reading.{datagram_of, joined}
 use Rattle.wire.specs.Spelling.{datagram_text}
-use Rattle.wire.specs.declared.WireFault.{WireFault}
 use Rattle.wire.specs.declared.datagram.Carrier.{Carrier}
 use Rattle.wire.specs.declared.datagram.Carrier.TheVariants as carriers
 use Rattle.wire.specs.declared.datagram.Datagram.{Datagram}
@@ -107,7 +104,7 @@ module _ (division : Division) (weights : List ℕ) (acts : List (Act Value)) (w
       let s = m.sent text h in
       let p = has_preimage datagram_text (split_of s.message) text s.datagram in
       let same : p.0 ≡ d = ok_same p.0 d (sym (datagram_again p.0 (All-contains IsDatagram (split_of s.message) p.0 (split_good s.message s.went_out.is_message) p.1))
-          ∙ ap datagram_of (sym p.2) ∙ e) in
+      ∙ ap datagram_of (sym p.2) ∙ e) in
       record { message = s.message; is_sent = s.went_out; datagram = subst (Contains (split_of s.message)) same p.1 }
 
   -- a message that comes in one datagram was sent
@@ -166,7 +163,7 @@ module _ (division : Division) (weights : List ℕ) (acts : List (Act Value)) (w
         ap (split_by origin.message) origin_carries.carried in
         let member = subst (λ ds. Contains ds (datagrams.Piece q)) split (of_origin q there e) in
         let p = has_preimage (λ k. datagrams.Piece (piece_at (header_with origin.message origin_carries.carrier origin_carries.build) text k))
-            (numbers_of (length text)) (datagrams.Piece q) member in
+        (numbers_of (length text)) (datagrams.Piece q) member in
         let same = piece_same q (piece_at (header_with origin.message origin_carries.carrier origin_carries.build) text p.0) p.2 in
         let number : p.0 ≡ q.number = sym (ap (λ (x : Piece). x.number) same) in
         same ∙ ap (λ k. piece_at k text p.0) origin_carries.header ∙ ap (piece_at h text) number

@@ -1,23 +1,21 @@
 -- What the step of an event is in the theory, where the event is no message.
-use Rattle.std.proofs.Common.{◌≡◌, ◌<◌, ℕ, true, List, [], ◌∷◌, length, Option, Some, None, Result, Ok, Err, option_map, slice_get, refl, sym, ap, subst, ◌∙◌}
-use Rattle.agreement.specs.AgreedList.{Act}
-use Rattle.agreement.specs.Member.{Member, Stage}
+use Rattle.std.proofs.Common.{◌≡◌, ℕ, true, List, [], Some, None, Result, Ok, Err, sym, ap, ◌∙◌}
+use Rattle.agreement.specs.Member.{Member}
 use Rattle.agreement.specs.Messages as messages
 use Rattle.agreement.specs.Nodes as nodes
-use Rattle.agreement.specs.Quorums.{Quorums, is_majority}
+use Rattle.agreement.specs.Quorums.{Quorums}
 use Rattle.agreement.specs.Step as theory
 use Rattle.agreement.specs.Step.{Outcome}
 use Rattle.node.specs.Events as events
 use Rattle.node.specs.Events.{Event, is_step}
-use Rattle.node.specs.Step.{Asked, Comes, Does, Taken, running_step, taken}
+use Rattle.node.specs.Step.{Asked, Does, Taken, running_step, taken}
 use Rattle.node.specs.declared.fault.NodeFault.{NodeFault}
 use Rattle.protocol.specs.Answers.{Answer}
 use Rattle.protocol.specs.InTheAgreement.{view}
 use Rattle.protocol.specs.Laws.{AnswersInput, IsNoMessage}
-use Rattle.protocol.specs.State.{State, Value}
+use Rattle.protocol.specs.State.{Value}
 use Rattle.protocol.specs.Step.{answer}
 use Rattle.protocol.specs.declared.input.Input.{Input}
-use Rattle.protocol.specs.declared.input.Input.TheVariants as inputs
 use Rattle.protocol.specs.declared.refusal.Refusal.{Refusal}
 use Rattle.protocol.proofs.Asked.{input_is}
 use Rattle.wire.specs.declared.datagram.Piece.{Piece}

@@ -1,7 +1,6 @@
 -- A stop inside an input's step that leaves its whole note is such a stop of the member; and a claim that fails is dropped there.
-use Rattle.std.proofs.Common.{◌≡◌, ◌<◌, ℕ, true, List, [], ◌∷◌, length, Option, Some, None, option_map, slice_get, refl, sym, ap, subst, ◌∙◌}
-use Rattle.agreement.specs.Agreed.{IsValue}
-use Rattle.agreement.specs.AgreedList.{Act, Cluster, after_act, beginning, lookup}
+use Rattle.std.proofs.Common.{◌≡◌, ℕ, true, List, [], Option, Some, None, refl, sym, ap, subst, ◌∙◌}
+use Rattle.agreement.specs.AgreedList.{Act, Cluster}
 use Rattle.agreement.specs.Member as theory_stage
 use Rattle.agreement.specs.Member.{Closed, Member, Stage}
 use Rattle.agreement.specs.Nodes as nodes
@@ -13,16 +12,16 @@ use Rattle.agreement.proofs.Majorities.{majorities}
 use Rattle.faults.specs.Bytes.{Text}
 use Rattle.node.specs.Events as events
 use Rattle.node.specs.Events.{Event}
-use Rattle.node.specs.Step.{Asked, Does, Taken}
+use Rattle.node.specs.Step.{Asked, Does}
 use Rattle.node.specs.declared.event.Left.TheVariants as left
 use Rattle.protocol.specs.InTheAgreement.{view}
-use Rattle.protocol.specs.Laws.{AnswersInput, IsNoMessage, asked, for_unit}
-use Rattle.protocol.specs.State.{State, Value}
+use Rattle.protocol.specs.Laws.{IsNoMessage, for_unit}
+use Rattle.protocol.specs.State.{Value}
 use Rattle.protocol.specs.Step.{unit_in}
 use Rattle.protocol.specs.declared.input.Input.{Input}
 use Rattle.protocol.specs.declared.input.Input.TheVariants as inputs
 use Rattle.units.specs.Division.{Division}
-use Rattle.world.specs.Happening.{Acts, Asks, Steps, StopsIn}
+use Rattle.world.specs.Happening.{Asks, Steps, StopsIn}
 use Rattle.world.specs.World.{IsMade, World, WorldNode, member_at}
 use Rattle.headline.specs.Laws.{IsOneActMore}
 use Rattle.headline.specs.Local.{AreLocal}

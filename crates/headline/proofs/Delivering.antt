@@ -1,8 +1,6 @@
 -- A stop inside a step is one of the member, whatever the step was.
-use Rattle.std.proofs.Common.{◌≡◌, ◌<◌, ◌⊎◌, ℕ, zero, suc, Bool, true, false, List, [], ◌∷◌, length, Option, Some, None, Result, Ok, Err, option_map, unwrap_or, slice_get, refl, sym, ap, subst, ◌∙◌, inl, inr, ⊎_elim}
-use Rattle.faults.specs.Bytes.{Text}
+use Rattle.std.proofs.Common.{◌≡◌, ◌⊎◌, ℕ, zero, suc, true, false, List, [], ◌∷◌, Some, Result, Ok, Err, option_map, slice_get, sym, ap, subst, ◌∙◌, inl, inr}
 use Rattle.agreement.specs.AgreedList.{Act, Cluster}
-use Rattle.agreement.specs.Messages as messages
 use Rattle.agreement.specs.Nodes as nodes
 use Rattle.agreement.specs.Quorums.{is_majority}
 use Rattle.agreement.specs.Step as theory
@@ -17,10 +15,9 @@ use Rattle.node.specs.Arrival.{Arrival, Strange, Waits, Whole, arrival_of}
 use Rattle.node.specs.Events as events
 use Rattle.node.specs.Events.{Event, is_step}
 use Rattle.node.specs.State.{with_note}
-use Rattle.node.specs.Step.{Comes, Taken, heard, nothing, running_step, step_on}
+use Rattle.node.specs.Step.{Taken, heard, nothing, running_step, step_on}
 use Rattle.node.specs.declared.event.Left.{Left}
 use Rattle.node.specs.declared.event.Left.TheVariants as left
-use Rattle.node.specs.declared.fault.NodeFault.{NodeFault}
 use Rattle.package_record.specs.Laws.{BuildTextIsReadAgain}
 use Rattle.protocol.specs.Answers.{Answer}
 use Rattle.protocol.specs.InTheAgreement.{view}
@@ -39,7 +36,7 @@ use Rattle.world.specs.Happening.{StopsIn}
 use Rattle.world.specs.Sent.{WasSent}
 use Rattle.world.specs.World.{IsMade, World, WorldNode, down_node, member_at, with_node}
 use Rattle.headline.specs.Laws.{IsOneActMore}
-use Rattle.headline.specs.Local.{AreKept, AreLocal}
+use Rattle.headline.specs.Local.{AreLocal}
 use Rattle.headline.specs.Matches.{Matches, WasSaid, node_of}
 use Rattle.headline.specs.Mirrored.{after_all_acts, with_act}
 use Rattle.headline.specs.Needs.{may_build}

@@ -1,15 +1,15 @@
 -- No datagram that was sent is foreign to a node.
-use Rattle.std.proofs.Common.{◌≡◌, ◌<◌, ◌==◌, ℕ, zero, suc, Bool, true, false, not, ◌&&◌, ◌⊎◌, cond, nat_le, List, [], ◌∷◌, ◌++◌, length, Option, None, Some, is_none, Result, Ok, Err, nat_lt, get_or, eqb-true, slice_get, refl, sym, ap, subst, ◌∙◌, arith, inl, inr, ⊎_elim, true≢false}
+use Rattle.std.proofs.Common.{◌≡◌, ◌<◌, ◌==◌, ℕ, zero, suc, Bool, true, false, not, ◌&&◌, ◌⊎◌, nat_le, List, [], ◌∷◌, length, None, Some, is_none, Result, Ok, Err, nat_lt, get_or, eqb-true, slice_get, refl, sym, ap, subst, ◌∙◌, arith, inl, inr, ⊎_elim, true≢false}
 use Rattle.std.specs.Prelude.{All, AllPairs, Contains}
 use Rattle.std.specs.List.{list_all}
 use Rattle.std.specs.Str.{bytes_eq}
-use Rattle.std.proofs.lemmas.Bool.{and_from, and_parts, cond_both, cond-false, eq-eqb, false_from_ne_true, lt-ltb}
+use Rattle.std.proofs.lemmas.Bool.{and_from, and_parts, cond_both, eq-eqb, false_from_ne_true, lt-ltb}
 use Rattle.std.proofs.lemmas.List.Elements.{All-append, All-cons, All-contains, All-head, All-nil, All-tail, All-weaker, Contains-push}
 use Rattle.std.proofs.lemmas.List.Folds.{list_any_at}
 use Rattle.std.proofs.lemmas.List.Quantifiers.{all_pairs_push}
 use Rattle.faults.specs.Answers.{first_that_applies}
 use Rattle.faults.specs.Bytes.{Text}
-use Rattle.agreement.specs.AgreedList.{Act, Cluster}
+use Rattle.agreement.specs.AgreedList.{Act}
 use Rattle.ballots.specs.declared.message.Body.{Body}
 use Rattle.ballots.specs.declared.message.Message.{Message}
 use Rattle.node.specs.Arrival.{Arrival, Strange, Waits, Whole, arrival_of, arrival_of_all, arrival_of_new, arrival_of_piece, refusal_of}
@@ -30,11 +30,11 @@ use Rattle.protocol.specs.declared.input.Input.TheVariants as inputs
 use Rattle.protocol.specs.declared.refusal.Refusal.{Refusal}
 use Rattle.protocol.specs.declared.refusal.Refusal.TheVariants as refusals
 use Rattle.stable_record.specs.declared.log_fault.LogFault.TheVariants.{Full}
-use Rattle.units.specs.Division.{Division, number_named, unit_at}
+use Rattle.units.specs.Division.{Division, number_named}
 use Rattle.units.proofs.Names.{name_is_found}
 use Rattle.units.proofs.Places.{equal_bytes}
 use Rattle.wire.specs.Joining.{bytes_of, is_numbered, same_header}
-use Rattle.wire.specs.Pieces.{IsDatagram, body_with, carried_in, header_with, split_of}
+use Rattle.wire.specs.Pieces.{IsDatagram, body_with, split_of}
 use Rattle.wire.specs.Reading.{datagram_of, joined}
 use Rattle.wire.specs.Spelling.{datagram_text}
 use Rattle.wire.specs.declared.datagram.Carrier.{Carrier}
@@ -54,7 +54,7 @@ use Rattle.headline.specs.Local.{AreKept, AreLocal}
 use Rattle.headline.specs.Matches.{Matches, WasSaid}
 use Rattle.headline.specs.Mirrored.{after_all_acts}
 use Rattle.headline.proofs.Arriving.{CameOf, headers_same, joins_to, origin, read_as, whole_came}
-use Rattle.headline.proofs.Headers.{Carries, carries, divided, ok, sent_was_said, some_same}
+use Rattle.headline.proofs.Headers.{carries, divided, ok, sent_was_said, some_same}
 use Rattle.headline.proofs.Said.{has_preimage}
 
 -- ---- headers that are no reason to refuse
@@ -114,10 +114,11 @@ module _ (division : Division) (weights : List ℕ) (acts : List (Act Value)) (w
   answered pieces n is_sent =
       let a = said n is_sent in
       let none = not_refused s n.tree (n.sender ∷ members_of n.body) n.path a.unit a.tree
-          (All-cons (λ k. k < length w.weights) n.sender (members_of n.body) a.sender a.claimers) (named_there n a) in
-      (record { answer = hears s a.unit n.sender n.body; pieces = pieces },
-       ap (λ o. heard pieces (unless o (at_unit refusals.Unlisted (λ u. Ok (hears s u n.sender n.body)) (number_named s.division n.path)))) none
-       ∙ ap (λ u. heard pieces (at_unit refusals.Unlisted (λ u. Ok (hears s u n.sender n.body)) u)) (named_there n a))
+      (All-cons (λ k. k < length w.weights) n.sender (members_of n.body) a.sender a.claimers) (named_there n a) in (
+        record { answer = hears s a.unit n.sender n.body; pieces = pieces },
+        ap (λ o. heard pieces (unless o (at_unit refusals.Unlisted (λ u. Ok (hears s u n.sender n.body)) (number_named s.division n.path)))) none
+            ∙ ap (λ u. heard pieces (at_unit refusals.Unlisted (λ u. Ok (hears s u n.sender n.body)) u)) (named_there n a),
+      )
 
   -- the claims before the build are those of the message
   same_members : (c : Carrier) (v : Value) → members_of (body_with c v) ≡ members_in c

@@ -1,7 +1,6 @@
 -- A message whose datagrams were all sent was said; and equal headers of sent pieces belong to equal messages.
-use Rattle.std.proofs.Common.{◌≡◌, ◌<◌, ◌≤◌, ℕ, zero, suc, true, List, [], ◌∷◌, length, map, Option, None, Some, Result, Ok, refl, sym, ap, subst, ◌∙◌, arith}
-use Rattle.std.specs.Prelude.{All, Contains, flat_map}
-use Rattle.std.specs.List.{list_all}
+use Rattle.std.proofs.Common.{◌≡◌, ◌≤◌, ℕ, zero, suc, true, List, [], ◌∷◌, length, map, Option, None, Some, Result, Ok, refl, sym, ap, subst, ◌∙◌, arith}
+use Rattle.std.specs.Prelude.{Contains, flat_map}
 use Rattle.std.proofs.lemmas.List.Elements.{All-contains}
 use Rattle.std.proofs.lemmas.List.Sums.{AllPass-from_list_all}
 use Rattle.faults.specs.Bytes.{Text, is_among}
@@ -10,7 +9,6 @@ use Rattle.agreement.specs.Messages as theory
 use Rattle.agreement.specs.Quorums.{is_majority}
 use Rattle.agreement.specs.Votes.{Has, ballot}
 use Rattle.agreement.specs.World.{IsLawfulWorld}
-use Rattle.agreement.specs.declared.claim.Claim.{Claim}
 use Rattle.agreement.proofs.Agreed.{is_agreed, lawful}
 use Rattle.agreement.proofs.AgreedList.{IsFine, IsOrdered, ordered}
 use Rattle.agreement.proofs.Majorities.{majorities}
@@ -40,7 +38,7 @@ use Rattle.world.specs.Safety.{EachIsOfAMessage, EqualHeaders}
 use Rattle.world.specs.Sent.{WasSent}
 use Rattle.world.specs.World.{IsMade, World}
 use Rattle.world.proofs.Sending.{among_is}
-use Rattle.headline.specs.Matches.{IsSaid, Matches, WasSaid, name_of}
+use Rattle.headline.specs.Matches.{Matches, WasSaid}
 use Rattle.headline.specs.Mirrored.{after_all_acts}
 use Rattle.headline.specs.Needs.{may_build}
 use Rattle.headline.proofs.Monotone.{needs_are_monotone}
@@ -192,8 +190,8 @@ module _ (division : Division) (weights : List ℕ) (acts : List (Act Value)) (w
       let there = m.sent (datagram_text d) (datagram_was_sent w.sent n s d h) in
       let p = has_preimage datagram_text (split_of there.message) (datagram_text d) there.datagram in
       let same = one_datagram d p.0
-          (All-contains IsDatagram (split_of n) d (split_good n s.is_message) h)
-          (All-contains IsDatagram (split_of there.message) p.0 (split_good there.message there.went_out.is_message) p.1) p.2 in
+      (All-contains IsDatagram (split_of n) d (split_good n s.is_message) h)
+      (All-contains IsDatagram (split_of there.message) p.0 (split_good there.message there.went_out.is_message) p.1) p.2 in
       record {
         message = there.message;
         is_sent = there.went_out;

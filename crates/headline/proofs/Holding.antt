@@ -1,5 +1,5 @@
 -- What nodes hold is in the list.
-use Rattle.std.proofs.Common.{◌≡◌, ◌<◌, ◌≤◌, ◌==◌, ℕ, zero, suc, Bool, true, false, cond, List, [], ◌∷◌, ◌++◌, length, Option, None, Some, find, option_and_then, slice_get, refl, sym, ap, subst, ◌∙◌, arith, ⊎_elim}
+use Rattle.std.proofs.Common.{◌≡◌, ◌<◌, ◌==◌, ℕ, zero, suc, Bool, true, List, [], ◌∷◌, ◌++◌, length, Option, None, Some, find, option_and_then, slice_get, refl, sym, ap, subst, ◌∙◌, arith, ⊎_elim}
 use Rattle.std.specs.Prelude.{All, Contains}
 use Rattle.std.specs.Str.{bytes_eq}
 use Rattle.std.proofs.lemmas.Bool.{cases_lt, cond_both}
@@ -12,7 +12,7 @@ use Rattle.agreement.specs.Quorums.{is_majority}
 use Rattle.agreement.proofs.AgreedList.{held_listed}
 use Rattle.agreement.proofs.Majorities.{majorities}
 use Rattle.package_record.specs.Content.{Content}
-use Rattle.protocol.specs.State.{State, Value, facts_at, held_record, record_in, unit_with}
+use Rattle.protocol.specs.State.{Value, facts_at, record_in, unit_with}
 use Rattle.units.specs.Division.{Division}
 use Rattle.units.proofs.Places.{same_bytes}
 use Rattle.world.specs.Headline.{HeldIsListed, holds}

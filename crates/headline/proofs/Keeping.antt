@@ -1,5 +1,5 @@
 -- Stops and restarts leave nodes as they have to be.
-use Rattle.std.proofs.Common.{◌≡◌, ◌<◌, ℕ, true, false, List, [], ◌∷◌, length, Option, Some, None, slice_get, slice_set, refl, sym, subst, arith, ⊎_elim, ◌∙◌}
+use Rattle.std.proofs.Common.{◌≡◌, ℕ, false, List, [], Some, None, slice_get, refl, sym, subst, arith, ⊎_elim, ◌∙◌}
 use Rattle.std.specs.Prelude.{All}
 use Rattle.std.proofs.lemmas.Bool.{true≢false}
 use Rattle.std.proofs.lemmas.List.{length-set}
@@ -61,22 +61,22 @@ none_is_some x e = cc
 pub down_stays : (w : World) (k : ℕ) (x : WorldNode) (behind : Text) → slice_get w.nodes k ≡ Some x → AreLocal w
     → AreLocal (with_node w k (down_node x.notes behind))
 down_stays w k x behind stands local = all_but_one w k (down_node x.notes behind) local (record {
-    notes = notes_move w k (down_node x.notes behind) x.notes (local.each k x stands).notes;
-    claim = λ o e. absurd (none_is_some o e);
-    pieces = no_pieces w k (down_node x.notes behind);
-    down = λ e. (refl, refl);
-    up = λ e. absurd (true≢false (sym e));
-  })
+  notes = notes_move w k (down_node x.notes behind) x.notes (local.each k x stands).notes;
+  claim = λ o e. absurd (none_is_some o e);
+  pieces = no_pieces w k (down_node x.notes behind);
+  down = λ e. (refl, refl);
+  up = λ e. absurd (true≢false (sym e));
+})
 
 pub restarted_stays : (w : World) (k : ℕ) (x : WorldNode) → slice_get w.nodes k ≡ Some x → AreLocal w
     → AreLocal (with_node w k (restarted_node x.notes))
 restarted_stays w k x stands local = all_but_one w k (restarted_node x.notes) local (record {
-    notes = notes_move w k (restarted_node x.notes) x.notes (local.each k x stands).notes;
-    claim = λ o e. absurd (none_is_some o e);
-    pieces = no_pieces w k (restarted_node x.notes);
-    down = λ e. absurd (true≢false e);
-    up = λ e. refl;
-  })
+  notes = notes_move w k (restarted_node x.notes) x.notes (local.each k x stands).notes;
+  claim = λ o e. absurd (none_is_some o e);
+  pieces = no_pieces w k (restarted_node x.notes);
+  down = λ e. absurd (true≢false e);
+  up = λ e. refl;
+})
 
 -- Stops and restarts leave nodes as they have to be, and so do stops inside a step that leave nothing of its note, or a part.
 pub stop_keeps : (w v : World) (n : ℕ) → AreLocal w → Stops w n v → AreLocal v

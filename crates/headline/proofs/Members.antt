@@ -1,10 +1,9 @@
 -- The nodes of a world are members, and what a note makes of them.
 use Rattle.std.proofs.Common.{◌≡◌, ◌<◌, ℕ, zero, suc, Bool, true, false, cond, List, [], ◌∷◌, ◌++◌, length, map, filter, reverse, fold, Option, Some, None, option_map, slice_get, refl, sym, ap, subst, ◌∙◌, arith, append-nil}
-use Rattle.std.specs.Prelude.{All}
 use Rattle.std.specs.Option.{ForSome}
 use Rattle.std.specs.List.{slice_index_or}
 use Rattle.std.specs.Str.{bytes_eq}
-use Rattle.std.proofs.lemmas.Bool.{cond-false, cond-true, false_from_ne_true}
+use Rattle.std.proofs.lemmas.Bool.{false_from_ne_true}
 use Rattle.std.proofs.lemmas.List.{reverse-append}
 use Rattle.std.proofs.lemmas.List.Elements.{All-weaker, filter-append}
 use Rattle.agreement.specs.Member as theory
@@ -16,20 +15,18 @@ use Rattle.agreement.proofs.Kept.{put_same}
 use Rattle.agreement.proofs.Nodes.{put_other}
 use Rattle.ballots.specs.InTheAgreement.{note_of}
 use Rattle.ballots.specs.declared.message.Note.{Note}
-use Rattle.faults.specs.Bytes.{Text}
 use Rattle.node.specs.State.{with_note}
-use Rattle.protocol.specs.Answers.{Answer, after}
-use Rattle.protocol.specs.InTheAgreement as protocol
+use Rattle.protocol.specs.Answers.{Answer}
 use Rattle.protocol.specs.Laws.{IsOutcome}
 use Rattle.protocol.specs.Member.{IsMember}
-use Rattle.protocol.specs.State.{State, Value, facts_at, facts_then, fresh}
+use Rattle.protocol.specs.State.{Value, facts_at, facts_then, fresh}
 use Rattle.protocol.proofs.Restored.{notes_restore}
-use Rattle.units.specs.Division.{Division, IsDivision, number_named, unit_at}
+use Rattle.units.specs.Division.{number_named}
 use Rattle.units.proofs.Names.{name_tells}
 use Rattle.units.proofs.Places.{equal_bytes, same_bytes}
 use Rattle.world.specs.World.{IsMade, World, WorldNode, member_at}
 use Rattle.headline.specs.Local.{AreLocal, IsOfUnit}
-use Rattle.headline.specs.Matches.{log_of, name_of, node_of}
+use Rattle.headline.specs.Matches.{log_of, name_of}
 
 -- ---- nodes are members
 

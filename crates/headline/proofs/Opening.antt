@@ -1,11 +1,11 @@
 -- What a step of a member leaves of its open claim.
-use Rattle.std.proofs.Common.{◌≡◌, ℕ, Bool, true, false, not, ◌&&◌, List, [], ◌∷◌, Option, Some, None, refl, sym, ap, ◌∙◌}
+use Rattle.std.proofs.Common.{◌≡◌, ℕ, not, ◌&&◌, Option, Some, None, refl, sym, ap, ◌∙◌}
 use Rattle.std.proofs.lemmas.Bool.{cond_both}
 use Rattle.agreement.specs.Claims.{is_above, is_below, is_promised}
 use Rattle.agreement.specs.Member.{Closed, Member, Stage}
 use Rattle.agreement.specs.Messages.{Agreed, Ask, Message, Nay, Offer, Promise, Propose, Vote}
 use Rattle.agreement.specs.Quorums.{Quorums}
-use Rattle.agreement.specs.Step.{Built, Deliver, Failed, Input, Inquire, Nudge, Outcome, Start, answer, on_agreed, on_ask, on_built, on_failed, on_inquire, on_message, on_nudge, on_promise, on_vote}
+use Rattle.agreement.specs.Step.{Outcome, on_agreed, on_ask, on_built, on_failed, on_inquire, on_message, on_nudge, on_promise, on_vote}
 use Rattle.agreement.specs.Votes.{is_voted}
 
 module _ (V : Type 0) (enough : Quorums) (i : ℕ) (x : Member V) (closed : x.stage ≡ Closed) where

@@ -1,5 +1,5 @@
 -- A delivery that leaves its message waiting is no act, and one at which the member says nothing is one.
-use Rattle.std.proofs.Common.{◌≡◌, ◌<◌, ℕ, Bool, true, false, List, [], ◌∷◌, length, Option, Some, None, slice_get, slice_set, refl, sym, ap, ap₂, subst, ◌∙◌, ⊎_elim}
+use Rattle.std.proofs.Common.{◌≡◌, ℕ, Bool, true, List, [], Option, Some, None, slice_get, refl, sym, ap, ap₂, subst, ◌∙◌, ⊎_elim}
 use Rattle.agreement.specs.AgreedList.{Act, Cluster}
 use Rattle.agreement.specs.Member as theory_members
 use Rattle.agreement.specs.Nodes as nodes
@@ -13,12 +13,12 @@ use Rattle.ballots.specs.declared.message.Message.{Message}
 use Rattle.ballots.specs.declared.message.Note.{Note}
 use Rattle.node.specs.Events as events
 use Rattle.node.specs.State.{with_note}
-use Rattle.node.specs.Step.{Taken, after, nothing}
+use Rattle.node.specs.Step.{after, nothing}
 use Rattle.package_record.specs.Laws.{BuildTextIsReadAgain}
 use Rattle.protocol.specs.Answers.{Answer}
 use Rattle.protocol.specs.InTheAgreement.{view}
 use Rattle.protocol.specs.Laws.{AnswersMessage}
-use Rattle.protocol.specs.State.{OpenClaim, State, Value}
+use Rattle.protocol.specs.State.{OpenClaim, Value}
 use Rattle.protocol.specs.Step as members
 use Rattle.protocol.specs.Step.{outcome_of}
 use Rattle.units.specs.Division.{Division}
@@ -51,17 +51,17 @@ same_node_matches w c m k x y stands notes up claim = record {
       (λ h. m.logs j u z h.1 lt)
       (get_set w.nodes k j y z g);
   sent = λ text h. let s = m.sent text h in record {
-      message = s.message;
-      unit = s.unit;
-      went_out = s.went_out;
-      datagram = s.datagram;
-      listed = s.listed;
-      about = s.about;
-      tree = s.tree;
-      sender = s.sender;
-      claimers = s.claimers;
-      said_there = s.said_there;
-    };
+    message = s.message;
+    unit = s.unit;
+    went_out = s.went_out;
+    datagram = s.datagram;
+    listed = s.listed;
+    about = s.about;
+    tree = s.tree;
+    sender = s.sender;
+    claimers = s.claimers;
+    said_there = s.said_there;
+  };
   votes = m.votes;
   proposals = m.proposals;
   list = m.list;

@@ -1,9 +1,9 @@
 -- Runs of a world: they begin as the agreements do, and what each event keeps holds at each moment.
-use Rattle.std.proofs.Common.{◌≡◌, ◌<◌, ℕ, zero, suc, true, false, List, [], ◌∷◌, ◌++◌, length, map, replicate, Option, Some, None, slice_get, append_assoc, append-nil, refl, sym, ap, subst, ◌∙◌, arith}
+use Rattle.std.proofs.Common.{◌≡◌, ◌<◌, ℕ, zero, suc, true, false, List, [], ◌∷◌, ◌++◌, length, replicate, Some, None, slice_get, append_assoc, append-nil, refl, sym, subst, ◌∙◌, arith}
 use Rattle.std.proofs.lemmas.Bool.{true≢false}
 use Rattle.std.proofs.lemmas.List.{get_or-map, length-replicate}
 use Rattle.std.proofs.lemmas.List.Elements.{All-nil}
-use Rattle.agreement.specs.AgreedList.{Act, Cluster, beginning}
+use Rattle.agreement.specs.AgreedList.{Act, beginning}
 use Rattle.agreement.specs.Member.{Closed, Member, no_facts}
 use Rattle.agreement.specs.Nodes as nodes
 use Rattle.agreement.specs.World as theory
@@ -69,16 +69,16 @@ start_matches division weights = record {
 pub start_local : (division : Division) (weights : List ℕ) → AreLocal (start division weights)
 start_local division weights = record {
   each = λ k x e. subst (IsLocal (start division weights) k) (all_fresh (length weights) k x e) (record {
-      notes = All-nil (IsOfUnit (start division weights));
-      claim = λ o e. absurd (let wrong : None ≡ Some o = e in cc);
-      pieces = record {
-        sent = All-nil (λ p. (m : Message Value) × WasSentOf [] m p);
-        once = λ i j d lt within. absurd (omega (arith, within));
-        waiting = All-nil (λ p. are_all p.header [] ≡ false);
-      };
-      down = λ e. absurd (true≢false e);
-      up = λ e. refl;
-    });
+    notes = All-nil (IsOfUnit (start division weights));
+    claim = λ o e. absurd (let wrong : None ≡ Some o = e in cc);
+    pieces = record {
+      sent = All-nil (λ p. (m : Message Value) × WasSentOf [] m p);
+      once = λ i j d lt within. absurd (omega (arith, within));
+      waiting = All-nil (λ p. are_all p.header [] ≡ false);
+    };
+    down = λ e. absurd (true≢false e);
+    up = λ e. refl;
+  });
   one_for_each = length-replicate (length weights) fresh_node;
 }
 
@@ -119,12 +119,12 @@ module _ (division : Division) (weights : List ℕ) (made : IsMade division weig
 pub runs_are_acts : EachEventIsAnAct → EachEventKeepsLocal → EachRunIsActs
 runs_are_acts step keeps division weights events w made led =
     let f = all_on division weights made step keeps [] events (start division weights) w (record {
-          acts = [];
-          mirrors = at_start;
-          is_match = start_matches division weights;
-          is_local = start_local division weights;
-          of = (refl, refl);
-        }) led in
+      acts = [];
+      mirrors = at_start;
+      is_match = start_matches division weights;
+      is_local = start_local division weights;
+      of = (refl, refl);
+    }) led in
     (f.acts, f.mirrors, f.is_match, f.is_local)
 
 -- ---- at each moment, where each run is acts

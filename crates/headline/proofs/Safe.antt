@@ -1,12 +1,11 @@
 -- What is lawful in the agreements holds of the world that matches them: proposals, promises, and later proposals.
-use Rattle.std.proofs.Common.{◌≡◌, ◌<◌, ◌≤◌, ◌+◌, ◌*◌, ◌&&◌, ℕ, zero, suc, Bool, true, false, List, [], ◌∷◌, length, sum, Option, None, Some, option_map, slice_get, refl, sym, ap, subst, ◌∙◌, arith, if◌then◌else◌, ltb-true, lt-ltb, nat_le, leb}
+use Rattle.std.proofs.Common.{◌≡◌, ◌<◌, ◌≤◌, ◌+◌, ◌&&◌, ℕ, suc, Bool, true, false, List, [], ◌∷◌, length, Option, None, Some, refl, sym, ap, subst, ◌∙◌, arith, if◌then◌else◌, ltb-true, lt-ltb, nat_le}
 use Rattle.std.specs.Prelude.{Contains}
 use Rattle.std.specs.List.{list_all}
 use Rattle.std.proofs.lemmas.Bool.{and_parts, leb-true}
-use Rattle.faults.specs.Bytes.{Text, is_among}
+use Rattle.faults.specs.Bytes.{Text}
 use Rattle.agreement.specs.AgreedList.{Act, Cluster, WasBuilt, beginning}
 use Rattle.agreement.specs.Agreed as theory
-use Rattle.agreement.specs.Claims.{AtMost, Below}
 use Rattle.agreement.specs.Member as members
 use Rattle.agreement.specs.Messages as messages
 use Rattle.agreement.specs.Quorums.{Members, is_majority, weight}
@@ -14,31 +13,28 @@ use Rattle.agreement.specs.Votes.{Ballot, Has, IsReported, PromiseOf, Reaches, b
 use Rattle.agreement.specs.World.{IsLawfulWorld, WasVoted}
 use Rattle.agreement.specs.declared.claim.Claim.{Claim}
 use Rattle.agreement.proofs.Agreed.{repeats_agreed}
-use Rattle.agreement.proofs.AgreedList.{IsFine, ordered}
+use Rattle.agreement.proofs.AgreedList.{IsFine}
 use Rattle.agreement.proofs.Kept.{sent_vote}
 use Rattle.agreement.proofs.Majorities.{majorities}
-use Rattle.ballots.specs.InTheAgreement.{note_of, said}
+use Rattle.ballots.specs.InTheAgreement.{note_of}
 use Rattle.ballots.specs.Weights.{AreWeights, is_weight}
 use Rattle.ballots.specs.declared.message.Body.TheVariants.{Promise, Propose, Vote}
 use Rattle.ballots.specs.declared.message.Fact.{Fact}
 use Rattle.ballots.specs.declared.message.Fact.TheVariants as fact
 use Rattle.ballots.specs.declared.message.Message.{Message}
-use Rattle.ballots.specs.declared.message.Note.{Note}
 use Rattle.claims.specs.Claim.{most_members}
-use Rattle.node.specs.Parcels.{datagrams_of}
 use Rattle.package_record.specs.Laws.{BuildTextIsReadAgain}
 use Rattle.protocol.specs.State.{Value}
 use Rattle.units.specs.Division.{Division}
 use Rattle.units.proofs.Names.{name_tells}
-use Rattle.world.specs.Safety.{LaterRepeats, NotedVote, OneProposal, PromisesBound, ReportsAtLeast}
-use Rattle.world.specs.Sent.{WasProposed, WasSent, message, voters}
-use Rattle.world.specs.World.{IsMade, World, WorldNode}
+use Rattle.world.specs.Safety.{LaterRepeats, OneProposal, PromisesBound, ReportsAtLeast}
+use Rattle.world.specs.Sent.{WasSent, message, voters}
+use Rattle.world.specs.World.{IsMade, World}
 use Rattle.headline.specs.Matches.{Matches, WasSaid, log_of, name_of}
 use Rattle.headline.specs.Mirrored.{after_all_acts}
 use Rattle.headline.specs.Needs.{may_build}
 use Rattle.headline.proofs.Headers.{divided, in_order, lawful_there, sent_was_said}
 use Rattle.headline.proofs.Logs.{noted_is_on_log, on_log_was_noted}
-use Rattle.headline.proofs.Monotone.{needs_are_monotone}
 
 -- ---- majorities by those that are members
 
@@ -124,7 +120,7 @@ module _ (division : Division) (weights : List ℕ) (acts : List (Act Value)) (w
       by None reaches reported = absurd reaches
       by (Some b) reaches reported =
           let n = on_log_was_noted w p.unit x (members.Voted (ballot b.0 b.1))
-              (subst (λ (l : List (members.Note Value)). Has l (members.Voted (ballot b.0 b.1))) logs reported.1) in
+          (subst (λ (l : List (members.Note Value)). Has l (members.Voted (ballot b.0 b.1))) logs reported.1) in
           let path_is : (n.0).path ≡ name = n.2 ∙ sym p.about in
           let fact_is = vote_noted (n.0).fact b.0 b.1 n.3 in
           (reaches, subst (Contains x.notes) (λ i. record { path = path_is i; fact = fact_is i }) n.1)

@@ -1,9 +1,9 @@
 -- A step of a node is its member's: the node and its log are what the member's are then.
-use Rattle.std.proofs.Common.{◌≡◌, ◌<◌, ◌⊎◌, ℕ, Bool, true, false, List, [], ◌∷◌, length, Option, Some, None, option_map, slice_get, refl, sym, ap, ap₂, subst, ◌∙◌, inl, inr, arith, true≢false}
+use Rattle.std.proofs.Common.{◌≡◌, ◌<◌, ℕ, true, List, [], ◌∷◌, length, Option, Some, None, option_map, slice_get, refl, sym, ap, ap₂, subst, ◌∙◌, inl, inr, arith, true≢false}
 use Rattle.std.specs.Prelude.{All}
 use Rattle.agreement.specs.Agreed.{IsValue}
-use Rattle.agreement.specs.AgreedList.{Act, Cluster, Needs, after_act, elsewhere, lookup, may_happen}
-use Rattle.agreement.specs.Member.{Closed, Facts, Member, facts_of}
+use Rattle.agreement.specs.AgreedList.{Cluster, Needs, after_act, elsewhere, lookup, may_happen}
+use Rattle.agreement.specs.Member.{Closed, Member, facts_of}
 use Rattle.agreement.specs.Messages as messages
 use Rattle.agreement.specs.Nodes as nodes
 use Rattle.agreement.specs.Quorums.{AreQuorums, Quorums, is_majority}
@@ -14,12 +14,10 @@ use Rattle.agreement.proofs.Nodes.{stage_here, stage_there}
 use Rattle.faults.specs.Bytes.{Text}
 use Rattle.node.specs.Events.{Event, node_of as whose}
 use Rattle.node.specs.Step.{Taken, after}
-use Rattle.protocol.specs.Answers.{Answer}
 use Rattle.protocol.specs.InTheAgreement.{claim_of}
 use Rattle.protocol.specs.Laws.{IsOutcome, Says}
-use Rattle.protocol.specs.State.{OpenClaim, State, Value, facts_at}
+use Rattle.protocol.specs.State.{State, Value, facts_at}
 use Rattle.protocol.specs.declared.sends.Send.{Send}
-use Rattle.wire.specs.declared.datagram.Piece.{Piece}
 use Rattle.world.specs.Happening.{Steps}
 use Rattle.world.specs.Lists.{IsListAfter}
 use Rattle.world.specs.Sent.{voters, with_sends}

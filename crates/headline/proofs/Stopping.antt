@@ -1,11 +1,10 @@
 -- Stops and restarts are acts of the agreements.
-use Rattle.std.proofs.Common.{◌≡◌, ◌<◌, ◌⊎◌, ℕ, Bool, true, false, not, List, [], ◌∷◌, length, Option, Some, None, slice_get, refl, sym, ap, subst, ◌∙◌, ⊎_elim, inl, inr, arith}
+use Rattle.std.proofs.Common.{◌≡◌, ◌<◌, ◌⊎◌, ℕ, true, false, not, List, [], ◌∷◌, length, Some, None, slice_get, refl, sym, ap, subst, ◌∙◌, ⊎_elim, inl, inr, arith}
 use Rattle.std.proofs.lemmas.Bool.{cases_lt}
 use Rattle.faults.specs.Bytes.{Text}
 use Rattle.agreement.specs.Agreed.{IsValue}
-use Rattle.agreement.specs.AgreedList.{Act, Cluster, Needs, after_act, after_acts, beginning, cluster_after, lookup}
+use Rattle.agreement.specs.AgreedList.{Act, Cluster, Needs, after_act, beginning, lookup}
 use Rattle.agreement.specs.Member.{Closed, Member}
-use Rattle.agreement.specs.Nodes as nodes
 use Rattle.agreement.specs.Quorums.{AreQuorums, Quorums, is_majority}
 use Rattle.agreement.specs.Step.{Outcome, still}
 use Rattle.agreement.specs.World.{Restart, Stop, down, outcome, when}
@@ -18,10 +17,10 @@ use Rattle.node.specs.declared.event.Left.TheVariants as left
 use Rattle.protocol.specs.State.{Value}
 use Rattle.units.specs.Division.{Division}
 use Rattle.world.specs.Happening.{Restarts, Stops, StopsIn}
-use Rattle.world.specs.World.{IsMade, World, WorldNode, down_node, restarted_node, with_node}
+use Rattle.world.specs.World.{World, WorldNode, down_node, restarted_node, with_node}
 use Rattle.headline.specs.Laws.{IsOneActMore}
-use Rattle.headline.specs.Matches.{IsSaid, Matches}
-use Rattle.headline.specs.Mirrored.{IsActOf, after_all_acts, with_act}
+use Rattle.headline.specs.Matches.{Matches}
+use Rattle.headline.specs.Mirrored.{after_all_acts, with_act}
 use Rattle.headline.specs.Needs.{may_build}
 use Rattle.headline.proofs.Acting.{act_is, restart_here, stop_here}
 use Rattle.headline.proofs.Monotone.{needs_are_monotone}

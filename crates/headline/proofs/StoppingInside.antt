@@ -1,19 +1,17 @@
 -- A stop inside a step that leaves its whole note is such a stop of the member.
-use Rattle.std.proofs.Common.{◌≡◌, ◌<◌, ℕ, true, false, List, [], ◌∷◌, length, Option, Some, None, option_map, slice_get, refl, sym, ap, subst, ◌∙◌}
+use Rattle.std.proofs.Common.{◌≡◌, ◌<◌, ℕ, true, false, [], length, Some, option_map, slice_get, refl, sym, ap, subst, ◌∙◌}
 use Rattle.agreement.specs.Agreed.{IsValue}
-use Rattle.agreement.specs.AgreedList.{Act, Cluster, Needs, after_act, lookup}
-use Rattle.agreement.specs.Member.{Closed, Facts, Member, facts_of}
-use Rattle.agreement.specs.Messages as messages
+use Rattle.agreement.specs.AgreedList.{Cluster, Needs, after_act, lookup}
+use Rattle.agreement.specs.Member.{Closed, Member, facts_of}
 use Rattle.agreement.specs.Nodes as nodes
 use Rattle.agreement.specs.Quorums.{AreQuorums, Quorums}
 use Rattle.agreement.specs.Step as theory
 use Rattle.agreement.specs.Step.{Outcome}
 use Rattle.agreement.specs.World.{StopIn, cut, down, outcome, when}
-use Rattle.faults.specs.Bytes.{Text}
 use Rattle.node.specs.State.{with_note}
 use Rattle.protocol.specs.Answers.{Answer}
 use Rattle.protocol.specs.Laws.{IsOutcome}
-use Rattle.protocol.specs.State.{State, Value, facts_at}
+use Rattle.protocol.specs.State.{Value, facts_at}
 use Rattle.world.specs.World.{IsMade, World, WorldNode, down_node, member_at, with_node}
 use Rattle.headline.specs.Matches.{Matches, node_of}
 use Rattle.headline.proofs.Acting.{act_is, stop_here}

@@ -1,8 +1,8 @@
 //! What may happen to a node of a world.
 ghost use Rattle.std.specs.Prelude.{◌≡◌};
 
-use protocol::Packages;
 use pkgpath::PkgPath;
+use protocol::Packages;
 use std::marker::Model;
 
 /// Bytes that a torn write left, which contracts see as a list.

@@ -5,10 +5,10 @@ use Rattle.package_record.proofs.BuildsRead.{build_is_read}
 
 pub returns-clause-votes : goal.returns-clause-votes
 returns-clause-votes c = λ division weights acts w made of m. (
-    one_proposal division weights acts w made of m build_is_read,
-    promises_bound division weights acts w made of m build_is_read,
-    later_repeats division weights acts w made of m build_is_read,
-  )
+  one_proposal division weights acts w made of m build_is_read,
+  promises_bound division weights acts w made of m build_is_read,
+  later_repeats division weights acts w made of m build_is_read,
+)
 
 pub returns-clause-held : goal.returns-clause-held
 returns-clause-held c = λ division weights acts w made of local m. held_is_listed division weights acts w made of m local

@@ -7,6 +7,6 @@ use Rattle.world.specs.World.{start}
 
 pub returns : goal.returns
 returns c = λ division weights early late w v first then. (
-    nothing_sent_twice division weights (early ++ late) v (leads_together (start division weights) w v early late first then),
-    (leads_later w v late then).sent,
-  )
+  nothing_sent_twice division weights (early ++ late) v (leads_together (start division weights) w v early late first then),
+  (leads_later w v late then).sent,
+)
