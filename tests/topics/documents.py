@@ -9,9 +9,6 @@ from topics.tally import TOP, contents
 
 WIDEST = 100
 LONGEST = 12
-# crates that are still to be brought within these limits; none is added
-STILL_WIDE = set()
-STILL_LONG = set()
 
 
 def manual(tally):
@@ -30,10 +27,6 @@ def lines_of(path):
     return contents(path).decode().split("\n")
 
 
-def crate_of(path):
-    return os.path.relpath(path, f"{TOP}/crates").split("/")[0]
-
-
 def is_import(line):
     return re.match(r"\s*(pub )?(ghost )?use ", line)
 
@@ -41,8 +34,6 @@ def is_import(line):
 def width(tally):
     """Lines of code and definitions, where imports may be longer."""
     for path in sorted(glob.glob(f"{TOP}/crates/*/src/**/*.rt", recursive=True) + glob.glob(f"{TOP}/crates/*/specs/**/*.antt", recursive=True)):
-        if crate_of(path) in STILL_WIDE:
-            continue
         wide = [n for n, line in enumerate(lines_of(path), 1) if len(line) > WIDEST and not is_import(line)]
         tally.add(os.path.relpath(path, TOP), f"lines {wide} have more than {WIDEST} columns" if wide else "")
 
@@ -69,7 +60,7 @@ def to_believe(tally):
     """docs/DEFINITIONS.md says how many lines of definitions there are to be believed."""
     count = 0
     for path in meaning():
-        long = [start for start, length in definitions(path) if length > LONGEST and crate_of(path) not in STILL_LONG]
+        long = [start for start, length in definitions(path) if length > LONGEST]
         tally.add(os.path.relpath(path, TOP), f"definitions at {long} have more than {LONGEST} lines" if long else "")
         count += sum(1 for line in lines_of(path) if line.strip() and not line.lstrip().startswith("--") and not is_import(line))
     told = re.search(r"([\d,]+) lines of definitions", contents(f"{TOP}/docs/DEFINITIONS.md").decode())
