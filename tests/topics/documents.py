@@ -1,4 +1,4 @@
-"""The manual pages, the width of lines, and how much a reader has to believe."""
+"""The manual pages, the width of lines, how much a reader has to believe, and the wrong bodies that documents name."""
 import glob
 import os
 import re
@@ -68,7 +68,17 @@ def to_believe(tally):
     tally.add("docs/DEFINITIONS.md", "" if number == count else f"it tells of {number} lines of definitions, and {count} stand")
 
 
+def wrong_bodies(tally):
+    """The wrong bodies that a document names stand somewhere."""
+    standing = {os.path.basename(path) for path in glob.glob(f"{TOP}/crates/*/must-fail/*.edit")}
+    for path in sorted(glob.glob(f"{TOP}/docs/*.md")):
+        named = set(re.findall(r"`(\w+\.edit)`", contents(path).decode()))
+        gone = sorted(named - standing)
+        tally.add(f"{os.path.relpath(path, TOP)}, its wrong bodies", f"{gone} are named, and don't stand" if gone else "")
+
+
 def run(tally):
     manual(tally)
     width(tally)
     to_believe(tally)
+    wrong_bodies(tally)
