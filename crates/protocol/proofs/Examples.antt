@@ -1,5 +1,6 @@
 -- Two trees, and what some members of them come to.
-use Rattle.std.specs.Prelude.{◌≡◌, refl, ℕ, zero, suc, Bool, true, false, List, [], ◌∷◌, Option, None, Some, codes, map}
+use Rattle.std.specs.Prelude.{◌≡◌, refl, ℕ, zero, suc, Bool, true, false, List, [], ◌∷◌, Option}
+use Rattle.std.specs.Prelude.{None, Some, codes, map}
 use Rattle.agreement.specs.declared.claim.Claim.{Claim}
 use Rattle.agreement.specs.Votes.{Ballot}
 use Rattle.agreement.specs.Member.{Facts, no_facts}
@@ -20,7 +21,15 @@ use Rattle.protocol.specs.declared.sends.Send.{Send}
 -- one package, which is a unit by itself
 abbrev pub one_package : Division
 one_package = record {
-  tree = record { path = codes "a/b"; group = codes "a/b"; name = codes "b-1.0"; build = []; run = []; is_marked = false } ∷ [];
+  tree = record {
+    path = codes "a/b";
+    group = codes "a/b";
+    name = codes "b-1.0";
+    build = [];
+    run =
+        [];
+    is_marked = false;
+  } ∷ [];
   units = record { name = codes "a/b"; packages = 0 ∷ []; build = [] } ∷ [];
 }
 
@@ -28,8 +37,24 @@ one_package = record {
 abbrev pub two_packages : Division
 two_packages = record {
   tree =
-      record { path = codes "a/b,-x"; group = codes "a/b"; name = codes "x-1"; build = []; run = []; is_marked = false }
-      ∷ record { path = codes "a/b,-y"; group = codes "a/b"; name = codes "y-1"; build = 0 ∷ []; run = 0 ∷ []; is_marked = false }
+      record {
+        path = codes "a/b,-x";
+        group = codes "a/b";
+        name = codes "x-1";
+        build = [];
+        run =
+            [];
+        is_marked = false;
+      }
+      ∷ record {
+        path = codes "a/b,-y";
+        group = codes "a/b";
+        name = codes "y-1";
+        build =
+            0 ∷ [];
+        run = 0 ∷ [];
+        is_marked = false;
+      }
       ∷ [];
   units = record { name = codes "a/b"; packages = 0 ∷ 1 ∷ []; build = [] } ∷ [];
 }
@@ -60,10 +85,12 @@ two_unmarked (suc (suc q)) h = false≢true h
 
 -- these are the units of the two trees
 one_is_divided : AreUnits one_package.tree one_package.units
-one_is_divided = record { ignored = nothing; are_ignored = free one_package.tree one_unmarked; are = refl }
+one_is_divided = record
+    { ignored = nothing; are_ignored = free one_package.tree one_unmarked; are = refl }
 
 two_are_divided : AreUnits two_packages.tree two_packages.units
-two_are_divided = record { ignored = nothing; are_ignored = free two_packages.tree two_unmarked; are = refl }
+two_are_divided = record
+    { ignored = nothing; are_ignored = free two_packages.tree two_unmarked; are = refl }
 
 -- three members of equal weight
 abbrev pub three : List ℕ
@@ -85,7 +112,11 @@ claim round member = record { round = round; member = member }
 abbrev pub known : State → Facts Value → Option Progress → State
 known s facts None = record s { facts = facts ∷ []; claim = None }
 known s facts (Some progress) =
-    record s { facts = facts ∷ []; claim = Some (record { unit = 0; host = 3; progress = progress }) }
+    record s {
+      facts = facts ∷ [];
+      claim =
+          Some (record { unit = 0; host = 3; progress = progress });
+    }
 
 -- what a member knows that opened this round, and promised this claim
 abbrev pub promised : ℕ → Claim → Facts Value

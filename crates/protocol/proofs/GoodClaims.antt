@@ -7,7 +7,9 @@ use Rattle.agreement.specs.Quorums.{Quorums, nobody, with_member}
 use Rattle.agreement.specs.Votes.{Ballot, PromiseOf, is_voted, kept_report}
 use Rattle.agreement.specs.Member as members
 use Rattle.agreement.specs.Messages as messages
-use Rattle.agreement.specs.Step.{Outcome, on_agreed, on_ask, on_built, on_failed, on_inquire, on_message, on_nudge, on_offer, on_promise, on_propose, on_quorum, on_vote}
+use Rattle.agreement.specs.Step.{Outcome, on_agreed, on_ask, on_built, on_failed, on_inquire}
+use Rattle.agreement.specs.Step.{on_message, on_nudge, on_offer, on_promise, on_propose, on_quorum}
+use Rattle.agreement.specs.Step.{on_vote}
 use Rattle.protocol.specs.State.{Value}
 use Rattle.std.specs.Prelude.{not, ◌&&◌}
 
@@ -18,7 +20,8 @@ IsGoodStage Own enough (members.Gathering c S k) = Own c × (enough S ≡ false)
 IsGoodStage Own enough (members.Building c) = Own c
 IsGoodStage Own enough (members.Voting b S) = Own b.claim × (enough S ≡ false)
 
-module _ (Own : Claim → Type 0) (enough : Quorums) (none : enough nobody ≡ false) (x : members.Member Value) (good : IsGoodStage Own enough x.stage) where
+module _ (Own : Claim → Type 0) (enough : Quorums) (none : enough nobody ≡ false)
+    (x : members.Member Value) (good : IsGoodStage Own enough x.stage) where
   -- the claim that an outcome leaves is such
   abbrev Good : Outcome Value → Type 0
   Good o = IsGoodStage Own enough o.member.stage
@@ -26,27 +29,33 @@ module _ (Own : Claim → Type 0) (enough : Quorums) (none : enough nobody ≡ f
   offer_good : (me : ℕ) (c : Claim) → Good (on_offer me x c)
   offer_good me c =
       cond_both (is_above c x.promised) _ _ Good (λ t. good)
-      (λ f. cond_both (is_promised c x.promised && not (is_voted c x.voted)) _ _ Good (λ t. good) (λ g. good))
+      (λ f. cond_both (is_promised c x.promised && not (is_voted c x.voted)) _ _ Good (λ t. good)
+      (λ g. good))
 
   proposal_good : (me : ℕ) (b : Ballot Value) → Good (on_propose me x b)
   proposal_good me b =
-      cond_both (not (is_below b.claim x.promised) && not (is_voted b.claim x.voted)) _ _ Good (λ t. good)
-      (λ f. cond_both (is_voted b.claim x.voted && is_promised b.claim x.promised) _ _ Good (λ t. good) (λ g. good))
+      cond_both (not (is_below b.claim x.promised) && not (is_voted b.claim x.voted)) _ _ Good
+      (λ t. good)
+      (λ f. cond_both (is_voted b.claim x.voted && is_promised b.claim x.promised) _ _ Good
+      (λ t. good) (λ g. good))
 
   quorum_good : (c : Claim) (k : Option (Ballot Value)) → Own c → Good (on_quorum x c k)
   quorum_good c None own = own
   quorum_good c (Some b) own = (own, none)
 
-  promise_good : (s : members.Stage Value) (p : PromiseOf Value) → IsGoodStage Own enough s → Good (on_promise enough x s p)
+  promise_good : (s : members.Stage Value) (p : PromiseOf Value) → IsGoodStage Own enough s
+      → Good (on_promise enough x s p)
   promise_good members.Closed p is = good
   promise_good (members.Gathering c S k) p is =
       cond_both (claim_same p.claim c) _ _ Good
-      (λ t. cond_both (enough (with_member S p.member)) _ _ Good (λ q. quorum_good c (kept_report k p.report) is.0) (λ q. (is.0, q)))
+      (λ t. cond_both (enough (with_member S p.member)) _ _ Good
+      (λ q. quorum_good c (kept_report k p.report) is.0) (λ q. (is.0, q)))
       (λ f. good)
   promise_good (members.Building c) p is = good
   promise_good (members.Voting b S) p is = good
 
-  vote_good : (s : members.Stage Value) (m : ℕ) (c : Claim) → IsGoodStage Own enough s → Good (on_vote enough x s m c)
+  vote_good : (s : members.Stage Value) (m : ℕ) (c : Claim) → IsGoodStage Own enough s
+      → Good (on_vote enough x s m c)
   vote_good members.Closed m c is = good
   vote_good (members.Gathering d S k) m c is = good
   vote_good (members.Building d) m c is = good
@@ -74,7 +83,8 @@ module _ (Own : Claim → Type 0) (enough : Quorums) (none : enough nobody ≡ f
   message_good me messages.Ask = ask_good x.held
 
   -- a build
-  pub built_good : (s : members.Stage Value) (v : Value) → IsGoodStage Own enough s → IfSome (on_built x s v) Good
+  pub built_good : (s : members.Stage Value) (v : Value) → IsGoodStage Own enough s
+      → IfSome (on_built x s v) Good
   built_good members.Closed v is = tt
   built_good (members.Gathering c S k) v is = tt
   built_good (members.Building c) v is = (is, none)

@@ -1,5 +1,6 @@
 -- What the theory's member does when a message comes, as far as an answer needs it.
-use Rattle.std.proofs.Common.{◌≡◌, ◌==◌, ◌&&◌, ◌<◌, not, ℕ, true, false, Option, Some, None, refl, sym, subst, ⊎_elim, eqb-true}
+use Rattle.std.proofs.Common.{◌≡◌, ◌==◌, ◌&&◌, ◌<◌, not, ℕ, true, false, Option, Some, None, refl}
+use Rattle.std.proofs.Common.{sym, subst, ⊎_elim, eqb-true}
 use Rattle.std.proofs.lemmas.Bool.{cond_both, false≢true, or_cases}
 use Rattle.agreement.specs.declared.claim.Claim.{Claim}
 use Rattle.agreement.specs.Claims.{claim_same, is_above, is_below, is_promised}
@@ -7,32 +8,39 @@ use Rattle.agreement.specs.Quorums.{Members, Quorums, with_member}
 use Rattle.agreement.specs.Votes.{Ballot, PromiseOf, is_voted, kept_report}
 use Rattle.agreement.specs.Member as members
 use Rattle.agreement.specs.Messages as messages
-use Rattle.agreement.specs.Step.{Outcome, on_agreed, on_ask, on_message, on_offer, on_promise, on_propose, on_quorum, on_vote, still}
+use Rattle.agreement.specs.Step.{Outcome, on_agreed, on_ask, on_message, on_offer, on_promise}
+use Rattle.agreement.specs.Step.{on_propose, on_quorum, on_vote, still}
 use Rattle.protocol.specs.State.{Value}
 use Rattle.protocol.proofs.TheTheory.{IsSaidBy, IsSaidByAny, IsWithin}
 
--- an outcome that an answer can be made of: the member is up, its claim counts members below n, and what is said it says
+-- an outcome that an answer can be made of: the member is up, its claim counts members below n, and
+-- what is said it says
 pub record IsFit (n me : ℕ) (o : Outcome Value) : Type 0 where
   pub up : o.member.up ≡ true
   pub within : IsWithin n o.member.stage
   pub by : IsSaidByAny me o.send
 
 -- an offer that is not above the promise meets one
-nay_to_offer : (me : ℕ) (c : Claim) (p : Option Claim) → is_above c p ≡ false → IsSaidBy me (messages.Nay me c p)
+nay_to_offer : (me : ℕ) (c : Claim) (p : Option Claim) → is_above c p ≡ false
+    → IsSaidBy me (messages.Nay me c p)
 nay_to_offer me c None e = absurd (false≢true (sym e))
 nay_to_offer me c (Some q) e = refl
 
 -- so does a proposal that is turned down, since who voted has promised
-nay_to_proposal : (me : ℕ) (c : Claim) (p : Option Claim) (v : Option (Ballot Value)) → (p ≡ None → v ≡ None)
+nay_to_proposal : (me : ℕ) (c : Claim) (p : Option Claim) (v : Option (Ballot Value))
+    → (p ≡ None → v ≡ None)
     → (not (is_below c p) && not (is_voted c v)) ≡ false → IsSaidBy me (messages.Nay me c p)
 nay_to_proposal me c None None pledged e = absurd (false≢true (sym e))
-nay_to_proposal me c None (Some b) pledged e = absurd (let none : Some b ≡ None = pledged refl in cc)
+nay_to_proposal me c None (Some b) pledged e =
+    absurd (let none : Some b ≡ None = pledged refl in cc)
 nay_to_proposal me c (Some q) v pledged e = refl
 
 -- who joins members below n leaves them so
-joined_within : (n m : ℕ) (S : Members) → ((k : ℕ) → S k ≡ true → k < n) → m < n → (k : ℕ) → with_member S m k ≡ true → k < n
+joined_within : (n m : ℕ) (S : Members) → ((k : ℕ) → S k ≡ true → k < n) → m < n → (k : ℕ)
+    → with_member S m k ≡ true → k < n
 joined_within n m S within lt k e =
-    ⊎_elim (λ same. subst (λ j. j < n) (sym (eqb-true k m same)) lt) (λ old. within k old) (or_cases (k == m) (S k) e)
+    ⊎_elim (λ same. subst (λ j. j < n) (sym (eqb-true k m same)) lt) (λ old. within k old)
+    (or_cases (k == m) (S k) e)
 
 -- the sender that a message names, if it names one, is below n
 abbrev pub IsFrom : ℕ → messages.Message Value → Type 0
@@ -44,7 +52,8 @@ IsFrom n (messages.Nay m c p) = Unit {0}
 IsFrom n (messages.Agreed v) = Unit {0}
 IsFrom n messages.Ask = Unit {0}
 
-module _ (n me : ℕ) (x : members.Member Value) (up : x.up ≡ true) (within : IsWithin n x.stage) (pledged : x.promised ≡ None → x.voted ≡ None) where
+module _ (n me : ℕ) (x : members.Member Value) (up : x.up ≡ true) (within : IsWithin n x.stage)
+    (pledged : x.promised ≡ None → x.voted ≡ None) where
   -- the member stays as it is
   stays : IsFit n me (still x)
   stays = record { up = up; within = within; by = tt }
@@ -59,17 +68,24 @@ module _ (n me : ℕ) (x : members.Member Value) (up : x.up ≡ true) (within : 
 
   proposal_fits : (b : Ballot Value) → IsFit n me (on_propose me x b)
   proposal_fits b =
-      cond_both (not (is_below b.claim x.promised) && not (is_voted b.claim x.voted)) _ _ (IsFit n me)
+      cond_both (not (is_below b.claim x.promised) && not (is_voted b.claim x.voted)) _ _
+      (IsFit n me)
       (λ t. record { up = up; within = within; by = refl })
       (λ f. cond_both (is_voted b.claim x.voted && is_promised b.claim x.promised) _ _ (IsFit n me)
       (λ t. record { up = up; within = within; by = refl })
-      (λ g. record { up = up; within = within; by = nay_to_proposal me b.claim x.promised x.voted pledged f }))
+      (λ g. record {
+        up = up;
+        within = within;
+        by =
+            nay_to_proposal me b.claim x.promised x.voted pledged f;
+      }))
 
   quorum_fits : (c : Claim) (k : Option (Ballot Value)) → IsFit n me (on_quorum x c k)
   quorum_fits c None = record { up = up; within = tt; by = tt }
   quorum_fits c (Some b) = record { up = up; within = λ m e. absurd (false≢true e); by = tt }
 
-  promise_fits : (enough : Quorums) (s : members.Stage Value) (p : PromiseOf Value) → IsWithin n s → p.member < n → IsFit n me (on_promise enough x s p)
+  promise_fits : (enough : Quorums) (s : members.Stage Value) (p : PromiseOf Value) → IsWithin n s
+      → p.member < n → IsFit n me (on_promise enough x s p)
   promise_fits enough members.Closed p w lt = stays
   promise_fits enough (members.Gathering c S k) p w lt =
       cond_both (claim_same p.claim c) _ _ (IsFit n me)
@@ -80,7 +96,8 @@ module _ (n me : ℕ) (x : members.Member Value) (up : x.up ≡ true) (within : 
   promise_fits enough (members.Building c) p w lt = stays
   promise_fits enough (members.Voting b S) p w lt = stays
 
-  vote_fits : (enough : Quorums) (s : members.Stage Value) (m : ℕ) (c : Claim) → IsWithin n s → m < n → IsFit n me (on_vote enough x s m c)
+  vote_fits : (enough : Quorums) (s : members.Stage Value) (m : ℕ) (c : Claim) → IsWithin n s
+      → m < n → IsFit n me (on_vote enough x s m c)
   vote_fits enough members.Closed m c w lt = stays
   vote_fits enough (members.Gathering d S k) m c w lt = stays
   vote_fits enough (members.Building d) m c w lt = stays
@@ -100,7 +117,8 @@ module _ (n me : ℕ) (x : members.Member Value) (up : x.up ≡ true) (within : 
   ask_fits (Some v) = record { up = up; within = within; by = tt }
 
   -- whatever comes from a member
-  pub message_fits : (enough : Quorums) (m : messages.Message Value) → IsFrom n m → IsFit n me (on_message enough me x m)
+  pub message_fits : (enough : Quorums) (m : messages.Message Value) → IsFrom n m
+      → IsFit n me (on_message enough me x m)
   message_fits enough (messages.Offer c) from = offer_fits c
   message_fits enough (messages.Promise p) from = promise_fits enough x.stage p within from
   message_fits enough (messages.Propose b) from = proposal_fits b

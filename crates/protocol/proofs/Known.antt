@@ -1,5 +1,6 @@
 -- What a note changes of what a member knows.
-use Rattle.std.proofs.Common.{◌≡◌, ◌<◌, ℕ, Bool, true, false, All, List, length, Option, None, Some, refl, sym, ap, subst, ◌∙◌, inl, inr, if◌then◌else◌}
+use Rattle.std.proofs.Common.{◌≡◌, ◌<◌, ℕ, Bool, true, false, All, List, length, Option, None, Some}
+use Rattle.std.proofs.Common.{refl, sym, ap, subst, ◌∙◌, inl, inr, if◌then◌else◌}
 use Rattle.std.specs.Prelude.{is_some, slice_set}
 use Rattle.std.specs.List.{slice_index_or}
 use Rattle.std.proofs.lemmas.Bool.{cases_eq, cases_lt, false≢true}
@@ -13,11 +14,13 @@ use Rattle.ballots.specs.InTheAgreement.{note_of}
 use Rattle.ballots.specs.Pledge.{HasPromised}
 use Rattle.ballots.specs.declared.message.Note.{Note}
 use Rattle.units.specs.Division.{Division, number_named, number_of}
-use Rattle.protocol.specs.State.{State, Value, facts_at, facts_then, holds_package, is_held_any, noted_at}
+use Rattle.protocol.specs.State.{State, Value, facts_at, facts_then, holds_package, is_held_any}
+use Rattle.protocol.specs.State.{noted_at}
 use Rattle.protocol.specs.Answers.{Answer, after}
 
 -- what holds of each element, and where there is none, holds at each index
-pub at_any : {X : Type 0} (P : X → Type 0) (xs : List X) (k : ℕ) (d : X) → All P xs → P d → P (slice_index_or xs k d)
+pub at_any : {X : Type 0} (P : X → Type 0) (xs : List X) (k : ℕ) (d : X) → All P xs → P d
+    → P (slice_index_or xs k d)
 at_any P xs k d all past =
     elim (cases_lt k (length xs)) [
       | inl lt ↦ all k d lt
@@ -46,17 +49,21 @@ noted_pledged f (members.Voted b) is = λ none. absurd (never_none f.promised b.
 noted_pledged f (members.Held v) is = is
 
 -- whatever is noted
-pub pledged_then : (d : Division) (facts : List (Facts Value)) (n : Option (Note Value)) → All Pledged facts → All Pledged (facts_then d facts n)
+pub pledged_then : (d : Division) (facts : List (Facts Value)) (n : Option (Note Value))
+    → All Pledged facts → All Pledged (facts_then d facts n)
 pledged_then d facts None are = are
 pledged_then d facts (Some n) are = by_unit (number_named d n.path)
   where
     by_unit : (u : Option ℕ) → All Pledged (noted_at u facts n)
     by_unit None = are
     by_unit (Some u) =
-        All-set Pledged facts u _ (noted_pledged (slice_index_or facts u no_facts) (note_of n.fact) (at_any Pledged facts u no_facts are (λ e. refl))) are
+        All-set Pledged facts u _
+        (noted_pledged (slice_index_or facts u no_facts) (note_of n.fact)
+        (at_any Pledged facts u no_facts are (λ e. refl))) are
 
 -- facts are kept of as many units as before
-pub each_then : (d : Division) (facts : List (Facts Value)) (n : Option (Note Value)) → length (facts_then d facts n) ≡ length facts
+pub each_then : (d : Division) (facts : List (Facts Value)) (n : Option (Note Value))
+    → length (facts_then d facts n) ≡ length facts
 each_then d facts None = refl
 each_then d facts (Some n) = by_unit (number_named d n.path)
   where
@@ -66,22 +73,27 @@ each_then d facts (Some n) = by_unit (number_named d n.path)
 
 -- ---- what is held stays held
 
-held_then : (f : Facts Value) (n : members.Note Value) (v : Value) → f.held ≡ Some v → (noted f n).held ≡ Some v
+held_then : (f : Facts Value) (n : members.Note Value) (v : Value) → f.held ≡ Some v
+    → (noted f n).held ≡ Some v
 held_then f (members.Opened round) v e = e
 held_then f (members.Promised c) v e = e
 held_then f (members.Voted b) v e = e
 held_then f (members.Held w) v e = ap (λ h. first h w) e
 
 -- what is known of something is known of a unit
-known_within : (facts : List (Facts Value)) (u : ℕ) (v : Value) → (slice_index_or facts u no_facts).held ≡ Some v → u < length facts
+known_within : (facts : List (Facts Value)) (u : ℕ) (v : Value)
+    → (slice_index_or facts u no_facts).held ≡ Some v → u < length facts
 known_within facts u v e =
     elim (cases_lt u (length facts)) [
       | inl lt ↦ lt
-      | inr past ↦ absurd (let no : None ≡ Some v = sym (ap (λ (f : Facts Value). f.held) (get_or_past facts u no_facts past)) ∙ e in cc)
+      | inr past ↦ absurd (let no : None ≡ Some v =
+          sym (ap (λ (f : Facts Value). f.held) (get_or_past facts u no_facts past)) ∙ e in cc)
     ]
 
-pub held_stays_known : (d : Division) (facts : List (Facts Value)) (n : Option (Note Value)) (u : ℕ) (v : Value)
-    → (slice_index_or facts u no_facts).held ≡ Some v → (slice_index_or (facts_then d facts n) u no_facts).held ≡ Some v
+pub held_stays_known : (d : Division) (facts : List (Facts Value)) (n : Option (Note Value)) (u : ℕ)
+    (v : Value)
+    → (slice_index_or facts u no_facts).held ≡ Some v
+    → (slice_index_or (facts_then d facts n) u no_facts).held ≡ Some v
 held_stays_known d facts None u v e = e
 held_stays_known d facts (Some n) u v e = by_unit (number_named d n.path)
   where
@@ -92,19 +104,26 @@ held_stays_known d facts (Some n) u v e = by_unit (number_named d n.path)
         elim (cases_eq u w) [
           | inl same ↦
               ap (λ k. (slice_index_or (slice_set facts w f) k no_facts).held) same
-              ∙ ap (λ (g : Facts Value). g.held) (get_or-set_same facts w f no_facts (subst (λ k. k < length facts) same (known_within facts u v e)))
-              ∙ held_then (slice_index_or facts w no_facts) (note_of n.fact) v (subst (λ k. (slice_index_or facts k no_facts).held ≡ Some v) same e)
-          | inr other ↦ ap (λ (g : Facts Value). g.held) (get_or-set_other facts w u f no_facts other) ∙ e
+              ∙ ap (λ (g : Facts Value). g.held)
+              (get_or-set_same facts w f no_facts
+              (subst (λ k. k < length facts) same (known_within facts u v e)))
+              ∙ held_then (slice_index_or facts w no_facts) (note_of n.fact) v
+              (subst (λ k. (slice_index_or facts k no_facts).held ≡ Some v) same e)
+          | inr other ↦ ap (λ (g : Facts Value). g.held)
+              (get_or-set_other facts w u f no_facts other) ∙ e
         ]
 
 -- in a member's words
-pub held_stays : (s : State) (a : Answer) (u : ℕ) (v : Value) → (facts_at s u).held ≡ Some v → (facts_at (after s a) u).held ≡ Some v
+pub held_stays : (s : State) (a : Answer) (u : ℕ) (v : Value) → (facts_at s u).held ≡ Some v
+    → (facts_at (after s a) u).held ≡ Some v
 held_stays s a u v e = held_stays_known s.division s.facts a.note u v e
 
-pub package_stays_held : (s : State) (a : Answer) (p : ℕ) → holds_package s p ≡ true → holds_package (after s a) p ≡ true
+pub package_stays_held : (s : State) (a : Answer) (p : ℕ) → holds_package s p ≡ true
+    → holds_package (after s a) p ≡ true
 package_stays_held s a p held = by_unit (number_of s.division p) held
   where
-    by_build : (u : ℕ) (h : Option Value) → (facts_at s u).held ≡ h → is_some h ≡ true → is_held_any (after s a) (Some u) ≡ true
+    by_build : (u : ℕ) (h : Option Value) → (facts_at s u).held ≡ h → is_some h ≡ true
+        → is_held_any (after s a) (Some u) ≡ true
     by_build u None at e = absurd (false≢true e)
     by_build u (Some v) at e = ap is_some (held_stays s a u v at)
 

@@ -15,3 +15,4 @@ pub mod MadeBuilds
 mod Rows
 pub mod StayingMembers
 pub mod TheTheory
+pub mod WaitingClaims

@@ -1,5 +1,7 @@
 -- What is made by a job is a build of its unit.
-use Rattle.std.proofs.Common.{◌≡◌, ◌<◌, ◌≤◌, ◌&&◌, ℕ, suc, Bool, true, false, cond, All, List, [], ◌∷◌, length, map, Option, None, Some, Less, Equal, Greater, arith, refl, sym, ap, subst, ◌∙◌, inl, inr, option_map}
+use Rattle.std.proofs.Common.{◌≡◌, ◌<◌, ◌≤◌, ◌&&◌, ℕ, suc, Bool, true, false, cond, All, List, []}
+use Rattle.std.proofs.Common.{◌∷◌, length, map, Option, None, Some, Less, Equal, Greater, arith}
+use Rattle.std.proofs.Common.{refl, sym, ap, subst, ◌∙◌, inl, inr, option_map}
 use Rattle.std.specs.Prelude.{Contains, filter_map, find, not, option_and_then, unwrap_or}
 use Rattle.std.specs.Option.{ForSome}
 use Rattle.std.specs.List.{cons_option, list_all, slice_index_or}
@@ -10,7 +12,8 @@ use Rattle.std.specs.Cmp.Lexicographic.{nat_list_cmp_total}
 use Rattle.std.proofs.lemmas.Bool.{and_from, and_parts, cases_eq}
 use Rattle.std.proofs.lemmas.List.{length-map}
 use Rattle.std.proofs.lemmas.List.FromFn.{length-range_with_len}
-use Rattle.std.proofs.lemmas.List.Elements.{All-contains, All-get_or, All-map, All-weaker, Contains-get_or}
+use Rattle.std.proofs.lemmas.List.Elements.{All-contains, All-get_or, All-map, All-weaker}
+use Rattle.std.proofs.lemmas.List.Elements.{Contains-get_or}
 use Rattle.std.proofs.lemmas.List.Sums.{count_by-le-length, length-filter}
 use Rattle.sha2.proofs.Facts256.{length-sha256}
 use Rattle.faults.specs.Bytes.{Text}
@@ -20,7 +23,8 @@ use Rattle.agreement.specs.declared.claim.Claim.{Claim}
 use Rattle.claims.specs.Claim.{IsClaim}
 use Rattle.claims.specs.Deps.{AreInOrder, is_ascending}
 use Rattle.claims.specs.declared.deps.Dep.{Dep}
-use Rattle.listing.specs.Tree.{ArePositions, Tree, group_at, no_package, path_at, position_of, run_at}
+use Rattle.listing.specs.Tree.{ArePositions, Tree, group_at, no_package, path_at, position_of}
+use Rattle.listing.specs.Tree.{run_at}
 use Rattle.pkgname.specs.PkgName.{IsName}
 use Rattle.pkgpath.specs.PkgPath.{IsPath, without_subpackage}
 use Rattle.package_record.specs.Build.{AreAlike, IsAlike, IsBuild, paths_of, unit_path}
@@ -49,28 +53,35 @@ use Rattle.protocol.proofs.Known.{at_any}
 -- ---- lists
 
 -- what holds of each member of a list holds of all
-all_members : {X : Type 0} (P : X → Type 0) (xs : List X) → ((x : X) → Contains xs x → P x) → All P xs
+all_members : {X : Type 0} (P : X → Type 0) (xs : List X) → ((x : X) → Contains xs x → P x)
+    → All P xs
 all_members P xs each k d lt = each (slice_index_or xs k d) (Contains-get_or xs k d lt)
 
-all_pass : {X : Type 0} (test : X → Bool) (xs : List X) → ((x : X) → Contains xs x → test x ≡ true) → list_all test xs ≡ true
+all_pass : {X : Type 0} (test : X → Bool) (xs : List X) → ((x : X) → Contains xs x → test x ≡ true)
+    → list_all test xs ≡ true
 all_pass test [] each = refl
 all_pass test (x ∷ xs) each =
-    and_from (test x) (list_all test xs) (each x (contains_first x xs)) (all_pass test xs (λ y later. each y (contains_later x y xs later)))
+    and_from (test x) (list_all test xs) (each x (contains_first x xs))
+    (all_pass test xs (λ y later. each y (contains_later x y xs later)))
 
 -- what is found is a member
-found_member : {X : Type 0} (test : X → Bool) (xs : List X) (x : X) → find test xs ≡ Some x → Contains xs x
+found_member : {X : Type 0} (test : X → Bool) (xs : List X) (x : X) → find test xs ≡ Some x
+    → Contains xs x
 found_member test [] x e = absurd (let no : None ≡ Some x = e in cc)
 found_member {X} test (y ∷ ys) x e = by_test (test y) e (λ later. found_member test ys x later)
   where
-    by_test : (b : Bool) → cond b (Some y) (find test ys) ≡ Some x → (find test ys ≡ Some x → Contains ys x) → Contains (y ∷ ys) x
-    by_test true e behind = let same : y ≡ x = ap (λ o. unwrap_or o y) e in subst (Contains (y ∷ ys)) same (contains_first y ys)
+    by_test : (b : Bool) → cond b (Some y) (find test ys) ≡ Some x
+        → (find test ys ≡ Some x → Contains ys x) → Contains (y ∷ ys) x
+    by_test true e behind = let same : y ≡ x = ap (λ o. unwrap_or o y) e in
+        subst (Contains (y ∷ ys)) same (contains_first y ys)
     by_test false e behind = contains_later y x ys (behind e)
 
 -- texts that rise ascend
 rising_ascends : (ts : List Text) → Rising text_cmp ts → is_ascending ts ≡ true
 rising_ascends [] rising = refl
 rising_ascends (t ∷ ts) rising =
-    and_from _ _ (all_pass (λ u. is_lt (text_cmp t u)) ts (λ u member. ap is_lt (rising.0 u member))) (rising_ascends ts rising.1)
+    and_from _ _ (all_pass (λ u. is_lt (text_cmp t u)) ts
+    (λ u member. ap is_lt (rising.0 u member))) (rising_ascends ts rising.1)
 
 -- a set ascends
 set_ascends : (ts : List Text) → is_ascending (set_of ts) ≡ true
@@ -78,23 +89,30 @@ set_ascends ts = rising_ascends (set_of ts) (set_rises ts)
 
 -- no text is below itself
 not_below_itself : (t : Text) → text_cmp t t ≡ Less → ⊥
-not_below_itself t e = let no : Less ≡ Greater = sym e ∙ (nat_list_cmp_total.antisymm t t ∙ ap ordering_reverse e) in cc
+not_below_itself t e = let no : Less ≡ Greater = sym e
+    ∙ (nat_list_cmp_total.antisymm t t ∙ ap ordering_reverse e) in cc
 
 -- ---- what is held, where it is builds
 
 module _ (s : State) (are : All (λ (f : Facts Value). ForSome f.held IsBuild) s.facts) where
   held_is_build : (u : ℕ) → ForSome (facts_at s u).held IsBuild
-  held_is_build u = at_any (λ (f : Facts Value). ForSome f.held IsBuild) s.facts u no_facts are (λ v e. absurd (let no : None ≡ Some v = e in cc))
+  held_is_build u = at_any (λ (f : Facts Value). ForSome f.held IsBuild) s.facts u no_facts are
+      (λ v e. absurd (let no : None ≡ Some v = e in cc))
 
   -- a record that is held is one
   held_is_record : (path : Text) (r : Content) → held_record s path ≡ Some r → IsRecord r
   held_is_record path r e = by_unit (unit_with s.division path) e
     where
-      by_build : (h : Option Value) → ForSome h IsBuild → option_and_then (record_in path) h ≡ Some r → IsRecord r
+      by_build : (h : Option Value) → ForSome h IsBuild
+          → option_and_then (record_in path) h ≡ Some r → IsRecord r
       by_build None is e = absurd (let no : None ≡ Some r = e in cc)
-      by_build (Some v) is e = All-contains IsRecord v r (is v refl).records (found_member (λ c. bytes_eq c.path path) v r e)
+      by_build (Some v) is e =
+          All-contains IsRecord v r (is v refl).records
+          (found_member (λ c. bytes_eq c.path path) v r e)
 
-      by_unit : (u : Option ℕ) → option_and_then (λ u. option_and_then (record_in path) (facts_at s u).held) u ≡ Some r → IsRecord r
+      by_unit : (u : Option ℕ)
+          → option_and_then (λ u. option_and_then (record_in path) (facts_at s u).held) u ≡ Some r
+          → IsRecord r
       by_unit None e = absurd (let no : None ≡ Some r = e in cc)
       by_unit (Some u) e = by_build (facts_at s u).held (held_is_build u) e
 
@@ -102,7 +120,14 @@ module _ (s : State) (are : All (λ (f : Facts Value). ForSome f.held IsBuild) s
   signed_is_dep : (d : Dep) → IsSignedBy s d → IsDep d
   signed_is_dep d signed =
       let is = held_is_record d.path signed.0 signed.1 in
-      subst IsDep (sym signed.2) (record { path = is.names.path; name = is.names.name; digest = length-sha256 _; bytes = sha256_bytes _ })
+      subst IsDep (sym signed.2)
+      (record {
+        path = is.names.path;
+        name = is.names.name;
+        digest = length-sha256 _;
+        bytes =
+            sha256_bytes _;
+      })
 
   deps_are_good : (u : ℕ) → All IsDep (deps_of s u)
   deps_are_good u = All-weaker (IsSignedBy s) IsDep signed_is_dep (deps_of s u) (builds_stand s u)
@@ -114,32 +139,41 @@ abbrev signed : State → List Text → List Dep
 signed s paths = filter_map (λ path. option_map signature (held_record s path)) paths
 
 -- what passes for all paths passes for those that are signed
-signed_pass : (s : State) (test : Text → Bool) (paths : List Text) → list_all test paths ≡ true → list_all test (map (λ d. d.path) (signed s paths)) ≡ true
+signed_pass : (s : State) (test : Text → Bool) (paths : List Text) → list_all test paths ≡ true
+    → list_all test (map (λ d. d.path) (signed s paths)) ≡ true
 signed_pass s test [] e = refl
 signed_pass s test (path ∷ paths) e =
     let parts = and_parts (test path) (list_all test paths) e in
     by_record (held_record s path) refl parts.0 (signed_pass s test paths parts.1)
   where
-    by_record : (o : Option Content) → held_record s path ≡ o → test path ≡ true → list_all test (map (λ d. d.path) (signed s paths)) ≡ true
-        → list_all test (map (λ d. d.path) (cons_option (option_map signature o) (signed s paths))) ≡ true
+    by_record : (o : Option Content) → held_record s path ≡ o → test path ≡ true
+        → list_all test (map (λ d. d.path) (signed s paths)) ≡ true
+        → list_all test (map (λ d. d.path) (cons_option (option_map signature o) (signed s paths)))
+        ≡ true
     by_record None at here behind = behind
-    by_record (Some r) at here behind = and_from _ _ (ap test (record_has_path s path r at) ∙ here) behind
+    by_record (Some r) at here behind =
+        and_from _ _ (ap test (record_has_path s path r at) ∙ here) behind
 
-signed_ascend : (s : State) (paths : List Text) → is_ascending paths ≡ true → is_ascending (map (λ d. d.path) (signed s paths)) ≡ true
+signed_ascend : (s : State) (paths : List Text) → is_ascending paths ≡ true
+    → is_ascending (map (λ d. d.path) (signed s paths)) ≡ true
 signed_ascend s [] e = refl
 signed_ascend s (path ∷ paths) e =
     let parts = and_parts (list_all (λ u. is_lt (text_cmp path u)) paths) (is_ascending paths) e in
-    by_record (held_record s path) refl (signed_pass s (λ u. is_lt (text_cmp path u)) paths parts.0) (signed_ascend s paths parts.1)
+    by_record (held_record s path) refl (signed_pass s (λ u. is_lt (text_cmp path u)) paths parts.0)
+    (signed_ascend s paths parts.1)
   where
     later : List Text
     later = map (λ d. d.path) (signed s paths)
 
-    by_record : (o : Option Content) → held_record s path ≡ o → list_all (λ u. is_lt (text_cmp path u)) (map (λ d. d.path) (signed s paths)) ≡ true
+    by_record : (o : Option Content) → held_record s path ≡ o
+        → list_all (λ u. is_lt (text_cmp path u)) (map (λ d. d.path) (signed s paths)) ≡ true
         → is_ascending (map (λ d. d.path) (signed s paths)) ≡ true
-        → is_ascending (map (λ d. d.path) (cons_option (option_map signature o) (signed s paths))) ≡ true
+        → is_ascending (map (λ d. d.path) (cons_option (option_map signature o) (signed s paths))) ≡
+        true
     by_record None at above behind = behind
     by_record (Some r) at above behind =
-        and_from _ _ (ap (λ t. list_all (λ u. is_lt (text_cmp t u)) (map (λ d. d.path) (signed s paths))) (record_has_path s path r at) ∙ above) behind
+        and_from _ _ (ap (λ t. list_all (λ u. is_lt (text_cmp t u))
+        (map (λ d. d.path) (signed s paths))) (record_has_path s path r at) ∙ above) behind
 
 pub deps_in_order : (s : State) (u : ℕ) → AreInOrder (deps_of s u)
 deps_in_order s u = signed_ascend s (in_order_of_path s.division.tree (unit_at s.division u).build)
@@ -151,7 +185,8 @@ one_longer : (t : Text) (us : List Text) → length (with_member t us) ≤ suc (
 one_longer t [] = omega arith
 one_longer t (u ∷ us) = by (text_cmp t u) (one_longer t us)
   where
-    by : (o : Ordering) → length (with_member t us) ≤ suc (length us) → length (by_order o (t ∷ u ∷ us) (u ∷ us) (u ∷ with_member t us)) ≤ suc (length (u ∷ us))
+    by : (o : Ordering) → length (with_member t us) ≤ suc (length us)
+        → length (by_order o (t ∷ u ∷ us) (u ∷ us) (u ∷ with_member t us)) ≤ suc (length (u ∷ us))
     by Less rest = omega arith
     by Equal rest = omega arith
     by Greater rest = omega (arith, rest)
@@ -160,40 +195,60 @@ length-set_of : (ts : List Text) → length (set_of ts) ≤ length ts
 length-set_of [] = omega arith
 length-set_of (t ∷ ts) = omega (arith, one_longer t (set_of ts), length-set_of ts)
 
-length-filter_map : {X Y : Type 0} (f : X → Option Y) (xs : List X) → length (filter_map f xs) ≤ length xs
+length-filter_map : {X Y : Type 0} (f : X → Option Y) (xs : List X)
+    → length (filter_map f xs) ≤ length xs
 length-filter_map f [] = omega arith
 length-filter_map {X} {Y} f (x ∷ xs) = by (f x) (length-filter_map f xs)
   where
-    by : (o : Option Y) → length (filter_map f xs) ≤ length xs → length (cons_option o (filter_map f xs)) ≤ length (x ∷ xs)
+    by : (o : Option Y) → length (filter_map f xs) ≤ length xs
+        → length (cons_option o (filter_map f xs)) ≤ length (x ∷ xs)
     by None rest = omega (arith, rest)
     by (Some y) rest = omega (arith, rest)
 
 -- a unit has no more packages than the tree
 few_made : (tree : Tree) (ps : List ℕ) → length (units.in_order_of_path tree ps) ≤ length ps
 few_made tree ps =
-    omega (arith, length-filter_map (position_of tree) (set_of (map (path_at tree) ps)), length-set_of (map (path_at tree) ps), length-map ps (path_at tree))
+    omega (
+      arith,
+      length-filter_map (position_of tree) (set_of (map (path_at tree) ps)),
+      length-set_of (map (path_at tree) ps),
+      length-map ps (path_at tree),
+    )
 
-few_packages : (s : State) (u : ℕ) → IsMember s → u < length s.division.units → length (unit_at s.division u).packages ≤ length s.division.tree
+few_packages : (s : State) (u : ℕ) → IsMember s → u < length s.division.units
+    → length (unit_at s.division u).packages ≤ length s.division.tree
 few_packages s u is lt =
     let tree = s.division.tree in
     let packages = (unit_at s.division u).packages in
     let first = slice_index_or packages 0 0 in
-    let of = (one_unit_has s.division u first is.division lt (Contains-get_or packages 0 0 (unit_some s.division u is.division lt))).1 in
-    let same : packages ≡ units.in_order_of_path tree (made_with tree of.ignored first) = ap (λ v. v.packages) of.is in
-    omega (arith, ap length same, few_made tree (made_with tree of.ignored first), made_few tree of.ignored first)
+    let of = (one_unit_has s.division u first is.division lt
+    (Contains-get_or packages 0 0 (unit_some s.division u is.division lt))).1 in
+    let same : packages ≡ units.in_order_of_path tree (made_with tree of.ignored first) =
+    ap (λ v. v.packages) of.is in
+    omega (
+      arith,
+      ap length same,
+      few_made tree (made_with tree of.ignored first),
+      made_few tree
+          of.ignored first,
+    )
   where
-    made_few : (tree : Tree) (ignored : ℕ → Bool) (p : ℕ) → length (made_with tree ignored p) ≤ length tree
+    made_few : (tree : Tree) (ignored : ℕ → Bool) (p : ℕ)
+        → length (made_with tree ignored p) ≤ length tree
     made_few tree ignored p =
         omega (
           arith,
-          length-filter (λ q. bytes_eq (group_at tree q) (group_at tree p) && not (ignored q)) (positions tree),
-          count_by-le-length (λ q. bytes_eq (group_at tree q) (group_at tree p) && not (ignored q)) (positions tree),
+          length-filter (λ q. bytes_eq (group_at tree q) (group_at tree p) && not (ignored q))
+              (positions tree),
+          count_by-le-length (λ q. bytes_eq (group_at tree q) (group_at tree p) && not (ignored q))
+              (positions tree),
           length-range_with_len 0 (length tree),
         )
 
 -- ---- the build
 
-module _ (s : State) (u host : ℕ) (c : Claim) (given : Given) (is : IsMember s) (lt : u < length s.division.units) (in_range : host ≤ 65535) (claim : IsClaim c)
+module _ (s : State) (u host : ℕ) (c : Claim) (given : Given) (is : IsMember s)
+    (lt : u < length s.division.units) (in_range : host ≤ 65535) (claim : IsClaim c)
     (are : All (λ (f : Facts Value). ForSome f.held IsBuild) s.facts) where
   abbrev tree : Tree
   tree = s.division.tree
@@ -214,9 +269,12 @@ module _ (s : State) (u host : ℕ) (c : Claim) (given : Given) (is : IsMember s
   run_paths p within =
       all_members IsPath (in_order_of_path tree (run_at tree p))
       (λ path member.
-      let q = has_preimage (path_at tree) (run_at tree p) path (from_set (map (path_at tree) (run_at tree p)) path member) in
-      let listed = (All-get_or (λ x. ArePositions tree x.run) tree p no_package within is.division.tree.run).within in
-      subst IsPath q.2 (is_path q.0 (All-contains (λ k. k < length tree) (run_at tree p) q.0 listed q.1)))
+      let q = has_preimage (path_at tree) (run_at tree p) path
+      (from_set (map (path_at tree) (run_at tree p)) path member) in
+      let listed = (All-get_or (λ x. ArePositions tree x.run) tree p no_package within
+      is.division.tree.run).within in
+      subst IsPath q.2 (is_path q.0
+      (All-contains (λ k. k < length tree) (run_at tree p) q.0 listed q.1)))
 
   can_be_made : (p : ℕ) → p < length tree → CanBeMade (made p)
   can_be_made p within = record {
@@ -237,11 +295,13 @@ module _ (s : State) (u host : ℕ) (c : Claim) (given : Given) (is : IsMember s
   paths_made (p ∷ ps) = ap (λ ts. path_at tree p ∷ ts) (paths_made ps)
 
   -- the packages of two or more are of one group
-  grouped : (p q : ℕ) → Contains packages p → Contains packages q → without_subpackage (path_at tree q) ≡ without_subpackage (path_at tree p)
+  grouped : (p q : ℕ) → Contains packages p → Contains packages q
+      → without_subpackage (path_at tree q) ≡ without_subpackage (path_at tree p)
   grouped p q has_p has_q =
       elim (cases_eq p q) [
         | inl same ↦ ap (λ k. without_subpackage (path_at tree k)) (sym same)
-        | inr other ↦ sym (good.named.alike q p has_q has_p (λ e. other (sym e))) ∙ good.named.alike p q has_p has_q other
+        | inr other ↦ sym (good.named.alike q p has_q has_p (λ e. other (sym e)))
+            ∙ good.named.alike p q has_p has_q other
       ]
 
   all_alike : (ps : List ℕ) → packages ≡ ps → 0 < length ps → AreAlike (map made ps)
@@ -250,36 +310,47 @@ module _ (s : State) (u host : ℕ) (c : Claim) (given : Given) (is : IsMember s
       All-map (IsAlike (made p)) made ps
       (all_members (λ q. IsAlike (made p) (made q)) ps
       (λ q later. record {
-        group = grouped p q (subst (λ ks. Contains ks p) (sym e) (contains_first p ps)) (subst (λ ks. Contains ks q) (sym e) (contains_later p q ps later));
+        group = grouped p q (subst (λ ks. Contains ks p) (sym e) (contains_first p ps))
+            (subst (λ ks. Contains ks q) (sym e) (contains_later p q ps later));
         host = refl;
         claim = refl;
         built = refl;
       }))
 
   -- the name of the unit is that of the build
-  named_so : (ps : List ℕ) → packages ≡ ps → 0 < length ps → Rising text_cmp (map (path_at tree) ps) → unit_path (map made ps) ≡ name_at s u
+  named_so : (ps : List ℕ) → packages ≡ ps → 0 < length ps → Rising text_cmp (map (path_at tree) ps)
+      → unit_path (map made ps) ≡ name_at s u
   named_so [] e some rising = absurd (omega (arith, some))
   named_so (p ∷ []) e some rising = sym (good.named.alone p e)
   named_so (p ∷ q ∷ ps) e some rising =
-      let below = rising.0 (path_at tree q) (contains_first (path_at tree q) (map (path_at tree) ps)) in
+      let below = rising.0 (path_at tree q)
+      (contains_first (path_at tree q) (map (path_at tree) ps)) in
       let has_p = subst (λ ks. Contains ks p) (sym e) (contains_first p (q ∷ ps)) in
-      let has_q = subst (λ ks. Contains ks q) (sym e) (contains_later p q (q ∷ ps) (contains_first q ps)) in
+      let has_q = subst (λ ks. Contains ks q) (sym e)
+      (contains_later p q (q ∷ ps) (contains_first q ps)) in
       sym (good.named.alike p q has_p has_q
-      (λ same. not_below_itself (path_at tree q) (ap (λ k. text_cmp (path_at tree k) (path_at tree q)) (sym same) ∙ below)))
+      (λ same. not_below_itself (path_at tree q)
+      (ap (λ k. text_cmp (path_at tree k) (path_at tree q)) (sym same) ∙ below)))
 
   rising_paths : Rising text_cmp (map (path_at tree) packages)
-  rising_paths = subst (Rising text_cmp) (sym good.named.in_order) (set_rises (map (path_at tree) packages))
+  rising_paths = subst (Rising text_cmp) (sym good.named.in_order)
+      (set_rises (map (path_at tree) packages))
 
-  pub build_of_unit : build_fault (map made packages) ≡ None → IsBuild (map made packages) × (unit_path (map made packages) ≡ name_at s u)
+  pub build_of_unit : build_fault (map made packages) ≡ None
+      → IsBuild (map made packages) × (unit_path (map made packages) ≡ name_at s u)
   build_of_unit no_fault = (
     made_is_build (map made packages)
-        (All-map CanBeMade made packages (All-weaker (λ p. p < length tree) (λ p. CanBeMade (made p)) can_be_made packages (all_listed s.division u is.division lt)))
+        (All-map CanBeMade made packages
+        (All-weaker (λ p. p < length tree) (λ p. CanBeMade (made p)) can_be_made packages
+        (all_listed s.division u is.division lt)))
         (omega (arith, length-map packages made, few_packages s u is lt, is.division.tree.few))
-        (ap is_ascending (paths_made packages) ∙ rising_ascends (map (path_at tree) packages) rising_paths)
+        (ap is_ascending (paths_made packages)
+        ∙ rising_ascends (map (path_at tree) packages) rising_paths)
         (all_alike packages refl (unit_some s.division u is.division lt))
         no_fault,
     named_so packages refl (unit_some s.division u is.division lt) rising_paths,
   )
 
 pub builds_are_of_units : BuildsAreOfTheirUnit
-builds_are_of_units s u host c given is lt in_range claim are no_fault = build_of_unit s u host c given is lt in_range claim are no_fault
+builds_are_of_units s u host c given is lt in_range claim are no_fault =
+    build_of_unit s u host c given is lt in_range claim are no_fault

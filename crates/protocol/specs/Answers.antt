@@ -1,5 +1,6 @@
 -- What a step gives: the note, what is sent to whom, the job, and the claim that it leaves open.
-use Rattle.std.specs.Prelude.{◌==◌, ℕ, not, List, filter, Option, None, Some, length, option_map, if◌then◌else◌}
+use Rattle.std.specs.Prelude.{◌==◌, ℕ, not, List, filter, Option, None, Some, length, option_map}
+use Rattle.std.specs.Prelude.{if◌then◌else◌}
 use Rattle.std.specs.List.{list_any, range_with_len}
 use Rattle.sha2.specs.Sha256.{sha256}
 use Rattle.agreement.specs.Member as members

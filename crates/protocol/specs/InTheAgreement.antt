@@ -7,11 +7,13 @@ use Rattle.agreement.specs.Member as members
 use Rattle.agreement.specs.Messages as messages
 use Rattle.agreement.specs.Nodes as nodes
 use Rattle.ballots.specs.declared.message.Body.{Body}
-use Rattle.ballots.specs.declared.message.Body.TheVariants.{Offer, Promise, Propose, Vote, Agreed, Ask, Nay}
+use Rattle.ballots.specs.declared.message.Body.TheVariants.{Offer, Promise, Propose, Vote, Agreed}
+use Rattle.ballots.specs.declared.message.Body.TheVariants.{Ask, Nay}
 use Rattle.ballots.specs.declared.message.Fact.{Fact}
 use Rattle.ballots.specs.declared.message.Fact.TheVariants as fact
 use Rattle.agreement.specs.declared.claim.Claim.{Claim}
-use Rattle.protocol.specs.State.{OpenClaim, Progress, Gathering, Building, Voting, State, Value, facts_at}
+use Rattle.protocol.specs.State.{OpenClaim, Progress, Gathering, Building, Voting, State, Value}
+use Rattle.protocol.specs.State.{facts_at}
 use Rattle.std.specs.Prelude.{unwrap_or}
 
 -- how far the open claim is, as a stage

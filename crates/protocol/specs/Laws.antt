@@ -1,5 +1,7 @@
 -- What holds of members.
-use Rattle.std.specs.Prelude.{◌≡◌, ◌<◌, ◌≤◌, ℕ, Bool, true, false, All, Any, List, [], Option, None, Some, length, map, filter, reverse, option_map, Result, Ok}
+use Rattle.std.specs.Prelude.{◌≡◌, ◌<◌, ◌≤◌, ℕ, Bool, true, false, All, Any, List, [], Option, None}
+use Rattle.std.specs.Prelude.{Some, length, map, filter, reverse, option_map, Result, Ok}
+use Rattle.std.specs.Prelude.{◌⊎◌}
 use Rattle.std.specs.Option.{ForSome}
 use Rattle.std.specs.Str.{bytes_eq}
 use Rattle.faults.specs.Bytes.{Text}
@@ -22,7 +24,9 @@ use Rattle.ballots.specs.Weights.{AreWeights}
 use Rattle.ballots.specs.declared.message.Message.{Message}
 use Rattle.ballots.specs.declared.message.Note.{Note}
 use Rattle.engine.specs.declared.Letter.{Letter}
-use Rattle.protocol.specs.State.{Building, OpenClaim, State, Value, facts_at, fresh, held_record, name_at}
+use Rattle.protocol.specs.State.{Building, OpenClaim, State, Value, facts_at, fresh, held_record}
+use Rattle.protocol.specs.State.{holds_package}
+use Rattle.protocol.specs.State.{name_at}
 use Rattle.protocol.specs.Member.{IsInput, IsMember}
 use Rattle.protocol.specs.InTheAgreement.{node_of, view}
 use Rattle.protocol.specs.Given.{Given}
@@ -36,16 +40,15 @@ use Rattle.protocol.specs.declared.input.Input.TheVariants as inputs
 
 -- each input has one answer
 abbrev pub OnlyOneAnswerIsRight : Type 0
-OnlyOneAnswerIsRight =
-    (s : State) (input : Input) (a b : Result Answer Refusal) → Answers s input a
+OnlyOneAnswerIsRight = (s : State) (input : Input) (a b : Result Answer Refusal) → Answers s input a
     → Answers s input b → a ≡ b
 
 -- ---- the theory's steps
 
 -- The message says about the unit, from this member to those that have its tree, what is said in
 -- the theory.
-pub record Says (s : State) (u : ℕ) (what : Option (messages.Message Value))
-    (m : Message Value) : Type 0 where
+pub record Says (s : State) (u : ℕ) (what : Option (messages.Message Value)) (m : Message Value) :
+    Type 0 where
   pub sender : m.sender ≡ s.me
   pub tree : m.tree ≡ tree_digest s.division.tree
   pub path : m.path ≡ name_at s u
@@ -157,13 +160,13 @@ MembersStayMembers =
 
 -- notes leave a member that is one, and make of a fresh one, unit by unit, what the theory restores
 -- of them
-pub record NotesRestore (d : Division) (weights : List ℕ) (me : ℕ)
-    (notes : List (Note Value)) : Type 0 where
+pub record NotesRestore (d : Division) (weights : List ℕ) (me : ℕ) (notes : List (Note Value)) :
+    Type 0 where
   pub member : IsMember (restored (fresh d weights me) notes)
   pub facts : (u : ℕ) → u < length d.units
       → facts_at (restored (fresh d weights me) notes) u
-      ≡ members.restored
-      (reverse (map (λ n. note_of n.fact) (filter (λ n. bytes_eq n.path (unit_at d u).name) notes)))
+      ≡ members.restored (reverse
+      (map (λ n. note_of n.fact) (filter (λ n. bytes_eq n.path (unit_at d u).name) notes)))
 
 -- for all such notes
 abbrev pub NotesRestoreFacts : Type 0
@@ -189,6 +192,24 @@ JobsStay =
     → a.claim ≡ Some o
     → job_of (after s a) o.unit o.host c ≡ job_of s o.unit o.host c
 
+-- The claim is for a unit, and all that the unit's build needs is held.
+pub record IsReady (s : State) (o : OpenClaim) : Type 0 where
+  pub unit : o.unit < length s.division.units
+  pub ready : All (λ p. holds_package s p ≡ true) (unit_at s.division o.unit).build
+
+-- What the build of an open claim needs was held before the step that left it open.
+abbrev pub ClaimsWereReady : Type 0
+ClaimsWereReady =
+    (s : State) (input : Input) (a : Answer) → IsMember s → IsInput input
+    → Answers s input (Ok a) → ForSome a.claim (IsReady s)
+
+-- A claim that waits for a build came to wait in this step, which gives its job, or waited before.
+abbrev pub WaitingClaimsHaveJobs : Type 0
+WaitingClaimsHaveJobs =
+    (s : State) (input : Input) (a : Answer) (o : OpenClaim) (c : Claim)
+    → IsMember s → Answers s input (Ok a) → a.claim ≡ Some o → o.progress ≡ Building c
+    → (a.job ≡ Some (job_of s o.unit o.host c)) ⊎ (s.claim ≡ Some o)
+
 -- A job is given for a claim that comes to wait for a build, and again when it is nudged; it is the
 -- claim's.
 pub record IsJobGiven (s : State) (a : Answer) (job : Task) : Type 0 where
@@ -206,18 +227,17 @@ JobsAreOfOpenClaims =
 -- what is built for an open claim stands on what is held: each signature is that of a held record
 abbrev pub BuildsStandOnWhatIsHeld : Type 0
 BuildsStandOnWhatIsHeld =
-    (s : State) (u : ℕ)
-    → All (λ d. (r : Content) × (held_record s d.path ≡ Some r)
-    × (d ≡ signature r)) (deps_of s u)
+    (s : State) (u : ℕ) → All
+    (λ d. (r : Content) × (held_record s d.path ≡ Some r) × (d ≡ signature r)) (deps_of s u)
 
 -- and a job signs all that its build needs, where the records of that are held
 abbrev pub JobsHaveAllTheyNeed : Type 0
 JobsHaveAllTheyNeed =
     (s : State) (u : ℕ)
-    → All (λ p. (r : Content)
-    × (held_record s (path_at s.division.tree p) ≡ Some r)) (unit_at s.division u).build
-    → map (λ d. d.path) (deps_of s u)
-    ≡ set_of (map (path_at s.division.tree) (unit_at s.division u).build)
+    → All (λ p. (r : Content) × (held_record s (path_at s.division.tree p) ≡ Some r))
+    (unit_at s.division u).build
+    → map (λ d. d.path) (deps_of s u) ≡ set_of
+    (map (path_at s.division.tree) (unit_at s.division u).build)
 
 -- What a member makes of files, where nothing is wrong with them, is a build of the unit, if what
 -- it holds are builds.
@@ -227,5 +247,5 @@ BuildsAreOfTheirUnit =
     → IsMember s → u < length s.division.units → host ≤ 65535 → IsClaim c
     → All (λ f. ForSome f.held IsBuild) s.facts
     → build_fault (build_by s u (job_of s u host c) given) ≡ None
-    → IsBuild (build_by s u (job_of s u host c) given)
-    × (unit_path (build_by s u (job_of s u host c) given) ≡ name_at s u)
+    → IsBuild (build_by s u (job_of s u host c) given) ×
+    (unit_path (build_by s u (job_of s u host c) given) ≡ name_at s u)

@@ -7,7 +7,8 @@ use Rattle.claims.specs.Claim.{IsClaim}
 use Rattle.units.specs.Division.{IsDivision, unit_at}
 use Rattle.ballots.specs.Pledge.{HasPromised}
 use Rattle.ballots.specs.Weights.{AreWeights}
-use Rattle.protocol.specs.State.{OpenClaim, Progress, Gathering, Building, Voting, State, facts_at, holds_package}
+use Rattle.protocol.specs.State.{OpenClaim, Progress, Gathering, Building, Voting, State, facts_at}
+use Rattle.protocol.specs.State.{holds_package}
 use Rattle.protocol.specs.InTheAgreement.{progress_of, stage_of}
 use Rattle.protocol.specs.declared.input.Input.{Input}
 use Rattle.protocol.specs.declared.input.Input.TheVariants as inputs

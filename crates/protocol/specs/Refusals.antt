@@ -2,7 +2,10 @@
 use Rattle.std.specs.Prelude.{ℕ, Option, None, Some}
 use Rattle.package_record.specs.Refusals as records
 use Rattle.protocol.specs.declared.refusal.Refusal.{Refusal}
-use Rattle.protocol.specs.declared.refusal.Refusal.TheVariants.{Memory, Unlisted, Ignored, Waiting, Held, NoClaim, RoundsSpent, BadFiles, OtherTree, NotAMember, OtherPackages}
+use Rattle.protocol.specs.declared.refusal.Refusal.TheVariants.{Memory, Unlisted, Ignored, Waiting}
+use Rattle.protocol.specs.declared.refusal.Refusal.TheVariants.{Held, NoClaim, RoundsSpent}
+use Rattle.protocol.specs.declared.refusal.Refusal.TheVariants.{BadFiles, OtherTree, NotAMember}
+use Rattle.protocol.specs.declared.refusal.Refusal.TheVariants.{OtherPackages}
 
 -- the number by which each refusal is told
 abbrev pub number_of : Refusal → ℕ

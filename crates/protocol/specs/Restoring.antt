@@ -6,12 +6,8 @@ use Rattle.protocol.specs.State.{State, Value, facts_then}
 
 -- the member once it noted these too, the first note first; no claim is open then
 abbrev pub restored : State → List (Note Value) → State
-restored s notes =
-    record s {
-      facts = fold
-          (λ facts n. facts_then s.division facts (Some n)) s.facts notes;
-      claim = None;
-    }
+restored s notes = record s
+    { facts = fold (λ facts n. facts_then s.division facts (Some n)) s.facts notes; claim = None }
 
 -- each is about a unit, by its name
 abbrev pub AreOnUnits : Division → List (Note Value) → Type 0

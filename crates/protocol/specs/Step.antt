@@ -1,7 +1,9 @@
 -- The member's step. What it notes, says and makes of its claim is what the theory's member does,
 -- in the words of crate agreement; here stand who is refused, in the order of the tests, and who
 -- gets what is said.
-use Rattle.std.specs.Prelude.{◌≡◌, ℕ, max, Bool, true, false, not, nat_le, nat_lt, List, [], ◌∷◌, Option, None, Some, is_none, is_some, length, option_map, Result, Ok, Err, if◌then◌else◌}
+use Rattle.std.specs.Prelude.{◌≡◌, ℕ, max, Bool, true, false, not, nat_le, nat_lt, List, [], ◌∷◌}
+use Rattle.std.specs.Prelude.{Option, None, Some, is_none, is_some, length, option_map, Result, Ok}
+use Rattle.std.specs.Prelude.{Err, if◌then◌else◌}
 use Rattle.std.specs.List.{list_all}
 use Rattle.std.specs.Str.{bytes_eq}
 use Rattle.faults.specs.Answers.{IsRightUnless, first_that_applies, option_or}
@@ -9,7 +11,8 @@ use Rattle.faults.specs.Bytes.{Text}
 use Rattle.agreement.specs.Quorums.{is_majority}
 use Rattle.agreement.specs.Member as members
 use Rattle.agreement.specs.Member.{Facts, no_facts}
-use Rattle.agreement.specs.Step.{Outcome, on_built, on_failed, on_inquire, on_message, on_nudge, on_start}
+use Rattle.agreement.specs.Step.{Outcome, on_built, on_failed, on_inquire, on_message, on_nudge}
+use Rattle.agreement.specs.Step.{on_start}
 use Rattle.claims.specs.Claim.{greatest_round}
 use Rattle.claims.specs.Job.{Task}
 use Rattle.engine.specs.declared.Letter.{Letter}
@@ -19,10 +22,12 @@ use Rattle.listing.specs.Tree.{position_of}
 use Rattle.package_record.specs.Making.{build_fault}
 use Rattle.ballots.specs.InTheAgreement.{said}
 use Rattle.ballots.specs.declared.message.Body.{Body}
-use Rattle.ballots.specs.declared.message.Body.TheVariants.{Offer, Promise, Propose, Vote, Agreed, Ask, Nay}
+use Rattle.ballots.specs.declared.message.Body.TheVariants.{Offer, Promise, Propose, Vote, Agreed}
+use Rattle.ballots.specs.declared.message.Body.TheVariants.{Ask, Nay}
 use Rattle.ballots.specs.declared.message.Message.{Message}
 use Rattle.ballots.specs.declared.message.Note.{Note}
-use Rattle.protocol.specs.State.{HasLetter, OpenClaim, Progress, Gathering, Building, Voting, State, Value, facts_at, is_held}
+use Rattle.protocol.specs.State.{HasLetter, OpenClaim, Progress, Gathering, Building, Voting, State}
+use Rattle.protocol.specs.State.{Value, facts_at, is_held}
 use Rattle.protocol.specs.InTheAgreement.{view}
 use Rattle.protocol.specs.Given.{Given}
 use Rattle.protocol.specs.Jobs.{are_given, build_by, job_of, paths_at}
@@ -62,8 +67,8 @@ unit_in s path = number_found s.division path
 
 -- the refusal of a path that names no unit: it is ignored, or not listed
 abbrev pub stranger : State → Text → Refusal
-stranger s path =
-    if is_some (position_of s.division.tree path) then refusals.Ignored else refusals.Unlisted
+stranger s path = if is_some (position_of s.division.tree path) then refusals.Ignored else
+    refusals.Unlisted
 
 -- ---- Claim: a round above the one asked for and all that the member opened is noted, and the
 -- claim offered to all
@@ -121,8 +126,8 @@ builds s given u = builds_under s u (host_in s.claim) given (view s u).stage
 
 -- the claim is dropped
 abbrev pub fails : State → ℕ → Result Answer Refusal
-fails s u =
-    answered_or refusals.NoClaim s u (host_in s.claim) [] (on_failed (view s u) (view s u).stage)
+fails s u = answered_or refusals.NoClaim s u (host_in s.claim) []
+    (on_failed (view s u) (view s u).stage)
 
 -- ---- Nudge: what the open claim waits for is asked for again
 
@@ -155,8 +160,7 @@ nudges s (Some o) =
 
 -- all others are asked for the agreed build
 abbrev pub asks : State → ℕ → Result Answer Refusal
-asks s u =
-    answered_or refusals.Held s u (host_in s.claim) (others s)
+asks s u = answered_or refusals.Held s u (host_in s.claim) (others s)
     (on_inquire (view s u) (view s u).held)
 
 -- ---- messages
@@ -269,12 +273,12 @@ taken s (Err f) t = s
 
 -- What a call that prepares a step and takes it has done: it told what is right and took that step,
 -- or it refused, and the member stayed as it was.
-pub record HasHandled (old new : State) (input : Input)
-    (result : Result Told Refusal) : Type 0 where
-  pub right : Result Answer Refusal
-  pub answers : Answers old input right
-  pub given : IsRightUnless refusals.Memory result (told_right right)
-  pub state : new ≡ taken old right result
+pub record HasHandled (old new : State) (input : Input) (result : Result Told Refusal) : Type 0
+  where
+    pub right : Result Answer Refusal
+    pub answers : Answers old input right
+    pub given : IsRightUnless refusals.Memory result (told_right right)
+    pub state : new ≡ taken old right result
 
 -- what is known of the unit, if it is one; of none nothing is known
 abbrev pub facts_of_unit : State → Option ℕ → Facts Value

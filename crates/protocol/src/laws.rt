@@ -2,6 +2,7 @@
 ghost use Rattle.protocol.specs.Laws.{
   BuildsAreOfTheirUnit,
   BuildsStandOnWhatIsHeld,
+  ClaimsWereReady,
   HeldRecordsStay,
   InputsAreAnsweredAsInTheTheory,
   JobsAreOfOpenClaims,
@@ -11,6 +12,7 @@ ghost use Rattle.protocol.specs.Laws.{
   MessagesAreAnsweredAsInTheTheory,
   NotesRestoreFacts,
   OnlyOneAnswerIsRight,
+  WaitingClaimsHaveJobs,
 };
 
 /// Each input has one answer, and it leaves a member that is one.
@@ -36,6 +38,8 @@ pub fn notes_restore_members()
 pub fn jobs_stay()
     ensures given { JobsAreOfOpenClaims }
     ensures stay { JobsStay }
+    ensures waiting { WaitingClaimsHaveJobs }
+    ensures ready { ClaimsWereReady }
     ensures signed { BuildsStandOnWhatIsHeld }
     ensures needed { JobsHaveAllTheyNeed }
     ensures builds { BuildsAreOfTheirUnit }

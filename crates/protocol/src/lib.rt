@@ -1,7 +1,7 @@
 //! What a member of the agreement is asked, what it answers, and what holds of that.
 //!
-//! A member stands here as a value: its tree with its units, its weights, its number, what it knows
-//! of each unit, and its open claim. What it notes and says is what a member of the agreement
+//! A member stands here as a value: its tree with its units, its weights, its number, what it
+//! knows of each unit, and its open claim. What it notes and says is what a member of the agreement
 //! theory does, unit by unit, with one claim open in all. What is stated here is who gets a
 //! message, what a host is to build, and which inputs are refused. The code that keeps such a value
 //! stands above.

@@ -1,6 +1,8 @@
 use Rattle.protocol.proofs.MadeBuilds.{builds_are_of_units}
 use Rattle.protocol.proofs.GivenJobs.{jobs_are_of_claims, jobs_stay}
 use Rattle.protocol.proofs.HeldRecords.{builds_stand, jobs_have_all}
+use Rattle.protocol.proofs.MembersStay.{claims_were_ready}
+use Rattle.protocol.proofs.WaitingClaims.{waiting_claims}
 use Rattle.protocol.proofs.laws.jobs_stay.Goals as goal
 
 pub returns-clause-signed : goal.returns-clause-signed
@@ -17,3 +19,9 @@ returns-clause-stay c = jobs_stay
 
 pub returns-clause-builds : goal.returns-clause-builds
 returns-clause-builds c = builds_are_of_units
+
+pub returns-clause-waiting : goal.returns-clause-waiting
+returns-clause-waiting c = waiting_claims
+
+pub returns-clause-ready : goal.returns-clause-ready
+returns-clause-ready c = claims_were_ready

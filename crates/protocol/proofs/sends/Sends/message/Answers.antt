@@ -7,7 +7,8 @@ pub returns : goal.returns
 returns c =
     let message = c.self.inside.message in
     let same : c.self.inside.receivers.items ≡ receivers_of c.args.self.now =
-    sym (receivers_again message c.self.inside.receivers.items c.self.invariant) ∙ ap receivers_of c.self.view_is in
+    sym (receivers_again message c.self.inside.receivers.items c.self.invariant)
+    ∙ ap receivers_of c.self.view_is in
     sym c.self.view_is
     ∙ (ap (sent_to message) same
     ∙ ap (λ m. sent_to m (receivers_of c.args.self.now)) (sym c.as_ref.ensures.value))

@@ -1,0 +1,2 @@
+pub mod HeldUnits
+pub mod SameStep

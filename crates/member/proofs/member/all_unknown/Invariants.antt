@@ -1,0 +1,7 @@
+use Rattle.std.proofs.Common.{◌≡◌, map, replicate}
+use Rattle.agreement.specs.Member.{no_facts}
+use Rattle.member.specs.inside.Fields.{facts_of_known}
+use Rattle.member.proofs.member.all_unknown.Given as goal
+
+abbrev pub invariant-loop-_unit : goal.invariant-loop-_unit
+invariant-loop-_unit l = map facts_of_known l.known.items ≡ replicate l._unit no_facts

@@ -1,0 +1,3 @@
+pub mod OpenClaims
+pub mod Prepared
+pub mod inside

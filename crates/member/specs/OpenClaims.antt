@@ -1,0 +1,57 @@
+-- What a contract sees of an open claim.
+use Rattle.std.specs.Prelude.{◌≡◌, ◌==◌, ◌<◌, ℕ, Bool, true, false, List, length, Option, None, Some}
+use Rattle.agreement.specs.Quorums.{Members, nobody}
+use Rattle.agreement.specs.Votes.{ballot, report_of}
+use Rattle.ballots.specs.InTheAgreement.{weights_of}
+use Rattle.ballots.specs.Support.{Support, set_of}
+use Rattle.ballots.specs.declared.claimer.Claimer.{Claimer}
+use Rattle.ballots.specs.declared.claimer.Claimer.TheVariants as claimers
+use Rattle.protocol.specs.State.{Gathering, Building, Voting, OpenClaim, Progress, Value}
+use Rattle.protocol.specs.InTheAgreement.{members_in}
+use Rattle.member.specs.declared.open_claim.OpenClaim as code
+
+-- the members that joined, in order of number
+abbrev pub joined_in : Support → List ℕ
+joined_in t = members_in (length t.weights) (set_of t)
+
+-- how far the claimer is
+abbrev pub progress_of_claimer : Claimer Value → Progress
+progress_of_claimer (claimers.Gathering c t k) = Gathering c (joined_in t) (report_of k)
+progress_of_claimer (claimers.Building c weights) = Building c
+progress_of_claimer (claimers.Voting c v t) = Voting (ballot c v) (joined_in t)
+
+-- the open claim
+abbrev pub open_of : code.OpenClaim → OpenClaim
+open_of o = record { unit = o.unit; host = o.host; progress = progress_of_claimer o.claimer }
+
+-- those that joined the claim
+abbrev pub supporters_of : Claimer Value → Members
+supporters_of (claimers.Gathering c t k) = set_of t
+supporters_of (claimers.Building c weights) = nobody
+supporters_of (claimers.Voting c v t) = set_of t
+
+-- The tally weighs members so, and has none that is no member.
+pub record IsTallyOf (weights : List ℕ) (t : Support) : Type 0 where
+  pub same : t.weights ≡ weights
+  pub within : (k : ℕ) → set_of t k ≡ true → k < length weights
+
+-- The claimer does.
+pub record IsWeighedBy (weights : List ℕ) (o : Claimer Value) : Type 0 where
+  pub same : weights_of o ≡ weights
+  pub within : (k : ℕ) → supporters_of o k ≡ true → k < length weights
+
+-- Whether the claim waits for a build.
+abbrev pub is_building_at : Progress → Bool
+is_building_at (Gathering c joined k) = false
+is_building_at (Building c) = true
+is_building_at (Voting b joined) = false
+
+-- Whether a claim is open that does.
+abbrev pub waits : Option OpenClaim → Bool
+waits None = false
+waits (Some o) = is_building_at o.progress
+
+-- Whether a claim is open for the unit.
+abbrev pub is_for : Option OpenClaim → ℕ → Bool
+is_for None u = false
+is_for (Some o) u = u == o.unit

@@ -1,0 +1,6 @@
+-- What only bodies and proofs need.
+pub mod Counting
+pub mod Fields
+pub mod Steps
+pub mod Units
+pub mod Waiting

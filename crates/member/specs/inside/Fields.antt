@@ -1,0 +1,60 @@
+-- What a contract sees of a member's fields.
+use Rattle.std.specs.Prelude.{◌≡◌, List, [], Option, None, map, option_and_then, option_map}
+use Rattle.std.specs.Option.{ForSome}
+use Rattle.agreement.specs.Member.{Facts}
+use Rattle.agreement.specs.Votes.{report_of}
+use Rattle.claims.specs.Job.{Task}
+use Rattle.engine.specs.State as engine
+use Rattle.units.specs.Division.{Division}
+use Rattle.ballots.specs.declared.message.Note.{Note}
+use Rattle.protocol.specs.State.{State, Value, engine_of}
+use Rattle.protocol.specs.Answers.{tree_digest}
+use Rattle.protocol.specs.Member.{IsMember}
+use Rattle.protocol.specs.Step.{job_again}
+use Rattle.protocol.specs.declared.outcome.Outcome.{Outcome}
+use Rattle.protocol.specs.declared.sends.Send.{Send}
+use Rattle.member.specs.OpenClaims.{IsWeighedBy, open_of}
+use Rattle.member.specs.declared.known.Known.{Known}
+use Rattle.member.specs.declared.member.Member.TheInside.{Inside}
+
+-- what is known of a unit
+abbrev pub facts_of_known : Known → Facts Value
+facts_of_known k = record {
+  opened = k.opened;
+  promised = k.voter.promised;
+  voted = report_of k.voter.voted;
+  held = k.held;
+}
+
+-- what the member with these fields is
+abbrev pub state_of : Inside → State
+state_of m = record {
+  division = m.units;
+  weights = m.weights;
+  me = m.me;
+  facts = map facts_of_known m.known.items;
+  claim = option_map open_of m.claim;
+}
+
+-- the job of the open claim, while it waits for a build
+abbrev pub job_in : State → Option Task
+job_in s = option_and_then (λ o. job_again s o o.progress) s.claim
+
+-- The engine has just what is held, the claim weighs members as the member does, the job at hand is
+-- that of the claim, and the digest that of the tree.
+pub record IsKept (m : Inside) : Type 0 where
+  pub member : IsMember (state_of m)
+  pub tree : m.tree.now ≡ m.units.tree
+  pub digest : m.digest ≡ tree_digest m.units.tree
+  pub engine : m.engine ≡ engine_of (state_of m)
+  pub weighed : ForSome m.claim (λ o. IsWeighedBy m.weights o.claimer)
+  pub job : m.job ≡ job_in (state_of m)
+
+-- what an outcome tells
+abbrev pub told : Outcome → Option (Note Value) × List Send × Option Task
+told o = (o.note, o.sends, o.job)
+
+-- the engine of what is held, by these facts
+abbrev pub engine_with : Division → List (Facts Value) → engine.State
+engine_with d facts =
+    engine_of (record { division = d; weights = []; me = 0; facts = facts; claim = None })

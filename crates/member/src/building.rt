@@ -1,0 +1,86 @@
+//! What becomes of a claim that waits for a build.
+ghost use Rattle.std.specs.Prelude.{◌≡◌, ◌<◌, MatchResult, None, Some, length};
+ghost use Rattle.faults.specs.Answers.{IsRightUnless};
+ghost use Rattle.member.specs.inside.Steps.{IsPrepared};
+ghost use Rattle.member.specs.inside.Waiting.{job_at, made_by, waiting_for};
+
+use crate::packages::{by_path, made};
+use crate::receivers::everyone;
+use crate::{ClaimChange, Member, OpenClaim, Step};
+use ballots::{Body, Claimer, Tally};
+use claims::Job;
+use package_record::{Build, RecordFault};
+use pkgpath::PkgPath;
+use protocol::{Input, Packages, Refusal, Sends};
+
+impl<'a> Member<'a> {
+    /// The claim's host built the unit, which goes to all as the claim's proposal.
+    pub(crate) fn built(&self, path: &PkgPath, packages: Packages) -> Result<Step, Refusal>
+        ensures { IsPrepared self.now (Input.Built path.now packages) result }
+    {
+        let (unit, job) = self.building(path)?;
+        let build = self.build_of(unit, job, packages)?;
+        let sent = build.copy()?;
+        let sends = self.sent(
+            unit,
+            everyone(&self.weights),
+            Body::Propose(job.claim, sent),
+        )?;
+        let claimer = Claimer::Voting {
+            claim: job.claim,
+            value: build,
+            voted: Tally::new(&self.weights),
+        };
+        let change = ClaimChange::Becomes(OpenClaim {
+            unit,
+            host: job.host,
+            claimer,
+        });
+        Ok(Step::saying(sends, change))
+    }
+
+    /// The claim's host could not build the unit.
+    pub(crate) fn failed(&self, path: &PkgPath) -> Result<Step, Refusal>
+        ensures { IsPrepared self.now (Input.Failed path.now) result }
+    {
+        let _ = self.building(path)?;
+        Ok(Step::saying(Sends::nothing(), ClaimChange::Ends))
+    }
+
+    /// The unit that the path names, and its job, where the open claim waits for its build.
+    fn building(&self, path: &PkgPath) -> Result<(u32, &Job), Refusal>
+        ensures { MatchResult result (λ x. waiting_for self.now path.now ≡ Some (x.0, x.1.now))
+            (λ e. (e ≡ Refusal.NoClaim) × (waiting_for self.now path.now ≡ None)) }
+    {
+        let (Some(unit), Some(open), Some(job)) =
+            (self.units.find(path), &self.claim, &self.job)
+        else {
+            return Err(Refusal::NoClaim);
+        };
+        if open.unit != unit {
+            return Err(Refusal::NoClaim);
+        }
+        Ok((unit, job))
+    }
+
+    /// The build of the unit that its job and these files make.
+    fn build_of(&self, unit: u32, job: &Job, packages: Packages) -> Result<Build, Refusal>
+        requires unit { unit < length self.now.division.units }
+        requires job { job_at self.now unit ≡ Some job.now }
+        ensures { IsRightUnless Refusal.Memory result (made_by self.now unit job.now packages) }
+    {
+        let alloc = self.allocator();
+        let positions = self.units.packages(unit);
+        if packages.as_slice().len() != positions.len() {
+            return Err(Refusal::OtherPackages);
+        }
+        let files = by_path(alloc, packages)?;
+        let packages = made(alloc, self.tree, positions, files)?;
+        let built = job.deps().copy()?;
+        match Build::make(alloc, job.host, job.claim, built, packages) {
+            Ok(build) => Ok(build),
+            Err(RecordFault::Memory) => Err(Refusal::Memory),
+            Err(fault) => Err(Refusal::BadFiles(fault)),
+        }
+    }
+}

@@ -1,0 +1,64 @@
+//! What a step makes of the open claim.
+ghost use Rattle.std.specs.Prelude.{◌≡◌, List, ℕ, None, if◌then◌else◌, option_map};
+ghost use Rattle.std.specs.Option.{ForSome, option_copied};
+ghost use Rattle.faults.specs.Answers.{option_or};
+ghost use Rattle.member.specs.OpenClaims.{IsWeighedBy, open_of, waits};
+ghost use Rattle.member.specs.Prepared.{IsChangeWeighedBy, changed};
+
+use crate::{ClaimChange, OpenClaim};
+use ballots::{Claimer, ClaimerChange};
+use claims::Job;
+
+/// The claim that is open after the change. It takes no memory.
+pub(crate) fn changed(claim: Option<OpenClaim>, change: ClaimChange) -> Option<OpenClaim>
+    ensures claim { option_map open_of result ≡ changed change (option_map open_of claim) }
+    ensures weighed { (weights : List ℕ)
+        → ForSome claim (λ o. IsWeighedBy weights o.claimer)
+        → IsChangeWeighedBy weights change (option_map open_of claim)
+        → ForSome result (λ o. IsWeighedBy weights o.claimer) }
+{
+    match change {
+        ClaimChange::Stays => claim,
+        ClaimChange::Becomes(open) => Some(open),
+        ClaimChange::Ends => None,
+        ClaimChange::Counts(ClaimerChange::Ends) => None,
+        ClaimChange::Counts(change) => {
+            let mut open = claim?;
+            open.claimer.apply(change);
+            Some(open)
+        }
+    }
+}
+
+/// Whether the claim waits for a build.
+pub(crate) fn is_building(claim: Option<&OpenClaim>) -> bool
+    ensures { result ≡ waits (option_map open_of (option_copied claim.entry)) }
+{
+    match claim {
+        Some(open) => match &open.claimer {
+            Claimer::Building { .. } => true,
+            _ => false,
+        },
+        None => false,
+    }
+}
+
+/// The job of the claim that is open: the one that is given now, and else the one that was given
+/// before, as long as the claim waits for a build.
+pub(crate) fn job_of(
+    claim: Option<&OpenClaim>,
+    given: Option<Job>,
+    before: Option<Job>,
+) -> Option<Job>
+    ensures { result
+        ≡ (if waits (option_map open_of (option_copied claim.entry)) then option_or given before
+        else None) }
+{
+    if !is_building(claim) {
+        return None;
+    }
+    match given {
+        Some(job) => Some(job),
+        None => before,
+    }
+}

@@ -1,0 +1,138 @@
+//! Claims, and questions for what is agreed.
+ghost use Rattle.std.specs.Prelude.{◌≡◌, ◌<◌, IfErr, IfOk, None, Some, length};
+ghost use Rattle.protocol.specs.Answers.{answered, everyone, message_of};
+ghost use Rattle.protocol.specs.InTheAgreement.{view};
+ghost use Rattle.protocol.specs.Sends.{sent_to};
+ghost use Rattle.protocol.specs.State.{HasLetter, name_at};
+ghost use Rattle.protocol.specs.Step.{stranger, unit_in};
+ghost use Rattle.member.specs.inside.Steps.{IsPrepared, Makes, opened_in};
+
+use crate::receivers::{everyone, others};
+use crate::{ClaimChange, Member, OpenClaim, Step};
+use arrayvec::ArrayVec;
+use ballots::{Body, Claimer, Fact, Message, Note, Tally};
+use claims::{Claim, next_round};
+use engine::Letter;
+use faults::Memory;
+use pkgpath::PkgPath;
+use protocol::{Input, Outcome, Refusal, Sends};
+
+impl<'a> Member<'a> {
+    /// A claim for the unit is opened, in a round above the one that is asked for and all that the
+    /// member opened, and is offered to all.
+    pub(crate) fn claimed(&self, path: &PkgPath, host: u16, above: u64) -> Result<Step, Refusal>
+        ensures { IsPrepared self.now (Input.Claim path.now host above) result }
+    {
+        let unit = self.unit_of(path)?;
+        let letter = self.unit_letter(unit);
+        if self.known[unit as usize].held.is_some() {
+            return Err(Refusal::Held);
+        }
+        if letter == Letter::T {
+            return Err(Refusal::Waiting);
+        }
+        let opened = self.known[unit as usize].opened;
+        match next_round(above.max(opened)) {
+            Ok(round) => Ok(self.opening(unit, host, round)?),
+            Err(_) => Err(Refusal::RoundsSpent),
+        }
+    }
+
+    /// A claim for the unit is opened in this round.
+    fn opening(&self, unit: u32, host: u16, round: u64) -> Result<Step, Memory>
+        requires { unit < length self.now.division.units }
+        ensures { IfOk result (Makes self.now (answered self.now unit host (everyone self.now)
+            (opened_in (view self.now unit) self.now.me round))) }
+    {
+        let claim = Claim {
+            round,
+            member: self.me,
+        };
+        let note = self.note_on(unit, Fact::Opened(round))?;
+        let sends = self.sent(unit, everyone(&self.weights), Body::Offer(claim))?;
+        let claimer = Claimer::Gathering {
+            claim,
+            promised: Tally::new(&self.weights),
+            report: None,
+        };
+        Ok(Step {
+            outcome: Outcome {
+                note: Some(note),
+                sends,
+                job: None,
+            },
+            kept_fact: Some(Fact::Opened(round)),
+            kept_job: None,
+            change: ClaimChange::Becomes(OpenClaim {
+                unit,
+                host,
+                claimer,
+            }),
+        })
+    }
+
+    /// All others are asked for what is agreed for the unit.
+    pub(crate) fn asked(&self, path: &PkgPath) -> Result<Step, Refusal>
+        ensures { IsPrepared self.now (Input.Ask path.now) result }
+    {
+        let unit = self.unit_of(path)?;
+        if self.known[unit as usize].held.is_some() {
+            return Err(Refusal::Held);
+        }
+        let sends = self.sent(unit, others(&self.weights, self.me), Body::Ask)?;
+        Ok(Step::saying(sends, ClaimChange::Stays))
+    }
+
+    /// The unit that the path names.
+    fn unit_of(&self, path: &PkgPath) -> Result<u32, Refusal>
+        ensures ok { IfOk result (λ unit. unit_in self.now path.now ≡ Some unit) }
+        ensures err { IfErr result (λ e. (unit_in self.now path.now ≡ None)
+            × (e ≡ stranger self.now path.now)) }
+    {
+        match self.units.find(path) {
+            Some(unit) => Ok(unit),
+            None if self.tree.position(path).is_some() => Err(Refusal::Ignored),
+            None => Err(Refusal::Unlisted),
+        }
+    }
+
+    /// The letter of the unit: that of its first package.
+    fn unit_letter(&self, unit: u32) -> Letter
+        requires { unit < length self.now.division.units }
+        ensures { HasLetter self.now unit result }
+    {
+        let packages = self.units.packages(unit);
+        self.engine.letter(packages[0])
+    }
+
+    /// The note on the unit.
+    pub(crate) fn note_on(&self, unit: u32, fact: Fact) -> Result<Note, Memory>
+        requires { unit < length self.now.division.units }
+        ensures { IfOk result
+            (λ note. note ≡ record { path = name_at self.now unit; fact = fact }) }
+    {
+        let path = self.units.name(unit).copy()?;
+        Ok(Note { path, fact })
+    }
+
+    /// The message about the unit, to these.
+    pub(crate) fn sent(
+        &self,
+        unit: u32,
+        receivers: ArrayVec<u8, 9>,
+        body: Body,
+    ) -> Result<Sends, Memory>
+        requires { unit < length self.now.division.units }
+        ensures { IfOk result (λ sends. sends
+            ≡ sent_to (Some (message_of self.now unit body)) receivers.items) }
+    {
+        let path = self.units.name(unit).copy()?;
+        let message = Message {
+            sender: self.me,
+            tree: self.digest,
+            path,
+            body,
+        };
+        Ok(Sends::new(message, receivers))
+    }
+}

@@ -1,0 +1,60 @@
+//! What is noted becomes what is known.
+ghost use Rattle.std.specs.Prelude.{◌≡◌, ◌<◌, length, map};
+ghost use Rattle.units.specs.Division.{number_named, unit_at};
+ghost use Rattle.protocol.specs.State.{noted_at};
+ghost use Rattle.member.specs.inside.Fields.{engine_with, facts_of_known};
+ghost use Rattle.member.specs.inside.Units.{agreed_too, is_held_fact};
+
+use crate::known::Known;
+use crate::naming::unit_named;
+use ballots::Fact;
+use engine::Engine;
+use pkgpath::PkgPath;
+use units::Units;
+
+/// Keeps the fact for the unit that has this name, and agrees its packages, if it is held then. A
+/// path that names no unit changes nothing. It takes no memory.
+pub(crate) fn keep_fact(
+    units: &Units<'_>,
+    known: &mut [Known],
+    engine: &mut Engine<'_>,
+    path: &PkgPath,
+    fact: Fact,
+)
+    requires each { length known.old ≡ length units.now.units }
+    requires engine { engine.old ≡ engine_with units.now (map facts_of_known known.old) }
+    ensures facts { map facts_of_known known.new
+        ≡ noted_at (number_named units.now path.now) (map facts_of_known known.old)
+        (record { path = path.now; fact = fact }) }
+    ensures engine { engine.new ≡ engine_with units.now (map facts_of_known known.new) }
+{
+    let Some(unit) = unit_named(units, path) else {
+        return;
+    };
+    let is_held = is_held(&fact);
+    known[unit as usize].keep(fact);
+    if is_held {
+        agree(units, engine, unit);
+    }
+}
+
+/// Whether the fact is that a build is held.
+fn is_held(fact: &Fact) -> bool
+    ensures { result ≡ is_held_fact fact.now }
+{
+    match fact {
+        Fact::Held(_) => true,
+        _ => false,
+    }
+}
+
+/// Agrees the unit's packages.
+fn agree(units: &Units<'_>, engine: &mut Engine<'_>, unit: u32)
+    requires unit { unit < length units.now.units }
+    requires tree { engine.old.tree ≡ units.now.tree }
+    ensures { engine.new ≡ agreed_too engine.old (unit_at units.now unit).packages }
+{
+    for position in units.packages(unit) {
+        engine.agree(*position);
+    }
+}

@@ -1,0 +1,50 @@
+//! What a member knows of a unit, also after a stop.
+ghost use Rattle.std.specs.Prelude.{◌≡◌};
+ghost use Rattle.agreement.specs.Member.{no_facts, noted};
+ghost use Rattle.ballots.specs.InTheAgreement.{note_of};
+
+use ballots::{Fact, Voter};
+use package_record::Build;
+
+/// What a member knows of a unit, also after a stop.
+#[derive(Drop)]
+pub(crate) struct Known {
+    /// The greatest round that it opened, or 0.
+    pub(crate) opened: u64,
+    pub(crate) voter: Voter,
+    pub(crate) held: Option<Build>,
+}
+
+impl Known {
+    ghost use Rattle.member.specs.inside.Fields.{facts_of_known};
+
+    /// Nothing is known.
+    pub(crate) fn nothing() -> Known
+        ensures { facts_of_known result ≡ no_facts }
+    {
+        Known {
+            opened: 0,
+            voter: Voter {
+                promised: None,
+                voted: None,
+            },
+            held: None,
+        }
+    }
+
+    /// Keeps the fact. It moves what it is given, and takes no memory.
+    pub(crate) fn keep(&mut self, fact: Fact)
+        ensures { facts_of_known self.new ≡ noted (facts_of_known self.old) (note_of fact) }
+    {
+        match fact {
+            Fact::Opened(round) => self.opened = self.opened.max(round),
+            Fact::Promised(claim) => self.voter.apply(Some(Fact::Promised(claim))),
+            Fact::Voted(claim, build) => self.voter.apply(Some(Fact::Voted(claim, build))),
+            Fact::Held(build) => {
+                if self.held.is_none() {
+                    self.held = Some(build);
+                }
+            }
+        }
+    }
+}

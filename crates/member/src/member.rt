@@ -1,0 +1,317 @@
+//! A member, which contracts see as its tree with its units, its weights, its number, what it knows
+//! of each unit, and its open claim.
+ghost use Rattle.std.specs.Prelude.{◌≡◌, ◌<◌, IfErr, IfOk, OnErr, OnOk, None, Some};
+ghost use Rattle.std.specs.Prelude.{length, map, nat_lt, option_map, replicate};
+ghost use Rattle.std.specs.List.{list_all};
+ghost use Rattle.agreement.specs.Member.{no_facts};
+ghost use Rattle.std.specs.Option.{option_copied};
+ghost use Rattle.faults.specs.Answers.{map_ok};
+ghost use Rattle.agreement.specs.Votes.{report_of};
+ghost use Rattle.engine.specs.State as engines;
+ghost use Rattle.units.specs.Division.{IsDivision};
+ghost use Rattle.protocol.specs.Answers.{after};
+ghost use Rattle.protocol.specs.Member.{IsMember};
+ghost use Rattle.protocol.specs.Restoring.{AreOnUnits, restored};
+ghost use Rattle.protocol.specs.State.{engine_of, fresh, held_record, record_in};
+ghost use Rattle.protocol.specs.Step.{HasAnswered, HasHandled, facts_named, header_refusal};
+ghost use Rattle.member.specs.OpenClaims.{open_of};
+ghost use Rattle.member.specs.Prepared.{MayBeTaken, answer_by};
+ghost use Rattle.member.specs.inside.Fields.{facts_of_known, told};
+ghost use Rattle.member.specs.inside.Steps.{IsPrepared};
+
+use crate::change::{changed, job_of};
+use crate::facts::keep_fact;
+use crate::known::Known;
+use crate::naming::unit_named;
+use crate::{OpenClaim, Step};
+use ballots::{Note, Weights};
+use claims::{Claim, Job};
+use engine::{Counts, Engine, Letter};
+use faults::Memory;
+use listing::Tree;
+use package_record::{Build, Record};
+use pkgpath::PkgPath;
+use protocol::{Input, Outcome, Refusal};
+use std::alloc::Global;
+use std::marker::Model;
+use units::Units;
+
+/// A member without a disk.
+#[derive(Drop)]
+pub struct Member<'a> {
+    pub(crate) tree: &'a Tree,
+    /// That of the tree, by which messages of other trees are told.
+    pub(crate) digest: [u8; 32],
+    pub(crate) units: Units<'a>,
+    pub(crate) weights: Weights,
+    pub(crate) me: u8,
+    pub(crate) known: Vec<Known>,
+    pub(crate) claim: Option<OpenClaim>,
+    /// That of the open claim, while it waits for a build.
+    pub(crate) job: Option<Job>,
+    pub(crate) engine: Engine<'a>,
+}
+
+impl<'a> Model for Member<'a> {
+    ghost use Rattle.protocol.specs.State.{State};
+
+    ghost Value = { State };
+
+    ghost use Rattle.member.specs.inside.Fields.{IsKept, state_of};
+
+    ghost view = { state_of };
+
+    ghost invariant = { IsKept };
+}
+
+impl<'a> Member<'a> {
+    /// The member with this number that knows nothing yet.
+    pub fn new(
+        alloc: Global,
+        tree: &'a Tree,
+        weights: &Weights,
+        me: u8,
+    ) -> Result<Member<'a>, Memory>
+        requires { me < length weights.now }
+        ensures fresh { IfOk result (λ m. m ≡ fresh m.division weights.now me) }
+        ensures tree { IfOk result (λ m. m.division.tree ≡ tree.entry.now) }
+        ensures division { IfOk result (λ m. IsDivision m.division) }
+    {
+        let units = Units::new(alloc, tree)?;
+        let engine = Engine::new(alloc, tree)?;
+        let known = all_unknown(alloc, units.len())?;
+        Ok(Member {
+            tree,
+            digest: tree.digest(),
+            units,
+            weights: weights.copy(),
+            me,
+            known,
+            claim: None,
+            job: None,
+            engine,
+        })
+    }
+
+    /// Notes all of these, the first note first. A claim that was open is dropped. It takes no
+    /// memory.
+    pub fn restore(&mut self, notes: Vec<Note>)
+        requires { AreOnUnits self.old.division notes.items }
+        ensures { self.new ≡ restored self.old notes.items }
+    {
+        self.claim = None;
+        self.job = None;
+        for note in notes {
+            let Note { path, fact } = note;
+            keep_fact(
+                &self.units,
+                self.known.as_mut_slice(),
+                &mut self.engine,
+                &path,
+                fact,
+            );
+        }
+    }
+
+    /// Makes all growths of the step, and changes no fact.
+    ///
+    /// # Errors
+    ///
+    /// `Memory`, where a growth was refused; else the first of the refusals of such an input.
+    pub fn prepare(&mut self, input: Input) -> Result<Step, Refusal>
+        ensures same { self.new ≡ self.old }
+        ensures step { HasAnswered self.old input (map_ok (answer_by self.old) result) }
+        ensures taken { IfOk result (MayBeTaken self.old) }
+    {
+        self.prepared(input)
+    }
+
+    /// The step that answers the input.
+    fn prepared(&self, input: Input) -> Result<Step, Refusal>
+        ensures { IsPrepared self.now input result }
+    {
+        match input {
+            Input::Claim { path, host, above } => self.claimed(&path, host, above),
+            Input::Built { path, packages } => self.built(&path, packages),
+            Input::Failed { path } => self.failed(&path),
+            Input::Nudge => self.nudged(),
+            Input::Ask { path } => self.asked(&path),
+            Input::Message(message) => self.heard(message),
+        }
+    }
+
+    /// Takes the step, which was prepared from the present facts. It takes no memory.
+    pub fn commit(&mut self, step: Step) -> Outcome
+        requires { MayBeTaken self.old step }
+        ensures state { self.new ≡ after self.old (answer_by self.old step) }
+        ensures outcome { told result ≡ (step.note, step.sends, step.job) }
+    {
+        let Step {
+            outcome,
+            kept_fact,
+            kept_job,
+            change,
+        } = step;
+        self.claim = changed(self.claim.take(), change);
+        self.job = job_of(self.claim.as_ref(), kept_job, self.job.take());
+        if let (Some(note), Some(fact)) = (&outcome.note, kept_fact) {
+            keep_fact(
+                &self.units,
+                self.known.as_mut_slice(),
+                &mut self.engine,
+                &note.path,
+                fact,
+            );
+        }
+        outcome
+    }
+
+    /// Prepares the step and takes it.
+    ///
+    /// # Errors
+    ///
+    /// Those of `prepare`. The member is then as it was.
+    pub fn handle(&mut self, input: Input) -> Result<Outcome, Refusal>
+        ensures { HasHandled self.old self.new input (map_ok told result) }
+    {
+        let step = self.prepare(input)?;
+        Ok(self.commit(step))
+    }
+
+    /// Whether a message with this tree's digest, these members and this path is answered; else, why
+    /// it is refused. The sender is one of its members, as are those of the claims that it names.
+    ///
+    /// # Errors
+    ///
+    /// The first that applies: `OtherTree`; `NotAMember`; `Unlisted`, where the path is no unit's
+    /// name.
+    pub fn test_header(
+        &self,
+        tree: &[u8; 32],
+        members: &[u8],
+        path: &PkgPath,
+    ) -> Result<(), Refusal>
+        ensures ok { OnOk result
+            (header_refusal self.now tree.now members.now path.now ≡ None) }
+        ensures err { IfErr result
+            (λ e. header_refusal self.now tree.now members.now path.now ≡ Some e) }
+    {
+        if *tree != self.digest {
+            return Err(Refusal::OtherTree);
+        }
+        if !are_below(members, self.weights.len()) {
+            return Err(Refusal::NotAMember);
+        }
+        match unit_named(&self.units, path) {
+            Some(_) => Ok(()),
+            None => Err(Refusal::Unlisted),
+        }
+    }
+
+    /// The units of the tree, which facts are kept by.
+    pub fn units(&self) -> &Units<'a>
+        ensures { result.now ≡ self.now.division }
+    {
+        &self.units
+    }
+
+    /// The record that is held for the package path.
+    pub fn held(&self, path: &PkgPath) -> Option<&Record>
+        ensures { option_copied result ≡ held_record self.now path.now }
+    {
+        let position = self.tree.position(path)?;
+        let unit = self.units.unit_of(position)?;
+        let build = self.known[unit as usize].held.as_ref()?;
+        record_of(build.packages(), path)
+    }
+
+    /// The letter of the package at the position.
+    pub fn letter(&self, position: u32) -> Letter
+        requires { position < length self.now.division.tree }
+        ensures letter { engines.HasLetter (engine_of self.now) position result }
+        ensures member { IsMember self.now }
+    {
+        self.engine.letter(position)
+    }
+
+    /// How many packages have each letter.
+    pub fn counts(&self) -> Counts
+        ensures counts { engines.AreCounts (engine_of self.now) result }
+        ensures member { IsMember self.now }
+    {
+        self.engine.counts()
+    }
+
+    /// The claim that is open.
+    pub fn open_claim(&self) -> Option<&OpenClaim>
+        ensures { option_map open_of (option_copied result) ≡ self.now.claim }
+    {
+        self.claim.as_ref()
+    }
+
+    /// The greatest round that it opened for the unit that the path names, or 0.
+    pub fn opened(&self, path: &PkgPath) -> u64
+        ensures { result ≡ (facts_named self.now path.now).opened }
+    {
+        match self.units.find(path) {
+            Some(unit) => self.known[unit as usize].opened,
+            None => 0,
+        }
+    }
+
+    /// The greatest claim that it promised, or voted under, for the unit that the path names.
+    pub fn promised(&self, path: &PkgPath) -> Option<Claim>
+        ensures { result ≡ (facts_named self.now path.now).promised }
+    {
+        let unit = self.units.find(path)?;
+        self.known[unit as usize].voter.promised
+    }
+
+    /// Its last vote for the unit that the path names: the claim, and what it voted for.
+    pub fn voted(&self, path: &PkgPath) -> Option<&(Claim, Build)>
+        ensures { report_of (option_copied result) ≡ (facts_named self.now path.now).voted }
+    {
+        let unit = self.units.find(path)?;
+        self.known[unit as usize].voter.voted.as_ref()
+    }
+
+    /// What its collections are kept by.
+    pub(crate) fn allocator(&self) -> Global {
+        *self.known.allocator()
+    }
+}
+
+/// Of so many units nothing is known.
+fn all_unknown(alloc: Global, units: u32) -> Result<Vec<Known>, Memory>
+    ensures { IfOk result (λ known. map facts_of_known known.items ≡ replicate units no_facts) }
+{
+    let mut known = Vec::with_capacity(alloc, units as usize)?;
+    for _unit in 0..units {
+        known.push(Known::nothing())?;
+    }
+    Ok(known)
+}
+
+/// Whether each of these is below the number.
+fn are_below(members: &[u8], number: usize) -> bool
+    ensures { result ≡ list_all (λ k. nat_lt k number) members.now }
+{
+    for member in members {
+        if usize::from(*member) >= number {
+            return false;
+        }
+    }
+    true
+}
+
+/// The record of the path, if it is among these.
+fn record_of<'b>(records: &'b [Record], path: &PkgPath) -> Option<&'b Record>
+    ensures { option_copied result ≡ record_in path.now records.entry.now }
+{
+    for record in records {
+        if record.path() == path {
+            return Some(record);
+        }
+    }
+    None
+}

@@ -1,0 +1,18 @@
+//! How a path names a unit.
+ghost use Rattle.std.specs.Prelude.{◌≡◌};
+ghost use Rattle.units.specs.Division.{number_named};
+
+use pkgpath::PkgPath;
+use units::Units;
+
+/// The unit with this name, by which messages and notes go.
+pub(crate) fn unit_named(units: &Units<'_>, path: &PkgPath) -> Option<u32>
+    ensures { result ≡ number_named units.now path.now }
+{
+    let unit = units.find(path)?;
+    if units.name(unit) == path {
+        Some(unit)
+    } else {
+        None
+    }
+}

@@ -1,0 +1,66 @@
+//! What the open claim waits for is asked for again.
+ghost use Rattle.std.specs.Prelude.{◌≡◌, [], IfOk, None};
+ghost use Rattle.member.specs.inside.Fields.{job_in};
+ghost use Rattle.member.specs.inside.Steps.{IsPrepared};
+
+use crate::receivers::missing;
+use crate::{ClaimChange, Member, Step};
+use ballots::{Body, Claimer};
+use faults::Memory;
+use protocol::{Input, Outcome, Refusal, Sends};
+
+impl<'a> Member<'a> {
+    /// The offer or the proposal goes to those that have not answered, or the job is given again.
+    pub(crate) fn nudged(&self) -> Result<Step, Refusal>
+        ensures { IsPrepared self.now Input.Nudge result }
+    {
+        let Some(open) = &self.claim else {
+            return Err(Refusal::NoClaim);
+        };
+        match &open.claimer {
+            Claimer::Gathering {
+                claim, promised, ..
+            } => {
+                let to = missing(&self.weights, promised);
+                let sends = self.sent(open.unit, to, Body::Offer(*claim))?;
+                Ok(Step::saying(sends, ClaimChange::Stays))
+            }
+            Claimer::Building { .. } => Ok(self.building_again()?),
+            Claimer::Voting {
+                claim,
+                value,
+                voted,
+            } => {
+                let to = missing(&self.weights, voted);
+                let value = value.copy()?;
+                let sends = self.sent(open.unit, to, Body::Propose(*claim, value))?;
+                Ok(Step::saying(sends, ClaimChange::Stays))
+            }
+        }
+    }
+
+    /// The job is given again.
+    fn building_again(&self) -> Result<Step, Memory>
+        ensures { IfOk result (λ step. step ≡ record {
+          note = None;
+          sends = [];
+          job = job_in self.now;
+          change = ClaimChange.Stays;
+        }) }
+    {
+        let (job, kept_job) = match &self.job {
+            Some(job) => (Some(job.copy()?), Some(job.copy()?)),
+            None => (None, None),
+        };
+        Ok(Step {
+            outcome: Outcome {
+                note: None,
+                sends: Sends::nothing(),
+                job,
+            },
+            kept_fact: None,
+            kept_job,
+            change: ClaimChange::Stays,
+        })
+    }
+}

@@ -1,0 +1,116 @@
+//! Packages in order of path, and what a build makes of them.
+ghost use Rattle.std.specs.Prelude.{◌≡◌, ◌<◌, All, IfOk, length, map};
+ghost use Rattle.listing.specs.Tree.{ArePositions, IsTree, path_at};
+ghost use Rattle.protocol.specs.Jobs.{in_order_of_path};
+
+use faults::Memory;
+use indexmap::IndexMap;
+use listing::Tree;
+use package_record::{Files, Package};
+use pkgpath::PkgPath;
+use protocol::{Packages, Refusal};
+use std::alloc::Global;
+
+/// The paths of the packages at these positions, in order.
+pub(crate) fn in_order<'a>(
+    alloc: Global,
+    tree: &'a Tree,
+    positions: &[u32],
+) -> Result<Vec<&'a PkgPath>, Memory>
+    requires is_tree { IsTree tree.now }
+    requires positions { ArePositions tree.now positions.now }
+    ensures { IfOk result (λ paths. map (λ path. path.now) paths.items
+        ≡ in_order_of_path tree.entry.now positions.now) }
+{
+    let mut paths = paths_at(alloc, tree, positions)?;
+    paths.sort()?;
+    Ok(paths)
+}
+
+/// The paths of the packages at these positions.
+fn paths_at<'a>(
+    alloc: Global,
+    tree: &'a Tree,
+    positions: &[u32],
+) -> Result<Vec<&'a PkgPath>, Memory>
+    requires { All (λ p. p < length tree.now) positions.now }
+    ensures { IfOk result (λ paths. map (λ path. path.now) paths.items
+        ≡ map (path_at tree.entry.now) positions.now) }
+{
+    let mut paths = Vec::with_capacity(alloc, positions.len())?;
+    for position in positions {
+        paths.push(tree.path(*position))?;
+    }
+    Ok(paths)
+}
+
+/// Equal paths, in their order.
+pub(crate) fn copied(alloc: Global, paths: &[&PkgPath]) -> Result<Vec<PkgPath>, Memory>
+    ensures { IfOk result (λ copies. copies.items ≡ map (λ path. path.now) paths.now) }
+{
+    let mut copies = Vec::with_capacity(alloc, paths.len())?;
+    for path in paths {
+        copies.push(path.copy()?)?;
+    }
+    Ok(copies)
+}
+
+/// The paths of the unit's packages, in order.
+pub(crate) fn paths_of(
+    alloc: Global,
+    tree: &Tree,
+    positions: &[u32],
+) -> Result<Vec<PkgPath>, Memory>
+    requires { All (λ p. p < length tree.now) positions.now }
+    ensures { IfOk result (λ paths. paths.items ≡ map (path_at tree.now) positions.now) }
+{
+    let paths = paths_at(alloc, tree, positions)?;
+    copied(alloc, paths.as_slice())
+}
+
+/// The files by the paths of their packages; of those of one path the first.
+pub(crate) fn by_path(
+    alloc: Global,
+    packages: Packages,
+) -> Result<IndexMap<PkgPath, Files>, Memory> {
+    let mut files = IndexMap::new(alloc);
+    for (path, given) in packages.into_vec() {
+        if !files.contains_key(&path) {
+            files.insert(path, given)?;
+        }
+    }
+    Ok(files)
+}
+
+/// What the build makes of these packages, with the files that are given for them.
+pub(crate) fn made(
+    alloc: Global,
+    tree: &Tree,
+    positions: &[u32],
+    mut files: IndexMap<PkgPath, Files>,
+) -> Result<Vec<Package>, Refusal> {
+    let mut packages = Vec::with_capacity(alloc, positions.len())?;
+    for position in positions {
+        let Some(given) = files.swap_remove(tree.path(*position)) else {
+            return Err(Refusal::OtherPackages);
+        };
+        packages.push(package(alloc, tree, *position, given)?)?;
+    }
+    Ok(packages)
+}
+
+/// What the build makes of the package at the position, of these files.
+fn package(alloc: Global, tree: &Tree, position: u32, files: Files) -> Result<Package, Memory>
+    requires { position < length tree.now }
+{
+    let path = tree.path(position).copy()?;
+    let name = tree.name(position).copy()?;
+    let run = in_order(alloc, tree, tree.run_deps(position))?;
+    let run = copied(alloc, run.as_slice())?;
+    Ok(Package {
+        path,
+        name,
+        run,
+        files,
+    })
+}
