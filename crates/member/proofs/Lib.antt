@@ -1,2 +1,10 @@
+pub mod FoundRecords
+pub mod Fresh
 pub mod HeldUnits
+pub mod Named
+pub mod NewClaims
+pub mod Preparing
+pub mod Restoring
+pub mod SaidAgain
 pub mod SameStep
+pub mod UnitPackages
