@@ -1,6 +1,8 @@
 pub mod FoundRecords
 pub mod Fresh
 pub mod HeldUnits
+pub mod KeptFacts
+pub mod KeptNumbers
 pub mod Named
 pub mod NewClaims
 pub mod Preparing

@@ -1,6 +1,6 @@
 -- The packages of a unit are agreed, one after the other.
 use Rattle.std.proofs.Common.{◌≡◌, ◌<◌, ◌+◌, ◌++◌, ℕ, true, List, [], ◌∷◌, length, get_or, take}
-use Rattle.std.proofs.Common.{refl, sym, ap, ◌∙◌}
+use Rattle.std.proofs.Common.{refl, sym, subst, ap, ◌∙◌}
 use Rattle.std.specs.FinSet as set
 use Rattle.std.specs.Ordering.{nat_cmp}
 use Rattle.std.proofs.lemmas.Bool.{false≢true}
@@ -15,14 +15,13 @@ use Rattle.units.proofs.WellMade.{one_unit_has}
 use Rattle.member.specs.inside.Units.{agreed_too, with_all}
 
 -- none of them is ignored
-pub not_ignored : (d : Division) (u k p : ℕ) → IsDivision d → u < length d.units
-    → k < length (unit_at d u).packages → get_or (unit_at d u).packages k p ≡ p
-    → IsIgnored d.tree p → ⊥
-not_ignored d u k p is lt within at ignored =
-    let member = in_at (unit_at d u).packages k p within in
-    let unit = (one_unit_has d u p is lt
-    (in_contains (unit_at d u).packages p (sym (ap (λ q. is_in (unit_at d u).packages q) at) ∙ member))).1 in
-    false≢true (sym unit.not_ignored ∙ (unit.are_ignored p).1 ignored)
+pub not_ignored : (d : Division) (u k : ℕ) (ps : List ℕ) → IsDivision d → u < length d.units
+    → ps ≡ (unit_at d u).packages → k < length ps → IsIgnored d.tree (get_or ps k 0) → ⊥
+not_ignored d u k ps is lt are within ignored =
+    let member = subst (λ qs. is_in qs (get_or ps k 0) ≡ true) are (in_at ps k 0 within) in
+    let unit = (one_unit_has d u (get_or ps k 0) is lt
+    (in_contains (unit_at d u).packages (get_or ps k 0) member)).1 in
+    false≢true (sym unit.not_ignored ∙ (unit.are_ignored (get_or ps k 0)).1 ignored)
 
 -- one more is agreed
 pub one_more_agreed : (e : engine.State) (ps : List ℕ) (k p : ℕ) → k < length ps
