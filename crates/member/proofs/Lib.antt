@@ -1,2 +1,5 @@
+pub mod Counted
+pub mod Heard
 pub mod HeldUnits
+pub mod KnownUnits
 pub mod SameStep
