@@ -1,5 +1,15 @@
 pub mod Counted
+pub mod FoundRecords
+pub mod Fresh
 pub mod Heard
 pub mod HeldUnits
+pub mod KeptFacts
+pub mod KeptNumbers
 pub mod KnownUnits
+pub mod Named
+pub mod NewClaims
+pub mod Preparing
+pub mod Restoring
+pub mod SaidAgain
 pub mod SameStep
+pub mod UnitPackages
