@@ -1,8 +1,9 @@
 -- What a member prepares for a message is the answer of the theory's member.
-use Rattle.std.proofs.Common.{◌≡◌, ◌==◌, ◌&&◌, ◌<◌, ◌∙◌, not, ℕ, Bool, true, false, List, []}
+use Rattle.std.proofs.Common.{◌≡◌, ◌==◌, ◌&&◌, ◌∙◌, not, ℕ, Bool, true, false, List, []}
 use Rattle.std.proofs.Common.{◌∷◌, Option, Some, None, ap, length, option_map, refl, subst, sym}
 use Rattle.std.proofs.Common.{Ok, Err, inl, inr, if◌then◌else◌}
 use Rattle.std.proofs.lemmas.Bool.{cond_both, cond-true, eq-eqb, true≢false}
+use Rattle.std.specs.Prelude.{is_some}
 use Rattle.agreement.specs.Claims.{is_above, is_below, is_promised}
 use Rattle.agreement.specs.Member as members
 use Rattle.agreement.specs.Nodes as nodes
@@ -161,6 +162,16 @@ vote_passes s u from c p is other says sends =
 
 -- ---- what is agreed
 
+-- nothing is held where no test finds it
+pub none_held : (h : Option Value) → is_some h ≡ false → h ≡ None
+none_held None e = refl
+none_held (Some v) e = absurd (true≢false e)
+
+-- something is, where it does
+pub some_held : (h : Option Value) → is_some h ≡ true → (v : Value) × (h ≡ Some v)
+some_held None e = absurd (true≢false (sym e))
+some_held (Some v) e = (v, refl)
+
 -- what is held stays
 pub agreed_again : (s : State) (u : ℕ) (v w : Value) (p : Prepared) → IsMember s
     → (facts_at s u).held ≡ Some w → IsSaying p → p.sends ≡ []
@@ -169,21 +180,21 @@ agreed_again s u v w p is held says sends =
     nothing_makes s u [] (on_agreed (view s u) (facts_at s u).held v) p is
     (ap (λ h. on_agreed (view s u) h v) held) says sends
 
--- the claim for the unit is done with, and another stays
-pub ends_is : (claim : Option OpenClaim) (u : ℕ) (change : ClaimChange)
-    → (is_for claim u ≡ false → change ≡ Stays) → (is_for claim u ≡ true → change ≡ Ends)
-    → changed change claim ≡ dropped claim u
-ends_is None u change other own = ap (λ change. changed change None) (other refl)
-ends_is (Some o) u change other own = by_test (u == o.unit) refl
-  where
-    by_test : (b : Bool) → (u == o.unit) ≡ b
-        → changed change (Some o) ≡ (if u == o.unit then None else Some o)
-    by_test true e =
-        ap (λ change. changed change (Some o)) (own e)
-        ∙ sym (ap (λ b. if b then None else Some o) e)
-    by_test false e =
-        ap (λ change. changed change (Some o)) (other e)
-        ∙ sym (ap (λ b. if b then None else Some o) e)
+-- the claim for the unit is done with
+pub claim_ends : (claim : Option OpenClaim) (o : OpenClaim) (u : ℕ) (change : ClaimChange)
+    → claim ≡ Some o → o.unit ≡ u → change ≡ Ends → changed change claim ≡ dropped claim u
+claim_ends claim o u change at unit ends =
+    ap (λ change. changed change claim) ends
+    ∙ sym (ap (λ claim. dropped claim u) at
+    ∙ cond-true (u == o.unit) None (Some o) (eq-eqb u o.unit (sym unit)))
+
+-- a claim for another unit stays
+pub claim_stays : (claim : Option OpenClaim) (u : ℕ) (change : ClaimChange)
+    → is_for claim u ≡ false → change ≡ Stays → changed change claim ≡ dropped claim u
+claim_stays None u change other stays = ap (λ change. changed change None) stays
+claim_stays (Some o) u change other stays =
+    ap (λ change. changed change (Some o)) stays
+    ∙ sym (ap (λ b. if b then None else Some o) other)
 
 -- what is not held yet is held, and the unit's claim is done with
 pub agreed_makes : (s : State) (u : ℕ) (v : Value) (p : Prepared) → (facts_at s u).held ≡ None
