@@ -1,2 +1,5 @@
+pub mod GivenFiles
 pub mod HeldUnits
+pub mod MadePackages
 pub mod SameStep
+pub mod Taking
