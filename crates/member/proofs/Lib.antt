@@ -1,3 +1,4 @@
+pub mod Changing
 pub mod GivenFiles
 pub mod HeldUnits
 pub mod MadePackages
