@@ -1,6 +1,16 @@
 pub mod Changing
+pub mod FoundRecords
+pub mod Fresh
 pub mod GivenFiles
 pub mod HeldUnits
+pub mod KeptFacts
+pub mod KeptNumbers
 pub mod MadePackages
+pub mod Named
+pub mod NewClaims
+pub mod Preparing
+pub mod Restoring
+pub mod SaidAgain
 pub mod SameStep
 pub mod Taking
+pub mod UnitPackages
