@@ -98,10 +98,11 @@ impl<'a> Post<'a> {
     }
 
     fn keep(&mut self, at: usize, outcome: Outcome) -> Result<(), Memory> {
-        if let Some(message) = outcome.sends.message() {
+        let Outcome { note, sends, .. } = outcome;
+        if let Some(message) = sends.message() {
             self.sent.push(message.copy()?)?;
         }
-        if let Some(note) = outcome.note {
+        if let Some(note) = note {
             self.notes.push((at, note))?;
         }
         Ok(())
