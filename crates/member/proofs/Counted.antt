@@ -1,5 +1,5 @@
 -- The step of a claimer, for a promise or a vote, makes the answer of the theory's member.
-use Rattle.std.proofs.Common.{◌≡◌, ◌<◌, ◌&&◌, ◌∙◌, not, ℕ, Bool, true, false, List, Option, Some}
+use Rattle.std.proofs.Common.{◌≡◌, ◌<◌, ◌≤◌, ◌&&◌, ◌∙◌, not, ℕ, Bool, true, false, List, Option, Some}
 use Rattle.std.proofs.Common.{None, [], ap, ap₂, arith, length, option_map, refl, subst, sym}
 use Rattle.std.proofs.Common.{if◌then◌else◌}
 use Rattle.std.proofs.lemmas.Bool.{and_parts, cond_both, leb-true, true≢false}
@@ -101,6 +101,14 @@ next_job s o next.Build c =
 next_job s o (next.Propose d v) c = refl
 next_job s o (next.Hold noted sent) c = refl
 
+-- what becomes of the claim is the claimer's change
+next_change : (s : State) (o : code.OpenClaim) (n : Next Value) (c : ClaimerChange Value)
+    → (counter_prepared s (open_of o) n c).change ≡ Counts c
+next_change s o next.Nothing c = refl
+next_change s o next.Build c = refl
+next_change s o (next.Propose d v) c = refl
+next_change s o (next.Hold noted sent) c = refl
+
 -- ---- the whole step
 
 counter_makes : (s : State) (o : code.OpenClaim) (to : List ℕ) (w : Outcome Value)
@@ -112,15 +120,12 @@ counter_makes : (s : State) (o : code.OpenClaim) (to : List ℕ) (w : Outcome Va
 counter_makes s o to w step at weighed is within reach = record {
   is = λ i. record { note = note i; sends = sends i; job = job i; claim = claim i };
   weighed =
-      subst (IsChangeWeighedBy s.weights (Counts step.change)) (sym at)
+      subst (λ d. IsChangeWeighedBy s.weights d s.claim) (sym (next_change s o step.next step.change))
+      (subst (IsChangeWeighedBy s.weights (Counts step.change)) (sym at)
       (count_weighed s.weights o.claimer step.change weights
-      (subst (IsWithin (length s.weights)) is.stage within));
+      (subst (IsWithin (length s.weights)) is.stage within)));
 }
   where
-    n : ℕ
-    n = length s.weights
-    prepared : Prepared
-    prepared = counter_prepared s (open_of o) step.next step.change
     weights : weights_of (claimer_then o.claimer step.change) ≡ s.weights
     weights = is.weights ∙ weighed.same
     note : (counter_prepared s (open_of o) step.next step.change).note
@@ -154,13 +159,14 @@ counter_makes s o to w step at weighed is within reach = record {
         ap (progress_of (length s.weights)) is.stage
         ∙ counted_is (length s.weights) o.claimer step.change (ap length weights)
         (ap length weighed.same)
-    claim : changed (Counts step.change) s.claim
+    claim : changed (counter_prepared s (open_of o) step.next step.change).change s.claim
         ≡ claim_then s.claim o.unit (host_in s.claim)
         (progress_of (length s.weights) w.member.stage)
     claim =
-        ap (changed (Counts step.change)) at
+        ap (λ d. changed d s.claim) (next_change s o step.next step.change)
+        ∙ (ap (changed (Counts step.change)) at
         ∙ moved_is s (open_of o) (length s.weights) w.member.stage
-        (counted step.change (progress_of_claimer o.claimer)) at far
+        (counted step.change (progress_of_claimer o.claimer)) at far)
 
 -- ---- who is told
 
@@ -291,6 +297,6 @@ vote_makes s o u from c step made is at unit weighed lt sender of same =
 pub number_within : (weights : List ℕ) (m : ℕ) → AreWeights weights → m < length weights
     → IsNumber m
 number_within weights m are lt =
-    let few = leb-true (length weights) most_members
-    (and_parts _ _ (and_parts _ _ are).0).1 in
+    let few : length weights ≤ most_members =
+    leb-true (length weights) most_members (and_parts _ _ (and_parts _ _ are).0).1 in
     omega (arith, few)

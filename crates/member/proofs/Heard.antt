@@ -62,25 +62,25 @@ proposal_stays me x b =
     (λ g. refl))
 
 -- the voter's step for an offer
-pub offer_makes : (s : State) (u : ℕ) (v : Pledge Value) (c : Claim) (step : VoterStep Value)
+pub offer_makes : (s : State) (u from : ℕ) (v : Pledge Value) (c : Claim) (step : VoterStep Value)
     (made : Prepared) → IsMember s → IsVoter Value v (view s u)
     → IsStepOf Value v (λ i x. on_offer i x c) step
     → made ≡ voter_prepared s u c.member step.note step.answer
-    → Makes s (hears s u 0 (bodies.Offer c)) made
-offer_makes s u v c step made is voter of same =
-    subst (Makes s (hears s u 0 (bodies.Offer c))) (sym same)
+    → Makes s (hears s u from (bodies.Offer c)) made
+offer_makes s u from v c step made is voter of same =
+    subst (Makes s (hears s u from (bodies.Offer c))) (sym same)
     (voter_makes s u c.member (on_offer s.me (view s u) c) step.note step.answer is
     (offer_stays s.me (view s u) c) (of.note s.me (view s u) voter)
     (of.said s.me (view s u) voter))
 
 -- the voter's step for a proposal
-pub proposal_makes : (s : State) (u : ℕ) (v : Pledge Value) (c : Claim) (value : Value)
+pub proposal_makes : (s : State) (u from : ℕ) (v : Pledge Value) (c : Claim) (value : Value)
     (step : VoterStep Value) (made : Prepared) → IsMember s → IsVoter Value v (view s u)
     → IsStepOf Value v (λ i x. on_propose i x (ballot c value)) step
     → made ≡ voter_prepared s u c.member step.note step.answer
-    → Makes s (hears s u 0 (bodies.Propose c value)) made
-proposal_makes s u v c value step made is voter of same =
-    subst (Makes s (hears s u 0 (bodies.Propose c value))) (sym same)
+    → Makes s (hears s u from (bodies.Propose c value)) made
+proposal_makes s u from v c value step made is voter of same =
+    subst (Makes s (hears s u from (bodies.Propose c value))) (sym same)
     (voter_makes s u c.member (on_propose s.me (view s u) (ballot c value)) step.note step.answer
     is (proposal_stays s.me (view s u) (ballot c value)) (of.note s.me (view s u) voter)
     (of.said s.me (view s u) voter))
@@ -131,6 +131,12 @@ pub nothing_makes : (s : State) (u : ℕ) (to : List ℕ) (o : Outcome Value) (p
 nothing_makes s u to o p is same says sends =
     subst (λ o. Makes s (answered s u (host_in s.claim) to o) p) (sym same)
     (saying_makes s u to (still (view s u)) p is refl refl says sends)
+
+-- a refusal says nothing
+pub refusal_passes : (s : State) (u from : ℕ) (c promised : Claim) (p : Prepared) → IsMember s
+    → IsSaying p → p.sends ≡ [] → Makes s (hears s u from (bodies.Nay c promised)) p
+refusal_passes s u from c promised p is says sends =
+    nothing_makes s u [] (still (view s u)) p is refl says sends
 
 -- ---- a claim for another unit
 
