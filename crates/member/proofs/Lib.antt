@@ -1,8 +1,11 @@
+pub mod Counted
 pub mod FoundRecords
 pub mod Fresh
+pub mod Heard
 pub mod HeldUnits
 pub mod KeptFacts
 pub mod KeptNumbers
+pub mod KnownUnits
 pub mod Named
 pub mod NewClaims
 pub mod Preparing
