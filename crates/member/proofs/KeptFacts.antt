@@ -24,9 +24,8 @@ named_within d path u named =
     (position-Some (λ (x : Unit). bytes_eq x.name path) d.units u no_unit (sym named)).0
 
 module _ (d : Division) (known : List Known) (path : Text) (fact : Fact Value) (u : ℕ)
-    (old new : Known) (lt : u < length known) (at : old ≡ get_or known u old)
-    (named : Some u ≡ number_named d path)
-    (kept : facts_of_known new ≡ noted (facts_of_known old) (note_of fact)) where
+    (old new : Known) (lt : u < length known) (named : Some u ≡ number_named d path)
+    (kept : facts_of_known new ≡ noted (facts_of_known (get_or known u old)) (note_of fact)) where
   -- all facts
   abbrev facts : List (Facts Value)
   facts = map facts_of_known known
@@ -40,7 +39,7 @@ module _ (d : Division) (known : List Known) (path : Text) (fact : Fact Value) (
   known_so =
       kept
       ∙ ap (λ f. noted f (note_of fact))
-      (ap facts_of_known at ∙ sym (get_or-map facts_of_known known u old no_facts lt))
+      (sym (get_or-map facts_of_known known u old no_facts lt))
 
   pub at_unit : map facts_of_known (slice_set known u new) ≡ noted_at (Some u) facts note
   at_unit =

@@ -17,7 +17,7 @@ returns-then-is_held-clause-facts c =
     let lt = subst (λ n. u < n) (sym c.requires.each)
     (named_within d c.args.path.now u c.in-Some.ensures) in
     fact_kept d c.args.known.now c.args.path.now c.args.fact u c.index-known-unit.result
-    c.keep.new.self lt c.index-known-unit.is c.in-Some.ensures c.keep.ensures
+    c.keep.new.self lt c.in-Some.ensures c.keep.ensures
 
 pub returns-then-is_held-clause-engine : goal.returns-then-is_held-clause-engine
 returns-then-is_held-clause-engine c =
@@ -29,7 +29,7 @@ returns-then-is_held-clause-engine c =
     let lt = subst (λ n. u < n) (sym c.requires.each) within in
     let known = subst (λ n. u < n) (sym (length-map c.args.known.now facts_of_known)) lt in
     let later = at_unit d c.args.known.now c.args.path.now c.args.fact u
-    c.index-known-unit.result c.keep.new.self lt c.index-known-unit.is c.in-Some.ensures
+    c.index-known-unit.result c.keep.new.self lt c.in-Some.ensures
     c.keep.ensures in
     c.agree.ensures.engine
     ∙ (ap (λ e. agreed_too e (unit_at d u).packages) c.requires.engine
@@ -44,7 +44,7 @@ returns-else-is_held-clause-facts c =
     let lt = subst (λ n. u < n) (sym c.requires.each)
     (named_within d c.args.path.now u c.in-Some.ensures) in
     fact_kept d c.args.known.now c.args.path.now c.args.fact u c.index-known-unit.result
-    c.keep.new.self lt c.index-known-unit.is c.in-Some.ensures c.keep.ensures
+    c.keep.new.self lt c.in-Some.ensures c.keep.ensures
 
 pub returns-else-is_held-clause-engine : goal.returns-else-is_held-clause-engine
 returns-else-is_held-clause-engine c =
@@ -56,7 +56,7 @@ returns-else-is_held-clause-engine c =
     let lt = subst (λ n. u < n) (sym c.requires.each) within in
     let known = subst (λ n. u < n) (sym (length-map c.args.known.now facts_of_known)) lt in
     let later = at_unit d c.args.known.now c.args.path.now c.args.fact u
-    c.index-known-unit.result c.keep.new.self lt c.index-known-unit.is c.in-Some.ensures
+    c.index-known-unit.result c.keep.new.self lt c.in-Some.ensures
     c.keep.ensures in
     c.requires.engine
     ∙ (sym (engine_stays d facts u note known
