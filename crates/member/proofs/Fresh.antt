@@ -40,7 +40,7 @@ module _ (d : Division) where
       by_unit (Some u) =
           at_any (λ (f : Facts Value). is_some f.held ≡ false) (map (λ x. no_facts) d.units) u
           no_facts (All-map (λ (f : Facts Value). is_some f.held ≡ false) (λ x. no_facts) d.units
-          (λ k x within e. refl)) refl
+          (λ k x within. refl)) refl
 
   -- the engine of nothing
   pub fresh_engine : engine_with d (map (λ x. no_facts) d.units)

@@ -1,10 +1,13 @@
 pub mod Changing
+pub mod Counted
 pub mod FoundRecords
 pub mod Fresh
 pub mod GivenFiles
+pub mod Heard
 pub mod HeldUnits
 pub mod KeptFacts
 pub mod KeptNumbers
+pub mod KnownUnits
 pub mod MadePackages
 pub mod Named
 pub mod NewClaims

@@ -1,7 +1,8 @@
 -- A member that takes the notes of a log, one after the other.
 use Rattle.std.proofs.Common.{◌≡◌, ◌++◌, ℕ, All, List, [], ◌∷◌, Option, Some, None, length, refl}
 use Rattle.std.proofs.Common.{sym, ap, subst, ◌∙◌, map}
-use Rattle.std.specs.Prelude.{fold}
+use Rattle.std.specs.Prelude.{fold, option_and_then, option_map}
+use Rattle.std.proofs.lemmas.List.{length-map}
 use Rattle.std.proofs.lemmas.List.Sums.{fold-append}
 use Rattle.agreement.specs.Member.{Facts}
 use Rattle.ballots.specs.declared.message.Note.{Note}
@@ -10,8 +11,10 @@ use Rattle.protocol.specs.State.{State, Value, facts_then}
 use Rattle.protocol.specs.Member.{IsMember}
 use Rattle.protocol.specs.Restoring.{restored}
 use Rattle.protocol.specs.Answers.{tree_digest}
+use Rattle.protocol.specs.Step.{job_again}
 use Rattle.protocol.proofs.Known.{Pledged, each_then, pledged_then}
-use Rattle.member.specs.inside.Fields.{engine_with, facts_of_known}
+use Rattle.member.specs.OpenClaims.{open_of}
+use Rattle.member.specs.inside.Fields.{IsKept, engine_with, facts_of_known, state_of}
 use Rattle.member.specs.declared.member.Member.TheInside.{Inside}
 
 -- what is known with these notes, too
@@ -62,3 +65,35 @@ pub record IsRestoring (s : State) (m : Inside) (notes : List (Note Value)) : Ty
   pub digest : m.digest ≡ tree_digest m.units.tree
   pub facts : map facts_of_known m.known.items ≡ noted_all s.division s.facts notes
   pub engine : m.engine ≡ engine_with m.units (map facts_of_known m.known.items)
+
+module _ (s : State) (m : Inside) (notes : List (Note Value)) (are : IsRestoring s m notes) where
+  -- once all notes are taken, the member is what they restore
+  pub state_restored : state_of m ≡ restored s notes
+  state_restored = λ i. record {
+    division = are.division i;
+    weights = are.weights i;
+    me = are.me i;
+    facts = are.facts i;
+    claim = ap (option_map open_of) are.claim i;
+  }
+
+  -- facts are kept for each unit
+  pub each_restored : IsMember s → length m.known.items ≡ length m.units.units
+  each_restored is =
+      sym (length-map m.known.items facts_of_known)
+      ∙ (ap length are.facts
+      ∙ (each_noted s.division s.facts notes
+      ∙ (is.each ∙ ap (λ (d : Division). length d.units) (sym are.division))))
+
+  -- and its fields are those of one
+  pub kept_restored : IsMember s → IsKept m
+  kept_restored is = record {
+    member = subst IsMember (sym state_restored) (restored_member s notes is);
+    tree = are.tree;
+    digest = are.digest;
+    engine = are.engine;
+    weighed = λ o e. absurd (let no : None ≡ Some o = sym are.claim ∙ e in cc);
+    job = are.job
+        ∙ ap (λ claim. option_and_then (λ o. job_again (state_of m) o o.progress) claim)
+        (sym (ap (option_map open_of) are.claim));
+  }
