@@ -11,9 +11,11 @@ pub mod KnownUnits
 pub mod MadePackages
 pub mod Named
 pub mod NewClaims
+pub mod PathOrder
 pub mod Preparing
 pub mod Restoring
 pub mod SaidAgain
 pub mod SameStep
+pub mod Signing
 pub mod Taking
 pub mod UnitPackages
