@@ -8,6 +8,7 @@ pub mod HeldUnits
 pub mod KeptFacts
 pub mod KeptNumbers
 pub mod KnownUnits
+pub mod MadeBuild
 pub mod MadePackages
 pub mod Named
 pub mod NewClaims

@@ -24,8 +24,8 @@ made-requires-clause-order c =
     (map (path_at (c.self.invariant.tree i)) (c.packages-positions.ensures.value i)))
     ∙ paths_ascend m.units c.args.unit division within
 
-pub returns : goal.returns
-returns c =
+pub returns-clause-made : goal.returns-clause-made
+returns-clause-made c =
     let s = c.args.self.now in
     let u = c.args.unit in
     let given = c.args.packages in
