@@ -7,8 +7,8 @@ ghost use Rattle.member.specs.inside.Steps.{IsPrepared, Makes};
 ghost use Rattle.member.specs.inside.Counting.{counter_prepared, held_prepared, quiet_prepared};
 ghost use Rattle.member.specs.inside.Counting.{voter_prepared};
 
-use crate::receivers::{everyone, one, others};
 use crate::naming::unit_named;
+use crate::receivers::{everyone, one, others};
 use crate::{ClaimChange, Member, OpenClaim, Step};
 use arrayvec::ArrayVec;
 use ballots::{Body, ClaimerChange, ClaimerStep, Fact, Message, Next, VoterStep};
@@ -110,7 +110,8 @@ impl<'a> Member<'a> {
     ) -> Result<Step, Memory>
         requires unit { unit < length self.now.division.units }
         requires sender { sender < length self.now.weights }
-        ensures { IfOk result (Makes self.now (hears self.now unit sender (Body.Promise claim report))) }
+        ensures { IfOk result
+            (Makes self.now (hears self.now unit sender (Body.Promise claim report))) }
     {
         let Some(open) = self.claim_for(unit) else {
             return Ok(Step::nothing());
@@ -140,10 +141,7 @@ impl<'a> Member<'a> {
     {
         let ClaimerStep { next, change } = step;
         match next {
-            Next::Nothing => Ok(Step::saying(
-                Sends::nothing(),
-                ClaimChange::Counts(change),
-            )),
+            Next::Nothing => Ok(Step::saying(Sends::nothing(), ClaimChange::Counts(change))),
             Next::Build => {
                 let job = self.job_for(own.unit, own.host, own.claimer.claim())?;
                 giving(job, change)

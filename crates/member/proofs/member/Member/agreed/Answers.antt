@@ -1,4 +1,4 @@
-use Rattle.std.proofs.Common.{◌≡◌, ◌∙◌, None, Some, ap, refl, subst, sym}
+use Rattle.std.proofs.Common.{◌≡◌, ◌∙◌, Some, ap, refl, subst, sym}
 use Rattle.protocol.specs.Answers.{dropped}
 use Rattle.member.specs.OpenClaims.{open_of}
 use Rattle.member.specs.Prepared.{IsChangeWeighedBy, changed}

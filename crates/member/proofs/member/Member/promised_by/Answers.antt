@@ -1,4 +1,4 @@
-use Rattle.std.proofs.Common.{◌∙◌, ap, subst}
+use Rattle.std.proofs.Common.{subst}
 use Rattle.std.proofs.lemmas.Result.{IfOk-weaker}
 use Rattle.ballots.specs.InTheAgreement.{IsStepOnPromise}
 use Rattle.member.proofs.Counted.{number_within, promise_makes}
