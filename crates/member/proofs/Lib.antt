@@ -1,3 +1,4 @@
+pub mod BuiltAnswers
 pub mod Changing
 pub mod Counted
 pub mod FoundRecords
