@@ -4,6 +4,7 @@ pub mod Counted
 pub mod FoundRecords
 pub mod Fresh
 pub mod GivenFiles
+pub mod Handling
 pub mod Heard
 pub mod HeldUnits
 pub mod KeptFacts
