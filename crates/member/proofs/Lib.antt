@@ -4,11 +4,13 @@ pub mod Counted
 pub mod FoundRecords
 pub mod Fresh
 pub mod GivenFiles
+pub mod Handling
 pub mod Heard
 pub mod HeldUnits
 pub mod KeptFacts
 pub mod KeptNumbers
 pub mod KnownUnits
+pub mod MadeBuild
 pub mod MadePackages
 pub mod Named
 pub mod NewClaims

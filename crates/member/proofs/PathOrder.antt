@@ -1,7 +1,7 @@
 -- The packages of a unit: in order of path, of one group, and few.
 use Rattle.std.proofs.Common.{◌≡◌, ◌≢◌, ◌<◌, ◌≤◌, ◌&&◌, ℕ, suc, zero, Bool, true, false, All, List}
 use Rattle.std.proofs.Common.{[], ◌∷◌, length, map, Less, Equal, Greater, arith, refl, sym, ap}
-use Rattle.std.proofs.Common.{subst, ◌∙◌, inl, inr, eqb, eqb-true}
+use Rattle.std.proofs.Common.{subst, ◌∙◌, inl, inr, eq-eqb, eqb, eqb-true, ◌==◌, ◌||◌}
 use Rattle.std.specs.Prelude.{Contains}
 use Rattle.std.specs.List.{IsDistinct, AllByRecursion, list_all, list_any, slice_index_or}
 use Rattle.std.specs.Ordering.{is_eq, is_lt}
@@ -17,9 +17,10 @@ use Rattle.listing.specs.Tree.{Tree, path_at}
 use Rattle.listing.proofs.Settings.{eq_self}
 use Rattle.pkgpath.specs.PkgPath.{without_subpackage}
 use Rattle.units.specs.Division.{Division, IsDivision, unit_at}
+use Rattle.units.specs.Units.{is_in}
 use Rattle.units.proofs.Ascending.{Rising}
 use Rattle.units.proofs.Kept.{all_listed, unit_good}
-use Rattle.units.proofs.Lists.{in_contains}
+use Rattle.units.proofs.Lists.{in_contains, same_answers}
 use Rattle.units.proofs.Members.{contains_first, contains_later}
 use Rattle.units.proofs.Sets.{set_rises}
 use Rattle.protocol.specs.Jobs.{in_order_of_path}
@@ -101,9 +102,13 @@ all_differ tree (p ∷ ps) up =
     (map (path_at tree) ps)) _ up in
     (others_behind tree p ps parts.0, all_differ tree ps parts.1)
 
+same_number : (p q : ℕ) → (p == q) ≡ eqb q p
+same_number p q = same_answers (p == q) (eqb q p)
+    (λ e. eq-eqb q p (sym (eqb-true p q e))) (λ e. eq-eqb p q (sym (eqb-true q p e)))
+
 same_test : (ps : List ℕ) (q : ℕ) → is_in ps q ≡ list_any (eqb q) ps
 same_test [] q = refl
-same_test (p ∷ ps) q = λ i. eqb_flip p q i || same_test ps q i
+same_test (p ∷ ps) q = λ i. same_number p q i || same_test ps q i
 
 -- packages with a path each are no more than those that are listed
 pub no_more : (tree : Tree) (ps : List ℕ) → is_ascending (map (path_at tree) ps) ≡ true
