@@ -1,7 +1,9 @@
 -- Files by path, and whether they are of just the packages of a unit.
 use Rattle.std.proofs.Common.{◌≡◌, ◌<◌, ◌&&◌, ◌||◌, ◌++◌, ℕ, Bool, true, false, cond, List, []}
 use Rattle.std.proofs.Common.{◌∷◌, length, map, Option, None, Some, option_map, refl, sym, ap, ◌∙◌}
-use Rattle.std.proofs.Common.{subst}
+use Rattle.std.proofs.Common.{eq-eqb}
+use Rattle.std.proofs.lemmas.List.{length-map}
+use Rattle.listing.specs.Tree.{Tree, path_at}
 use Rattle.std.specs.Prelude.{find, is_some, unwrap_or}
 use Rattle.std.specs.List.{list_all, list_any}
 use Rattle.std.specs.Map.{lookup}
@@ -12,8 +14,8 @@ use Rattle.faults.specs.Bytes.{Text, is_among}
 use Rattle.listing.proofs.Settings.{eq_flip, same_text}
 use Rattle.package_record.specs.Content.{NamedFile}
 use Rattle.protocol.specs.Given.{Given}
-use Rattle.protocol.specs.Jobs.{files_for}
-use Rattle.member.specs.inside.Packages.{files_at}
+use Rattle.protocol.specs.Jobs.{are_given, files_for}
+use Rattle.member.specs.inside.Packages.{files_at, have_files}
 
 -- what stands at the end is found where nothing before it is
 found_behind : {X : Type 0} (test : Text → Bool) (es : List (Text × X)) (path : Text) (x : X)
@@ -111,3 +113,19 @@ is_given (g ∷ gs) path =
         → (b || is_among (map (λ g. g.0) gs) path) ≡ is_some (cond b (Some g.1) (files_at gs path))
     by_test true rest = refl
     by_test false rest = rest
+
+-- files are given for just the packages where each is found, and they are as many
+all_given : (tree : Tree) (given : Given) (ps : List ℕ)
+    → list_all (is_among (map (λ g. g.0) given)) (map (path_at tree) ps)
+    ≡ have_files tree (files_at given) ps
+all_given tree given [] = refl
+all_given tree given (p ∷ ps) =
+    λ i. is_given given (path_at tree p) i && all_given tree given ps i
+
+pub given_for_just : (tree : Tree) (given : Given) (ps : List ℕ) → length given ≡ length ps
+    → are_given (map (path_at tree) ps) given ≡ have_files tree (files_at given) ps
+given_for_just tree given ps many =
+    ap (λ b. b && list_all (is_among (map (λ g. g.0) given)) (map (path_at tree) ps))
+    (eq-eqb (length given) (length (map (path_at tree) ps))
+    (many ∙ sym (length-map ps (path_at tree))))
+    ∙ all_given tree given ps

@@ -68,13 +68,3 @@ module _ (d : Division) (path : Text) where
           let at = position-Some (λ (x : Unit). bytes_eq x.name path) d.units v no_unit named in
           let here = same_bytes (unit_at d v).name path at.1 in
           absurd (other (ap (λ k. (unit_at d k).name) (sym (named_found u v found named)) ∙ here))
-
-  -- a path that finds nothing names nothing
-  pub named_none : number_found d path ≡ None → number_named d path ≡ None
-  named_none found = by_name (number_named d path) refl
-    where
-      by_name : (v : Option ℕ) → number_named d path ≡ v → v ≡ None
-      by_name None named = refl
-      by_name (Some v) named =
-          absurd (let no : Some v ≡ None = sym (ap (λ n. option_or n of_package) named) ∙ found in
-          cc)

@@ -155,7 +155,7 @@ module _ (s : State) (u : ℕ) where
       by_build (Some v) e = refl
 
   -- all others are asked, and the claim stays
-  abbrev question : Answer
+  abbrev pub question : Answer
   question = record {
     note = None;
     sends = sent_to (Some (message_of s u bodies.Ask)) (others s);
@@ -173,3 +173,11 @@ module _ (s : State) (u : ℕ) where
         job = job_kept s u (host_in s.claim) i;
         claim = claim_kept s u is i;
       })
+
+-- only T says that a unit waits
+pub waits_not : (letter : Letter) → (letter ≡ letters.T → ⊥) → is_waiting letter ≡ false
+waits_not letters.T other = absurd (other refl)
+waits_not letters.Q other = refl
+waits_not letters.B other = refl
+waits_not letters.I other = refl
+waits_not letters.Ignored other = refl

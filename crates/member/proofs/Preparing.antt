@@ -1,11 +1,13 @@
 -- Steps and refusals that are right.
-use Rattle.std.proofs.Common.{◌≡◌, ℕ, Option, Some, None, Result, Ok, Err, refl, sym, ap, ◌∙◌}
-use Rattle.std.proofs.Common.{inl, inr}
+use Rattle.std.proofs.Common.{◌≡◌, ℕ, List, Option, Some, None, Result, Ok, Err, refl, sym, ap, ◌∙◌}
+use Rattle.std.proofs.Common.{inl, inr, subst}
 use Rattle.protocol.specs.State.{State}
 use Rattle.protocol.specs.Answers.{Answer}
 use Rattle.protocol.specs.declared.refusal.Refusal.{Refusal}
 use Rattle.protocol.specs.declared.refusal.Refusal.TheVariants as refusals
-use Rattle.member.specs.Prepared.{Prepared}
+use Rattle.protocol.specs.declared.sends.Send.{Send}
+use Rattle.member.specs.Prepared.{IsChangeWeighedBy, Prepared, changed}
+use Rattle.member.specs.declared.step.ClaimChange.TheVariants.{Stays}
 use Rattle.member.specs.inside.Steps.{Makes, Prepares}
 
 module _ (s : State) (right : Result Answer Refusal) where
@@ -20,4 +22,19 @@ module _ (s : State) (right : Result Answer Refusal) where
   -- a step that is the right answer
   pub made_so : (a : Answer) (step : Prepared) → right ≡ Ok a → Makes s a step
       → Prepares s right (Ok step)
-  made_so a step is made = record { given = is ∙ ap (λ b. Ok b) (sym made.is); weighed = made.weighed }
+  made_so a step is made =
+      record { given = is ∙ ap (λ b. Ok b) (sym made.is); weighed = made.weighed }
+
+-- a step that sends this and leaves the claim
+pub says_so : (s : State) (step : Prepared) (sends : List Send) → step.note ≡ None
+    → step.sends ≡ sends → step.job ≡ None → step.change ≡ Stays
+    → Makes s (record { note = None; sends = sends; job = None; claim = s.claim }) step
+says_so s step sends note sent job stays = record {
+  is = λ i. record {
+    note = note i;
+    sends = sent i;
+    job = job i;
+    claim = ap (λ change. changed change s.claim) stays i;
+  };
+  weighed = subst (λ change. IsChangeWeighedBy s.weights change s.claim) (sym stays) tt;
+}

@@ -1,8 +1,9 @@
 //! What becomes of a claim that waits for a build.
-ghost use Rattle.std.specs.Prelude.{◌≡◌, ◌<◌, ◌⊎◌, MatchResult, None, Some, false, length, map, true};
+ghost use Rattle.std.specs.Prelude.{◌≡◌, ◌≢◌, ◌<◌, ◌⊎◌, MatchResult, None, Some, false, length, map, true};
 ghost use Rattle.faults.specs.Answers.{IsRightUnless};
 ghost use Rattle.units.specs.Division.{unit_at};
 ghost use Rattle.protocol.specs.Jobs.{are_given, paths_at};
+ghost use Rattle.protocol.specs.Member.{IsMember};
 ghost use Rattle.member.specs.inside.Packages.{files_at, made_at, made_of};
 ghost use Rattle.member.specs.inside.Steps.{IsPrepared};
 ghost use Rattle.member.specs.inside.Waiting.{job_at, made_by, waiting_for};
@@ -76,15 +77,15 @@ impl<'a> Member<'a> {
         let built = job.deps().copy()?;
         match Build::make(self.allocator(), job.host, job.claim, built, packages) {
             Ok(build) => Ok(build),
-            Err(RecordFault::Memory) => Err(Refusal::Memory),
-            Err(fault) => Err(Refusal::BadFiles(fault)),
+            Err(fault) => Err(refusal_of(fault)),
         }
     }
 
     /// What the build makes of the unit's packages, if the files are of just these.
     fn packages_of(&self, unit: u32, packages: Packages) -> Result<Vec<Package>, Refusal>
         requires { unit < length self.now.division.units }
-        ensures { MatchResult result
+        ensures member { IsMember self.now }
+        ensures made { MatchResult result
             (λ made. (are_given (paths_at self.now unit) packages ≡ true)
                 × (map made_of made.items ≡ map (made_at self.now.division.tree (files_at packages))
                 (unit_at self.now.division unit).packages))
@@ -98,5 +99,16 @@ impl<'a> Member<'a> {
         }
         let files = by_path(alloc, packages)?;
         made(alloc, self.tree, positions, files)
+    }
+}
+
+/// The refusal where no build can be made: memory ran out, or the files make none.
+fn refusal_of(fault: RecordFault) -> Refusal
+    ensures { ((fault ≡ RecordFault.Memory) × (result ≡ Refusal.Memory))
+        ⊎ ((fault ≢ RecordFault.Memory) × (result ≡ Refusal.BadFiles fault)) }
+{
+    match fault {
+        RecordFault::Memory => Refusal::Memory,
+        fault => Refusal::BadFiles(fault),
     }
 }
