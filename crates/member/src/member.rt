@@ -77,6 +77,7 @@ impl<'a> Member<'a> {
         ensures tree { IfOk result (λ m. m.division.tree ≡ tree.entry.now) }
         ensures division { IfOk result (λ m. IsDivision m.division) }
     {
+        prove!(usize::from(me) < weights.as_slice().len());
         let units = Units::new(alloc, tree)?;
         let engine = Engine::new(alloc, tree)?;
         let known = all_unknown(alloc, units.len())?;
