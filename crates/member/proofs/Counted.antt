@@ -3,6 +3,8 @@ use Rattle.std.proofs.Common.{◌≡◌, ◌<◌, ◌&&◌, ◌∙◌, not, ℕ,
 use Rattle.std.proofs.Common.{None, [], ap, ap₂, arith, length, option_map, refl, subst, sym}
 use Rattle.std.proofs.Common.{if◌then◌else◌}
 use Rattle.std.proofs.lemmas.Bool.{and_parts, cond_both, leb-true, true≢false}
+use Rattle.std.specs.List.{list_all}
+use Rattle.std.specs.Prelude.{nat_le}
 use Rattle.agreement.specs.Claims.{claim_same}
 use Rattle.agreement.specs.Member as members
 use Rattle.agreement.specs.Messages as messages
@@ -15,7 +17,7 @@ use Rattle.ballots.specs.InTheAgreement.{claim_of, claimer_then, is_building, no
 use Rattle.ballots.specs.InTheAgreement.{promise_outcome, said_next, stage_then, weights_of}
 use Rattle.ballots.specs.InTheAgreement.{stage_of as stage_of_claimer}
 use Rattle.ballots.specs.Support.{IsMember as IsNumber}
-use Rattle.ballots.specs.Weights.{AreWeights}
+use Rattle.ballots.specs.Weights.{AreWeights, is_weight}
 use Rattle.ballots.specs.declared.claimer.Claimer.{Claimer}
 use Rattle.ballots.specs.declared.claimer.Claimer.TheVariants as claimers
 use Rattle.ballots.specs.declared.claimer.ClaimerChange.{ClaimerChange}
@@ -37,9 +39,8 @@ use Rattle.protocol.specs.State.{State, Value, name_at}
 use Rattle.protocol.specs.Step.{hears, host_in, outcome_of}
 use Rattle.protocol.proofs.Answering.{fits}
 use Rattle.protocol.proofs.TheTheory.{IsWithin}
-use Rattle.member.specs.OpenClaims.{IsTallyOf, IsWeighedBy, open_of, progress_of_claimer}
+use Rattle.member.specs.OpenClaims.{IsWeighedBy, open_of, progress_of_claimer}
 use Rattle.member.specs.Prepared.{IsChangeWeighedBy, IsCountWeighedBy, Prepared, changed, counted}
-use Rattle.member.specs.Prepared.{moved}
 use Rattle.member.specs.declared.open_claim.OpenClaim as code
 use Rattle.member.specs.declared.step.ClaimChange.TheVariants.{Counts}
 use Rattle.member.specs.inside.Counting.{counter_prepared}
@@ -101,6 +102,14 @@ next_job s o next.Build c =
 next_job s o (next.Propose d v) c = refl
 next_job s o (next.Hold noted sent) c = refl
 
+-- what becomes of the claim is the claimer's change
+next_change : (s : State) (o : code.OpenClaim) (n : Next Value) (c : ClaimerChange Value)
+    → (counter_prepared s (open_of o) n c).change ≡ Counts c
+next_change s o next.Nothing c = refl
+next_change s o next.Build c = refl
+next_change s o (next.Propose d v) c = refl
+next_change s o (next.Hold noted sent) c = refl
+
 -- ---- the whole step
 
 counter_makes : (s : State) (o : code.OpenClaim) (to : List ℕ) (w : Outcome Value)
@@ -112,55 +121,62 @@ counter_makes : (s : State) (o : code.OpenClaim) (to : List ℕ) (w : Outcome Va
 counter_makes s o to w step at weighed is within reach = record {
   is = λ i. record { note = note i; sends = sends i; job = job i; claim = claim i };
   weighed =
-      subst (IsChangeWeighedBy s.weights (Counts step.change)) (sym at)
+      subst (λ d. IsChangeWeighedBy s.weights d s.claim)
+      (sym (next_change s o step.next step.change))
+      (subst (IsChangeWeighedBy s.weights (Counts step.change)) (sym at)
       (count_weighed s.weights o.claimer step.change weights
-      (subst (IsWithin (length s.weights)) is.stage within));
+      (subst (IsWithin (length s.weights)) is.stage within)));
 }
   where
-    n : ℕ
-    n = length s.weights
-    prepared : Prepared
-    prepared = counter_prepared s (open_of o) step.next step.change
     weights : weights_of (claimer_then o.claimer step.change) ≡ s.weights
     weights = is.weights ∙ weighed.same
+
     note : (counter_prepared s (open_of o) step.next step.change).note
         ≡ option_map (note_at s o.unit) w.note
     note =
         next_notes s o step.next step.change
         ∙ ap (option_map (note_at s o.unit)) (sym is.note)
+
     sends : (counter_prepared s (open_of o) step.next step.change).sends
         ≡ sends_of s o.unit to w.send
     sends =
         next_sends s o to step.next step.change reach ∙ ap (sends_of s o.unit to) (sym is.said)
+
     host : host_in s.claim ≡ o.host
     host = ap host_in at
+
     shown : is_building (view s o.unit).stage ≡ is_building (stage_of_claimer o.claimer)
     shown = ap is_building (shown_stage s o at weighed)
+
     builds : builds_next step.next
         ≡ (is_building (stage_then o.claimer step.change)
         && not (is_building (stage_of_claimer o.claimer)))
     builds =
         is.builds
         ∙ ap (λ t. is_building t && not (is_building (stage_of_claimer o.claimer))) is.stage
+
     job : (counter_prepared s (open_of o) step.next step.change).job
         ≡ job_then s o.unit (host_in s.claim) w.member.stage
     job =
         next_job s o step.next step.change
         ∙ (job_counted s o.unit o.host o.claimer step.change (builds_next step.next) shown builds
         ∙ ap₂ (job_then s o.unit) (sym host) (sym is.stage))
+
     far : progress_of (length s.weights) w.member.stage
         ≡ counted step.change (progress_of_claimer o.claimer)
     far =
         ap (progress_of (length s.weights)) is.stage
         ∙ counted_is (length s.weights) o.claimer step.change (ap length weights)
         (ap length weighed.same)
-    claim : changed (Counts step.change) s.claim
+
+    claim : changed (counter_prepared s (open_of o) step.next step.change).change s.claim
         ≡ claim_then s.claim o.unit (host_in s.claim)
         (progress_of (length s.weights) w.member.stage)
     claim =
-        ap (changed (Counts step.change)) at
+        ap (λ d. changed d s.claim) (next_change s o step.next step.change)
+        ∙ (ap (changed (Counts step.change)) at
         ∙ moved_is s (open_of o) (length s.weights) w.member.stage
-        (counted step.change (progress_of_claimer o.claimer)) at far
+        (counted step.change (progress_of_claimer o.claimer)) at far)
 
 -- ---- who is told
 
@@ -250,8 +266,10 @@ promise_makes s o u from c report step made is at unit weighed lt sender of same
   where
     promise : PromiseOf Value
     promise = record { member = from; claim = c; report = report_of report }
+
     stage : (view s o.unit).stage ≡ stage_of_claimer o.claimer
     stage = shown_stage s o at weighed
+
     outcome : outcome_of s o.unit from (bodies.Promise c report)
         ≡ promise_outcome o.claimer from c report (view s o.unit)
     outcome =
@@ -279,6 +297,7 @@ vote_makes s o u from c step made is at unit weighed lt sender of same =
   where
     stage : (view s o.unit).stage ≡ stage_of_claimer o.claimer
     stage = shown_stage s o at weighed
+
     outcome : outcome_of s o.unit from (bodies.Vote c)
         ≡ on_vote (is_majority (weights_of o.claimer)) (view s o.unit) (stage_of_claimer o.claimer)
         from c
@@ -291,6 +310,8 @@ vote_makes s o u from c step made is at unit weighed lt sender of same =
 pub number_within : (weights : List ℕ) (m : ℕ) → AreWeights weights → m < length weights
     → IsNumber m
 number_within weights m are lt =
-    let few = leb-true (length weights) most_members
-    (and_parts _ _ (and_parts _ _ are).0).1 in
-    omega (arith, few)
+    let some = nat_le 1 (length weights) in
+    let most = nat_le (length weights) most_members in
+    let both = (and_parts (some && most) (list_all is_weight weights) are).0 in
+    let few = leb-true (length weights) most_members (and_parts some most both).1 in
+    omega (arith, lt, few)

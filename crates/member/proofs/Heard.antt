@@ -1,43 +1,33 @@
 -- What a member prepares for a message is the answer of the theory's member.
-use Rattle.std.proofs.Common.{◌≡◌, ◌==◌, ◌&&◌, ◌∙◌, not, ℕ, Bool, true, false, List, []}
+use Rattle.std.proofs.Common.{◌≡◌, ◌==◌, ◌&&◌, ◌∙◌, not, ℕ, true, false, List, []}
 use Rattle.std.proofs.Common.{◌∷◌, Option, Some, None, ap, length, option_map, refl, subst, sym}
-use Rattle.std.proofs.Common.{Ok, Err, inl, inr, if◌then◌else◌}
+use Rattle.std.proofs.Common.{if◌then◌else◌}
 use Rattle.std.proofs.lemmas.Bool.{cond_both, cond-true, eq-eqb, true≢false}
 use Rattle.std.specs.Prelude.{is_some}
 use Rattle.agreement.specs.Claims.{is_above, is_below, is_promised}
 use Rattle.agreement.specs.Member as members
-use Rattle.agreement.specs.Nodes as nodes
-use Rattle.agreement.specs.Quorums.{is_majority}
-use Rattle.agreement.specs.Step.{Outcome, on_agreed, on_ask, on_offer, on_promise, on_propose}
-use Rattle.agreement.specs.Step.{on_vote, still}
-use Rattle.agreement.specs.Votes.{Ballot, ballot, is_voted, report_of}
+use Rattle.agreement.specs.Step.{Outcome, on_agreed, on_ask, on_offer, on_propose}
+use Rattle.agreement.specs.Step.{still}
+use Rattle.agreement.specs.Votes.{Ballot, ballot, is_voted}
 use Rattle.agreement.specs.declared.claim.Claim.{Claim}
 use Rattle.ballots.specs.InTheAgreement.{IsStepOf, IsVoter}
 use Rattle.ballots.specs.Pledge.{Pledge}
 use Rattle.ballots.specs.declared.message.Body.TheVariants as bodies
-use Rattle.ballots.specs.declared.message.Fact.{Fact}
 use Rattle.ballots.specs.declared.message.Fact.TheVariants as facts
-use Rattle.ballots.specs.declared.message.Message.{Message}
 use Rattle.ballots.specs.declared.voter.VoterStep.{VoterStep}
 use Rattle.protocol.specs.Answers.{Answer, answered, claim_then, dropped, job_then, note_at}
-use Rattle.protocol.specs.Answers.{everyone, message_of, others}
-use Rattle.protocol.specs.InTheAgreement.{claim_of, progress_of, view}
+use Rattle.protocol.specs.Answers.{message_of}
+use Rattle.protocol.specs.InTheAgreement.{progress_of, view}
 use Rattle.protocol.specs.Member.{IsMember}
 use Rattle.protocol.specs.Sends.{sent_to}
 use Rattle.protocol.specs.State.{OpenClaim, State, Value, facts_at}
-use Rattle.protocol.specs.Step.{at_unit, header_refusal, heard, hears, host_in, members_of}
-use Rattle.protocol.specs.Step.{outcome_of, unless}
-use Rattle.protocol.specs.declared.input.Input.TheVariants as inputs
-use Rattle.protocol.specs.declared.refusal.Refusal.{Refusal}
-use Rattle.protocol.specs.declared.refusal.Refusal.TheVariants as refusals
-use Rattle.engine.specs.declared.Letter.TheVariants as letters
-use Rattle.units.specs.Division.{number_named}
+use Rattle.protocol.specs.Step.{hears, host_in}
 use Rattle.member.specs.OpenClaims.{is_for}
 use Rattle.member.specs.Prepared.{IsChangeWeighedBy, Prepared, changed}
 use Rattle.member.specs.declared.step.ClaimChange.{ClaimChange}
 use Rattle.member.specs.declared.step.ClaimChange.TheVariants.{Stays, Ends}
 use Rattle.member.specs.inside.Counting.{on_unit, voter_prepared}
-use Rattle.member.specs.inside.Steps.{IsPrepared, Makes}
+use Rattle.member.specs.inside.Steps.{Makes}
 use Rattle.member.proofs.SameStep.{claim_kept, job_kept, voter_makes}
 
 -- ---- offers and proposals
@@ -62,34 +52,28 @@ proposal_stays me x b =
     (λ g. refl))
 
 -- the voter's step for an offer
-pub offer_makes : (s : State) (u : ℕ) (v : Pledge Value) (c : Claim) (step : VoterStep Value)
+pub offer_makes : (s : State) (u from : ℕ) (v : Pledge Value) (c : Claim) (step : VoterStep Value)
     (made : Prepared) → IsMember s → IsVoter Value v (view s u)
     → IsStepOf Value v (λ i x. on_offer i x c) step
     → made ≡ voter_prepared s u c.member step.note step.answer
-    → Makes s (hears s u 0 (bodies.Offer c)) made
-offer_makes s u v c step made is voter of same =
-    subst (Makes s (hears s u 0 (bodies.Offer c))) (sym same)
+    → Makes s (hears s u from (bodies.Offer c)) made
+offer_makes s u from v c step made is voter of same =
+    subst (Makes s (hears s u from (bodies.Offer c))) (sym same)
     (voter_makes s u c.member (on_offer s.me (view s u) c) step.note step.answer is
     (offer_stays s.me (view s u) c) (of.note s.me (view s u) voter)
     (of.said s.me (view s u) voter))
 
 -- the voter's step for a proposal
-pub proposal_makes : (s : State) (u : ℕ) (v : Pledge Value) (c : Claim) (value : Value)
+pub proposal_makes : (s : State) (u from : ℕ) (v : Pledge Value) (c : Claim) (value : Value)
     (step : VoterStep Value) (made : Prepared) → IsMember s → IsVoter Value v (view s u)
     → IsStepOf Value v (λ i x. on_propose i x (ballot c value)) step
     → made ≡ voter_prepared s u c.member step.note step.answer
-    → Makes s (hears s u 0 (bodies.Propose c value)) made
-proposal_makes s u v c value step made is voter of same =
-    subst (Makes s (hears s u 0 (bodies.Propose c value))) (sym same)
+    → Makes s (hears s u from (bodies.Propose c value)) made
+proposal_makes s u from v c value step made is voter of same =
+    subst (Makes s (hears s u from (bodies.Propose c value))) (sym same)
     (voter_makes s u c.member (on_propose s.me (view s u) (ballot c value)) step.note step.answer
     is (proposal_stays s.me (view s u) (ballot c value)) (of.note s.me (view s u) voter)
     (of.said s.me (view s u) voter))
-
--- the fact of a note is what is noted
-pub fact_noted : (s : State) (u : ℕ) (note : Option (Fact Value))
-    → option_map (λ n. n.fact) (option_map (on_unit s u) note) ≡ note
-fact_noted s u None = refl
-fact_noted s u (Some f) = refl
 
 -- ---- nothing is noted, and the claim stays
 
@@ -111,12 +95,15 @@ saying_makes s u to o p is stage quiet says sends = record {
   where
     right : Answer
     right = answered s u (host_in s.claim) to o
+
     note : p.note ≡ option_map (note_at s u) o.note
     note = says.note ∙ sym (ap (option_map (note_at s u)) quiet)
+
     job : p.job ≡ job_then s u (host_in s.claim) o.member.stage
     job =
         says.job
         ∙ sym (ap (job_then s u (host_in s.claim)) stage ∙ job_kept s u (host_in s.claim))
+
     claim : changed p.change s.claim
         ≡ claim_then s.claim u (host_in s.claim) (progress_of (length s.weights) o.member.stage)
     claim =
@@ -132,33 +119,11 @@ nothing_makes s u to o p is same says sends =
     subst (λ o. Makes s (answered s u (host_in s.claim) to o) p) (sym same)
     (saying_makes s u to (still (view s u)) p is refl refl says sends)
 
--- ---- a claim for another unit
-
--- no claim is open for the unit
-pub none_open : (claim : Option OpenClaim) (u : ℕ) → is_for claim u ≡ false
-    → nodes.stage_at (option_map claim_of claim) u ≡ members.Closed
-none_open None u other = refl
-none_open (Some o) u other =
-    ap (λ b. if b then (claim_of o).stage else members.Closed) other
-
--- a promise is none of such a claim's
-pub promise_passes : (s : State) (u from : ℕ) (c : Claim) (report : Option (Claim × Value))
-    (p : Prepared) → IsMember s → is_for s.claim u ≡ false → IsSaying p → p.sends ≡ []
-    → Makes s (hears s u from (bodies.Promise c report)) p
-promise_passes s u from c report p is other says sends =
-    nothing_makes s u (everyone s) (outcome_of s u from (bodies.Promise c report)) p is
-    (ap (λ t. on_promise (is_majority s.weights) (view s u) t
-    (record { member = from; claim = c; report = report_of report }))
-    (none_open s.claim u other)) says sends
-
--- nor is a vote
-pub vote_passes : (s : State) (u from : ℕ) (c : Claim) (p : Prepared) → IsMember s
-    → is_for s.claim u ≡ false → IsSaying p → p.sends ≡ []
-    → Makes s (hears s u from (bodies.Vote c)) p
-vote_passes s u from c p is other says sends =
-    nothing_makes s u (others s) (outcome_of s u from (bodies.Vote c)) p is
-    (ap (λ t. on_vote (is_majority s.weights) (view s u) t from c) (none_open s.claim u other))
-    says sends
+-- a refusal says nothing
+pub refusal_passes : (s : State) (u from : ℕ) (c promised : Claim) (p : Prepared) → IsMember s
+    → IsSaying p → p.sends ≡ [] → Makes s (hears s u from (bodies.Nay c promised)) p
+refusal_passes s u from c promised p is says sends =
+    nothing_makes s u [] (still (view s u)) p is refl says sends
 
 -- ---- what is agreed
 
@@ -228,67 +193,3 @@ question_makes s u from v p is held says sends =
     subst (λ h. Makes s (answered s u (host_in s.claim) (from ∷ []) (on_ask (view s u) h)) p)
     (sym held)
     (saying_makes s u (from ∷ []) (on_ask (view s u) (Some v)) p is refl refl says sends)
-
--- ---- a message
-
--- the refusal of the message's header, if there is one
-abbrev header_of : State → Message Value → Option Refusal
-header_of s m = header_refusal s m.tree (m.sender ∷ members_of m.body) m.path
-
--- memory ran out
-pub memory_ran_out : (s : State) (m : Message Value)
-    → IsPrepared s (inputs.Message m) (Err refusals.Memory)
-memory_ran_out s m = record {
-  answered = record {
-    right = heard s m;
-    answers = record { letter = letters.T; shown = tt; right = refl };
-    given = inl refl;
-  };
-  weighed = tt;
-}
-
--- the message is refused
-pub refused_so : (s : State) (m : Message Value) (e : Refusal) → header_of s m ≡ Some e
-    → IsPrepared s (inputs.Message m) (Err e)
-refused_so s m e at = record {
-  answered = record {
-    right = heard s m;
-    answers = record { letter = letters.T; shown = tt; right = refl };
-    given = inr
-        (ap (λ r. unless r (at_unit refusals.Unlisted (λ u. Ok (hears s u m.sender m.body))
-        (number_named s.division m.path))) at);
-  };
-  weighed = tt;
-}
-
--- its path is no unit's name
-pub no_unit_named : (s : State) (m : Message Value) → header_of s m ≡ None
-    → number_named s.division m.path ≡ None
-    → IsPrepared s (inputs.Message m) (Err refusals.Unlisted)
-no_unit_named s m passes none = record {
-  answered = record {
-    right = heard s m;
-    answers = record { letter = letters.T; shown = tt; right = refl };
-    given = inr
-        (ap (λ r. unless r (at_unit refusals.Unlisted (λ u. Ok (hears s u m.sender m.body))
-        (number_named s.division m.path))) passes
-        ∙ ap (at_unit refusals.Unlisted (λ u. Ok (hears s u m.sender m.body))) none);
-  };
-  weighed = tt;
-}
-
--- the message is answered
-pub answered_so : (s : State) (m : Message Value) (u : ℕ) (p : Prepared) → header_of s m ≡ None
-    → number_named s.division m.path ≡ Some u → Makes s (hears s u m.sender m.body) p
-    → IsPrepared s (inputs.Message m) (Ok p)
-answered_so s m u p passes named makes = record {
-  answered = record {
-    right = heard s m;
-    answers = record { letter = letters.T; shown = tt; right = refl };
-    given = ap (λ r. unless r (at_unit refusals.Unlisted (λ u. Ok (hears s u m.sender m.body))
-        (number_named s.division m.path))) passes
-        ∙ (ap (at_unit refusals.Unlisted (λ u. Ok (hears s u m.sender m.body))) named
-        ∙ ap (λ a. Ok a) (sym makes.is));
-  };
-  weighed = makes.weighed;
-}

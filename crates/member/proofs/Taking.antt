@@ -1,12 +1,14 @@
 -- What a step that is taken leaves: a member, and the job of its claim.
-use Rattle.std.proofs.Common.{◌≡◌, ◌⊎◌, ℕ, Option, None, Some, inl, inr, refl, sym, ap, ◌∙◌}
-use Rattle.std.proofs.Common.{if◌then◌else◌}
+use Rattle.std.proofs.Common.{◌≡◌, ◌⊎◌, ℕ, List, map, Option, None, Some, inl, inr, refl, sym}
+use Rattle.std.proofs.Common.{ap, ◌∙◌, if◌then◌else◌, option_map, subst}
 use Rattle.std.specs.Prelude.{option_and_then, unwrap_or}
+use Rattle.std.specs.Option.{ForSome}
 use Rattle.faults.specs.Answers.{option_or}
 use Rattle.agreement.specs.declared.claim.Claim.{Claim}
 use Rattle.claims.specs.Job.{Task}
 use Rattle.units.proofs.Kept.{unit_good}
 use Rattle.protocol.specs.State.{OpenClaim, Progress, Gathering, Building, Voting, State, name_at}
+use Rattle.protocol.specs.State.{facts_then}
 use Rattle.protocol.specs.Answers.{Answer, after}
 use Rattle.protocol.specs.Jobs.{job_of, paths_at}
 use Rattle.protocol.specs.Laws.{IsJobGiven}
@@ -16,9 +18,10 @@ use Rattle.protocol.proofs.GivenJobs.{jobs_are_of_claims}
 use Rattle.protocol.proofs.HeldRecords.{deps_stay}
 use Rattle.protocol.proofs.MembersStay.{claims_were_ready, members_stay}
 use Rattle.protocol.proofs.WaitingClaims.{waiting_claims}
-use Rattle.member.specs.OpenClaims.{is_building_at, waits}
-use Rattle.member.specs.Prepared.{MayBeTaken, Prepared, answer_by}
-use Rattle.member.specs.inside.Fields.{job_in}
+use Rattle.member.specs.OpenClaims.{IsWeighedBy, is_building_at, open_of, waits}
+use Rattle.member.specs.Prepared.{IsChangeWeighedBy, MayBeTaken, Prepared, answer_by, changed}
+use Rattle.member.specs.declared.member.Member.TheInside.{Inside}
+use Rattle.member.specs.inside.Fields.{IsKept, engine_with, facts_of_known, job_in, state_of}
 
 -- the claim under which a build is made, where a claim waits for one
 abbrev claim_or : Progress → Claim → Claim
@@ -95,3 +98,36 @@ module _ (s : State) (p : Prepared) (is : IsMember s) (may : MayBeTaken s p) whe
           ≡ option_and_then (λ (x : OpenClaim). job_again (after s given) x x.progress) claim
       by_claim None e = refl
       by_claim (Some o) e = by_progress o o.progress e refl
+
+-- The member that took a step, where its fields are those of n, keeps what a member keeps.
+module _ (m n : Inside) (p : Prepared) (is : IsKept m) (may : MayBeTaken (state_of m) p) where
+  abbrev new : Inside
+  new = record m { known = n.known; claim = n.claim; job = n.job; engine = n.engine }
+
+  pub state_then : map facts_of_known n.known.items
+      ≡ facts_then m.units (map facts_of_known m.known.items) p.note
+      → option_map open_of n.claim ≡ changed p.change (option_map open_of m.claim)
+      → state_of new ≡ after (state_of m) (answer_by (state_of m) p)
+  state_then facts claim = λ i. record (state_of m) { facts = facts i; claim = claim i }
+
+  pub kept_then : map facts_of_known n.known.items
+      ≡ facts_then m.units (map facts_of_known m.known.items) p.note
+      → option_map open_of n.claim ≡ changed p.change (option_map open_of m.claim)
+      → ((weights : List ℕ) → ForSome m.claim (λ o. IsWeighedBy weights o.claimer)
+      → IsChangeWeighedBy weights p.change (option_map open_of m.claim)
+      → ForSome n.claim (λ o. IsWeighedBy weights o.claimer))
+      → n.job ≡ (if waits (option_map open_of n.claim) then option_or p.job m.job else None)
+      → n.engine ≡ engine_with m.units (map facts_of_known n.known.items)
+      → IsKept new
+  kept_then facts claim weighed job engine =
+      let state = state_then facts claim in
+      record {
+        member = subst IsMember (sym state) (member_stays (state_of m) p is.member may);
+        tree = is.tree;
+        digest = is.digest;
+        engine = engine;
+        weighed = weighed m.weights is.weighed may.weighed;
+        job = job
+            ∙ (ap (λ x. if waits x then option_or p.job m.job else None) claim
+            ∙ (job_then (state_of m) p is.member may m.job is.job ∙ ap job_in (sym state)));
+      }

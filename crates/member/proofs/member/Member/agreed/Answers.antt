@@ -1,4 +1,4 @@
-use Rattle.std.proofs.Common.{◌≡◌, ◌∙◌, None, Some, ap, refl, subst, sym}
+use Rattle.std.proofs.Common.{◌≡◌, ◌∙◌, Some, ap, refl, subst, sym}
 use Rattle.protocol.specs.Answers.{dropped}
 use Rattle.member.specs.OpenClaims.{open_of}
 use Rattle.member.specs.Prepared.{IsChangeWeighedBy, changed}
@@ -37,9 +37,9 @@ returns c =
     let held = none_held k.held (sym c.is_some.ensures ∙ c.if-is_some.false) in
     let claim : changed change s.claim ≡ dropped s.claim u = elim c.match-claim_for.branch [
       | in-Some w ↦
-          let is = w.in-Some.ensures in
+          let is = w.in-Some.ensures.claim in
           claim_ends s.claim (open_of w.in-Some.field-0.now) u change is.0 is.1 w.change-is
-      | in-None w ↦ claim_stays s.claim u change w.in-None.ensures w.change-is
+      | in-None w ↦ claim_stays s.claim u change w.in-None.ensures.claim w.change-is
     ] in
     let weighed : IsChangeWeighedBy s.weights change s.claim = elim c.match-claim_for.branch [
       | in-Some w ↦ subst (λ d. IsChangeWeighedBy s.weights d s.claim) (sym w.change-is) tt

@@ -1,8 +1,7 @@
-use Rattle.std.proofs.Common.{◌≡◌, ◌∙◌, None, Some, ap}
+use Rattle.std.proofs.Common.{◌∙◌, None, Some, ap}
 use Rattle.ballots.specs.declared.message.Body.TheVariants.{Agreed}
 use Rattle.protocol.specs.Answers.{message_of, others}
 use Rattle.protocol.specs.Sends.{sent_to}
-use Rattle.protocol.specs.State.{State}
 use Rattle.member.specs.declared.step.ClaimChange.TheVariants.{Counts}
 use Rattle.member.proofs.member.Member.holding.Goals as goal
 
