@@ -77,7 +77,7 @@ fn packages(alloc: Global, text: &str) -> Result<Packages, Memory> {
     Ok(Packages::new(items))
 }
 
-// The package in front: its path, the file's name and how many bytes it has, and what stands behind.
+// The package in front: its path, the file and how many bytes it has, and what stands behind.
 fn package(alloc: Global, text: &str) -> Option<(PkgPath, &str, u64, &str)> {
     let (path, rest) = first_path(alloc, text)?;
     let (name, rest) = first_word(rest);
