@@ -51,7 +51,10 @@ fn vote_text(alloc: Global, claim: Claim, build: &str) -> Result<String, Memory>
 
 pub fn counts(alloc: Global, member: &Member<'_>) -> Result<String, Memory> {
     let counts = member.counts();
-    Ok(format!(in alloc; "I {} B {} Q {} T {}", counts.i, counts.b, counts.q, counts.t)?)
+    Ok(format!(in alloc;
+        "I {} B {} Q {} T {}",
+        counts.i, counts.b, counts.q, counts.t
+    )?)
 }
 
 // The open claim, its host, and how far it is.

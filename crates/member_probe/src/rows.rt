@@ -10,10 +10,7 @@ use std::alloc::Global;
 // The answers, and how often memory ran out in a step.
 pub fn answers(alloc: Global, row: &[String]) -> Result<(String, u32), Memory> {
     let text = listing(alloc, row)?;
-    let (Ok(tree), Some(weights)) = (
-        Tree::parse(alloc, text.as_slice()),
-        weights(row),
-    ) else {
+    let (Ok(tree), Some(weights)) = (Tree::parse(alloc, text.as_slice()), weights(row)) else {
         return Err(Memory);
     };
     let mut post = Post::new(alloc, &tree, &weights)?;
@@ -34,12 +31,7 @@ fn all(alloc: Global, post: &mut Post<'_>, row: &[String]) -> Result<String, Mem
     Ok(answers)
 }
 
-fn add(
-    alloc: Global,
-    answers: &mut String,
-    post: &mut Post<'_>,
-    line: &str,
-) -> Result<(), Memory> {
+fn add(alloc: Global, answers: &mut String, post: &mut Post<'_>, line: &str) -> Result<(), Memory> {
     let answer = answer(post, line)?;
     let told = format!(in alloc; "\n{line}: {answer}")?;
     answers.push_str(told.as_str())?;

@@ -22,8 +22,7 @@ pub fn build_text(alloc: Global, build: &Build) -> Result<String, Memory> {
     build.write_to(&mut text)?;
     let packages = build.packages();
     match packages.first() {
-        Some(first) => Ok(format!(
-            in alloc;
+        Some(first) => Ok(format!(in alloc;
             "{} in {} bytes by {} under {}.{}",
             packages.len(),
             text.len(),
@@ -36,12 +35,7 @@ pub fn build_text(alloc: Global, build: &Build) -> Result<String, Memory> {
 }
 
 // The word, the claim, and the build.
-fn with_build(
-    alloc: Global,
-    word: &str,
-    claim: Claim,
-    build: &Build,
-) -> Result<String, Memory> {
+fn with_build(alloc: Global, word: &str, claim: Claim, build: &Build) -> Result<String, Memory> {
     let build = build_text(alloc, build)?;
     Ok(format!(in alloc; "{word} {}.{} {build}", claim.round, claim.member)?)
 }
