@@ -15,10 +15,6 @@ pub fn first_word(text: &str) -> (&str, &str) {
     }
 }
 
-pub fn number(word: &str) -> Option<u64> {
-    word.parse().ok()
-}
-
 // The path in front, and what stands behind it.
 pub fn first_path(alloc: Global, text: &str) -> Option<(PkgPath, &str)> {
     let (word, rest) = first_word(text);
@@ -29,7 +25,13 @@ pub fn first_path(alloc: Global, text: &str) -> Option<(PkgPath, &str)> {
 // The number in front, and what stands behind it.
 pub fn first_number(text: &str) -> Option<(u64, &str)> {
     let (word, rest) = first_word(text);
-    Some((number(word)?, rest))
+    Some((word.parse().ok()?, rest))
+}
+
+// The place or the member's number in front, and what stands behind it.
+pub fn first_place(text: &str) -> Option<(usize, &str)> {
+    let (number, rest) = first_number(text)?;
+    Some((usize::try_from(number).ok()?, rest))
 }
 
 // The input with this word in front, of what stands behind the member's number.
@@ -65,32 +67,46 @@ fn built(alloc: Global, rest: &str) -> Option<Input> {
     Some(Input::Built { path, packages })
 }
 
-// The packages with their files, up to the first that isn't said whole.
+// The packages with their files, nine at most.
 fn packages(alloc: Global, text: &str) -> Result<Packages, Memory> {
     let mut items = Vec::new(alloc);
     let mut rest = text;
-    while let Some((path, name, bytes, behind)) = package(alloc, rest) {
-        let files = files(alloc, name, bytes)?;
-        items.push((path, files))?;
-        rest = behind;
+    for _package in 0..9 {
+        rest = add_package(alloc, &mut items, rest)?;
     }
     Ok(Packages::new(items))
 }
 
+// Adds the package in front, if there is one, and gives what stands behind it.
+fn add_package<'a>(
+    alloc: Global,
+    items: &mut Vec<(PkgPath, Files)>,
+    text: &'a str,
+) -> Result<&'a str, Memory> {
+    match package(alloc, text) {
+        Some((path, name, bytes, rest)) => {
+            let files = files(alloc, name, bytes)?;
+            items.push((path, files))?;
+            Ok(rest)
+        }
+        None => Ok(text),
+    }
+}
+
 // The package in front: its path, the file and how many bytes it has, and what stands behind.
-fn package(alloc: Global, text: &str) -> Option<(PkgPath, &str, u64, &str)> {
+fn package(alloc: Global, text: &str) -> Option<(PkgPath, &str, usize, &str)> {
     let (path, rest) = first_path(alloc, text)?;
     let (name, rest) = first_word(rest);
-    let (bytes, rest) = first_number(rest)?;
+    let (bytes, rest) = first_place(rest)?;
     Some((path, name, bytes, rest))
 }
 
 // A file of so many times the letter a; none of no bytes.
-fn files(alloc: Global, name: &str, bytes: u64) -> Result<Files, Memory> {
+fn files(alloc: Global, name: &str, bytes: usize) -> Result<Files, Memory> {
     let mut items = Vec::new(alloc);
     if bytes > 0 {
         let name = Vec::from_slice(alloc, name.as_bytes())?;
-        let bytes = vec![in alloc; b'a'; bytes as usize]?;
+        let bytes = vec![in alloc; b'a'; bytes]?;
         items.push(File { name, bytes })?;
     }
     Ok(Files::new(items))

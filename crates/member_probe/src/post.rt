@@ -36,14 +36,14 @@ impl<'a> Post<'a> {
     }
 
     // The message with the number, on its way to the member.
-    pub fn message(&self, number: usize, to: u8) -> Result<Option<Send>, Memory> {
-        match self.sent.get(number) {
-            Some(message) => {
+    pub fn message(&self, number: usize, to: usize) -> Result<Option<Send>, Memory> {
+        match (self.sent.get(number), u8::try_from(to)) {
+            (Some(message), Ok(to)) => {
                 let message = message.copy()?;
                 let send = Send { to, message };
                 Ok(Some(send.copy()?))
             }
-            None => Ok(None),
+            _ => Ok(None),
         }
     }
 

@@ -1,7 +1,8 @@
 // A row: some members, and what they are asked.
 use crate::asked::answer;
-use crate::inputs::{first_word, number};
+use crate::inputs::{first_number, first_word};
 use crate::post::Post;
+use arrayvec::ArrayVec;
 use ballots::Weights;
 use faults::Memory;
 use listing::Tree;
@@ -54,13 +55,20 @@ fn listing(alloc: Global, row: &[String]) -> Result<Vec<u8>, Memory> {
 fn weights(row: &[String]) -> Option<Weights> {
     let line = row.first()?;
     let (_, mut rest) = first_word(line.as_str());
-    let mut weights = [0u8; 9];
-    let mut count = 0;
-    while count < 9 && !rest.is_empty() {
-        let (word, behind) = first_word(rest);
-        weights[count] = number(word)? as u8;
-        count += 1;
-        rest = behind;
+    let mut weights: ArrayVec<u8, 9> = ArrayVec::new();
+    for _member in 0..9 {
+        rest = add_weight(&mut weights, rest);
     }
-    Weights::new(&weights[..count]).ok()
+    Weights::new(weights.as_slice()).ok()
+}
+
+// Adds the weight in front, if there is one, and gives what stands behind it.
+fn add_weight<'a>(weights: &mut ArrayVec<u8, 9>, text: &'a str) -> &'a str {
+    match first_number(text) {
+        Some((weight, rest)) => {
+            let _added = weights.try_push(u8::try_from(weight).unwrap_or(0));
+            rest
+        }
+        None => text,
+    }
 }
