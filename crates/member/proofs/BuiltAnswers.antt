@@ -73,18 +73,21 @@ is_waiting s path u job e = by_unit (unit_in s path) refl e
           builds = p;
           is = ap (λ (x : ℕ × Task). x.1) pair;
         }
+
     by_test : (v : ℕ) (o : OpenClaim) → unit_in s path ≡ Some v → s.claim ≡ Some o → (b : Bool)
         → (v == o.unit) ≡ b → both v (if b then job_again s o o.progress else None) ≡ Some (u, job)
         → IsWaiting s path u job
     by_test v o named at true t e =
         by_progress v o named at (eqb-true v o.unit t) o.progress refl e
     by_test v o named at false t e = absurd (let no : None ≡ Some (u, job) = e in cc)
+
     by_claim : (v : ℕ) → unit_in s path ≡ Some v → (claim : Option OpenClaim) → s.claim ≡ claim
         → both v (option_and_then
         (λ o. if v == o.unit then job_again s o o.progress else None) claim) ≡ Some (u, job)
         → IsWaiting s path u job
     by_claim v named None at e = absurd (let no : None ≡ Some (u, job) = e in cc)
     by_claim v named (Some o) at e = by_test v o named at (v == o.unit) refl e
+
     by_unit : (v : Option ℕ) → unit_in s path ≡ v
         → option_and_then (λ u. both u (job_at s u)) v ≡ Some (u, job) → IsWaiting s path u job
     by_unit None named e = absurd (let no : None ≡ Some (u, job) = e in cc)

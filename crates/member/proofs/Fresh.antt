@@ -1,6 +1,6 @@
 -- A member that knows nothing.
-use Rattle.std.proofs.Common.{◌≡◌, ◌<◌, ℕ, Bool, true, false, All, List, [], ◌∷◌, Option, Some, None}
-use Rattle.std.proofs.Common.{refl, sym, ap, ◌∙◌, filter, length, map, replicate}
+use Rattle.std.proofs.Common.{◌≡◌, ◌<◌, ℕ, Bool, true, false, All, List, [], ◌∷◌, Option, Some}
+use Rattle.std.proofs.Common.{None, refl, sym, ap, ◌∙◌, filter, length, map, replicate}
 use Rattle.std.specs.Prelude.{cond, is_some}
 use Rattle.std.specs.FinSet as set
 use Rattle.std.specs.List.{slice_index_or}

@@ -45,9 +45,11 @@ module _ (given : Given) (path : Text) (files : List NamedFile) where
           → is_some o ≡ true → option_or o other ≡ o
       some_before None other e = absurd (true≢false (sym e))
       some_before (Some x) other e = refl
+
       none_behind : (o : Option (List NamedFile)) → option_or o None ≡ o
       none_behind None = refl
       none_behind (Some x) = refl
+
       by_test : (b : Bool) → bytes_eq q path ≡ b
           → option_or (files_at given q) (cond b (Some files) None) ≡ files_at given q
       by_test false e = none_behind (files_at given q)
@@ -67,9 +69,11 @@ module _ (given : Given) (path : Text) (files : List NamedFile) where
           → is_some o ≡ false → option_or o other ≡ other
       is_none None other e = refl
       is_none (Some x) other e = absurd (true≢false e)
+
       none_behind : (o : Option (List NamedFile)) → option_or o None ≡ o
       none_behind None = refl
       none_behind (Some x) = refl
+
       by_test : (b : Bool) → bytes_eq path q ≡ b
           → option_or (files_at given q) (cond b (Some files) None)
           ≡ cond b (Some files) (files_at given q)

@@ -22,7 +22,8 @@ module _ (s : State) (right : Result Answer Refusal) where
   -- a step that is the right answer
   pub made_so : (a : Answer) (step : Prepared) → right ≡ Ok a → Makes s a step
       → Prepares s right (Ok step)
-  made_so a step is made = record { given = is ∙ ap (λ b. Ok b) (sym made.is); weighed = made.weighed }
+  made_so a step is made =
+      record { given = is ∙ ap (λ b. Ok b) (sym made.is); weighed = made.weighed }
 
 -- a step that sends this and leaves the claim
 pub says_so : (s : State) (step : Prepared) (sends : List Send) → step.note ≡ None

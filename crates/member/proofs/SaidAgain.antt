@@ -205,5 +205,6 @@ module _ (m : Inside) (s : State) (o : code.OpenClaim) (kept : IsKept m) (seen :
       (record {
         is = ap (answer_by s) is
             ∙ λ i. record { note = None; sends = []; job = job i; claim = s.claim };
-        weighed = subst (λ (p : Prepared). IsChangeWeighedBy s.weights p.change s.claim) (sym is) tt;
+        weighed =
+            subst (λ (p : Prepared). IsChangeWeighedBy s.weights p.change s.claim) (sym is) tt;
       }))

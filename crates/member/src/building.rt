@@ -57,8 +57,7 @@ impl<'a> Member<'a> {
         ensures { MatchResult result (λ x. waiting_for self.now path.now ≡ Some (x.0, x.1.now))
             (λ e. (e ≡ Refusal.NoClaim) × (waiting_for self.now path.now ≡ None)) }
     {
-        let (Some(unit), Some(open), Some(job)) =
-            (self.units.find(path), &self.claim, &self.job)
+        let (Some(unit), Some(open), Some(job)) = (self.units.find(path), &self.claim, &self.job)
         else {
             return Err(Refusal::NoClaim);
         };
@@ -88,10 +87,10 @@ impl<'a> Member<'a> {
         ensures member { IsMember self.now }
         ensures made { MatchResult result
             (λ made. (are_given (paths_at self.now unit) packages ≡ true)
-                × (map made_of made.items ≡ map (made_at self.now.division.tree (files_at packages))
-                (unit_at self.now.division unit).packages))
+            × (map made_of made.items ≡ map (made_at self.now.division.tree (files_at packages))
+            (unit_at self.now.division unit).packages))
             (λ e. (e ≡ Refusal.Memory) ⊎ ((e ≡ Refusal.OtherPackages)
-                × (are_given (paths_at self.now unit) packages ≡ false))) }
+            × (are_given (paths_at self.now unit) packages ≡ false))) }
     {
         let alloc = self.allocator();
         let positions = self.units.packages(unit);

@@ -179,8 +179,9 @@ impl<'a> Member<'a> {
         Ok(self.commit(step))
     }
 
-    /// Whether a message with this tree's digest, these members and this path is answered; else, why
-    /// it is refused. The sender is one of its members, as are those of the claims that it names.
+    /// Whether a message with this tree's digest, these members and this path is answered; else,
+    /// why it is refused. The sender is one of its members, as are those of the claims that it
+    /// names.
     ///
     /// # Errors
     ///

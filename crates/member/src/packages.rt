@@ -75,10 +75,7 @@ pub(crate) fn paths_of(
 }
 
 /// The files by the paths of their packages; of those of one path the first.
-pub(crate) fn by_path(
-    alloc: Global,
-    packages: Packages,
-) -> Result<IndexMap<PkgPath, Files>, Memory>
+pub(crate) fn by_path(alloc: Global, packages: Packages) -> Result<IndexMap<PkgPath, Files>, Memory>
     ensures { IfOk result
         (λ files. (path : Text) → get bytes_eq files path ≡ files_at packages path) }
 {
@@ -104,10 +101,10 @@ pub(crate) fn made(
     requires order { is_ascending (map (path_at tree.now) positions.now) ≡ true }
     ensures { MatchResult result
         (λ packages. (have_files tree.now (get bytes_eq files) positions.now ≡ true)
-            × (map made_of packages.items
-            ≡ map (made_at tree.now (get bytes_eq files)) positions.now))
+        × (map made_of packages.items
+        ≡ map (made_at tree.now (get bytes_eq files)) positions.now))
         (λ e. (e ≡ Refusal.Memory) ⊎ ((e ≡ Refusal.OtherPackages)
-            × (have_files tree.now (get bytes_eq files) positions.now ≡ false))) }
+        × (have_files tree.now (get bytes_eq files) positions.now ≡ false))) }
 {
     let mut packages = Vec::with_capacity(alloc, positions.len())?;
     for position in positions {

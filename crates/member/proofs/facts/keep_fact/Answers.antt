@@ -1,10 +1,10 @@
-use Rattle.std.proofs.Common.{◌≡◌, ◌<◌, List, ap, length, map, subst, sym, ◌∙◌, true, false}
+use Rattle.std.proofs.Common.{◌<◌, List, ap, map, subst, sym, ◌∙◌}
 use Rattle.std.proofs.lemmas.List.{length-map}
 use Rattle.agreement.specs.Member.{Facts}
 use Rattle.ballots.specs.declared.message.Note.{Note}
 use Rattle.protocol.specs.State.{Value}
 use Rattle.member.specs.inside.Fields.{engine_with, facts_of_known}
-use Rattle.member.specs.inside.Units.{agreed_too, is_held_fact}
+use Rattle.member.specs.inside.Units.{agreed_too}
 use Rattle.member.proofs.HeldUnits.{engine_agrees, engine_stays}
 use Rattle.member.proofs.KeptFacts.{at_unit, fact_kept, named_within}
 use Rattle.member.proofs.facts.keep_fact.Goals as goal

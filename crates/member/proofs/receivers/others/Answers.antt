@@ -1,4 +1,4 @@
-use Rattle.std.proofs.Common.{◌==◌, not, arith, ap, sym, ◌∙◌}
+use Rattle.std.proofs.Common.{◌==◌, not, arith, ap, ◌∙◌}
 use Rattle.std.proofs.lemmas.Bool.{eq-eqb, ne_eqb}
 use Rattle.member.proofs.KeptNumbers.{no_more, none_more_kept, one_more_kept}
 use Rattle.member.proofs.receivers.others.Goals as goal

@@ -13,8 +13,8 @@ use Rattle.protocol.specs.declared.refusal.Refusal.TheVariants as refusals
 use Rattle.protocol.proofs.Asked.{unit_is_one}
 use Rattle.member.specs.inside.Steps.{Prepares, opened_in}
 use Rattle.member.proofs.KnownUnits.{facts_known, unit_within}
-use Rattle.member.proofs.NewClaims.{held_claim, opened_claim, spent_claim, strange_claim, unit_claim}
-use Rattle.member.proofs.NewClaims.{waiting_claim, waits_not}
+use Rattle.member.proofs.NewClaims.{held_claim, opened_claim, spent_claim, strange_claim}
+use Rattle.member.proofs.NewClaims.{unit_claim, waiting_claim, waits_not}
 use Rattle.member.proofs.Preparing.{made_so, no_memory, refused}
 use Rattle.member.proofs.member.Member.claimed.Goals as goal
 use Rattle.member.proofs.member.Member.claimed.Goals.{in-T, in_default}

@@ -3,7 +3,7 @@ use Rattle.std.specs.FinSet as set
 use Rattle.agreement.specs.Member.{no_facts}
 use Rattle.protocol.specs.Answers.{tree_digest}
 use Rattle.protocol.specs.Member.{IsMember}
-use Rattle.protocol.specs.State.{State, fresh}
+use Rattle.protocol.specs.State.{fresh}
 use Rattle.member.specs.inside.Fields.{engine_with, facts_of_known}
 use Rattle.member.proofs.Fresh.{each_alike, fresh_engine, fresh_member}
 use Rattle.member.proofs.member.Member.new.Goals as goal

@@ -37,8 +37,8 @@ returns-in_ok-sends-in-Voting c =
     let claim = c.in-Voting.claim in
     let sends = c.saying-in-Voting.ensures.sends
     ∙ (c.in_ok-sends-in-Voting.ensures
-    ∙ ap (λ v. sent_to (Some (message_of s u (Propose claim v))) c.missing-to-in-Voting.result.items)
-    c.in_ok-value-in-Voting.ensures) in
+    ∙ ap (λ v. sent_to (Some (message_of s u (Propose claim v)))
+    c.missing-to-in-Voting.result.items) c.in_ok-value-in-Voting.ensures) in
     voting_said c.self.inside s c.in-Some.open c.self.invariant c.self.view_is c.in-Some.is claim
     c.in-Voting.value c.in-Voting.voted c.saying-in-Voting.result
     c.missing-to-in-Voting.result.items c.in-Voting.is c.missing-to-in-Voting.ensures

@@ -4,7 +4,7 @@ use Rattle.std.proofs.lemmas.Bool.{false≢true}
 use Rattle.agreement.specs.Quorums.{nobody}
 use Rattle.ballots.specs.Support.{Support, set_of}
 use Rattle.ballots.specs.declared.message.Body.TheVariants.{Offer}
-use Rattle.protocol.specs.Answers.{everyone, message_of}
+use Rattle.protocol.specs.Answers.{message_of}
 use Rattle.protocol.specs.InTheAgreement.{members_in}
 use Rattle.protocol.specs.Sends.{sent_to}
 use Rattle.protocol.specs.State.{Gathering, State}

@@ -1,4 +1,4 @@
-use Rattle.std.proofs.Common.{◌≡◌, List, ap, length, map-id, refl, rules, subst, sym, ◌∙◌}
+use Rattle.std.proofs.Common.{ap, length, map-id, refl, rules, subst, sym, ◌∙◌}
 use Rattle.std.proofs.lemmas.Iterator.Adapters.{YieldsList-from_vec}
 use Rattle.std.proofs.lemmas.Iterator.Consumers.{YieldsList-end}
 use Rattle.protocol.specs.Member.{IsMember}
