@@ -88,6 +88,7 @@ module _ (tree : Tree) (files : FilesByPath) (ps : List ℕ) (i : ℕ) (lt : i <
       at_index (q ∷ qs) (suc k) all within =
           at_index qs k (and_parts (is_some (files (path_at tree q))) _ all).1
           (omega (arith, within))
+
       by : (b : Bool) → have_files tree files ps ≡ b → b ≡ false
       by false e = refl
       by true e =
