@@ -1,5 +1,5 @@
 -- The build of a unit that its job and files make.
-use Rattle.std.proofs.Common.{◌≡◌, ◌==◌, ◌≤◌, ◌<◌, ℕ, suc, Bool, true, false, All, List, [], ◌∷◌, length}
+use Rattle.std.proofs.Common.{◌≡◌, ◌==◌, ◌<◌, ℕ, suc, Bool, true, false, All, List, [], ◌∷◌, length}
 use Rattle.std.proofs.Common.{map, not, Option, None, Some, Ok, Err, arith, refl, sym, ap, subst}
 use Rattle.std.proofs.Common.{◌∙◌, option_map, if◌then◌else◌}
 use Rattle.std.specs.Prelude.{Contains, option_and_then, unwrap_or}
@@ -24,7 +24,6 @@ use Rattle.protocol.specs.State.{OpenClaim, Progress, Gathering, Building, Votin
 use Rattle.protocol.specs.Member.{IsMember, claim_in}
 use Rattle.protocol.specs.Jobs.{are_given, build_by, paths_at, record_by}
 use Rattle.protocol.specs.Step.{job_again}
-use Rattle.protocol.specs.declared.refusal.Refusal.{Refusal}
 use Rattle.protocol.specs.declared.refusal.Refusal.TheVariants.{BadFiles, OtherPackages}
 use Rattle.member.specs.inside.Packages.{FilesByPath, Made, files_at, made_at, made_of}
 use Rattle.member.specs.inside.Waiting.{job_at, made_by}
@@ -144,7 +143,8 @@ module _ (s : State) (u : ℕ) (job : Task) (given : Given) where
       ∷ records_are qs i
 
   -- they are the build
-  pub records_made : (ps : List Package) → map made_of ps ≡ map (made_at tree (files_at given)) packages
+  pub records_made : (ps : List Package)
+      → map made_of ps ≡ map (made_at tree (files_at given)) packages
       → contents_of job.host job.claim job.deps ps ≡ build_by s u job given
   records_made ps e = seen_records ps ∙ (ap (map (record_of job)) e ∙ records_are packages)
 

@@ -1,8 +1,8 @@
 -- The packages that are made so far, one after the other.
-use Rattle.std.proofs.Common.{◌≡◌, ◌+◌, ◌<◌, ◌≤◌, ◌&&◌, ◌++◌, ℕ, suc, Bool, true, false, List, []}
-use Rattle.std.proofs.Common.{◌∷◌, length, map, take, Option, None, Some, Less, Equal, Greater, zero}
+use Rattle.std.proofs.Common.{◌≡◌, ◌+◌, ◌<◌, ◌++◌, ℕ, suc, Bool, true, false, List, []}
+use Rattle.std.proofs.Common.{◌∷◌, length, map, take, Option, None, Less, Equal, Greater, zero}
 use Rattle.std.proofs.Common.{refl, sym, ap, ◌∙◌, arith}
-use Rattle.std.specs.Prelude.{is_some, unwrap_or}
+use Rattle.std.specs.Prelude.{is_some}
 use Rattle.std.specs.List.{list_all, slice_index_or}
 use Rattle.std.specs.Ordering.{is_eq, is_lt}
 use Rattle.std.specs.declared.cmp.Ordering.{Ordering}
@@ -86,7 +86,8 @@ module _ (tree : Tree) (files : FilesByPath) (ps : List ℕ) (i : ℕ) (lt : i <
       at_index (q ∷ qs) zero all within =
           (and_parts (is_some (files (path_at tree q))) _ all).0
       at_index (q ∷ qs) (suc k) all within =
-          at_index qs k (and_parts (is_some (files (path_at tree q))) _ all).1 (omega (arith, within))
+          at_index qs k (and_parts (is_some (files (path_at tree q))) _ all).1
+          (omega (arith, within))
 
       by : (b : Bool) → have_files tree files ps ≡ b → b ≡ false
       by false e = refl

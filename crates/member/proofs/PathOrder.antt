@@ -1,9 +1,9 @@
 -- The packages of a unit: in order of path, of one group, and few.
-use Rattle.std.proofs.Common.{◌≡◌, ◌≢◌, ◌<◌, ◌≤◌, ◌&&◌, ℕ, suc, zero, Bool, true, false, All, List}
-use Rattle.std.proofs.Common.{[], ◌∷◌, length, map, Less, Equal, Greater, arith, refl, sym, ap}
-use Rattle.std.proofs.Common.{subst, ◌∙◌, inl, inr, eq-eqb, eqb, eqb-true, ◌==◌, ◌||◌}
+use Rattle.std.proofs.Common.{◌≡◌, ◌<◌, ◌≤◌, ℕ, Bool, true, false, All, List}
+use Rattle.std.proofs.Common.{[], ◌∷◌, length, map, Less, Equal, Greater, refl, sym, ap}
+use Rattle.std.proofs.Common.{◌∙◌, inl, inr, eq-eqb, eqb, eqb-true, ◌==◌, ◌||◌}
 use Rattle.std.specs.Prelude.{Contains}
-use Rattle.std.specs.List.{IsDistinct, AllByRecursion, list_all, list_any, slice_index_or}
+use Rattle.std.specs.List.{IsDistinct, AllByRecursion, list_all, list_any}
 use Rattle.std.specs.Ordering.{is_eq, is_lt}
 use Rattle.std.specs.declared.cmp.Ordering.{Ordering}
 use Rattle.std.proofs.lemmas.Bool.{and_from, and_parts, cases_eq, true≢false}
@@ -11,7 +11,7 @@ use Rattle.std.proofs.lemmas.List.Elements.{All-contains}
 use Rattle.std.proofs.lemmas.Map.Text.{is_eq-slice_cmp}
 use Rattle.std.proofs.lemmas.Map.Steps.{length-le_from_distinct_below}
 use Rattle.faults.specs.Bytes.{Text}
-use Rattle.faults.specs.Pieces.{set_of, text_cmp}
+use Rattle.faults.specs.Pieces.{text_cmp}
 use Rattle.claims.specs.Deps.{is_ascending}
 use Rattle.listing.specs.Tree.{Tree, path_at}
 use Rattle.listing.proofs.Settings.{eq_self}
@@ -19,7 +19,7 @@ use Rattle.pkgpath.specs.PkgPath.{without_subpackage}
 use Rattle.units.specs.Division.{Division, IsDivision, unit_at}
 use Rattle.units.specs.Units.{is_in}
 use Rattle.units.proofs.Ascending.{Rising}
-use Rattle.units.proofs.Kept.{all_listed, unit_good}
+use Rattle.units.proofs.Kept.{unit_good}
 use Rattle.units.proofs.Lists.{in_contains, same_answers}
 use Rattle.units.proofs.Members.{contains_first, contains_later}
 use Rattle.units.proofs.Sets.{set_rises}

@@ -1,5 +1,5 @@
 -- What a step that is taken leaves: a member, and the job of its claim.
-use Rattle.std.proofs.Common.{◌≡◌, ◌⊎◌, ℕ, List, map, Option, None, Some, inl, inr, refl, sym}
+use Rattle.std.proofs.Common.{◌≡◌, ℕ, List, map, Option, None, Some, inl, inr, refl, sym}
 use Rattle.std.proofs.Common.{ap, ◌∙◌, if◌then◌else◌, option_map, subst}
 use Rattle.std.specs.Prelude.{option_and_then, unwrap_or}
 use Rattle.std.specs.Option.{ForSome}
@@ -11,7 +11,6 @@ use Rattle.protocol.specs.State.{OpenClaim, Progress, Gathering, Building, Votin
 use Rattle.protocol.specs.State.{facts_then}
 use Rattle.protocol.specs.Answers.{Answer, after}
 use Rattle.protocol.specs.Jobs.{job_of, paths_at}
-use Rattle.protocol.specs.Laws.{IsJobGiven}
 use Rattle.protocol.specs.Member.{IsMember}
 use Rattle.protocol.specs.Step.{job_again}
 use Rattle.protocol.proofs.GivenJobs.{jobs_are_of_claims}

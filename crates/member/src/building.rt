@@ -1,5 +1,6 @@
 //! What becomes of a claim that waits for a build.
-ghost use Rattle.std.specs.Prelude.{◌≡◌, ◌≢◌, ◌<◌, ◌⊎◌, MatchResult, None, Some, false, length, map, true};
+ghost use Rattle.std.specs.Prelude.{◌≡◌, ◌≢◌, ◌<◌, ◌⊎◌, MatchResult};
+ghost use Rattle.std.specs.Prelude.{None, Some, false, length, map, true};
 ghost use Rattle.faults.specs.Answers.{IsRightUnless};
 ghost use Rattle.units.specs.Division.{unit_at};
 ghost use Rattle.protocol.specs.Jobs.{are_given, paths_at};

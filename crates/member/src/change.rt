@@ -3,7 +3,8 @@ ghost use Rattle.std.specs.Prelude.{◌≡◌, List, ℕ, None, if◌then◌else
 ghost use Rattle.std.specs.Option.{ForSome, option_copied};
 ghost use Rattle.faults.specs.Answers.{option_or};
 ghost use Rattle.member.specs.OpenClaims.{IsWeighedBy, open_of, waits};
-ghost use Rattle.member.specs.Prepared.{IsChangeWeighedBy, IsCountWeighedBy, changed, counted, moved};
+ghost use Rattle.member.specs.Prepared.{IsChangeWeighedBy, IsCountWeighedBy};
+ghost use Rattle.member.specs.Prepared.{changed, counted, moved};
 
 use crate::{ClaimChange, OpenClaim};
 use ballots::{Claimer, ClaimerChange};

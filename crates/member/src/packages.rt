@@ -1,5 +1,6 @@
 //! Packages in order of path, and what a build makes of them.
-ghost use Rattle.std.specs.Prelude.{◌≡◌, ◌<◌, ◌⊎◌, All, IfOk, MatchResult, false, length, map, true};
+ghost use Rattle.std.specs.Prelude.{◌≡◌, ◌<◌, ◌⊎◌, All, IfOk};
+ghost use Rattle.std.specs.Prelude.{MatchResult, false, length, map, true};
 ghost use Rattle.std.specs.Str.{bytes_eq};
 ghost use Rattle.faults.specs.Bytes.{Text};
 ghost use Rattle.claims.specs.Deps.{is_ascending};

@@ -1,4 +1,4 @@
-use Rattle.std.proofs.Common.{◌≡◌, ◌∙◌, Some, ap, subst, sym}
+use Rattle.std.proofs.Common.{◌∙◌, Some, ap, subst, sym}
 use Rattle.ballots.specs.declared.claimer.Claimer.{Claimer}
 use Rattle.protocol.specs.State.{Value}
 use Rattle.member.specs.OpenClaims.{IsWeighedBy, open_of}

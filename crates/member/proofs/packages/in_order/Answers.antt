@@ -11,5 +11,6 @@ returns c =
     let asked = c.requires.positions in
     sorted_as_set (λ path. path.now) c.in_ok-paths.paths.items c.sort.new.self.items
     (map (path_at tree) ps) c.in_ok-paths.ensures
-    (paths_differ tree c.requires.is_tree ps (λ p member. All-contains (λ q. q < length tree) ps p asked.within member) asked.rising)
+    (paths_differ tree c.requires.is_tree ps
+    (λ p member. All-contains (λ q. q < length tree) ps p asked.within member) asked.rising)
     c.in_ok-sort.ensures.permutation c.in_ok-sort.ensures.sorted

@@ -1,4 +1,4 @@
-use Rattle.std.proofs.Common.{◌≡◌, ◌∙◌, ◌∷◌, ◌++◌, [], List, Option, Some, refl, sym, ap, arith, true, map}
+use Rattle.std.proofs.Common.{◌≡◌, ◌∙◌, ◌∷◌, [], List, Option, Some, sym, ap, arith, map}
 use Rattle.std.specs.Prelude.{is_some, unwrap_or}
 use Rattle.std.specs.List.{slice_index_or}
 use Rattle.std.specs.Str.{bytes_eq}
@@ -6,7 +6,7 @@ use Rattle.std.proofs.lemmas.List.{map-append}
 use Rattle.indexmap.specs.IndexMap.{get}
 use Rattle.listing.specs.Tree.{path_at}
 use Rattle.package_record.specs.Content.{NamedFile}
-use Rattle.member.specs.inside.Packages.{Made, made_at, made_of}
+use Rattle.member.specs.inside.Packages.{made_at, made_of}
 use Rattle.member.proofs.MadePackages.{apart, found_more, made_more}
 use Rattle.member.proofs.packages.made.Goals as goal
 
@@ -19,7 +19,8 @@ loop-position-preserved c =
     let files = get bytes_eq c.args.files in
     let before = c.loop-position.invariant in
     let given : files (path_at tree (slice_index_or ps i 0)) ≡ Some c.in-Some.given =
-    sym (before.left i (omega arith) lt) ∙ (ap (get bytes_eq c.loop-position.files) (sym c.path.ensures)
+    sym (before.left i (omega arith) lt)
+    ∙ (ap (get bytes_eq c.loop-position.files) (sym c.path.ensures)
     ∙ (sym c.swap_remove.ensures.value ∙ c.in-Some.is)) in
     let new = c.in_ok-package_at.field-0 in
     let told = c.in_ok-package_at.ensures in

@@ -8,7 +8,8 @@ use Rattle.member.proofs.packages.made.Given as goal
 
 abbrev pub invariant-loop-position : goal.invariant-loop-position
 invariant-loop-position l = record {
-  found : have_files l.tree (get bytes_eq l.initial.files) (take l.position-index l.positions) ≡ true;
+  found : have_files l.tree (get bytes_eq l.initial.files) (take l.position-index l.positions)
+      ≡ true;
   made : map made_of l.packages.items
       ≡ map (made_at l.tree (get bytes_eq l.initial.files)) (take l.position-index l.positions);
   left : (k : ℕ) → l.position-index ≤ k → k < length l.positions

@@ -1,13 +1,11 @@
-use Rattle.std.proofs.Common.{◌≡◌, ◌<◌, ◌∙◌, Err, List, ℕ, ap, arith, inl, inr, length, map, subst, sym}
+use Rattle.std.proofs.Common.{◌≡◌, ◌∙◌, Err, ap, arith, inl, inr, subst, sym}
 use Rattle.claims.specs.Claim.{IsClaim}
 use Rattle.claims.specs.Deps.{is_ascending}
 use Rattle.claims.specs.Job.{Task}
 use Rattle.package_record.specs.Packages.{contents_of}
-use Rattle.package_record.specs.declared.RecordFault.TheVariants.{Memory}
 use Rattle.units.specs.Division.{unit_at}
 use Rattle.units.proofs.Kept.{all_listed, unit_some}
 use Rattle.protocol.specs.Jobs.{build_by}
-use Rattle.protocol.specs.declared.refusal.Refusal.TheVariants.{BadFiles}
 use Rattle.member.specs.inside.Packages.{files_at}
 use Rattle.member.proofs.MadeBuild.{as_many, build_made, build_refused, job_is_claimed, one_group}
 use Rattle.member.proofs.MadeBuild.{paths_made, records_made, runs_ascend}
@@ -94,7 +92,8 @@ returns-in-Err c =
       | inr refused ↦ elim c.in-Err.ensures [
         | inl memory ↦ absurd (refused.0 memory)
         | inr fault ↦
-            inr (build_refused s u job given cs c.in-Err.fault c.in_ok-packages.ensures.made.0 is fault
+            inr (build_refused s u job given cs c.in-Err.fault
+            c.in_ok-packages.ensures.made.0 is fault
             ∙ ap (λ e. Err e) (sym refused.1))
       ]
     ]

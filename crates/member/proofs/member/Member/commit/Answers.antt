@@ -1,4 +1,4 @@
-use Rattle.std.proofs.Common.{◌≡◌, ◌∙◌, List, ℕ, Option, None, Some, ap, map, option_map, subst}
+use Rattle.std.proofs.Common.{◌≡◌, ◌∙◌, List, ℕ, Option, None, ap, map, option_map, subst}
 use Rattle.std.proofs.Common.{◌++◌, arith, drop, length, sym, take, if◌then◌else◌}
 use Rattle.std.specs.Prelude.{unwrap_or}
 use Rattle.std.specs.Option.{ForSome}
@@ -7,7 +7,6 @@ use Rattle.std.proofs.Math.Seq.{take-append_seam}
 use Rattle.faults.specs.Answers.{option_or}
 use Rattle.ballots.specs.declared.message.Fact.{Fact}
 use Rattle.ballots.specs.declared.message.Note.{Note}
-use Rattle.claims.specs.Job.{Task}
 use Rattle.protocol.specs.State.{State, Value, facts_then, noted_at}
 use Rattle.units.specs.Division.{number_named}
 use Rattle.member.specs.OpenClaims.{IsWeighedBy, open_of, waits}
@@ -67,7 +66,8 @@ invariant_of-self c =
       job = c.job_of.result;
       engine = c.keep_fact.new.engine;
     }) p c.self.invariant may facts claim weighed job
-    (c.keep_fact.ensures.engine ∙ ap (λ ks. engine_with m.units (map facts_of_known ks)) (sym written))
+    (c.keep_fact.ensures.engine
+    ∙ ap (λ ks. engine_with m.units (map facts_of_known ks)) (sym written))
 
 pub invariant_of-self-in_default-2 : goal.invariant_of-self-in_default-2
 invariant_of-self-in_default-2 c =

@@ -1,4 +1,4 @@
-use Rattle.std.proofs.Common.{◌≡◌, ◌∙◌, Option, None, Some, List, ap, append-nil, arith, map, sym}
+use Rattle.std.proofs.Common.{◌∙◌, Option, None, Some, ap, append-nil, arith, map, sym}
 use Rattle.std.proofs.Common.{option_map}
 use Rattle.std.specs.Prelude.{filter_map}
 use Rattle.std.specs.Option.{option_copied}

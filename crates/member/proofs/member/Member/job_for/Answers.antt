@@ -1,4 +1,4 @@
-use Rattle.std.proofs.Common.{◌≡◌, ◌<◌, ◌∙◌, ap, length, map, subst, sym}
+use Rattle.std.proofs.Common.{◌<◌, ◌∙◌, ap, length, map, subst, sym}
 use Rattle.claims.specs.Deps.{AreInOrder, is_ascending}
 use Rattle.listing.specs.Tree.{path_at}
 use Rattle.protocol.specs.State.{State}
@@ -17,5 +17,6 @@ invariant_of-result c =
           ∙ ((λ i. is_ascending
           (map (path_at (c.self.invariant.tree i)) (c.packages.ensures.value i)))
           ∙ paths_ascend m.units c.args.unit division within);
-      deps = subst AreInOrder (sym c.in_ok-deps.ensures) (deps_in_order c.args.self.now c.args.unit);
+      deps = subst AreInOrder (sym c.in_ok-deps.ensures)
+          (deps_in_order c.args.self.now c.args.unit);
     }

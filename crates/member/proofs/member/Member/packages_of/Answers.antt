@@ -1,4 +1,5 @@
-use Rattle.std.proofs.Common.{◌≡◌, ◌<◌, ◌∙◌, ◌⊎◌, List, ℕ, Bool, true, false, ap, arith, length, map}
+use Rattle.std.proofs.Common.{◌≡◌, ◌<◌, ◌∙◌, ◌⊎◌, List, ℕ}
+use Rattle.std.proofs.Common.{Bool, true, false, ap, arith, length, map}
 use Rattle.std.proofs.Common.{subst, sym}
 use Rattle.std.specs.Prelude.{MatchResult}
 use Rattle.std.specs.Str.{bytes_eq}
@@ -6,7 +7,6 @@ use Rattle.claims.specs.Deps.{is_ascending}
 use Rattle.indexmap.specs.IndexMap.{get}
 use Rattle.listing.specs.Tree.{Tree, path_at}
 use Rattle.units.specs.Division.{unit_at}
-use Rattle.protocol.specs.Jobs.{are_given, paths_at}
 use Rattle.protocol.specs.State.{State}
 use Rattle.protocol.specs.declared.refusal.Refusal.TheVariants.{Memory, OtherPackages}
 use Rattle.member.specs.inside.Packages.{FilesByPath, files_at, have_files, made_at, made_of}
