@@ -58,10 +58,8 @@ fn of_path(post: &Post<'_>, word: &str, rest: &str) -> Result<String, Memory> {
     let Some((at, rest)) = first_place(rest) else {
         return no_question(post);
     };
-    let (Some(member), Some((path, _))) = (
-        post.members.get(at),
-        first_path(post.alloc, rest),
-    ) else {
+    let (Some(member), Some((path, _))) = (post.members.get(at), first_path(post.alloc, rest))
+    else {
         return no_question(post);
     };
     match word {
