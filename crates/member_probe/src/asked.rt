@@ -24,7 +24,7 @@ fn given(post: &mut Post<'_>, word: &str, rest: &str) -> Result<String, Memory> 
     let Some((at, rest)) = first_place(rest) else {
         return no_question(post);
     };
-    match input(post.alloc, word, rest, post.tree.digest()) {
+    match input(post.alloc, word, rest, post.digest)? {
         Some(input) => post.give(at, input),
         None => no_question(post),
     }
@@ -35,7 +35,7 @@ fn looked(post: &mut Post<'_>, rest: &str) -> Result<String, Memory> {
     let Some((at, rest)) = first_place(rest) else {
         return no_question(post);
     };
-    match input(post.alloc, word, rest, post.tree.digest()) {
+    match input(post.alloc, word, rest, post.digest)? {
         Some(input) => post.looked(at, input),
         None => no_question(post),
     }
@@ -58,8 +58,8 @@ fn of_path(post: &Post<'_>, word: &str, rest: &str) -> Result<String, Memory> {
     let Some((at, rest)) = first_place(rest) else {
         return no_question(post);
     };
-    let (Some(member), Some((path, _))) = (post.members.get(at), first_path(post.alloc, rest))
-    else {
+    let path = first_path(post.alloc, rest)?;
+    let (Some(member), Some((path, _))) = (post.members.get(at), path) else {
         return no_question(post);
     };
     match word {

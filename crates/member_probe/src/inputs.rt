@@ -4,7 +4,7 @@ use claims::Claim;
 use faults::Memory;
 use member::{Input, Packages};
 use package_record::{File, Files};
-use pkgpath::PkgPath;
+use pkgpath::{PathFault, PkgPath};
 use std::alloc::Global;
 
 // The word in front, and what stands behind the blank after it.
@@ -15,11 +15,14 @@ pub fn first_word(text: &str) -> (&str, &str) {
     }
 }
 
-// The path in front, and what stands behind it.
-pub fn first_path(alloc: Global, text: &str) -> Option<(PkgPath, &str)> {
+// The path in front, if there is one, and what stands behind it.
+pub fn first_path(alloc: Global, text: &str) -> Result<Option<(PkgPath, &str)>, Memory> {
     let (word, rest) = first_word(text);
-    let path = PkgPath::parse(alloc, word.as_bytes()).ok()?;
-    Some((path, rest))
+    match PkgPath::parse(alloc, word.as_bytes()) {
+        Ok(path) => Ok(Some((path, rest))),
+        Err(PathFault::Memory) => Err(Memory),
+        Err(_) => Ok(None),
+    }
 }
 
 // The number in front, and what stands behind it.
@@ -35,36 +38,54 @@ pub fn first_place(text: &str) -> Option<(usize, &str)> {
 }
 
 // The input with this word in front, of what stands behind the member's number.
-pub fn input(alloc: Global, word: &str, rest: &str, tree: [u8; 32]) -> Option<Input> {
+pub fn input(
+    alloc: Global,
+    word: &str,
+    rest: &str,
+    tree: [u8; 32],
+) -> Result<Option<Input>, Memory> {
     match word {
         "claim" => claimed(alloc, rest),
         "built" => built(alloc, rest),
-        "failed" => {
-            let (path, _) = first_path(alloc, rest)?;
-            Some(Input::Failed { path })
-        }
-        "nudge" => Some(Input::Nudge),
-        "ask" => {
-            let (path, _) = first_path(alloc, rest)?;
-            Some(Input::Ask { path })
-        }
+        "failed" | "ask" => of_unit(alloc, word, rest),
+        "nudge" => Ok(Some(Input::Nudge)),
         "say" => said(alloc, rest, tree),
-        _ => None,
+        _ => Ok(None),
     }
 }
 
-fn claimed(alloc: Global, rest: &str) -> Option<Input> {
-    let (path, rest) = first_path(alloc, rest)?;
+fn of_unit(alloc: Global, word: &str, rest: &str) -> Result<Option<Input>, Memory> {
+    let Some((path, _)) = first_path(alloc, rest)? else {
+        return Ok(None);
+    };
+    if word == "failed" {
+        Ok(Some(Input::Failed { path }))
+    } else {
+        Ok(Some(Input::Ask { path }))
+    }
+}
+
+fn claimed(alloc: Global, rest: &str) -> Result<Option<Input>, Memory> {
+    match first_path(alloc, rest)? {
+        Some((path, rest)) => Ok(claim_of(path, rest)),
+        None => Ok(None),
+    }
+}
+
+// The claim of the path, for the host and above the round that stand in front.
+fn claim_of(path: PkgPath, rest: &str) -> Option<Input> {
     let (host, rest) = first_number(rest)?;
     let (above, _) = first_number(rest)?;
     let host = u16::try_from(host).ok()?;
     Some(Input::Claim { path, host, above })
 }
 
-fn built(alloc: Global, rest: &str) -> Option<Input> {
-    let (path, rest) = first_path(alloc, rest)?;
-    let packages = packages(alloc, rest).ok()?;
-    Some(Input::Built { path, packages })
+fn built(alloc: Global, rest: &str) -> Result<Option<Input>, Memory> {
+    let Some((path, rest)) = first_path(alloc, rest)? else {
+        return Ok(None);
+    };
+    let packages = packages(alloc, rest)?;
+    Ok(Some(Input::Built { path, packages }))
 }
 
 // The packages with their files, nine at most.
@@ -83,7 +104,7 @@ fn add_package<'a>(
     items: &mut Vec<(PkgPath, Files)>,
     text: &'a str,
 ) -> Result<&'a str, Memory> {
-    match package(alloc, text) {
+    match package(alloc, text)? {
         Some((path, name, bytes, rest)) => {
             let files = files(alloc, name, bytes)?;
             items.push((path, files))?;
@@ -94,11 +115,15 @@ fn add_package<'a>(
 }
 
 // The package in front: its path, the file and how many bytes it has, and what stands behind.
-fn package(alloc: Global, text: &str) -> Option<(PkgPath, &str, usize, &str)> {
-    let (path, rest) = first_path(alloc, text)?;
+fn package(alloc: Global, text: &str) -> Result<Option<(PkgPath, &str, usize, &str)>, Memory> {
+    let Some((path, rest)) = first_path(alloc, text)? else {
+        return Ok(None);
+    };
     let (name, rest) = first_word(rest);
-    let (bytes, rest) = first_place(rest)?;
-    Some((path, name, bytes, rest))
+    match first_place(rest) {
+        Some((bytes, rest)) => Ok(Some((path, name, bytes, rest))),
+        None => Ok(None),
+    }
 }
 
 // A file of so many times the letter a; none of no bytes.
@@ -113,9 +138,18 @@ fn files(alloc: Global, name: &str, bytes: usize) -> Result<Files, Memory> {
 }
 
 // A message of a claim, of members with this tree's digest.
-fn said(alloc: Global, rest: &str, tree: [u8; 32]) -> Option<Input> {
-    let (sender, rest) = first_number(rest)?;
-    let (path, rest) = first_path(alloc, rest)?;
+fn said(alloc: Global, rest: &str, tree: [u8; 32]) -> Result<Option<Input>, Memory> {
+    let Some((sender, rest)) = first_number(rest) else {
+        return Ok(None);
+    };
+    match first_path(alloc, rest)? {
+        Some((path, rest)) => Ok(message(sender, tree, path, rest)),
+        None => Ok(None),
+    }
+}
+
+// The message about the path, with the word and the claim that stand in front.
+fn message(sender: u64, tree: [u8; 32], path: PkgPath, rest: &str) -> Option<Input> {
     let (word, rest) = first_word(rest);
     let claim = claim(rest)?;
     let sender = u8::try_from(sender).ok()?;

@@ -12,6 +12,7 @@ use std::alloc::Global;
 #[derive(Drop)]
 pub struct Post<'a> {
     pub tree: &'a Tree,
+    pub digest: [u8; 32],
     pub weights: Weights,
     pub members: Vec<Member<'a>>,
     // With the number of the member that noted it.
@@ -26,6 +27,7 @@ impl<'a> Post<'a> {
     pub fn new(alloc: Global, tree: &'a Tree, weights: &Weights) -> Result<Post<'a>, Memory> {
         Ok(Post {
             tree,
+            digest: tree.digest(),
             weights: weights.copy(),
             members: members(alloc, tree, weights)?,
             notes: Vec::new(alloc),
