@@ -18,13 +18,20 @@ def run_probe(row, **more):
     return done.stdout, done.stderr, done.returncode
 
 
+def is_right(told, right):
+    """Whether each line is the right one, or of a step that is only looked at and wants memory."""
+    lines, wanted = told.split(b"\n"), right.split(b"\n")
+    return len(lines) == len(wanted) and all(
+        line == other or line.startswith(b"look ") and line.endswith(b": 1") for line, other in zip(lines, wanted))
+
+
 def problem_of(got, right, again):
     """What is wrong where an allocation was refused: in a step all is told, elsewhere a beginning."""
     told, said, status = got
     if said == b"1 again\n":
         again.append(said)
         return "" if (told, status) == (right, 0) else "a refused step changed something"
-    if (told, status) == (right, 0) or status == 1 and right.startswith(told):
+    if status == 0 and is_right(told, right) or status == 1 and right.startswith(told):
         return ""
     return f"{told[-200:]!r}, {said!r:.200}, status {status}"
 
