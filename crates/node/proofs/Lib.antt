@@ -1,0 +1,3 @@
+pub mod ranges
+pub mod Pieces
+pub mod Sent
