@@ -22,6 +22,7 @@ use Rattle.wire.specs.declared.datagram.Carrier.TheVariants as carriers
 use Rattle.wire.specs.declared.datagram.Header.{Header}
 use Rattle.wire.specs.declared.datagram.Piece.{Piece}
 use Rattle.node.specs.Kept.{has_number, with_piece, without}
+use Rattle.node.specs.inside.Stepping.{AreKept}
 
 -- the second is not the first again
 abbrev pub Differ : Piece → Piece → Type 0
@@ -87,3 +88,11 @@ message_good name (bodies.Vote c) is = is.round
 message_good name (bodies.Agreed v) is = is
 message_good name bodies.Ask is = tt
 message_good name (bodies.Nay c p) is = (is.0.round, is.1.round)
+
+-- those of other messages stay kept
+pub others_kept : (h : Header) (pieces : List Piece) → AreKept pieces → AreKept (without h pieces)
+others_kept h pieces kept = record { each = without_pieces h pieces kept.each; once = without_once h pieces kept.once }
+
+-- and with one that is new they are
+pub new_kept : (pieces : List Piece) (p : Piece) → AreKept pieces → IsPiece p → has_number p.header pieces p.number ≡ false → AreKept (with_piece pieces p)
+new_kept pieces p kept is new = record { each = with_pieces pieces p kept.each is; once = with_once pieces p kept.once new }

@@ -1,15 +1,16 @@
 -- What a step sends, as datagrams with receivers, and the notes of a log, as texts.
-use Rattle.std.proofs.Common.{◌≡◌, ◌++◌, ℕ, All, List, [], ◌∷◌, map, Ok, refl, sym, ap, ◌∙◌}
+use Rattle.std.proofs.Common.{◌≡◌, ◌==◌, ◌++◌, ℕ, All, true, false, List, [], ◌∷◌, length, map, Ok, refl, sym, ap, ◌∙◌}
 use Rattle.std.proofs.lemmas.List.Elements.{All-head, All-tail, filter_map-append}
 use Rattle.faults.specs.Bytes.{Text}
 use Rattle.ballots.specs.declared.message.Message.{Message}
 use Rattle.ballots.specs.declared.message.Note.{Note}
 use Rattle.package_record.proofs.BuildsRead.{build_is_read}
-use Rattle.protocol.specs.Sends.{sent_to}
+use Rattle.protocol.specs.Sends.{receivers_of, sent_to}
 use Rattle.protocol.specs.State.{Value}
+use Rattle.protocol.specs.declared.sends.Send.{Send}
 use Rattle.std.specs.Prelude.{Some}
 use Rattle.wire.proofs.NoteTexts.{note_again}
-use Rattle.wire.specs.Messages.{IsNote}
+use Rattle.wire.specs.Messages.{IsMessage, IsNote}
 use Rattle.wire.specs.Reading.{note_of}
 use Rattle.wire.specs.Spelling.{note_text}
 use Rattle.node.specs.Parcels.{datagrams_of, datagrams_to, each_to, parcels_to}
@@ -35,3 +36,12 @@ notes_again (n ∷ ns) are =
     let read = note_again build_is_read n (All-head IsNote n ns are) in
     let rest = notes_again ns (All-tail IsNote n ns are) in
     rw (read, rest) refl
+
+-- of what goes to somebody the message can be written down
+pub sent_message : (m : Message Value) (to : List ℕ) → (length to == 0) ≡ false → All (λ x. IsMessage x.message) (sent_to (Some m) to) → IsMessage m
+sent_message m [] some are = absurd (let no : true ≡ false = some in cc)
+sent_message m (k ∷ ks) some are = All-head (λ x. IsMessage x.message) (record { to = k; message = m }) (sent_to (Some m) ks) are
+
+-- the parcels of what is sent
+pub parcels_sent : (m : Message Value) (sends : List Send) → sends ≡ sent_to (Some m) (receivers_of sends) → datagrams_to sends ≡ parcels_to (receivers_of sends) (datagrams_of m)
+parcels_sent m sends e = ap datagrams_to e ∙ parcels_are m (receivers_of sends)

@@ -2,3 +2,4 @@
 pub mod Noted
 pub mod Opening
 pub mod Ready
+pub mod Stepping

@@ -3,10 +3,9 @@ ghost use Rattle.std.specs.Prelude.{◌≡◌, None};
 ghost use Rattle.node.specs.Refusals.{cause_of, fault_number};
 ghost use Rattle.node.specs.declared.fault.NodeFault.TheVariants.{Memory as out_of_memory};
 
-use faults::{Fault, Memory};
+use faults::{Fault, WantOfMemory};
 use protocol::Refusal;
 use stable_record::LogFault;
-use std::alloc::{AllocError, AllocFailed};
 use thiserror::Error;
 use wire::WireFault;
 
@@ -41,26 +40,10 @@ pub enum NodeFault {
     Foreign(Foreign),
 }
 
-impl From<Memory> for NodeFault {
+impl<E: WantOfMemory> From<E> for NodeFault {
     ghost from_gives = { λ _ e. e ≡ out_of_memory };
 
-    fn from(_e: Memory) -> NodeFault {
-        NodeFault::Memory
-    }
-}
-
-impl From<AllocError> for NodeFault {
-    ghost from_gives = { λ _ e. e ≡ out_of_memory };
-
-    fn from(_e: AllocError) -> NodeFault {
-        NodeFault::Memory
-    }
-}
-
-impl<T: Drop> From<AllocFailed<T>> for NodeFault {
-    ghost from_gives = { λ _ e. e ≡ out_of_memory };
-
-    fn from(_e: AllocFailed<T>) -> NodeFault {
+    fn from(_e: E) -> NodeFault {
         NodeFault::Memory
     }
 }

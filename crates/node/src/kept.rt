@@ -51,14 +51,20 @@ pub(crate) fn has_number(pieces: &[Piece], header: &Header, number: u16) -> bool
 }
 
 /// Whether all pieces of its message are kept once this one is.
+#[tactic(auto, unfolding(wire::specs::Pieces::numbers_of))]
 pub(crate) fn is_last(pieces: &[Piece], piece: &Piece) -> bool
     ensures { result ≡ are_all piece.now.header (with_piece pieces.now piece.now) }
 {
-    (0..MOST_PIECES).all(|number| {
-        PIECE_SIZE * u32::from(number) >= piece.header.length
-            || number == piece.number
-            || has_number(pieces, &piece.header, number)
-    })
+    (0..MOST_PIECES)
+        .filter(|number| PIECE_SIZE * u32::from(*number) < piece.header.length)
+        .all(|number| has_with(pieces, piece, number))
+}
+
+/// Whether the piece of this number, of the piece's message, is kept once the piece is.
+fn has_with(pieces: &[Piece], piece: &Piece, number: u16) -> bool
+    ensures { result ≡ has_number piece.now.header (with_piece pieces.now piece.now) number }
+{
+    number == piece.number || has_number(pieces, &piece.header, number)
 }
 
 /// The message that these pieces make with this one, which is not kept.
@@ -79,12 +85,11 @@ pub(crate) fn joined(pieces: &mut Vec<Piece>, piece: Piece) -> Result<Message, W
     message
 }
 
-/// Room for the change.
-pub(crate) fn make_room(pieces: &mut Vec<Piece>, change: &Change) -> Result<(), Memory>
+/// Room for one piece more.
+pub(crate) fn make_room(pieces: &mut Vec<Piece>) -> Result<(), Memory>
     ensures same { pieces.new.items ≡ pieces.old.items }
     ensures room { OnOk result (vec_len pieces.new < vec_capacity pieces.new) }
 {
-    let _ = change;
     pieces.reserve(1)?;
     Ok(())
 }

@@ -10,7 +10,7 @@ ghost use Rattle.stable_record.specs.Opening.{Opens, OpensAsLeft};
 ghost use Rattle.node.specs.Calls.{AreNotes, IsOpenFault, IsOpened, IsUntouched};
 ghost use Rattle.node.specs.OnLog.{IsOnLog, identity, identity_of, texts_of};
 ghost use Rattle.units.specs.Division.{Division, number_named};
-ghost use Rattle.node.specs.inside.Opening.{IsReadBy, told_by};
+ghost use Rattle.node.specs.inside.Opening.{IsReadBy, told_by, unread_by};
 
 use crate::noted::Noted;
 use crate::{Node, NodeFault};
@@ -93,9 +93,7 @@ fn owner(tree: &Tree, weights: &Weights, me: u8) -> Identity
     ensures { result ≡ identity tree.now weights.now me }
 {
     let mut table = ArrayVec::new();
-    for weight in weights.as_slice() {
-        table.push(*weight);
-    }
+    table.try_extend_from_slice(weights.as_slice()).unwrap();
     Identity {
         tree: tree.digest(),
         weights: table,
@@ -141,13 +139,22 @@ fn note(alloc: Global, units: &Units<'_>, text: &[u8]) -> Result<Note, NodeFault
 {
     let note = match decode_note(alloc, text) {
         Ok(note) => note,
-        Err(WireFault::Memory) => return Err(NodeFault::Memory),
-        Err(_) => return Err(NodeFault::Log(LogFault::NotALog)),
+        Err(fault) => return Err(unread(fault)),
     };
     if is_unit(units, &note) {
         Ok(note)
     } else {
         Err(NodeFault::Log(LogFault::NotALog))
+    }
+}
+
+/// What a node answers where a text of its log is no note's.
+fn unread(fault: WireFault) -> NodeFault
+    ensures { result ≡ unread_by fault }
+{
+    match fault {
+        WireFault::Memory => NodeFault::Memory,
+        _ => NodeFault::Log(LogFault::NotALog),
     }
 }
 

@@ -1,7 +1,14 @@
 //! The steps of a node.
-ghost use Rattle.std.specs.Prelude.{◌≡◌, ◌⊎◌, IfErr, IfOk, IsErrOf, OnOk, true};
+ghost use Rattle.std.specs.Prelude.{◌≡◌, ◌⊎◌, IfErr, IfOk, IsErrOf, List, OnErr, OnOk, ℕ, true};
 ghost use Rattle.faults.specs.Answers.{map_ok};
+ghost use Rattle.protocol.specs.Step as members;
 ghost use Rattle.stable_record.specs.Faults.{HasRisen};
+ghost use Rattle.stable_record.specs.OpenLog.{Holds};
+ghost use Rattle.wire.specs.Joining.{bytes_of};
+ghost use Rattle.wire.specs.Messages.{IsGoodBody};
+ghost use Rattle.wire.specs.Pieces.{IsPiece};
+ghost use Rattle.wire.specs.Reading.{joined as message_of};
+ghost use Rattle.node.specs.Arrival.{arrival_of_all, arrival_of_piece, refusal_of};
 ghost use Rattle.node.specs.Calls.{
   HasHandled,
   HasPrepared,
@@ -11,19 +18,35 @@ ghost use Rattle.node.specs.Calls.{
   LeavesItsNoteAtMost,
   left_by,
 };
+ghost use Rattle.node.specs.Kept.{with_piece, without};
 ghost use Rattle.node.specs.OnLog.{IsOnLog, LacksRoom, LeavesOneMoreAtMost};
 ghost use Rattle.node.specs.Ranges.{IsGoodInput};
-ghost use Rattle.node.specs.Step.{Comes, Does, IsReadyFor, note_in, taken_by};
+ghost use Rattle.node.specs.Step.{Comes, Does, IsReadyFor, changed, heard, note_in, taken_by};
+ghost use Rattle.node.specs.inside.Stepping.{
+  AreKept,
+  ComesAs,
+  GoesOnWith,
+  IsPrepared,
+  LacksRoomFor,
+  MakesReady,
+  dropped_by,
+  foreign_by,
+  refused_by,
+  strange_by,
+  text_in,
+  with_text,
+};
 
 use crate::kept::{change_kept, drop_pieces, has_number, is_last, joined, make_room, test_header};
+use crate::noted::Noted;
 use crate::opening::told;
 use crate::{Change, Foreign, Node, NodeFault, Out, Ready};
 use ballots::Message;
 use member::Input;
 use protocol::Refusal;
-use stable_record::{Disk, LogFault};
+use stable_record::{Disk, Log, LogFault};
 use std::alloc::Global;
-use wire::{Datagram, Piece, WireFault, decode};
+use wire::{Datagram, Header, Piece, WireFault, decode};
 
 impl<'a, D: Disk> Node<'a, D> {
     /// Makes the step on an input ready: all that it needs is grown, and nothing has changed.
@@ -31,6 +54,7 @@ impl<'a, D: Disk> Node<'a, D> {
     /// # Errors
     ///
     /// `Stopped`; else `Memory`, or the member's refusal.
+    #[tactic(none)]
     pub fn prepare(&mut self, input: Input) -> Result<Ready, NodeFault>
         requires message { IsGoodInput input }
         ensures step { HasPrepared self.old.node self.new.node (Does input)
@@ -41,10 +65,9 @@ impl<'a, D: Disk> Node<'a, D> {
         if self.stopped {
             return Err(NodeFault::Stopped);
         }
-        match self.member.prepare(input) {
-            Ok(step) => Ok(Ready::of(self.allocator(), step, Change::Stays)?),
-            Err(Refusal::Memory) => Err(NodeFault::Memory),
-            Err(refusal) => Err(NodeFault::Refused(refusal)),
+        match self.prepare_input(input, Change::Stays) {
+            Ok(ready) => Ok(ready),
+            Err(refusal) => Err(refused(refusal)),
         }
     }
 
@@ -54,6 +77,7 @@ impl<'a, D: Disk> Node<'a, D> {
     /// # Errors
     ///
     /// `Stopped`; else `Memory`, or what makes the bytes `Foreign`.
+    #[tactic(none)]
     pub fn prepare_datagram(&mut self, bytes: &[u8]) -> Result<Ready, NodeFault>
         ensures step { HasPrepared self.old.node self.new.node (Comes bytes.now)
             (map_ok (taken_by self.old.node) result) }
@@ -71,16 +95,44 @@ impl<'a, D: Disk> Node<'a, D> {
         }
     }
 
+    /// Makes the step on an input ready, which changes the pieces so.
+    #[tactic(none)]
+    fn prepare_input(&mut self, input: Input, change: Change) -> Result<Ready, Refusal>
+        requires message { IsGoodInput input }
+        requires pieces { AreKept (changed change self.old.node.pieces) }
+        ensures step { IsPrepared self.old.node input change result }
+        ensures same { self.new ≡ self.old }
+    {
+        let alloc = self.allocator();
+        let step = self.member.prepare(input)?;
+        Ok(Ready::of(alloc, step, change)?)
+    }
+
     /// Makes the step on a message that came ready, which changes the pieces so.
-    fn prepare_message(&mut self, message: Message, change: Change) -> Result<Ready, NodeFault> {
-        match self.member.prepare(Input::Message(message)) {
-            Ok(step) => Ok(Ready::of(self.allocator(), step, change)?),
+    #[tactic(none)]
+    fn prepare_message(&mut self, message: Message, change: Change) -> Result<Ready, NodeFault>
+        requires message { IsGoodBody message.path message.body }
+        requires pieces { AreKept (changed change self.old.node.pieces) }
+        ensures step { MakesReady self.old.node
+            (heard (changed change self.old.node.pieces)
+            (members.heard self.old.node.member message)) result }
+        ensures same { self.new ≡ self.old }
+    {
+        match self.prepare_input(Input::Message(message), change) {
+            Ok(ready) => Ok(ready),
             Err(refusal) => Err(foreign(refusal)),
         }
     }
 
     /// Makes the step on a piece that came ready. Its header is tested first.
-    fn prepare_piece(&mut self, piece: Piece) -> Result<Ready, NodeFault> {
+    #[tactic(none)]
+    fn prepare_piece(&mut self, piece: Piece) -> Result<Ready, NodeFault>
+        requires { IsPiece piece }
+        ensures step { ComesAs self.old.node self.new.node
+            (arrival_of_piece self.old.node.pieces piece
+            (refusal_of self.old.node.member piece.header)) result }
+        ensures log { self.new.log ≡ self.old.log }
+    {
         if let Err(refusal) = test_header(&self.member, &piece.header) {
             return Err(foreign(refusal));
         }
@@ -94,14 +146,34 @@ impl<'a, D: Disk> Node<'a, D> {
     }
 
     /// Makes the step on the message ready whose last missing piece came.
-    fn prepare_joined(&mut self, piece: Piece) -> Result<Ready, NodeFault> {
+    #[tactic(none)]
+    fn prepare_joined(&mut self, piece: Piece) -> Result<Ready, NodeFault>
+        requires { IsPiece piece }
+        ensures step { ComesAs self.old.node self.new.node
+            (arrival_of_all (without piece.header self.old.node.pieces)
+            (message_of piece.header (bytes_of piece.header
+            (with_piece self.old.node.pieces piece)))) result }
+        ensures log { self.new.log ≡ self.old.log }
+    {
         let header = piece.header.copy()?;
         match joined(&mut self.pieces, piece) {
             Ok(message) => self.prepare_message(message, Change::Drops(header)),
-            Err(WireFault::Memory) => Err(NodeFault::Memory),
-            Err(fault) => {
-                drop_pieces(&mut self.pieces, &header);
-                Err(strange(fault))
+            Err(fault) => Err(self.drop_strange(&header, fault)),
+        }
+    }
+
+    /// What is answered where the pieces of a message make none. They are dropped, unless it was
+    /// memory that was wanting.
+    fn drop_strange(&mut self, header: &Header, fault: WireFault) -> NodeFault
+        ensures fault { result ≡ strange_by fault }
+        ensures node { self.new.node ≡ dropped_by self.old.node header.now fault }
+        ensures log { self.new.log ≡ self.old.log }
+    {
+        match fault {
+            WireFault::Memory => NodeFault::Memory,
+            other => {
+                drop_pieces(&mut self.pieces, header);
+                NodeFault::Foreign(Foreign::Bytes(other))
             }
         }
     }
@@ -114,6 +186,7 @@ impl<'a, D: Disk> Node<'a, D> {
     /// # Errors
     ///
     /// `Memory`, and those of `Log::append`.
+    #[tactic(none)]
     pub fn finish(&mut self, ready: Ready) -> Result<Out, NodeFault>
         requires present { IsReadyFor self.old.node ready }
         ensures taken { IfOk result
@@ -147,13 +220,10 @@ impl<'a, D: Disk> Node<'a, D> {
             sends,
             change,
         } = ready;
-        make_room(&mut self.pieces, &change)?;
-        if let Some(text) = note {
-            if let Err(fault) = self.log.append(text.as_slice()) {
-                self.stopped = fault == LogFault::Device;
-                return Err(told(fault));
-            }
-            self.noted.note(text.as_slice());
+        make_room(&mut self.pieces)?;
+        if let Err(fault) = write(&mut self.log, &mut self.noted, note) {
+            self.stopped = matches!(fault, LogFault::Device);
+            return Err(told(fault));
         }
         change_kept(&mut self.pieces, change);
         let job = match step {
@@ -237,8 +307,59 @@ impl<'a, D: Disk> Node<'a, D> {
     }
 }
 
+/// Adds the note to the log, if there is one. At `Ok` it is on the disk.
+#[tactic(none)]
+fn write<D: Disk>(
+    log: &mut Log<D>,
+    noted: &mut Noted,
+    note: Option<Vec<u8>>,
+) -> Result<(), LogFault>
+    ensures noted { OnOk result (noted.new.texts ≡ with_text noted.old.texts (text_in note)) }
+    ensures not_noted { OnErr result (noted.new.texts ≡ noted.old.texts) }
+    ensures acknowledged { D.is_kept log.new.disk → (texts : List (List ℕ))
+        → Holds D.history log.old texts
+        → OnOk result (Holds D.history log.new (with_text texts (text_in note))) }
+    ensures any_moment { D.is_kept log.new.disk → (texts : List (List ℕ))
+        → Holds D.history log.old texts
+        → GoesOnWith log.old.identity texts (text_in note) (D.history log.old.disk)
+        (D.history log.new.disk) }
+    ensures owner { log.new.identity ≡ log.old.identity }
+    ensures full { IsErrOf result LogFault.Full → LacksRoomFor log.old (text_in note) }
+    ensures within { OnOk result (¬ (LacksRoomFor log.old (text_in note))) }
+    ensures device { IsErrOf result LogFault.Device
+        → HasRisen (D.failures_of log.old.disk) (D.failures_of log.new.disk) }
+    ensures stopped { IsErrOf result LogFault.MustReopen → log.old.stopped ≡ true }
+    ensures no_opening { IsErrOf result LogFault.NotALog ⊎ IsErrOf result LogFault.OtherCluster
+        → ⊥ }
+    ensures stops { IsErrOf result LogFault.Device → log.new.stopped ≡ true }
+    ensures goes_on { log.new.stopped ≡ true
+        → log.old.stopped ≡ true ⊎ IsErrOf result LogFault.Device }
+    ensures refused { D.is_kept log.new.disk → (texts : List (List ℕ))
+        → Holds D.history log.old texts
+        → IsErrOf result LogFault.Memory ⊎ IsErrOf result LogFault.Full
+        → Holds D.history log.new texts × (D.history log.new.disk ≡ D.history log.old.disk) }
+{
+    if let Some(text) = note {
+        log.append(text.as_slice())?;
+        noted.note(text.as_slice());
+    }
+    Ok(())
+}
+
+/// What is answered to an input that the member refuses.
+fn refused(refusal: Refusal) -> NodeFault
+    ensures { result ≡ refused_by refusal }
+{
+    match refusal {
+        Refusal::Memory => NodeFault::Memory,
+        other => NodeFault::Refused(other),
+    }
+}
+
 /// What is answered to a message that the member refuses.
-fn foreign(refusal: Refusal) -> NodeFault {
+fn foreign(refusal: Refusal) -> NodeFault
+    ensures { result ≡ foreign_by refusal }
+{
     match refusal {
         Refusal::Memory => NodeFault::Memory,
         other => NodeFault::Foreign(Foreign::Message(other)),
@@ -246,7 +367,9 @@ fn foreign(refusal: Refusal) -> NodeFault {
 }
 
 /// What is answered to bytes, or pieces, that mean nothing.
-fn strange(fault: WireFault) -> NodeFault {
+fn strange(fault: WireFault) -> NodeFault
+    ensures { result ≡ strange_by fault }
+{
     match fault {
         WireFault::Memory => NodeFault::Memory,
         other => NodeFault::Foreign(Foreign::Bytes(other)),

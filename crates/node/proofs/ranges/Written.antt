@@ -105,7 +105,7 @@ fact_written name (members.Held v) is = is
 note_written : (s : State) (u : ℕ) (n : Option (members.Note Value)) → IsMember s → u < length s.division.units → ForSome n (IsTold (name_at s u)) → ForSome (option_map (note_at s u) n) IsNote
 note_written s u None is lt told = for_none IsNote
 note_written s u (Some n) is lt told =
-    for_this IsNote (note_at s u n) (record { path = (unit_good s.division u is.division lt).name; fact = fact_written (name_at s u) n (told n refl) })
+    for_this IsNote (note_at s u n) (record { path = (unit_good s.division u is.division lt).named.name; fact = fact_written (name_at s u) n (told n refl) })
 
 note_named : (s : State) (u : ℕ) (n : Option (members.Note Value)) → IsMember s → u < length s.division.units
     → ForSome (option_map (note_at s u) n) (λ x. (v : ℕ) × (number_named s.division x.path ≡ Some v))
@@ -122,7 +122,7 @@ sends_written s u to (Some y) is lt sayable =
     all_get (message_of s u (body_in y)) to (record {
       sender = me_in_range s is;
       tree = length-sha256 _;
-      path = (unit_good s.division u is.division lt).name;
+      path = (unit_good s.division u is.division lt).named.name;
       body = body_written (name_at s u) y (sayable y refl);
     })
 

@@ -9,6 +9,8 @@ use Rattle.stable_record.specs.declared.log_fault.LogFault.TheVariants as log
 use Rattle.units.specs.Division.{Division, number_named}
 use Rattle.wire.specs.Messages.{IsNote}
 use Rattle.wire.specs.Spelling.{note_text}
+use Rattle.wire.specs.declared.WireFault.{WireFault}
+use Rattle.wire.specs.declared.WireFault.TheVariants as wire
 use Rattle.node.specs.Calls.{AreNotes}
 use Rattle.node.specs.declared.fault.NodeFault.{NodeFault}
 use Rattle.node.specs.declared.fault.NodeFault.TheVariants as fault
@@ -21,6 +23,16 @@ told_by log.Full = fault.Log log.Full
 told_by log.MustReopen = fault.Log log.MustReopen
 told_by log.NotALog = fault.Log log.NotALog
 told_by log.OtherCluster = fault.Log log.OtherCluster
+
+-- what a node answers where a text of its log is no note's
+abbrev pub unread_by : WireFault → NodeFault
+unread_by wire.Memory = fault.Memory
+unread_by wire.TooLong = fault.Log log.NotALog
+unread_by wire.Truncated = fault.Log log.NotALog
+unread_by wire.Magic = fault.Log log.NotALog
+unread_by wire.Kind = fault.Log log.NotALog
+unread_by wire.BadField = fault.Log log.NotALog
+unread_by wire.Trailing = fault.Log log.NotALog
 
 -- The text is that of a note of a unit.
 pub record IsNoteOf (division : Division) (text : Text) (n : Note Value) : Type 0 where
