@@ -6,3 +6,4 @@ pub mod Readying
 pub mod Finishing
 pub mod Reading
 pub mod Places
+pub mod Coming

@@ -1,12 +1,13 @@
 //! A step that is ready to be taken, and what comes out of it.
-ghost use Rattle.std.specs.Prelude.{◌≡◌, All, IfOk, None, Some};
-ghost use Rattle.std.specs.Option.{ForSome};
+ghost use Rattle.std.specs.Prelude.{◌≡◌, All, IfOk, None, Some, option_map};
+ghost use Rattle.std.specs.Option.{ForSome, option_copied};
 ghost use Rattle.node.specs.Parcels.{datagrams_to};
-ghost use Rattle.node.specs.Step.{sends_in};
+ghost use Rattle.node.specs.Step.{note_in, sends_in};
 ghost use Rattle.wire.specs.Messages.{IsMessage, IsNote};
+ghost use Rattle.wire.specs.Spelling.{note_text};
 
 use crate::Parcels;
-use crate::written::{note_text, parcels};
+use crate::written::{note_text as text_of_note, parcels};
 use claims::Job;
 use faults::Memory;
 use member::Step;
@@ -54,7 +55,7 @@ impl Ready {
         requires note { ForSome step.note IsNote }
         ensures { IfOk result (λ r. r ≡ record { step = Some step; change = change }) }
     {
-        let note = note_text(alloc, step.note())?;
+        let note = text_of_note(alloc, step.note())?;
         let sends = parcels(alloc, step.sends())?;
         Ok(Ready {
             step: Some(step),
@@ -75,6 +76,32 @@ impl Ready {
             change,
         }
     }
+
+    /// The text of its note, if it has one.
+    pub(crate) fn note(&self) -> Option<&[u8]>
+        ensures { option_copied result ≡ option_map note_text (note_in self.now.step) }
+    {
+        match &self.note {
+            Some(text) => Some(text.as_slice()),
+            None => None,
+        }
+    }
+
+    /// The member's step, what goes out, and what becomes of the pieces. It takes no memory.
+    pub(crate) fn apart(self) -> (Option<Step>, Parcels, Change)
+        ensures step { result.0 ≡ self.step }
+        ensures sends { result.1 ≡ datagrams_to (sends_in self.step) }
+        ensures change { result.2 ≡ self.change }
+    {
+        let Ready {
+            step,
+            note: _,
+            sends,
+            change,
+        } = self;
+        (step, sends, change)
+    }
+
     /// What goes out once the step is taken: datagrams with the member that each goes to, in order
     /// of receiver, and the pieces of a message in order.
     pub fn sends(&self) -> &Parcels

@@ -1,6 +1,8 @@
 //! The steps of a node.
 ghost use Rattle.std.specs.Prelude.{◌≡◌, ◌⊎◌, IfErr, IfOk, IsErrOf, List, OnErr, OnOk, ℕ, true};
+ghost use Rattle.std.specs.Option.{ForSome, option_copied};
 ghost use Rattle.faults.specs.Answers.{map_ok};
+ghost use Rattle.member.specs.Prepared.{MayBeTaken};
 ghost use Rattle.protocol.specs.Step as members;
 ghost use Rattle.stable_record.specs.Faults.{HasRisen};
 ghost use Rattle.stable_record.specs.OpenLog.{Holds};
@@ -21,7 +23,16 @@ ghost use Rattle.node.specs.Calls.{
 ghost use Rattle.node.specs.Kept.{with_piece, without};
 ghost use Rattle.node.specs.OnLog.{IsOnLog, LacksRoom, LeavesOneMoreAtMost};
 ghost use Rattle.node.specs.Ranges.{IsGoodInput};
-ghost use Rattle.node.specs.Step.{Comes, Does, IsReadyFor, changed, heard, note_in, taken_by};
+ghost use Rattle.node.specs.Step.{
+  Comes,
+  Does,
+  IsReadyFor,
+  answer_then,
+  changed,
+  heard,
+  note_in,
+  taken_by,
+};
 ghost use Rattle.node.specs.inside.Stepping.{
   AreKept,
   ComesAs,
@@ -29,11 +40,12 @@ ghost use Rattle.node.specs.inside.Stepping.{
   IsPrepared,
   LacksRoomFor,
   MakesReady,
+  committed,
   dropped_by,
   foreign_by,
+  is_device,
   refused_by,
   strange_by,
-  text_in,
   with_text,
 };
 
@@ -42,7 +54,8 @@ use crate::noted::Noted;
 use crate::opening::told;
 use crate::{Change, Foreign, Node, NodeFault, Out, Ready};
 use ballots::Message;
-use member::Input;
+use claims::Job;
+use member::{Input, Member, Step};
 use protocol::Refusal;
 use stable_record::{Disk, Log, LogFault};
 use std::alloc::Global;
@@ -54,7 +67,6 @@ impl<'a, D: Disk> Node<'a, D> {
     /// # Errors
     ///
     /// `Stopped`; else `Memory`, or the member's refusal.
-    #[tactic(none)]
     pub fn prepare(&mut self, input: Input) -> Result<Ready, NodeFault>
         requires message { IsGoodInput input }
         ensures step { HasPrepared self.old.node self.new.node (Does input)
@@ -77,7 +89,6 @@ impl<'a, D: Disk> Node<'a, D> {
     /// # Errors
     ///
     /// `Stopped`; else `Memory`, or what makes the bytes `Foreign`.
-    #[tactic(none)]
     pub fn prepare_datagram(&mut self, bytes: &[u8]) -> Result<Ready, NodeFault>
         ensures step { HasPrepared self.old.node self.new.node (Comes bytes.now)
             (map_ok (taken_by self.old.node) result) }
@@ -96,7 +107,6 @@ impl<'a, D: Disk> Node<'a, D> {
     }
 
     /// Makes the step on an input ready, which changes the pieces so.
-    #[tactic(none)]
     fn prepare_input(&mut self, input: Input, change: Change) -> Result<Ready, Refusal>
         requires message { IsGoodInput input }
         requires pieces { AreKept (changed change self.old.node.pieces) }
@@ -109,7 +119,6 @@ impl<'a, D: Disk> Node<'a, D> {
     }
 
     /// Makes the step on a message that came ready, which changes the pieces so.
-    #[tactic(none)]
     fn prepare_message(&mut self, message: Message, change: Change) -> Result<Ready, NodeFault>
         requires message { IsGoodBody message.path message.body }
         requires pieces { AreKept (changed change self.old.node.pieces) }
@@ -125,7 +134,6 @@ impl<'a, D: Disk> Node<'a, D> {
     }
 
     /// Makes the step on a piece that came ready. Its header is tested first.
-    #[tactic(none)]
     fn prepare_piece(&mut self, piece: Piece) -> Result<Ready, NodeFault>
         requires { IsPiece piece }
         ensures step { ComesAs self.old.node self.new.node
@@ -146,7 +154,6 @@ impl<'a, D: Disk> Node<'a, D> {
     }
 
     /// Makes the step on the message ready whose last missing piece came.
-    #[tactic(none)]
     fn prepare_joined(&mut self, piece: Piece) -> Result<Ready, NodeFault>
         requires { IsPiece piece }
         ensures step { ComesAs self.old.node self.new.node
@@ -186,7 +193,6 @@ impl<'a, D: Disk> Node<'a, D> {
     /// # Errors
     ///
     /// `Memory`, and those of `Log::append`.
-    #[tactic(none)]
     pub fn finish(&mut self, ready: Ready) -> Result<Out, NodeFault>
         requires present { IsReadyFor self.old.node ready }
         ensures taken { IfOk result
@@ -214,22 +220,14 @@ impl<'a, D: Disk> Node<'a, D> {
             ⊎ (IsOnLog D.history self.new
             × (D.history self.new.log.disk ≡ D.history self.old.log.disk))) }
     {
-        let Ready {
-            step,
-            note,
-            sends,
-            change,
-        } = ready;
         make_room(&mut self.pieces)?;
-        if let Err(fault) = write(&mut self.log, &mut self.noted, note) {
-            self.stopped = matches!(fault, LogFault::Device);
+        if let Err(fault) = write(&mut self.log, &mut self.noted, ready.note()) {
+            self.stopped = is_device(fault);
             return Err(told(fault));
         }
+        let (step, sends, change) = ready.apart();
         change_kept(&mut self.pieces, change);
-        let job = match step {
-            Some(step) => self.member.commit(step).job,
-            None => None,
-        };
+        let job = commit(&mut self.member, step);
         Ok(Out { sends, job })
     }
 
@@ -308,24 +306,23 @@ impl<'a, D: Disk> Node<'a, D> {
 }
 
 /// Adds the note to the log, if there is one. At `Ok` it is on the disk.
-#[tactic(none)]
 fn write<D: Disk>(
     log: &mut Log<D>,
     noted: &mut Noted,
-    note: Option<Vec<u8>>,
+    note: Option<&[u8]>,
 ) -> Result<(), LogFault>
-    ensures noted { OnOk result (noted.new.texts ≡ with_text noted.old.texts (text_in note)) }
+    ensures noted { OnOk result (noted.new.texts ≡ with_text noted.old.texts (option_copied note.entry)) }
     ensures not_noted { OnErr result (noted.new.texts ≡ noted.old.texts) }
     ensures acknowledged { D.is_kept log.new.disk → (texts : List (List ℕ))
         → Holds D.history log.old texts
-        → OnOk result (Holds D.history log.new (with_text texts (text_in note))) }
+        → OnOk result (Holds D.history log.new (with_text texts (option_copied note.entry))) }
     ensures any_moment { D.is_kept log.new.disk → (texts : List (List ℕ))
         → Holds D.history log.old texts
-        → GoesOnWith log.old.identity texts (text_in note) (D.history log.old.disk)
+        → GoesOnWith log.old.identity texts (option_copied note.entry) (D.history log.old.disk)
         (D.history log.new.disk) }
     ensures owner { log.new.identity ≡ log.old.identity }
-    ensures full { IsErrOf result LogFault.Full → LacksRoomFor log.old (text_in note) }
-    ensures within { OnOk result (¬ (LacksRoomFor log.old (text_in note))) }
+    ensures full { IsErrOf result LogFault.Full → LacksRoomFor log.old (option_copied note.entry) }
+    ensures within { OnOk result (¬ (LacksRoomFor log.old (option_copied note.entry))) }
     ensures device { IsErrOf result LogFault.Device
         → HasRisen (D.failures_of log.old.disk) (D.failures_of log.new.disk) }
     ensures stopped { IsErrOf result LogFault.MustReopen → log.old.stopped ≡ true }
@@ -340,10 +337,32 @@ fn write<D: Disk>(
         → Holds D.history log.new texts × (D.history log.new.disk ≡ D.history log.old.disk) }
 {
     if let Some(text) = note {
-        log.append(text.as_slice())?;
-        noted.note(text.as_slice());
+        log.append(text)?;
+        noted.note(text);
     }
     Ok(())
+}
+
+/// Takes the member's part of a step, if it has one. It takes no memory.
+fn commit(member: &mut Member<'_>, step: Option<Step>) -> Option<Job>
+    requires { ForSome step (MayBeTaken member.old) }
+    ensures member { member.new ≡ committed member.old step }
+    ensures job { result ≡ (answer_then member.old step).job }
+{
+    match step {
+        Some(step) => member.commit(step).job,
+        None => None,
+    }
+}
+
+/// Whether the fault is one of the device, which stops a node.
+fn is_device(fault: LogFault) -> bool
+    ensures { result ≡ is_device fault }
+{
+    match fault {
+        LogFault::Device => true,
+        _ => false,
+    }
 }
 
 /// What is answered to an input that the member refuses.

@@ -1,11 +1,12 @@
 -- What the functions have done that make a node's step ready, and that write its note.
-use Rattle.std.specs.Prelude.{◌≡◌, ◌++◌, ℕ, All, AllPairs, false, List, [], ◌∷◌, Option, None, Some, Result, Ok, Err, IfOk, Vec, option_map}
+use Rattle.std.specs.Prelude.{◌≡◌, ◌++◌, ℕ, All, AllPairs, false, List, [], ◌∷◌, Option, None, Some, Result, Ok, Err, IfOk, Bool, true}
 use Rattle.std.specs.Option.{ForSome}
-use Rattle.std.specs.declared.alloc.Global.{Global}
 use Rattle.engine.specs.declared.Letter.{Letter}
 use Rattle.faults.specs.Answers.{IsRightUnless, map_ok}
 use Rattle.faults.specs.Bytes.{Text}
-use Rattle.member.specs.Prepared.{MayBeTaken}
+use Rattle.member.specs.Prepared.{MayBeTaken, Prepared, answer_by}
+use Rattle.protocol.specs.Answers.{after as member_after}
+use Rattle.protocol.specs.State.{State}
 use Rattle.protocol.specs.Step.{IsLetterOf, answer, unit_claimed}
 use Rattle.protocol.specs.declared.input.Input.{Input}
 use Rattle.protocol.specs.declared.refusal.Refusal.{Refusal}
@@ -16,6 +17,8 @@ use Rattle.stable_record.specs.Log.{HasBeforeOrAfter}
 use Rattle.stable_record.specs.OpenLog.{WouldPassLimit}
 use Rattle.stable_record.specs.declared.identity.Identity.{Identity}
 use Rattle.stable_record.specs.declared.log.Log.{Log}
+use Rattle.stable_record.specs.declared.log_fault.LogFault.{LogFault}
+use Rattle.stable_record.specs.declared.log_fault.LogFault.TheVariants as log
 use Rattle.wire.specs.Joining.{is_numbered}
 use Rattle.wire.specs.Pieces.{IsPiece}
 use Rattle.wire.specs.declared.WireFault.{WireFault}
@@ -122,11 +125,21 @@ pub record ComesAs (old new : NodeState) (a : Arrival) (result : Result ReadySte
   pub ready : MakesReady old (step_on old.member a) result
   pub state : new ≡ left_at old a result
 
+-- the member once its part of a step was taken, if it has one
+abbrev pub committed : State → Option Prepared → State
+committed s None = s
+committed s (Some p) = member_after s (answer_by s p)
+
 -- ---- the note
 
--- the text of a note, if there is one
-abbrev pub text_in : Option (Vec ℕ Global) → Option Text
-text_in note = option_map (λ t. t.items) note
+-- A fault of the device, and no other, stops a node.
+abbrev pub is_device : LogFault → Bool
+is_device log.Memory = false
+is_device log.Device = true
+is_device log.Full = false
+is_device log.MustReopen = false
+is_device log.NotALog = false
+is_device log.OtherCluster = false
 
 -- the texts with one more, if there is one
 abbrev pub with_text : List Text → Option Text → List Text
@@ -141,5 +154,5 @@ GoesOnWith i texts (Some text) old new = AllAlong (HasBeforeOrAfter i texts text
 
 -- With this note the file would have more bytes than it may.
 abbrev pub LacksRoomFor : {D : Type 0} → Log D → Option Text → Type 0
-LacksRoomFor log None = ⊥
-LacksRoomFor log (Some text) = WouldPassLimit log text
+LacksRoomFor l None = ⊥
+LacksRoomFor l (Some text) = WouldPassLimit l text
