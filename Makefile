@@ -24,5 +24,7 @@ bench: all
 	bench/audit
 	tools/prove wire_probe
 	bench/wire
+	tools/prove member_probe
+	bench/member
 
 .PHONY: all check install dist bench

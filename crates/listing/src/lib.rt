@@ -5,8 +5,7 @@ ghost use Rattle.std.specs.Prelude.{◌≡◌};
 ghost use Rattle.listing.specs.declared.ListingFault.TheVariants.{Memory};
 ghost use Rattle.listing.specs.Refusals.{number_of, place_of};
 
-use faults::{Fault, Memory as OutOfMemory};
-use std::alloc::{AllocError, AllocFailed};
+use faults::{Fault, WantOfMemory};
 use thiserror::Error;
 
 mod dependency;
@@ -76,26 +75,10 @@ impl Fault for ListingFault {
     }
 }
 
-impl From<OutOfMemory> for ListingFault {
+impl<E: WantOfMemory> From<E> for ListingFault {
     ghost from_gives = { λ _ e. e ≡ Memory };
 
-    fn from(_error: OutOfMemory) -> ListingFault {
-        ListingFault::Memory
-    }
-}
-
-impl From<AllocError> for ListingFault {
-    ghost from_gives = { λ _ e. e ≡ Memory };
-
-    fn from(_error: AllocError) -> ListingFault {
-        ListingFault::Memory
-    }
-}
-
-impl<T: Drop> From<AllocFailed<T>> for ListingFault {
-    ghost from_gives = { λ _ e. e ≡ Memory };
-
-    fn from(_error: AllocFailed<T>) -> ListingFault {
+    fn from(_error: E) -> ListingFault {
         ListingFault::Memory
     }
 }

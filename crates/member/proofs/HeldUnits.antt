@@ -45,6 +45,7 @@ has_all s (p ∷ ps) q =
         either : (c d : Bool) → (c || d) ≡ ((c || false) || d)
         either true d = refl
         either false d = refl
+
     same_test : (q p : ℕ) → nat_eq q p ≡ (p == q)
     same_test q p =
         same_answers (nat_eq q p) (p == q)
@@ -141,13 +142,17 @@ module _ (d : Division) (facts : List (Facts Value)) (u : ℕ) (n : Note Value)
     where
       packages : List ℕ
       packages = (unit_at d u).packages
+
       all : List ℕ
       all = positions d.tree
+
       of_it : (q : ℕ) → is_in (unit_at d u).packages q ≡ true → number_of d q ≡ Some u
       of_it q e = (one_unit_has d u q is lt (in_contains (unit_at d u).packages q e)).0
+
       none_of_it : (a b : Bool) → a ≡ false → (a || b) ≡ b
       none_of_it true b e = absurd (true≢false e)
       none_of_it false b e = refl
+
       -- a package of the unit is listed, and held with it
       its_own : (q : ℕ) → number_of d q ≡ Some u → (v : ℕ) → v ≡ u
           → (is_in (unit_at d u).packages q
@@ -164,6 +169,7 @@ module _ (d : Division) (facts : List (Facts Value)) (u : ℕ) (n : Note Value)
           member
           ∙ sym (ap (λ b. b && is_held_any (knowing d later) (Some v))
           (below_in (length d.tree) q listed) ∙ known)
+
       by_number : (q : ℕ) (k : Option ℕ) → number_of d q ≡ k
           → (is_in (unit_at d u).packages q
           || (is_in (positions d.tree) q && is_held_any (knowing d facts) k))

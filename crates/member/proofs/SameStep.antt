@@ -5,14 +5,13 @@ use Rattle.std.proofs.Common.{if◌then◌else◌, option_map}
 use Rattle.std.specs.Option.{ForSome}
 use Rattle.std.proofs.lemmas.Bool.{and_parts, cond-false, cond-true, eq-eqb, true≢false}
 use Rattle.agreement.specs.Member as members
-use Rattle.agreement.specs.Messages as messages
 use Rattle.agreement.specs.Nodes as nodes
 use Rattle.agreement.specs.Step.{Outcome}
 use Rattle.agreement.specs.Quorums.{named_in}
 use Rattle.agreement.specs.Votes.{ballot, report_of}
 use Rattle.agreement.specs.declared.claim.Claim.{Claim}
-use Rattle.ballots.specs.InTheAgreement.{builds_next, is_building, note_of, noted_next, said}
-use Rattle.ballots.specs.InTheAgreement.{IsClaimerStep, claim_of, said_next, stage_then}
+use Rattle.ballots.specs.InTheAgreement.{is_building, note_of, said}
+use Rattle.ballots.specs.InTheAgreement.{claim_of, stage_then}
 use Rattle.ballots.specs.InTheAgreement.{claimer_then, weights_of}
 use Rattle.ballots.specs.InTheAgreement.{stage_of as stage_of_claimer}
 use Rattle.ballots.specs.Support.{Support, set_of}
@@ -26,11 +25,11 @@ use Rattle.ballots.specs.declared.message.Body.TheVariants.{Ask, Nay}
 use Rattle.ballots.specs.declared.message.Fact.{Fact}
 use Rattle.ballots.specs.declared.message.Fact.TheVariants as facts
 use Rattle.protocol.specs.State.{OpenClaim, Progress, State, Value}
-use Rattle.protocol.specs.InTheAgreement.{body_in, fact_in, members_in, pair_of, progress_of}
+use Rattle.protocol.specs.InTheAgreement.{body_in, fact_in, pair_of, progress_of}
 use Rattle.protocol.specs.InTheAgreement.{stage_of, view}
 use Rattle.protocol.specs.InTheAgreement.{claim_of as node_claim}
 use Rattle.protocol.specs.Member.{IsMember, claim_in}
-use Rattle.protocol.specs.Answers.{Answer, answered, claim_then, dropped, job_then, message_of}
+use Rattle.protocol.specs.Answers.{answered, claim_then, job_then, message_of}
 use Rattle.protocol.specs.Answers.{note_at, sends_of}
 use Rattle.protocol.specs.Jobs.{job_of}
 use Rattle.protocol.specs.Sends.{sent_to}
@@ -39,7 +38,7 @@ use Rattle.protocol.proofs.Asked.{stage_is}
 use Rattle.protocol.proofs.TheTheory.{named}
 use Rattle.member.specs.OpenClaims.{IsWeighedBy, joined_in, open_of, progress_of_claimer}
 use Rattle.member.specs.declared.open_claim.OpenClaim as code
-use Rattle.member.specs.Prepared.{answer_by, counted, moved}
+use Rattle.member.specs.Prepared.{counted, moved}
 use Rattle.member.specs.inside.Counting.{on_unit, voter_prepared}
 use Rattle.member.specs.inside.Steps.{Makes}
 
@@ -126,12 +125,16 @@ voter_makes s u to o note answer is stage noted sent = record {
   where
     n : ℕ
     n = length s.weights
+
     notes : option_map (on_unit s u) note ≡ option_map (note_at s u) o.note
     notes = sym (ap (option_map (note_at s u)) noted ∙ note_again s u note)
+
     sends : sent_to (Some (message_of s u answer)) (to ∷ []) ≡ sends_of s u (to ∷ []) o.send
     sends = sym (ap (sends_of s u (to ∷ [])) sent ∙ sends_again s u (to ∷ []) answer)
+
     job : None ≡ job_then s u (host_in s.claim) o.member.stage
     job = sym (ap (job_then s u (host_in s.claim)) stage ∙ job_kept s u (host_in s.claim))
+
     claim : s.claim ≡ claim_then s.claim u (host_in s.claim) (progress_of n o.member.stage)
     claim =
         sym (ap (λ t. claim_then s.claim u (host_in s.claim) (progress_of n t)) stage
@@ -221,6 +224,7 @@ job_counted s u host o c false shown now = by_stage (stage_then o c) now
     waited : (x : Bool) → false ≡ (true && not x) → x ≡ true
     waited true e = refl
     waited false e = absurd (true≢false (sym e))
+
     by_stage : (t : members.Stage Value)
         → false ≡ (is_building t && not (is_building (stage_of_claimer o)))
         → None ≡ job_then s u host t

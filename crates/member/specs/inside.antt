@@ -1,6 +1,7 @@
 -- What only bodies and proofs need.
 pub mod Counting
 pub mod Fields
+pub mod Packages
 pub mod Steps
 pub mod Units
 pub mod Waiting

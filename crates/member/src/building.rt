@@ -1,6 +1,11 @@
 //! What becomes of a claim that waits for a build.
-ghost use Rattle.std.specs.Prelude.{◌≡◌, ◌<◌, MatchResult, None, Some, length};
+ghost use Rattle.std.specs.Prelude.{◌≡◌, ◌≢◌, ◌<◌, ◌⊎◌, MatchResult};
+ghost use Rattle.std.specs.Prelude.{None, Some, false, length, map, true};
 ghost use Rattle.faults.specs.Answers.{IsRightUnless};
+ghost use Rattle.units.specs.Division.{unit_at};
+ghost use Rattle.protocol.specs.Jobs.{are_given, paths_at};
+ghost use Rattle.protocol.specs.Member.{IsMember};
+ghost use Rattle.member.specs.inside.Packages.{files_at, made_at, made_of};
 ghost use Rattle.member.specs.inside.Steps.{IsPrepared};
 ghost use Rattle.member.specs.inside.Waiting.{job_at, made_by, waiting_for};
 
@@ -9,7 +14,7 @@ use crate::receivers::everyone;
 use crate::{ClaimChange, Member, OpenClaim, Step};
 use ballots::{Body, Claimer, Tally};
 use claims::Job;
-use package_record::{Build, RecordFault};
+use package_record::{Build, Package, RecordFault};
 use pkgpath::PkgPath;
 use protocol::{Input, Packages, Refusal, Sends};
 
@@ -52,8 +57,7 @@ impl<'a> Member<'a> {
         ensures { MatchResult result (λ x. waiting_for self.now path.now ≡ Some (x.0, x.1.now))
             (λ e. (e ≡ Refusal.NoClaim) × (waiting_for self.now path.now ≡ None)) }
     {
-        let (Some(unit), Some(open), Some(job)) =
-            (self.units.find(path), &self.claim, &self.job)
+        let (Some(unit), Some(open), Some(job)) = (self.units.find(path), &self.claim, &self.job)
         else {
             return Err(Refusal::NoClaim);
         };
@@ -69,18 +73,42 @@ impl<'a> Member<'a> {
         requires job { job_at self.now unit ≡ Some job.now }
         ensures { IsRightUnless Refusal.Memory result (made_by self.now unit job.now packages) }
     {
+        let packages = self.packages_of(unit, packages)?;
+        let built = job.deps().copy()?;
+        match Build::make(self.allocator(), job.host, job.claim, built, packages) {
+            Ok(build) => Ok(build),
+            Err(fault) => Err(refusal_of(fault)),
+        }
+    }
+
+    /// What the build makes of the unit's packages, if the files are of just these.
+    fn packages_of(&self, unit: u32, packages: Packages) -> Result<Vec<Package>, Refusal>
+        requires { unit < length self.now.division.units }
+        ensures member { IsMember self.now }
+        ensures made { MatchResult result
+            (λ made. (are_given (paths_at self.now unit) packages ≡ true)
+            × (map made_of made.items ≡ map (made_at self.now.division.tree (files_at packages))
+            (unit_at self.now.division unit).packages))
+            (λ e. (e ≡ Refusal.Memory) ⊎ ((e ≡ Refusal.OtherPackages)
+            × (are_given (paths_at self.now unit) packages ≡ false))) }
+    {
         let alloc = self.allocator();
         let positions = self.units.packages(unit);
         if packages.as_slice().len() != positions.len() {
             return Err(Refusal::OtherPackages);
         }
         let files = by_path(alloc, packages)?;
-        let packages = made(alloc, self.tree, positions, files)?;
-        let built = job.deps().copy()?;
-        match Build::make(alloc, job.host, job.claim, built, packages) {
-            Ok(build) => Ok(build),
-            Err(RecordFault::Memory) => Err(Refusal::Memory),
-            Err(fault) => Err(Refusal::BadFiles(fault)),
-        }
+        made(alloc, self.tree, positions, files)
+    }
+}
+
+/// The refusal where no build can be made: memory ran out, or the files make none.
+fn refusal_of(fault: RecordFault) -> Refusal
+    ensures { ((fault ≡ RecordFault.Memory) × (result ≡ Refusal.Memory))
+        ⊎ ((fault ≢ RecordFault.Memory) × (result ≡ Refusal.BadFiles fault)) }
+{
+    match fault {
+        RecordFault::Memory => Refusal::Memory,
+        fault => Refusal::BadFiles(fault),
     }
 }

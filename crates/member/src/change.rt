@@ -3,7 +3,8 @@ ghost use Rattle.std.specs.Prelude.{◌≡◌, List, ℕ, None, if◌then◌else
 ghost use Rattle.std.specs.Option.{ForSome, option_copied};
 ghost use Rattle.faults.specs.Answers.{option_or};
 ghost use Rattle.member.specs.OpenClaims.{IsWeighedBy, open_of, waits};
-ghost use Rattle.member.specs.Prepared.{IsChangeWeighedBy, changed};
+ghost use Rattle.member.specs.Prepared.{IsChangeWeighedBy, IsCountWeighedBy};
+ghost use Rattle.member.specs.Prepared.{changed, counted, moved};
 
 use crate::{ClaimChange, OpenClaim};
 use ballots::{Claimer, ClaimerChange};
@@ -21,9 +22,23 @@ pub(crate) fn changed(claim: Option<OpenClaim>, change: ClaimChange) -> Option<O
         ClaimChange::Stays => claim,
         ClaimChange::Becomes(open) => Some(open),
         ClaimChange::Ends => None,
-        ClaimChange::Counts(ClaimerChange::Ends) => None,
-        ClaimChange::Counts(change) => {
-            let mut open = claim?;
+        ClaimChange::Counts(change) => counted(claim?, change),
+    }
+}
+
+/// The claim once a promise or a vote is counted for it, unless it is done with.
+fn counted(claim: OpenClaim, change: ClaimerChange) -> Option<OpenClaim>
+    ensures claim { option_map open_of result
+        ≡ option_map (moved (open_of claim)) (counted change (open_of claim).progress) }
+    ensures weighed { (weights : List ℕ)
+        → IsWeighedBy weights claim.claimer
+        → IsCountWeighedBy weights change (open_of claim).progress
+        → ForSome result (λ o. IsWeighedBy weights o.claimer) }
+{
+    match change {
+        ClaimerChange::Ends => None,
+        change => {
+            let mut open = claim;
             open.claimer.apply(change);
             Some(open)
         }

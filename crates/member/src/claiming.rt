@@ -28,7 +28,7 @@ impl<'a> Member<'a> {
         if self.known[unit as usize].held.is_some() {
             return Err(Refusal::Held);
         }
-        if letter == Letter::T {
+        if matches!(letter, Letter::T) {
             return Err(Refusal::Waiting);
         }
         let opened = self.known[unit as usize].opened;

@@ -1,6 +1,6 @@
 //! What is noted becomes what is known.
 ghost use Rattle.std.specs.Prelude.{◌≡◌, ◌<◌, length, map};
-ghost use Rattle.units.specs.Division.{number_named, unit_at};
+ghost use Rattle.units.specs.Division.{IsDivision, number_named, unit_at};
 ghost use Rattle.protocol.specs.State.{noted_at};
 ghost use Rattle.member.specs.inside.Fields.{engine_with, facts_of_known};
 ghost use Rattle.member.specs.inside.Units.{agreed_too, is_held_fact};
@@ -52,8 +52,10 @@ fn is_held(fact: &Fact) -> bool
 fn agree(units: &Units<'_>, engine: &mut Engine<'_>, unit: u32)
     requires unit { unit < length units.now.units }
     requires tree { engine.old.tree ≡ units.now.tree }
-    ensures { engine.new ≡ agreed_too engine.old (unit_at units.now unit).packages }
+    ensures engine { engine.new ≡ agreed_too engine.old (unit_at units.now unit).packages }
+    ensures division { IsDivision units.now }
 {
+    prove!(unit < units.len());
     for position in units.packages(unit) {
         engine.agree(*position);
     }

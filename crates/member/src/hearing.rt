@@ -1,16 +1,18 @@
 //! What a member answers to messages.
-ghost use Rattle.std.specs.Prelude.{◌≡◌, ◌<◌, ◌∷◌, IfOk, MatchOption, Some, false, length};
+ghost use Rattle.std.specs.Prelude.{◌≡◌, ◌<◌, [], ◌∷◌, IfOk, MatchOption, Some, false, length};
+ghost use Rattle.protocol.specs.Member.{IsMember};
 ghost use Rattle.protocol.specs.Step.{hears, members_of};
 ghost use Rattle.member.specs.OpenClaims.{IsWeighedBy, is_for, open_of};
 ghost use Rattle.member.specs.inside.Steps.{IsPrepared, Makes};
-ghost use Rattle.member.specs.inside.Counting.{counter_prepared, held_prepared, voter_prepared};
+ghost use Rattle.member.specs.inside.Counting.{counter_prepared, held_prepared, quiet_prepared};
+ghost use Rattle.member.specs.inside.Counting.{voter_prepared};
 
-use crate::receivers::{everyone, one, others};
 use crate::naming::unit_named;
+use crate::receivers::{everyone, one, others};
 use crate::{ClaimChange, Member, OpenClaim, Step};
 use arrayvec::ArrayVec;
 use ballots::{Body, ClaimerChange, ClaimerStep, Fact, Message, Next, VoterStep};
-use claims::Claim;
+use claims::{Claim, Job};
 use faults::Memory;
 use package_record::Build;
 use protocol::{Input, Outcome, Refusal, Sends};
@@ -40,10 +42,17 @@ impl<'a> Member<'a> {
         requires sender { sender < length self.now.weights }
         ensures { IfOk result (Makes self.now (hears self.now unit sender body)) }
     {
+        let voter = &self.known[unit as usize].voter;
         match body {
-            Body::Offer(claim) => self.offered(unit, claim),
+            Body::Offer(claim) => {
+                let step = voter.offer(claim)?;
+                self.voting(unit, claim, step)
+            }
             Body::Promise(claim, report) => self.promised_by(unit, sender, claim, report),
-            Body::Propose(claim, build) => self.proposed(unit, claim, build),
+            Body::Propose(claim, build) => {
+                let step = voter.propose(claim, &build)?;
+                self.voting(unit, claim, step)
+            }
             Body::Vote(claim) => self.voted_by(unit, sender, claim),
             Body::Agreed(build) => self.agreed(unit, build),
             Body::Ask => self.asked_by(unit, sender),
@@ -51,25 +60,7 @@ impl<'a> Member<'a> {
         }
     }
 
-    /// A claim is offered: its member gets a promise, or a nay.
-    fn offered(&self, unit: u32, claim: Claim) -> Result<Step, Memory>
-        requires { unit < length self.now.division.units }
-        ensures { IfOk result (Makes self.now (hears self.now unit 0 (Body.Offer claim))) }
-    {
-        let step = self.known[unit as usize].voter.offer(claim)?;
-        self.voting(unit, claim, step)
-    }
-
-    /// A build is proposed: the claim's member gets a vote, or a nay.
-    fn proposed(&self, unit: u32, claim: Claim, build: Build) -> Result<Step, Memory>
-        requires { unit < length self.now.division.units }
-        ensures { IfOk result (Makes self.now (hears self.now unit 0 (Body.Propose claim build))) }
-    {
-        let step = self.known[unit as usize].voter.propose(claim, &build)?;
-        self.voting(unit, claim, step)
-    }
-
-    /// The voter's step.
+    /// The voter's step, which answers the claim's member.
     fn voting(&self, unit: u32, claim: Claim, step: VoterStep) -> Result<Step, Memory>
         requires unit { unit < length self.now.division.units }
         requires kept { step.change ≡ step.note }
@@ -100,9 +91,10 @@ impl<'a> Member<'a> {
 
     /// The open claim, if it is for the unit.
     fn claim_for(&self, unit: u32) -> Option<&OpenClaim>
-        ensures { MatchOption result (is_for self.now.claim unit ≡ false)
+        ensures claim { MatchOption result (is_for self.now.claim unit ≡ false)
             (λ o. (self.now.claim ≡ Some (open_of o.now)) × (o.now.unit ≡ unit)
             × IsWeighedBy self.now.weights o.now.claimer) }
+        ensures member { IsMember self.now }
     {
         let open = self.claim.as_ref()?;
         if open.unit == unit { Some(open) } else { None }
@@ -118,7 +110,8 @@ impl<'a> Member<'a> {
     ) -> Result<Step, Memory>
         requires unit { unit < length self.now.division.units }
         requires sender { sender < length self.now.weights }
-        ensures { IfOk result (Makes self.now (hears self.now unit sender (Body.Promise claim report))) }
+        ensures { IfOk result
+            (Makes self.now (hears self.now unit sender (Body.Promise claim report))) }
     {
         let Some(open) = self.claim_for(unit) else {
             return Ok(Step::nothing());
@@ -148,11 +141,11 @@ impl<'a> Member<'a> {
     {
         let ClaimerStep { next, change } = step;
         match next {
-            Next::Nothing => Ok(Step::saying(
-                Sends::nothing(),
-                ClaimChange::Counts(change),
-            )),
-            Next::Build => self.building_first(own, change),
+            Next::Nothing => Ok(Step::saying(Sends::nothing(), ClaimChange::Counts(change))),
+            Next::Build => {
+                let job = self.job_for(own.unit, own.host, own.claimer.claim())?;
+                giving(job, change)
+            }
             Next::Propose(claim, build) => {
                 let sends = self.sent(
                     own.unit,
@@ -163,26 +156,6 @@ impl<'a> Member<'a> {
             }
             Next::Hold { noted, sent } => self.holding(own.unit, noted, sent, change),
         }
-    }
-
-    /// A build is to be made: its job is given.
-    fn building_first(&self, own: &OpenClaim, change: ClaimerChange) -> Result<Step, Memory>
-        requires { self.now.claim ≡ Some (open_of own.now) }
-        ensures { IfOk result
-            (λ made. made ≡ counter_prepared self.now (open_of own.now) Next.Build change) }
-    {
-        let job = self.job_for(own.unit, own.host, own.claimer.claim())?;
-        let kept_job = job.copy()?;
-        Ok(Step {
-            outcome: Outcome {
-                note: None,
-                sends: Sends::nothing(),
-                job: Some(job),
-            },
-            kept_fact: None,
-            kept_job: Some(kept_job),
-            change: ClaimChange::Counts(change),
-        })
     }
 
     /// A majority voted: the build is held, and all others are told.
@@ -252,6 +225,23 @@ impl<'a> Member<'a> {
             None => Ok(Step::nothing()),
         }
     }
+}
+
+/// A build is to be made: this job is given.
+fn giving(job: Job, change: ClaimerChange) -> Result<Step, Memory>
+    ensures { IfOk result (λ made. made ≡ quiet_prepared [] (Some job) change) }
+{
+    let kept_job = job.copy()?;
+    Ok(Step {
+        outcome: Outcome {
+            note: None,
+            sends: Sends::nothing(),
+            job: Some(job),
+        },
+        kept_fact: None,
+        kept_job: Some(kept_job),
+        change: ClaimChange::Counts(change),
+    })
 }
 
 /// The sender, and the members of the claims that the body names; that in a record is none of them.

@@ -77,6 +77,7 @@ impl<'a> Member<'a> {
         ensures tree { IfOk result (λ m. m.division.tree ≡ tree.entry.now) }
         ensures division { IfOk result (λ m. IsDivision m.division) }
     {
+        prove!(usize::from(me) < weights.as_slice().len());
         let units = Units::new(alloc, tree)?;
         let engine = Engine::new(alloc, tree)?;
         let known = all_unknown(alloc, units.len())?;
@@ -178,8 +179,9 @@ impl<'a> Member<'a> {
         Ok(self.commit(step))
     }
 
-    /// Whether a message with this tree's digest, these members and this path is answered; else, why
-    /// it is refused. The sender is one of its members, as are those of the claims that it names.
+    /// Whether a message with this tree's digest, these members and this path is answered; else,
+    /// why it is refused. The sender is one of its members, as are those of the claims that it
+    /// names.
     ///
     /// # Errors
     ///

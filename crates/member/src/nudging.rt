@@ -19,7 +19,9 @@ impl<'a> Member<'a> {
         };
         match &open.claimer {
             Claimer::Gathering {
-                claim, promised, ..
+                claim,
+                promised,
+                ..
             } => {
                 let to = missing(&self.weights, promised);
                 let sends = self.sent(open.unit, to, Body::Offer(*claim))?;

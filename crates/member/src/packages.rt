@@ -1,7 +1,13 @@
 //! Packages in order of path, and what a build makes of them.
-ghost use Rattle.std.specs.Prelude.{◌≡◌, ◌<◌, All, IfOk, length, map};
-ghost use Rattle.listing.specs.Tree.{ArePositions, IsTree, path_at};
+ghost use Rattle.std.specs.Prelude.{◌≡◌, ◌<◌, ◌⊎◌, All, IfOk};
+ghost use Rattle.std.specs.Prelude.{MatchResult, false, length, map, true};
+ghost use Rattle.std.specs.Str.{bytes_eq};
+ghost use Rattle.faults.specs.Bytes.{Text};
+ghost use Rattle.claims.specs.Deps.{is_ascending};
+ghost use Rattle.indexmap.specs.IndexMap.{get};
+ghost use Rattle.listing.specs.Tree.{ArePositions, IsTree, name_at, path_at, run_at};
 ghost use Rattle.protocol.specs.Jobs.{in_order_of_path};
+ghost use Rattle.member.specs.inside.Packages.{files_at, have_files, made_at, made_of};
 
 use faults::Memory;
 use indexmap::IndexMap;
@@ -69,10 +75,10 @@ pub(crate) fn paths_of(
 }
 
 /// The files by the paths of their packages; of those of one path the first.
-pub(crate) fn by_path(
-    alloc: Global,
-    packages: Packages,
-) -> Result<IndexMap<PkgPath, Files>, Memory> {
+pub(crate) fn by_path(alloc: Global, packages: Packages) -> Result<IndexMap<PkgPath, Files>, Memory>
+    ensures { IfOk result
+        (λ files. (path : Text) → get bytes_eq files path ≡ files_at packages path) }
+{
     let mut files = IndexMap::new(alloc);
     for (path, given) in packages.into_vec() {
         if !files.contains_key(&path) {
@@ -82,26 +88,43 @@ pub(crate) fn by_path(
     Ok(files)
 }
 
-/// What the build makes of these packages, with the files that are given for them.
+/// What the build makes of these packages, with the files that are given for them. Without files
+/// for one of them it is `OtherPackages`.
 pub(crate) fn made(
     alloc: Global,
     tree: &Tree,
     positions: &[u32],
     mut files: IndexMap<PkgPath, Files>,
-) -> Result<Vec<Package>, Refusal> {
+) -> Result<Vec<Package>, Refusal>
+    requires tree { IsTree tree.now }
+    requires positions { All (λ p. p < length tree.now) positions.now }
+    requires order { is_ascending (map (path_at tree.now) positions.now) ≡ true }
+    ensures { MatchResult result
+        (λ packages. (have_files tree.now (get bytes_eq files) positions.now ≡ true)
+        × (map made_of packages.items
+        ≡ map (made_at tree.now (get bytes_eq files)) positions.now))
+        (λ e. (e ≡ Refusal.Memory) ⊎ ((e ≡ Refusal.OtherPackages)
+        × (have_files tree.now (get bytes_eq files) positions.now ≡ false))) }
+{
     let mut packages = Vec::with_capacity(alloc, positions.len())?;
     for position in positions {
         let Some(given) = files.swap_remove(tree.path(*position)) else {
             return Err(Refusal::OtherPackages);
         };
-        packages.push(package(alloc, tree, *position, given)?)?;
+        packages.push(package_at(alloc, tree, *position, given)?)?;
     }
     Ok(packages)
 }
 
 /// What the build makes of the package at the position, of these files.
-fn package(alloc: Global, tree: &Tree, position: u32, files: Files) -> Result<Package, Memory>
-    requires { position < length tree.now }
+fn package_at(alloc: Global, tree: &Tree, position: u32, files: Files) -> Result<Package, Memory>
+    requires tree { IsTree tree.now }
+    requires position { position < length tree.now }
+    ensures path { IfOk result (λ p. p.path ≡ path_at tree.now position) }
+    ensures name { IfOk result (λ p. p.name ≡ name_at tree.now position) }
+    ensures run { IfOk result (λ p. p.run.items
+        ≡ in_order_of_path tree.now (run_at tree.now position)) }
+    ensures files { IfOk result (λ p. p.files ≡ files) }
 {
     let path = tree.path(position).copy()?;
     let name = tree.name(position).copy()?;

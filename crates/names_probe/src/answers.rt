@@ -71,10 +71,13 @@ fn compare(alloc: Global, own: &[u8], other: &[u8]) -> Result<String, AllocError
     if !is_version(own) || !is_version(other) {
         return String::from_str(alloc, "no version");
     }
-    match (Version::new(alloc, own), Version::new(alloc, other)) {
-        (Ok(own), Ok(other)) => String::from_str(alloc, compared(&own, &other)),
-        _ => no_memory(alloc),
-    }
+    let Ok(own) = Version::new(alloc, own) else {
+        return no_memory(alloc);
+    };
+    let Ok(other) = Version::new(alloc, other) else {
+        return no_memory(alloc);
+    };
+    String::from_str(alloc, compared(&own, &other))
 }
 
 fn compared(own: &Version, other: &Version) -> &'static str {
@@ -100,10 +103,13 @@ fn spec(alloc: Global, text: &[u8], name: &[u8]) -> Result<String, AllocError> {
 }
 
 fn matched(alloc: Global, spec: &Spec, name: &[u8]) -> &'static str {
-    match (spec.copy(), PkgName::parse(alloc, name)) {
-        (Ok(spec), Ok(name)) => answer_of(spec.matches(&name)),
-        _ => "no name",
-    }
+    let Ok(spec) = spec.copy() else {
+        return "no name";
+    };
+    let Ok(name) = PkgName::parse(alloc, name) else {
+        return "no name";
+    };
+    answer_of(spec.matches(&name))
 }
 
 fn answer_of(holds: bool) -> &'static str {

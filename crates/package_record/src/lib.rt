@@ -5,8 +5,7 @@ ghost use Rattle.std.specs.Prelude.{◌≡◌};
 ghost use Rattle.package_record.specs.declared.RecordFault.TheVariants.{Memory as out_of_memory};
 ghost use Rattle.package_record.specs.Refusals.{number_of, place_of};
 
-use faults::{Fault, Memory};
-use std::alloc::{AllocError, AllocFailed};
+use faults::{Fault, WantOfMemory};
 use thiserror::Error;
 
 mod alike;
@@ -67,26 +66,10 @@ pub enum RecordFault {
     TooLarge,
 }
 
-impl From<Memory> for RecordFault {
+impl<E: WantOfMemory> From<E> for RecordFault {
     ghost from_gives = { λ _ e. e ≡ out_of_memory };
 
-    fn from(_e: Memory) -> RecordFault {
-        RecordFault::Memory
-    }
-}
-
-impl From<AllocError> for RecordFault {
-    ghost from_gives = { λ _ e. e ≡ out_of_memory };
-
-    fn from(_e: AllocError) -> RecordFault {
-        RecordFault::Memory
-    }
-}
-
-impl<T: Drop> From<AllocFailed<T>> for RecordFault {
-    ghost from_gives = { λ _ e. e ≡ out_of_memory };
-
-    fn from(_e: AllocFailed<T>) -> RecordFault {
+    fn from(_e: E) -> RecordFault {
         RecordFault::Memory
     }
 }

@@ -10,10 +10,13 @@ use pkgpath::PkgPath;
 use std::alloc::Global;
 
 pub fn named(alloc: Global, path: &[u8], name: &[u8]) -> Result<(PkgPath, PkgName), Memory> {
-    match (PkgPath::parse(alloc, path), PkgName::parse(alloc, name)) {
-        (Ok(path), Ok(name)) => Ok((path, name)),
-        _ => Err(Memory),
-    }
+    let Ok(path) = PkgPath::parse(alloc, path) else {
+        return Err(Memory);
+    };
+    let Ok(name) = PkgName::parse(alloc, name) else {
+        return Err(Memory);
+    };
+    Ok((path, name))
 }
 
 pub fn one_path(alloc: Global, path: &[u8]) -> Result<Vec<PkgPath>, Memory>

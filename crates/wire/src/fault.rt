@@ -4,8 +4,7 @@ ghost use Rattle.wire.specs.inside.Given.{refusal_of};
 ghost use Rattle.wire.specs.declared.fault.ReadError.TheVariants.{Memory as out_of_memory};
 
 use crate::WireFault;
-use faults::Memory;
-use std::alloc::{AllocError, AllocFailed};
+use faults::WantOfMemory;
 
 /// Memory ran out, or the bytes have this fault.
 #[derive(Debug, Drop)]
@@ -14,26 +13,10 @@ pub enum ReadError {
     Fault(WireFault),
 }
 
-impl From<Memory> for ReadError {
+impl<E: WantOfMemory> From<E> for ReadError {
     ghost from_gives = { λ _ e. e ≡ out_of_memory };
 
-    fn from(_e: Memory) -> ReadError {
-        ReadError::Memory
-    }
-}
-
-impl From<AllocError> for ReadError {
-    ghost from_gives = { λ _ e. e ≡ out_of_memory };
-
-    fn from(_e: AllocError) -> ReadError {
-        ReadError::Memory
-    }
-}
-
-impl<T: Drop> From<AllocFailed<T>> for ReadError {
-    ghost from_gives = { λ _ e. e ≡ out_of_memory };
-
-    fn from(_e: AllocFailed<T>) -> ReadError {
+    fn from(_e: E) -> ReadError {
         ReadError::Memory
     }
 }

@@ -13,7 +13,7 @@ ghost use Rattle.wire.specs.declared.WireFault.TheVariants.{Memory as out_of_mem
 ghost use Rattle.wire.specs.Spelling.{datagram_text, note_text};
 
 use ballots::{Message, Note};
-use faults::{Fault, Memory};
+use faults::{Fault, Memory, WantOfMemory};
 use package_record::Build;
 use std::alloc::Global;
 use thiserror::Error;
@@ -52,10 +52,10 @@ pub enum WireFault {
     Trailing,
 }
 
-impl From<Memory> for WireFault {
+impl<E: WantOfMemory> From<E> for WireFault {
     ghost from_gives = { λ _ e. e ≡ out_of_memory };
 
-    fn from(_e: Memory) -> WireFault {
+    fn from(_e: E) -> WireFault {
         WireFault::Memory
     }
 }

@@ -29,7 +29,8 @@ pub record IsKept (s : Inside) : Type 0 where
   pub fact : s.kept_fact ≡ option_map (λ n. n.fact) s.outcome.note
   pub job : s.kept_job ≡ s.outcome.job
 
--- A step was prepared that is this answer of the member, or it is refused so, unless memory ran out.
+-- A step was prepared that is this answer of the member, or it is refused so, unless memory ran
+-- out.
 pub record Prepares (s : State) (right : Result Answer Refusal) (result : Result Prepared Refusal)
     : Type 0 where
   pub given : IsRightUnless Memory (map_ok (answer_by s) result) right

@@ -3,5 +3,5 @@ use Rattle.agreement.specs.Member.{no_facts}
 use Rattle.member.specs.inside.Fields.{facts_of_known}
 use Rattle.member.proofs.member.all_unknown.Given as goal
 
-abbrev pub invariant-loop-_unit : goal.invariant-loop-_unit
-invariant-loop-_unit l = map facts_of_known l.known.items ≡ replicate l._unit no_facts
+abbrev pub invariant-loop-unit : goal.invariant-loop-unit
+invariant-loop-unit l = map facts_of_known l.known.items ≡ replicate l._unit no_facts

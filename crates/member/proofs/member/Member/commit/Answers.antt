@@ -1,0 +1,94 @@
+use Rattle.std.proofs.Common.{◌≡◌, ◌∙◌, List, ℕ, Option, None, ap, map, option_map, subst}
+use Rattle.std.proofs.Common.{◌++◌, arith, drop, length, sym, take, if◌then◌else◌}
+use Rattle.std.specs.Prelude.{unwrap_or}
+use Rattle.std.specs.Option.{ForSome}
+use Rattle.std.specs.Vec.{with_items}
+use Rattle.std.proofs.Math.Seq.{take-append_seam}
+use Rattle.faults.specs.Answers.{option_or}
+use Rattle.ballots.specs.declared.message.Fact.{Fact}
+use Rattle.ballots.specs.declared.message.Note.{Note}
+use Rattle.protocol.specs.State.{State, Value, facts_then, noted_at}
+use Rattle.units.specs.Division.{number_named}
+use Rattle.member.specs.OpenClaims.{IsWeighedBy, open_of, waits}
+use Rattle.member.specs.Prepared.{IsChangeWeighedBy, MayBeTaken, Prepared, changed}
+use Rattle.member.specs.declared.open_claim.OpenClaim.{OpenClaim}
+use Rattle.member.specs.inside.Fields.{engine_with, facts_of_known, state_of}
+use Rattle.member.specs.inside.Steps.{prepared_by}
+use Rattle.member.proofs.Taking.{kept_then}
+use Rattle.member.proofs.member.Member.commit.Goals as goal
+
+pub keep_fact-requires-clause-engine : goal.keep_fact-requires-clause-engine
+keep_fact-requires-clause-engine c =
+    let m = c.self.inside in
+    c.self.invariant.engine
+    ∙ ap (λ ks. engine_with m.units (map facts_of_known ks)) (sym c.as_mut_slice.ensures.value)
+
+pub invariant_of-self : goal.invariant_of-self
+invariant_of-self c =
+    let m = c.self.inside in
+    let p : Prepared = prepared_by c.step.inside in
+    let may : MayBeTaken (state_of m) p = subst (MayBeTaken (state_of m)) (sym c.step.view_is)
+    (subst (λ (s : State). MayBeTaken s c.args.step) (sym c.self.view_is)
+    c.requires) in
+    let claim = c.changed.ensures.claim
+    ∙ ap (λ o. changed p.change (option_map open_of o)) c.take.ensures.value in
+    let weighed = subst (λ (old : Option OpenClaim). (weights : List ℕ)
+    → ForSome old (λ o. IsWeighedBy weights o.claimer)
+    → IsChangeWeighedBy weights p.change (option_map open_of old)
+    → ForSome c.changed.result (λ o. IsWeighedBy weights o.claimer)) c.take.ensures.value
+    c.changed.ensures.weighed in
+    let job = c.job_of.ensures
+    ∙ (ap (λ o. if waits (option_map open_of o)
+    then option_or c.step.inside.kept_job c.take-2.result else None) c.as_ref.ensures.value
+    ∙ (λ i. if waits (option_map open_of c.changed.result)
+    then option_or (c.step.invariant.job i) (c.take-2.ensures.value i) else None)) in
+    let note = c.in-Some-Some.note in
+    let fact : c.in-Some-Some.fact ≡ note.fact =
+    ap (λ (o : Option (Fact Value)). unwrap_or o c.in-Some-Some.fact) (sym c.in-Some-Some.is-1
+    ∙ (c.step.invariant.fact
+    ∙ ap (option_map (λ (n : Note Value). n.fact)) c.in-Some-Some.is-0)) in
+    let known = c.keep_fact.new.known in
+    let count : m.known.len ≡ length known =
+    omega (arith, c.as_mut_slice.ensures.len, c.keep_fact.auto.known) in
+    let written : (with_items m.known known).items ≡ known =
+    ap (λ n. take n (known ++ drop (length known) m.known.items)) count
+    ∙ take-append_seam known (drop (length known) m.known.items) in
+    let facts = ap (map facts_of_known) written ∙ (c.keep_fact.ensures.facts
+    ∙ (ap (λ ks. noted_at (number_named m.units note.path) (map facts_of_known ks)
+    (record { path = note.path; fact = c.in-Some-Some.fact })) c.as_mut_slice.ensures.value
+    ∙ (ap (λ x. noted_at (number_named m.units note.path) (map facts_of_known m.known.items)
+    (record { path = note.path; fact = x })) fact
+    ∙ ap (facts_then m.units (map facts_of_known m.known.items)) (sym c.in-Some-Some.is-0)))) in
+    kept_then m
+    (record m {
+      known = with_items m.known c.keep_fact.new.known;
+      claim = c.changed.result;
+      job = c.job_of.result;
+      engine = c.keep_fact.new.engine;
+    }) p c.self.invariant may facts claim weighed job
+    (c.keep_fact.ensures.engine
+    ∙ ap (λ ks. engine_with m.units (map facts_of_known ks)) (sym written))
+
+pub invariant_of-self-in_default-2 : goal.invariant_of-self-in_default-2
+invariant_of-self-in_default-2 c =
+    let m = c.self.inside in
+    let p : Prepared = prepared_by c.step.inside in
+    let may : MayBeTaken (state_of m) p = subst (MayBeTaken (state_of m)) (sym c.step.view_is)
+    (subst (λ (s : State). MayBeTaken s c.args.step) (sym c.self.view_is)
+    c.requires) in
+    let claim = c.changed.ensures.claim
+    ∙ ap (λ o. changed p.change (option_map open_of o)) c.take.ensures.value in
+    let weighed = subst (λ (old : Option OpenClaim). (weights : List ℕ)
+    → ForSome old (λ o. IsWeighedBy weights o.claimer)
+    → IsChangeWeighedBy weights p.change (option_map open_of old)
+    → ForSome c.changed.result (λ o. IsWeighedBy weights o.claimer)) c.take.ensures.value
+    c.changed.ensures.weighed in
+    let job = c.job_of.ensures
+    ∙ (ap (λ o. if waits (option_map open_of o)
+    then option_or c.step.inside.kept_job c.take-2.result else None) c.as_ref.ensures.value
+    ∙ (λ i. if waits (option_map open_of c.changed.result)
+    then option_or (c.step.invariant.job i) (c.take-2.ensures.value i) else None)) in
+    kept_then m (record m { claim = c.changed.result; job = c.job_of.result }) p
+    c.self.invariant may
+    (ap (facts_then m.units (map facts_of_known m.known.items)) (sym c.in_default.is-0))
+    claim weighed job c.self.invariant.engine

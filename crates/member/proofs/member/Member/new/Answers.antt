@@ -1,0 +1,54 @@
+use Rattle.std.proofs.Common.{◌≡◌, None, Some, ap, map, refl, replicate, subst, sym, ◌∙◌}
+use Rattle.std.specs.FinSet as set
+use Rattle.agreement.specs.Member.{no_facts}
+use Rattle.protocol.specs.Answers.{tree_digest}
+use Rattle.protocol.specs.Member.{IsMember}
+use Rattle.protocol.specs.State.{fresh}
+use Rattle.member.specs.inside.Fields.{engine_with, facts_of_known}
+use Rattle.member.proofs.Fresh.{each_alike, fresh_engine, fresh_member}
+use Rattle.member.proofs.member.Member.new.Goals as goal
+
+pub invariant_of-result : goal.invariant_of-result
+invariant_of-result c =
+    let d = c.in_ok-units.units in
+    let facts : map facts_of_known c.in_ok-known.known.items ≡ map (λ x. no_facts) d.units =
+    c.in_ok-known.ensures
+    ∙ (ap (λ n. replicate n no_facts) c.len.ensures.count ∙ sym (each_alike no_facts d.units)) in
+    let state : fresh d c.args.weights.now c.args.me ≡ record {
+      division = d;
+      weights = c.copy.result;
+      me = c.args.me;
+      facts = map facts_of_known c.in_ok-known.known.items;
+      claim = None;
+    } = λ i. record {
+      division = d;
+      weights = sym c.copy.ensures i;
+      me = c.args.me;
+      facts = sym facts i;
+      claim = None;
+    } in
+    record {
+      member = subst IsMember state (fresh_member d c.args.weights.now c.args.me
+          c.len.ensures.division c.as_slice.ensures.are_weights c.requires);
+      tree = sym c.in_ok-units.ensures;
+      digest = c.digest.ensures ∙ ap tree_digest (sym c.in_ok-units.ensures);
+      engine = c.in_ok-engine.ensures
+          ∙ (ap (λ t. record { tree = t; agreed = set.empty }) (sym c.in_ok-units.ensures)
+          ∙ (sym (fresh_engine d) ∙ ap (engine_with d) (sym facts)));
+      weighed = λ o e. absurd (let no : None ≡ Some o = e in cc);
+      job = refl;
+    }
+
+pub returns-clause-fresh : goal.returns-clause-fresh
+returns-clause-fresh c =
+    let d = c.in_ok-units.units in
+    let facts : map facts_of_known c.in_ok-known.known.items ≡ map (λ x. no_facts) d.units =
+    c.in_ok-known.ensures
+    ∙ (ap (λ n. replicate n no_facts) c.len.ensures.count ∙ sym (each_alike no_facts d.units)) in
+    λ i. record {
+      division = d;
+      weights = c.copy.ensures i;
+      me = c.args.me;
+      facts = facts i;
+      claim = None;
+    }

@@ -1,0 +1,16 @@
+use Rattle.std.proofs.Common.{◌<◌, length, map}
+use Rattle.std.proofs.lemmas.List.Elements.{All-contains}
+use Rattle.listing.specs.Tree.{path_at}
+use Rattle.units.proofs.InOrder.{paths_differ, sorted_as_set}
+use Rattle.member.proofs.packages.in_order.Goals as goal
+
+pub returns : goal.returns
+returns c =
+    let tree = c.args.tree.now in
+    let ps = c.args.positions.now in
+    let asked = c.requires.positions in
+    sorted_as_set (λ path. path.now) c.in_ok-paths.paths.items c.sort.new.self.items
+    (map (path_at tree) ps) c.in_ok-paths.ensures
+    (paths_differ tree c.requires.is_tree ps
+    (λ p member. All-contains (λ q. q < length tree) ps p asked.within member) asked.rising)
+    c.in_ok-sort.ensures.permutation c.in_ok-sort.ensures.sorted

@@ -1,0 +1,61 @@
+// Answers rows of standard input, which blank lines part: members that are handed each other's
+// messages by hand. A row begins with `members` and what each weighs, and with the lines of a
+// listing, each behind `listing`. Each line behind that asks something, and is told again with its
+// answer. Messages have numbers, in order of sending from 0; K is a member's number.
+//
+// - `claim K PATH HOST ABOVE`, `failed K PATH`, `nudge K`, `ask K PATH`, and `built K PATH` with
+//   what stands behind it, which is for each package its path, a file's name and how many bytes it
+//   has: the input, to the member. Its answer is what is noted, what is said to whom, and the job;
+//   or the number of the refusal and its cause.
+// - `deliver N K`: message N comes to the member.
+// - `say K SENDER PATH BODY ROUND MEMBER`: a message from this sender comes to the member, with
+//   the body `offer`, `promise`, `vote`, `nay` or `ask`, of this claim; or of another tree, where
+//   the body is `stranger`.
+// - `look` and an input: the step is prepared, and not taken.
+// - `held K PATH`, `facts K PATH`, `open K`, `counts K`: what the member knows.
+// - `restart K`: a new member restores what this one noted, and the letters of all packages are
+//   told.
+//
+// Where memory runs out in a step, that is told on standard error, and the same input is given
+// again.
+#![tactic(auto)]
+
+mod asked;
+mod inputs;
+mod known;
+mod post;
+mod rows;
+mod told;
+
+use std::io;
+use std::process::ExitCode;
+
+fn main(rt: HostRuntime) -> io::Result<ExitCode> {
+    let mut row = Vec::new(rt.alloc());
+    for line in rt.lines(rt.alloc()) {
+        let line = line?;
+        if !line.is_empty() {
+            row.push(line)?;
+        } else if !tell(&rt, row.as_slice())? {
+            return Ok(ExitCode::from(1));
+        } else {
+            row.clear();
+        }
+    }
+    let told = tell(&rt, row.as_slice())?;
+    Ok(ExitCode::from(if told { 0 } else { 1 }))
+}
+
+// Tells the answers of a row, unless memory runs out.
+fn tell(rt: &HostRuntime, row: &[String]) -> io::Result<bool> {
+    match rows::answers(rt.alloc(), row) {
+        Ok((answers, refused)) => {
+            println!(rt; "{answers}")?;
+            if refused > 0 {
+                eprintln!(rt; "{refused} again")?;
+            }
+            Ok(true)
+        }
+        Err(_) => Ok(false),
+    }
+}
