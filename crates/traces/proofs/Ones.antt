@@ -1,5 +1,5 @@
 -- Members that each weigh 1.
-use Rattle.std.proofs.Common.{◌≡◌, ◌∙◌, ◌&&◌, ℕ, zero, suc, ◌≤◌, Bool, List, [], ◌∷◌, Option, None, Some, true, false, true≢false, length, replicate, take, refl, sym, ap, arith, nat_le}
+use Rattle.std.proofs.Common.{◌≡◌, ◌∙◌, ◌&&◌, ℕ, zero, suc, ◌≤◌, Bool, List, [], ◌∷◌, None, Some, true, false, true≢false, replicate, take, refl, sym, ap, nat_le}
 use Rattle.std.proofs.lemmas.Bool.{le-leb}
 use Rattle.std.proofs.lemmas.List.{length-replicate, take-replicate}
 use Rattle.std.specs.List.{list_all}

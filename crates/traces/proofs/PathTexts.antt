@@ -1,10 +1,9 @@
 -- Paths are text.
-use Rattle.std.proofs.Common.{◌≡◌, ℕ, zero, suc, ◌<◌, ◌≤◌, List, [], ◌∷◌, false, eqb, leb, refl, sym, ap, ◌∙◌, arith, inl, inr}
+use Rattle.std.proofs.Common.{◌≡◌, ℕ, zero, suc, ◌<◌, ◌≤◌, [], ◌∷◌, false, eqb, refl, arith, inl, inr, rules}
 use Rattle.std.proofs.lemmas.Bool.{cases_lt, eqb-false, lt-leb, ne_eqb, or_parts}
 use Rattle.std.proofs.lemmas.Str.{IsUtf8-from_ascii, utf8_lossy-IsUtf8}
 use Rattle.std.proofs.lemmas.Str.Ascii.{IsAscii-nil}
 use Rattle.std.specs.List.{slice_index}
-use Rattle.std.specs.Str.{IsAscii}
 use Rattle.std.specs.Str.Lossy.{utf8_lossy}
 use Rattle.faults.specs.Bytes.{Text, comma, has_byte, slash}
 use Rattle.package_record.proofs.Lacking.{path_lacks}

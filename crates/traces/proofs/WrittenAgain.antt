@@ -1,5 +1,5 @@
 -- What was written is read again, event by event.
-use Rattle.std.proofs.Common.{◌≡◌, ℕ, ◌≤◌, ◌==◌, List, [], ◌∷◌, map, length, Bool, true, false, All, Option, None, Some, codes, option_map, refl, sym, ap, ◌∙◌, bytes_eq, nat_le}
+use Rattle.std.proofs.Common.{◌≡◌, ℕ, ◌≤◌, List, [], ◌∷◌, map, Bool, true, false, All, Option, None, Some, refl, ◌∙◌, bytes_eq}
 use Rattle.std.proofs.lemmas.Bool.{le-leb}
 use Rattle.std.proofs.lemmas.List.Elements.{All-head, All-tail}
 use Rattle.std.proofs.lemmas.Slice.Eq.{bytes_eq-Decides}
@@ -17,7 +17,7 @@ use Rattle.serde_json.specs.Data.{Data}
 use Rattle.serde_json.specs.View.{items_of}
 use Rattle.traces.specs.Again.{AreLeft, IsTextEvent, IsTextFile, IsTextPackage}
 use Rattle.traces.specs.Events.{built_alone_in, built_several_in, claim_in, clean_stop_in, deliver_in, event_in, most, node_alone_in, node_and_path_in, own_files, step_in, torn_stop_in}
-use Rattle.traces.specs.Fields.{◌>>=◌, all_of, answer_in, file_in, files_in, number_of, package_in, packages_in}
+use Rattle.traces.specs.Fields.{all_of, answer_in, file_in, files_in, number_of, package_in, packages_in}
 use Rattle.traces.specs.Written.{built_with, event_data, file_data, files_data, natural, package_data, packages_data}
 use Rattle.traces.proofs.PathTexts.{path_text}
 
@@ -54,7 +54,7 @@ packages_again packages are = all_again package_in package_data IsTextPackage pa
 claim_again : (n : ℕ) (path : Text) (host above : ℕ) → IsTextEvent (Claim n path host above) → step_in (event_data (Claim n path host above)) ≡ Some (Claim n path host above)
 unfolding claim_in
 claim_again n path host above is =
-    rw (number_again 255 n is.0, path_again path is.1.0, number_again 65535 host is.1.1.0, number_again most above is.1.1.1) refl
+    rw (number_again 255 n is.0, path_again path is.1, number_again 65535 host is.2, number_again most above is.3) refl
 
 failed_again : (n : ℕ) (path : Text) → IsTextEvent (Failed n path) → step_in (event_data (Failed n path)) ≡ Some (Failed n path)
 unfolding node_and_path_in
@@ -74,14 +74,14 @@ deliver_again d n is = rw (number_again most d is.0, number_again 255 n is.1) re
 
 several_again : (n : ℕ) (path : Text) (packages : Given) → own_files path packages ≡ None → IsTextEvent (Built n path packages) → step_in (event_data (Built n path packages)) ≡ Some (Built n path packages)
 unfolding built_several_in
-several_again n path packages other is = rw other (rw (number_again 255 n is.0, path_again path is.1.0, packages_again packages is.1.1, other) refl)
+several_again n path packages other is = rw other (rw (number_again 255 n is.0, path_again path is.1, packages_again packages is.2, other) refl)
 
 one_again : (n : ℕ) (path own : Text) (files : List NamedFile) → own ≡ path → IsTextEvent (Built n path ((own, files) ∷ []))
     → bytes_eq own path ≡ true → step_in (event_data (Built n path ((own, files) ∷ []))) ≡ Some (Built n path ((own, files) ∷ []))
 unfolding built_alone_in
 one_again n path own files same is alone =
-    let all = (All-head IsTextPackage (own, files) [] is.1.1).files in
-    rw alone (rw (number_again 255 n is.0, path_again path is.1.0, files_again files all, same) refl)
+    let all = (All-head IsTextPackage (own, files) [] is.2).files in
+    rw alone (rw (number_again 255 n is.0, path_again path is.1, files_again files all, same) refl)
 
 by_path : (n : ℕ) (path own : Text) (files : List NamedFile) (b : Bool) → bytes_eq own path ≡ b → IsTextEvent (Built n path ((own, files) ∷ []))
     → step_in (event_data (Built n path ((own, files) ∷ []))) ≡ Some (Built n path ((own, files) ∷ []))
@@ -127,5 +127,5 @@ event_again (Nudge n) is = nudge_again n is
 event_again (Ask n path) is = ask_again n path is
 event_again (Deliver d n) is = deliver_again d n is
 event_again (Stop n) is = (alone_again n is).0
-event_again (StopIn e left) is = stop_again e left is.0 is.1.0 is.1.1
+event_again (StopIn e left) is = stop_again e left is.0 is.1 is.2
 event_again (Restart n) is = (alone_again n is).1

@@ -1,5 +1,5 @@
 -- What is read again as it was written.
-use Rattle.std.specs.Prelude.{◌≡◌, ◌≤◌, ℕ, true, List, All}
+use Rattle.std.specs.Prelude.{◌≡◌, ◌≤◌, true, List, All}
 use Rattle.std.specs.Str.{is_utf8}
 use Rattle.faults.specs.Bytes.{Text}
 use Rattle.ballots.specs.Weights.{AreWeights}

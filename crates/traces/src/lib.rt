@@ -2,6 +2,7 @@
 #![tactic(auto)]
 
 ghost use Rattle.std.specs.Prelude.{◌≡◌, ◌++◌, ◌⊎◌, None, Some, Ok, IfErr, IfOk, OnErr, OnOk};
+ghost use Rattle.traces.specs.Again.{IsTextTrace};
 ghost use Rattle.traces.specs.Builds.{builds_of};
 ghost use Rattle.traces.specs.Faults.{IsTraceFault, fault_number, fault_place, trace_view};
 ghost use Rattle.traces.specs.Trace.{trace_of};
@@ -106,12 +107,14 @@ pub fn read_trace(alloc: Global, text: &[u8]) -> Result<Trace, TraceFault>
 pub fn write_trace(trace: &Trace, out: &mut Vec<u8>) -> Result<(), Memory>
     ensures ok { OnOk result
         (out.new.items ≡ out.old.items ++ trace_text (trace_view trace.now)) }
+    ensures again { OnOk result (IsTextTrace (trace_view trace.now)
+        → trace_of (trace_text (trace_view trace.now)) ≡ Ok (trace_view trace.now)) }
     ensures err { OnErr result (out.new.items ≡ out.old.items) }
 {
     let alloc: Global = *out.allocator();
     let value = writing::value(alloc, trace)?;
     let text = value.to_string(alloc)?;
-    out.extend_from_slice(text.as_bytes())?;
+    out.extend_from_slice(text.as_str().as_bytes())?;
     Ok(())
 }
 

@@ -3,14 +3,25 @@ use faults::Fault;
 use std::alloc::Global;
 use std::string::String;
 use std::test::Fail;
-use traces::{read_trace, write_trace};
+use traces::{Trace, read_trace, write_trace};
 
-/// The trace's text as it is written again, or its fault.
+/// An equal trace, whose events are copies.
+fn copied(alloc: Global, trace: &Trace) -> Result<Trace, Fail> {
+    let mut events = Vec::new(alloc);
+    for event in trace.events.as_slice() {
+        events.push(event.copy(alloc)?)?;
+    }
+    let weights = trace.weights.copy();
+    Ok(Trace { weights, events })
+}
+
+/// The trace's text as a copy of it is written, or its fault.
 fn again(alloc: Global, text: &str) -> Result<String, Fail> {
     match read_trace(alloc, text.as_bytes()) {
         Ok(trace) => {
             let mut out = Vec::new(alloc);
-            write_trace(&trace, &mut out)?;
+            let copy = copied(alloc, &trace)?;
+            write_trace(&copy, &mut out)?;
             Ok(String::from_utf8(out)?)
         }
         Err(fault) => {
