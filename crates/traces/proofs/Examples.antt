@@ -37,8 +37,11 @@ unfolding equals_in number_of
 one_more_member = refl
 
 -- the number of a node past its 8 bits, in the second event
-late_node : trace_from (outer_in (fields ((codes "events", list_data (event_data (Restart 0)
-    ∷ event_data (Nudge 256) ∷ [])) ∷ (codes "members", natural 3) ∷ []))) ≡ Err 2
+late_node : trace_from (outer_in (fields ((
+  codes "events",
+  list_data (event_data (Restart 0)
+      ∷ event_data (Nudge 256) ∷ []),
+) ∷ (codes "members", natural 3) ∷ []))) ≡ Err 2
 unfolding equals_in number_of node_alone_in
 late_node = refl
 

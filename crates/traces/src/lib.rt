@@ -10,8 +10,8 @@ ghost use Rattle.traces.specs.declared.TraceFault.TheVariants.{Memory as out_of_
 ghost use Rattle.traces.specs.Written.{trace_text};
 
 use ballots::Weights;
-use faults::{Fault, Memory};
 use events::Event;
+use faults::{Fault, Memory};
 use protocol::Packages;
 use std::alloc::{AllocError, AllocFailed, Global};
 use thiserror::Error;

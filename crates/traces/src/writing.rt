@@ -31,8 +31,8 @@ ghost use Rattle.traces.specs.Written.{
 use crate::Trace;
 use crate::event::own_files;
 use crate::reading::are_ones;
-use faults::Memory;
 use events::{Event, Left};
+use faults::Memory;
 use package_record::{File, Files};
 use pkgpath::PkgPath;
 use protocol::Packages;
@@ -256,8 +256,18 @@ fn plain_members(alloc: Global, trace: &Trace) -> Result<Map<String, Value>, Mem
     ensures { IfOk result (λ m. members_view m.entries ≡ plain_members (trace_view trace.now)) }
 {
     let mut members = Map::new(alloc);
-    put(&mut members, alloc, "events", events(alloc, trace.events.as_slice())?)?;
-    put(&mut members, alloc, "members", Value::from(trace.weights.len()))?;
+    put(
+        &mut members,
+        alloc,
+        "events",
+        events(alloc, trace.events.as_slice())?,
+    )?;
+    put(
+        &mut members,
+        alloc,
+        "members",
+        Value::from(trace.weights.len()),
+    )?;
     Ok(members)
 }
 

@@ -56,7 +56,8 @@ fn reads_what_is_written(rt: HostRuntime) -> Result<(), Fail> {
     assert!(rt;
         stays(
             alloc,
-            "{\"event\":\"built\",\"files\":[{\"hex\":\"616263\",\"name\":\"x\"}],\"node\":0,\"path\":\"a/b\"}"
+            "{\"event\":\"built\",\"files\":[{\"hex\":\"616263\",\"name\":\"x\"}],\
+             \"node\":0,\"path\":\"a/b\"}"
         )?
     );
     assert!(rt;
@@ -68,7 +69,8 @@ fn reads_what_is_written(rt: HostRuntime) -> Result<(), Fail> {
     assert!(rt;
         stays(
             alloc,
-            "{\"event\":\"built\",\"node\":0,\"packages\":[{\"files\":[],\"path\":\"a/b,-x\"}],\"path\":\"a/b\"}"
+            "{\"event\":\"built\",\"node\":0,\"packages\":[{\"files\":[],\
+             \"path\":\"a/b,-x\"}],\"path\":\"a/b\"}"
         )?
     );
     assert!(rt; stays(alloc, "{\"event\":\"failed\",\"node\":0,\"path\":\"a/b\"}")?);
@@ -100,7 +102,8 @@ fn reads_what_is_written(rt: HostRuntime) -> Result<(), Fail> {
     assert!(rt;
         stays(
             alloc,
-            "{\"event\":\"stopin\",\"hex\":\"00ff\",\"input\":{\"event\":\"nudge\",\"node\":0},\"left\":\"torn\"}"
+            "{\"event\":\"stopin\",\"hex\":\"00ff\",\"input\":{\"event\":\"nudge\",\
+             \"node\":0},\"left\":\"torn\"}"
         )?
     );
     let weighted = "{\"events\":[],\"members\":3,\"weights\":[1,1,100]}";
@@ -111,7 +114,8 @@ fn reads_what_is_written(rt: HostRuntime) -> Result<(), Fail> {
 #[test]
 fn writes_one_spelling(rt: HostRuntime) -> Result<(), Fail> {
     let text =
-        " {\"members\": 1, \"events\" : [{\"path\":\"a/b,y,x\", \"node\":0,\"event\":\"failed\"}]}\n";
+        " {\"members\": 1, \"events\" : [{\"path\":\"a/b,y,x\", \"node\":0,\
+         \"event\":\"failed\"}]}\n";
     let one = "{\"events\":[{\"event\":\"failed\",\"node\":0,\"path\":\"a/b,x,y\"}],\"members\":1}";
     assert!(rt; again(rt.alloc(), text)?.as_str() == one);
     Ok(())
@@ -154,7 +158,8 @@ fn refuses_bad_events(rt: HostRuntime) -> Result<(), Fail> {
     assert!(rt;
         is_bad(
             alloc,
-            "{\"event\":\"built\",\"node\":0,\"packages\":[{\"files\":[],\"path\":\"a/b\"}],\"path\":\"a/b\"}"
+            "{\"event\":\"built\",\"node\":0,\"packages\":[{\"files\":[],\
+             \"path\":\"a/b\"}],\"path\":\"a/b\"}"
         )?
     );
     assert!(rt;
@@ -172,7 +177,8 @@ fn refuses_bad_events(rt: HostRuntime) -> Result<(), Fail> {
     assert!(rt;
         is_bad(
             alloc,
-            "{\"event\":\"stopin\",\"hex\":\"\",\"input\":{\"event\":\"nudge\",\"node\":0},\"left\":\"none\"}"
+            "{\"event\":\"stopin\",\"hex\":\"\",\"input\":{\"event\":\"nudge\",\
+             \"node\":0},\"left\":\"none\"}"
         )?
     );
     assert!(rt;
@@ -184,7 +190,8 @@ fn refuses_bad_events(rt: HostRuntime) -> Result<(), Fail> {
     assert!(rt;
         is_bad(
             alloc,
-            "{\"event\":\"stopin\",\"hex\":\"0\",\"input\":{\"event\":\"nudge\",\"node\":0},\"left\":\"torn\"}"
+            "{\"event\":\"stopin\",\"hex\":\"0\",\"input\":{\"event\":\"nudge\",\
+             \"node\":0},\"left\":\"torn\"}"
         )?
     );
     Ok(())
