@@ -1,0 +1,132 @@
+-- A stop inside an input's step that leaves its whole note is such a stop of the member; and a claim that fails is dropped there.
+use Rattle.std.proofs.Common.{◌≡◌, ℕ, true, List, [], Option, Some, None, refl, sym, ap, subst, ◌∙◌}
+use Rattle.agreement.specs.AgreedList.{Act, Cluster}
+use Rattle.agreement.specs.Member as theory_stage
+use Rattle.agreement.specs.Member.{Closed, Member, Stage}
+use Rattle.agreement.specs.Nodes as nodes
+use Rattle.agreement.specs.Quorums.{is_majority}
+use Rattle.agreement.specs.Step as theory
+use Rattle.agreement.specs.Step.{Outcome, on_failed}
+use Rattle.agreement.specs.World.{StopIn, Take}
+use Rattle.agreement.proofs.Majorities.{majorities}
+use Rattle.faults.specs.Bytes.{Text}
+use Rattle.node.specs.Events as events
+use Rattle.node.specs.Events.{Event}
+use Rattle.node.specs.Step.{Asked, Does}
+use Rattle.node.specs.declared.event.Left.TheVariants as left
+use Rattle.protocol.specs.InTheAgreement.{view}
+use Rattle.protocol.specs.Laws.{IsNoMessage, for_unit}
+use Rattle.protocol.specs.State.{Value}
+use Rattle.protocol.specs.Step.{unit_in}
+use Rattle.protocol.specs.declared.input.Input.{Input}
+use Rattle.protocol.specs.declared.input.Input.TheVariants as inputs
+use Rattle.units.specs.Division.{Division}
+use Rattle.world.specs.Happening.{Asks, Steps, StopsIn}
+use Rattle.world.specs.World.{IsMade, World, WorldNode, member_at}
+use Rattle.headline.specs.Laws.{IsOneActMore}
+use Rattle.headline.specs.Local.{AreLocal}
+use Rattle.headline.specs.Matches.{Matches, node_of}
+use Rattle.headline.specs.Mirrored.{after_all_acts, with_act}
+use Rattle.headline.specs.Needs.{may_build}
+use Rattle.headline.proofs.Asking.{IsInputOf, any_sent, input_of, same_view}
+use Rattle.headline.proofs.Opening.{failed_opens_none}
+use Rattle.headline.proofs.Stepping.{is_as_before, left_so, nothing_sent, only_the_node, quiet_step}
+use Rattle.headline.proofs.Stopping.{one_more, values_there}
+use Rattle.headline.proofs.StoppingInside.{cut_matches}
+
+module _ (division : Division) (weights : List ℕ) (acts : List (Act Value)) (w : World) (made : IsMade division weights)
+    (of : (w.division ≡ division) × (w.weights ≡ weights)) (local : AreLocal w) (m : Matches w (after_all_acts division weights acts)) where
+  -- what the acts leave
+  abbrev here : Cluster Value
+  here = after_all_acts division weights acts
+
+  pub made_here : IsMade w.division w.weights
+  made_here = subst (λ (d : Division). IsMade d w.weights) (sym of.0) (subst (IsMade division) (sym of.1) made)
+
+  -- the answer, as the theory's member with this list of weights gives it at the unit
+  pub answered : (k : ℕ) (x : WorldNode) (u : ℕ) (input : theory.Input Value) (o : Outcome Value) → x.up ≡ true
+      → theory.answer (is_majority w.weights) k (view (member_at w k x) u) [] input ≡ Some o
+      → theory.answer (is_majority weights) k (nodes.view (node_of w k x) u) (here.at u).sent input ≡ Some o
+  answered k x u input o up e =
+      any_sent (is_majority weights) k (nodes.view (node_of w k x) u) (here.at u).sent input o
+      (ap (λ y. theory.answer (is_majority weights) k y [] input) (same_view w k x u up)
+      ∙ ap (λ ws. theory.answer (is_majority ws) k (view (member_at w k x) u) [] input) (sym of.1) ∙ e)
+
+  -- a stop inside the step of an input that leaves its whole note
+  pub input_cut_is_act : (e : Event) (v : World) (input : Input) → ((a : Asked) → Asks w e a → a ≡ Does input) → IsNoMessage input
+      → StopsIn w e left.Whole v → IsOneActMore division weights acts w (events.StopIn e left.Whole) v
+  input_cut_is_act e v input asks none s = (
+    Some act,
+    (λ j b built. absurd cc),
+    subst (λ z. Matches z (after_all_acts division weights (with_act acts (Some act)))) (sym s.leaves)
+        (subst (Matches _) (sym (one_more division weights acts w m act))
+        (cut_matches (is_majority weights) (majorities weights) (may_build division) w made_here here m (values_there division weights acts w m)
+        (events.node_of e) s.node s.acts.is_up.stands s.acts.is_up.up i.answers.unit i.answers.within i.answers.asks i.answers.answers.outcome s.taken.answer
+        (answered (events.node_of e) s.node i.answers.unit i.answers.asks i.answers.answers.outcome s.acts.is_up.up i.answers.answers.answers)
+        i.answers.answers.is)),
+  )
+    where
+      i : IsInputOf w e s.node s.taken input
+      i = input_of w made_here local e s.node s.taken input s.acts asks none
+
+      act : Act Value
+      act = record { path = i.answers.unit; event = StopIn (events.node_of e) i.answers.asks }
+
+  -- what is asked of a unit
+  pub asks_for : (o : Option ℕ) (f : ℕ → theory.Input Value) (u : ℕ) (input : theory.Input Value) → for_unit o f ≡ Some (u, input) → f u ≡ input
+  asks_for None f u input e = absurd (let wrong : None ≡ Some (u, input) = e in cc)
+  asks_for (Some v) f u input e =
+      let both : (v, f v) ≡ (u, input) = pair_same (v, f v) (u, input) e in
+      ap f (sym (ap (λ (p : ℕ × theory.Input Value). p.0) both)) ∙ ap (λ (p : ℕ × theory.Input Value). p.1) both
+    where
+      pair_same : (a b : ℕ × theory.Input Value) → Some a ≡ Some b → a ≡ b
+      pair_same a b e = cc
+
+  -- a claim that fails says nothing
+  failed_is_quiet : (y : Member Value) (s : Stage Value) (o : Outcome Value) → on_failed y s ≡ Some o → o.send ≡ None
+  failed_is_quiet y Closed o e = absurd (let wrong : None ≡ Some o = e in cc)
+  failed_is_quiet y (theory_stage.Gathering c S k) o e = absurd (let wrong : None ≡ Some o = e in cc)
+  failed_is_quiet y (theory_stage.Building c) o e = sym (ap (λ (z : Outcome Value). z.send) (outcome_same _ o e))
+    where
+      outcome_same : (a b : Outcome Value) → Some a ≡ Some b → a ≡ b
+      outcome_same a b e = cc
+  failed_is_quiet y (theory_stage.Voting b S) o e = absurd (let wrong : None ≡ Some o = e in cc)
+
+  -- A claim whose build failed is dropped.
+  pub failed_is_act : (n : ℕ) (path : Text) (v : World) → Steps w (events.Failed n path) v → IsOneActMore division weights acts w (events.Failed n path) v
+  failed_is_act n path v s = (
+    Some act,
+    (λ j b built. absurd cc),
+    subst (λ z. Matches z (after_all_acts division weights (with_act acts (Some act))))
+        (sym (only_the_node w v (events.Failed n path) s (nothing_sent (member_at w n s.node) u o.send s.taken.answer.sends silent i.answers.answers.is.sends)))
+        (subst (Matches _) (sym (one_more division weights acts w m act))
+        (quiet_step (is_majority weights) w made_here here m n s.node s.acts.is_up.stands s.acts.is_up.up u i.answers.within theory.Failed o s.taken
+        theirs i.answers.answers.is (majorities weights) (may_build division) (values_there division weights acts w m) refl silent
+        (left_so (is_majority weights) w made_here here m n s.node s.acts.is_up.stands s.acts.is_up.up u i.answers.within theory.Failed o s.taken
+        theirs i.answers.answers.is
+        (λ q ne lt. m.members n q s.node s.acts.is_up.stands lt
+        ∙ is_as_before (is_majority weights) w made_here here m n s.node s.acts.is_up.stands s.acts.is_up.up u i.answers.within theory.Failed o s.taken
+        theirs i.answers.answers.is (λ closed. absurd (failed_opens_none Value (is_majority weights) n (nodes.view (node_of w n s.node) u) closed _ closed o theirs)) q ne)))),
+  )
+    where
+      i : IsInputOf w (events.Failed n path) s.node s.taken (inputs.Failed path)
+      i = input_of w made_here local (events.Failed n path) s.node s.taken (inputs.Failed path) s.acts (λ a e. e) tt
+
+      u : ℕ
+      u = i.answers.unit
+
+      o : Outcome Value
+      o = i.answers.answers.outcome
+
+      fails : theory.Failed ≡ i.answers.asks
+      fails = asks_for (unit_in (member_at w n s.node) path) (λ u. theory.Failed) u i.answers.asks i.answers.is_asked
+
+      theirs : theory.answer (is_majority weights) n (nodes.view (node_of w n s.node) u) (here.at u).sent theory.Failed ≡ Some o
+      theirs = answered n s.node u theory.Failed o s.acts.is_up.up
+          (ap (theory.answer (is_majority w.weights) n (view (member_at w n s.node) u) []) fails ∙ i.answers.answers.answers)
+
+      silent : o.send ≡ None
+      silent = failed_is_quiet (nodes.view (node_of w n s.node) u) (nodes.view (node_of w n s.node) u).stage o theirs
+
+      act : Act Value
+      act = record { path = u; event = Take n theory.Failed }

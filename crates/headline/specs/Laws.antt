@@ -1,0 +1,190 @@
+-- What the world's runs are in the agreement theory, and what follows for the list.
+use Rattle.units.specs.Division.{Division, number_named}
+use Rattle.std.specs.Prelude.{◌≡◌, ℕ, List}
+use Rattle.agreement.specs.AgreedList.{Act, IsMonotone}
+use Rattle.std.specs.Prelude.{None, Ok, Option, Some}
+use Rattle.protocol.specs.State.{Value}
+use Rattle.protocol.specs.Step.{heard, outcome_of}
+use Rattle.ballots.specs.declared.message.Message.{Message}
+use Rattle.faults.specs.Bytes.{Text}
+use Rattle.node.specs.Events.{Deliver, Event, Failed, Restart, Stop, StopIn}
+use Rattle.node.specs.Step.{nothing}
+use Rattle.node.specs.declared.fault.Foreign.{Foreign}
+use Rattle.node.specs.declared.fault.NodeFault.TheVariants as faults
+use Rattle.node.specs.declared.event.Left.{Left}
+use Rattle.node.specs.declared.event.Left.TheVariants.{Whole}
+use Rattle.headline.specs.Local.{AreLocal}
+use Rattle.headline.specs.Matches.{Matches, WasSaid}
+use Rattle.headline.specs.Mirrored.{IsActOf, Mirrors, after_all_acts, with_act}
+use Rattle.headline.specs.Needs.{may_build}
+use Rattle.world.specs.Happening.{Happens, IsRefused, Leads, Restarts, Steps, Stops, StopsIn}
+use Rattle.world.specs.Headline.{AtEachMoment, HasOneList, HeldIsListed, HoldAlike}
+use Rattle.world.specs.Laws.{NothingSentIsForeign}
+use Rattle.world.specs.Sent.{WasSent}
+use Rattle.world.specs.Safety.{EachIsOfAMessage, EqualHeaders, JobsStood, LaterRepeats, OneProposal, PromisesBound}
+use Rattle.world.specs.World.{IsMade, World, member_at, start}
+use Rattle.world.specs.declared.fault.WorldFault.TheVariants as worlds
+
+-- What may be built on some builds may be built on these and more.
+abbrev pub NeedsAreMonotone : Type 0
+NeedsAreMonotone = (division : Division) → IsMonotone (may_build division)
+
+-- Whatever happens, each node stays so.
+abbrev pub EachEventKeepsLocal : Type 0
+EachEventKeepsLocal =
+    (w v : World) (e : Event) → IsMade w.division w.weights → AreLocal w → EachIsOfAMessage w → Happens w e v → AreLocal v
+
+-- Stops leave it so,
+abbrev pub StopsKeepLocal : Type 0
+StopsKeepLocal = (w v : World) (n : ℕ) → AreLocal w → Stops w n v → AreLocal v
+
+-- restarts do,
+abbrev pub RestartsKeepLocal : Type 0
+RestartsKeepLocal = (w v : World) (n : ℕ) → AreLocal w → Restarts w n v → AreLocal v
+
+-- and so do stops inside a step that leave nothing of its note, or a part.
+abbrev pub CutsKeepLocal : Type 0
+CutsKeepLocal = (w v : World) (e : Event) (l : Left) → AreLocal w → (l ≡ Whole → ⊥) → StopsIn w e l v → AreLocal v
+
+-- The event is one act more, or none: the world that it leaves matches what the acts leave then.
+abbrev pub IsOneActMore : Division → List ℕ → List (Act Value) → World → Event → World → Type 0
+IsOneActMore division weights acts w e v =
+    (o : Option (Act Value)) × IsActOf w e o × Matches v (after_all_acts division weights (with_act acts o))
+
+-- In a world that matches what some acts leave a stop between two steps is one act more, or none.
+abbrev pub StopsAreActs : Type 0
+StopsAreActs =
+    (division : Division) (weights : List ℕ) (acts : List (Act Value)) (w v : World) (n : ℕ)
+    → Matches w (after_all_acts division weights acts) → Stops w n v → IsOneActMore division weights acts w (Stop n) v
+
+-- So is a restart,
+abbrev pub RestartsAreActs : Type 0
+RestartsAreActs =
+    (division : Division) (weights : List ℕ) (acts : List (Act Value)) (w v : World) (n : ℕ)
+    → Matches w (after_all_acts division weights acts) → Restarts w n v → IsOneActMore division weights acts w (Restart n) v
+
+-- a stop inside any step, whatever it leaves of the note, where nodes are as they have to be,
+abbrev pub StopsInsideAreActs : Type 0
+StopsInsideAreActs =
+    (division : Division) (weights : List ℕ) (acts : List (Act Value)) (w v : World) (e : Event) (l : Left) → IsMade division weights
+    → (w.division ≡ division) × (w.weights ≡ weights) → AreLocal w → Matches w (after_all_acts division weights acts)
+    → StopsIn w e l v → IsOneActMore division weights acts w (StopIn e l) v
+
+-- and so is a build that failed.
+abbrev pub FailuresAreActs : Type 0
+FailuresAreActs =
+    (division : Division) (weights : List ℕ) (acts : List (Act Value)) (w v : World) (n : ℕ) (path : Text) → IsMade division weights
+    → (w.division ≡ division) × (w.weights ≡ weights) → AreLocal w → Matches w (after_all_acts division weights acts)
+    → Steps w (Failed n path) v → IsOneActMore division weights acts w (Failed n path) v
+
+-- So is a delivery that leaves its message waiting, or brings a piece that is kept already,
+abbrev pub WaitingPiecesAreActs : Type 0
+WaitingPiecesAreActs =
+    (division : Division) (weights : List ℕ) (acts : List (Act Value)) (w v : World) (d n : ℕ) → IsMade division weights
+    → (w.division ≡ division) × (w.weights ≡ weights) → AreLocal w → Matches w (after_all_acts division weights acts)
+    → (s : Steps w (Deliver d n) v) → s.taken.answer ≡ nothing (member_at w n s.node)
+    → IsOneActMore division weights acts w (Deliver d n) v
+
+-- and a delivery of a message at which the member says nothing.
+abbrev pub SilentDeliveriesAreActs : Type 0
+SilentDeliveriesAreActs =
+    (division : Division) (weights : List ℕ) (acts : List (Act Value)) (w v : World) (d n : ℕ) → IsMade division weights
+    → (w.division ≡ division) × (w.weights ≡ weights) → AreLocal w → Matches w (after_all_acts division weights acts)
+    → (s : Steps w (Deliver d n) v) (m : Message Value) → WasSent w.sent m → heard (member_at w n s.node) m ≡ Ok s.taken.answer
+    → ((u : ℕ) → number_named w.division m.path ≡ Some u → (outcome_of (member_at w n s.node) u m.sender m.body).send ≡ None)
+    → IsOneActMore division weights acts w (Deliver d n) v
+
+-- An event of a world that matches what some acts leave is one act more, or none.
+abbrev pub EachEventIsAnAct : Type 0
+EachEventIsAnAct =
+    (division : Division) (weights : List ℕ) (acts : List (Act Value)) (w v : World) (e : Event) → IsMade division weights
+    → (w.division ≡ division) × (w.weights ≡ weights) → AreLocal w → Matches w (after_all_acts division weights acts)
+    → Happens w e v → IsOneActMore division weights acts w e v
+
+-- So each run is some acts.
+abbrev pub EachRunIsActs : Type 0
+EachRunIsActs =
+    (division : Division) (weights : List ℕ) (events : List Event) (w : World) → IsMade division weights
+    → Leads (start division weights) events w
+    → (acts : List (Act Value)) × Mirrors division weights events w acts × Matches w (after_all_acts division weights acts) × AreLocal w
+
+-- Where each event is an act, or none, and leaves nodes as they have to be, each run is some acts.
+abbrev pub RunsFollowEvents : Type 0
+RunsFollowEvents = EachEventIsAnAct → EachEventKeepsLocal → EachRunIsActs
+
+-- In a world that matches what acts leave, equal headers of sent pieces belong to equal messages.
+abbrev pub MatchedHeadersAreEqual : Type 0
+MatchedHeadersAreEqual =
+    (division : Division) (weights : List ℕ) (acts : List (Act Value)) (w : World) → IsMade division weights
+    → (w.division ≡ division) × (w.weights ≡ weights) → Matches w (after_all_acts division weights acts)
+    → EqualHeaders w × EachIsOfAMessage w
+
+-- In such a world each message whose datagrams were all sent was said.
+abbrev pub SentWasSaid : Type 0
+SentWasSaid =
+    (division : Division) (weights : List ℕ) (acts : List (Act Value)) (w : World) (m : Message Value) → IsMade division weights
+    → (w.division ≡ division) × (w.weights ≡ weights) → Matches w (after_all_acts division weights acts)
+    → WasSent w.sent m → WasSaid w (after_all_acts division weights acts) m
+
+-- There no event is refused as foreign, where nodes are as they have to be.
+abbrev pub MatchedIsNotForeign : Type 0
+MatchedIsNotForeign =
+    (division : Division) (weights : List ℕ) (acts : List (Act Value)) (w : World) (e : Event) (f : Foreign) → IsMade division weights
+    → (w.division ≡ division) × (w.weights ≡ weights) → AreLocal w → Matches w (after_all_acts division weights acts)
+    → IsRefused w e (worlds.Node (faults.Foreign f)) → ⊥
+
+-- There a claim has at most one proposal, a promise bounds the votes of its member, and a proposal at or above a claim for
+-- which a majority sent votes repeats its build.
+abbrev pub MatchedVotesAreLawful : Type 0
+MatchedVotesAreLawful =
+    (division : Division) (weights : List ℕ) (acts : List (Act Value)) (w : World) → IsMade division weights
+    → (w.division ≡ division) × (w.weights ≡ weights) → Matches w (after_all_acts division weights acts)
+    → OneProposal w × PromisesBound w × LaterRepeats w
+
+-- And what nodes hold is in the list, where nodes are as they have to be.
+abbrev pub MatchedHeldIsListed : Type 0
+MatchedHeldIsListed =
+    (division : Division) (weights : List ℕ) (acts : List (Act Value)) (w : World) → IsMade division weights
+    → (w.division ≡ division) × (w.weights ≡ weights) → AreLocal w → Matches w (after_all_acts division weights acts)
+    → HeldIsListed w
+
+-- what each run has at each moment
+pub record IsSafe (division : Division) (weights : List ℕ) (events : List Event) (last : World) : Type 0 where
+  -- a claim has at most one proposal
+  pub one_proposal : AtEachMoment division weights events last (λ early w. OneProposal w)
+  -- a promise bounds every earlier vote of its member
+  pub promises_bound : AtEachMoment division weights events last (λ early w. PromisesBound w)
+  -- a proposal above a claim with a majority of votes repeats its build
+  pub later_repeats : AtEachMoment division weights events last (λ early w. LaterRepeats w)
+  -- the dependencies of every build ever proposed stood in the list when its job was given
+  pub jobs_stood : AtEachMoment division weights events last (λ early w. JobsStood division weights early w)
+  -- equal headers of sent pieces belong to equal messages
+  pub equal_headers : AtEachMoment division weights events last (λ early w. EqualHeaders w × EachIsOfAMessage w)
+
+-- Where each run is some acts, this much holds at each moment: votes are lawful, headers tell messages apart, and what nodes
+-- hold is in the list.
+pub record IsSafeSoFar (division : Division) (weights : List ℕ) (events : List Event) (last : World) : Type 0 where
+  pub one_proposal : AtEachMoment division weights events last (λ early w. OneProposal w)
+  pub promises_bound : AtEachMoment division weights events last (λ early w. PromisesBound w)
+  pub later_repeats : AtEachMoment division weights events last (λ early w. LaterRepeats w)
+  pub equal_headers : AtEachMoment division weights events last (λ early w. EqualHeaders w × EachIsOfAMessage w)
+  pub held : AtEachMoment division weights events last (λ early w. HeldIsListed w)
+  -- two nodes never hold different packages for one path
+  pub alike : AtEachMoment division weights events last (λ early w. HoldAlike w)
+
+-- for each run
+abbrev pub ActsAreSafe : Type 0
+ActsAreSafe =
+    EachRunIsActs → (division : Division) (weights : List ℕ) (events : List Event) (last : World) → IsMade division weights
+    → Leads (start division weights) events last → IsSafeSoFar division weights events last
+
+-- And nothing that was sent is foreign to a node.
+abbrev pub ActsAreNotForeign : Type 0
+ActsAreNotForeign = EachRunIsActs → NothingSentIsForeign
+
+-- Each run has one list, and is safe.
+abbrev pub EachRunHasOneList : Type 0
+EachRunHasOneList =
+    (division : Division) (weights : List ℕ) (events : List Event) (w : World) → IsMade division weights
+    → Leads (start division weights) events w
+    → HasOneList division weights events w × IsSafe division weights events w
