@@ -43,16 +43,16 @@ use Rattle.headline.proofs.Speaking.{passes}
 -- what passes is found
 find_some : {X : Type 0} (t : X → Bool) (xs : List X) (x : X) → Contains xs x → t x ≡ true → (y : X) × (find t xs ≡ Some y)
 find_some t [] x (k, within, e) on = absurd (omega arith)
-find_some {X} t (y ∷ ys) x h on = by (t y) refl
+find_some {X} t (y ∷ ys) x h on = by (t y) refl (λ off. find_some t ys x (later off h) on)
   where
     later : t y ≡ false → Contains (y ∷ ys) x → Contains ys x
     later off (zero, within, e) = absurd (true≢false (sym on ∙ ap t (sym e) ∙ off))
     later off (suc k, within, e) = (k, omega (arith, within), e)
 
-    by : (b : Bool) → t y ≡ b → (z : X) × (find t (y ∷ ys) ≡ Some z)
-    by true e = (y, cond_both (t y) (Some y) (find t ys) (λ o. o ≡ Some y) (λ on. refl) (λ off. absurd (true≢false (sym e ∙ off))))
-    by false e =
-        let r = find_some t ys x (later e h) on in
+    by : (b : Bool) → t y ≡ b → (t y ≡ false → (z : X) × (find t ys ≡ Some z)) → (z : X) × (find t (y ∷ ys) ≡ Some z)
+    by true e rest = (y, cond_both (t y) (Some y) (find t ys) (λ o. o ≡ Some y) (λ on. refl) (λ off. absurd (true≢false (sym e ∙ off))))
+    by false e rest =
+        let r = rest e in
         (r.0, cond_both (t y) (Some y) (find t ys) (λ o. o ≡ Some r.0) (λ on. absurd (true≢false (sym on ∙ e))) (λ off. r.1))
 
 -- each entry was allowed

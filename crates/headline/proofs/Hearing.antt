@@ -54,17 +54,17 @@ module _ (division : Division) (weights : List ℕ) (acts : List (Act Value)) (w
 
   -- a message that was sent is answered
   module _ (x : Message Value) (is_sent : WasSent w.sent x) (e : members.heard member x ≡ answers_with s.taken.answer) where
-    answer : AnswersMessage member x s.taken.answer
+    abbrev answer : AnswersMessage member x s.taken.answer
     answer = theirs division weights acts w made of local m again n s.node s.acts.is_up.stands s.acts.is_up.up s.taken x is_sent e
 
-    at : (i : ℕ) × (slice_get ((after_all_acts division weights acts).at answer.unit).sent i ≡ Some (said x.sender x.body))
+    abbrev at : (i : ℕ) × (slice_get ((after_all_acts division weights acts).at answer.unit).sent i ≡ Some (said x.sender x.body))
     at = place division weights acts w made of local m again n s.node s.acts.is_up.stands s.acts.is_up.up s.taken x is_sent e
 
     written : CanBeWritten member s.taken.answer
     written = answers_written member s.acts.takes.letter (inputs.Message x) s.taken.answer is_member (in_range w its_made local n s.node s.acts.is_up.stands)
         (message_good x.path x.body is_sent.is_message.body) e
 
-    done : IsDone division weights acts w made of local m again (events.Deliver d n) v s
+    abbrev done : IsDone division weights acts w made of local m again (events.Deliver d n) v s
     done = record {
       unit = answer.unit;
       within = answer.within;

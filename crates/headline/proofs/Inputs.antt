@@ -86,7 +86,7 @@ module _ (division : Division) (weights : List ℕ) (acts : List (Act Value)) (w
   abbrev member : State
   member = member_at w k x
 
-  its_made : IsMade w.division w.weights
+  pub its_made : IsMade w.division w.weights
   its_made = made_here division weights acts w made of local m
 
   pub is_member : IsMember member
@@ -101,7 +101,7 @@ module _ (division : Division) (weights : List ℕ) (acts : List (Act Value)) (w
       (good_input input none) its_input.given
 
   -- for any name of what it is
-  pub done_so : (what : theory.Input Value) → what ≡ its_input.answers.asks → IsDone division weights acts w made of local m again e v s
+  abbrev pub done_so : (what : theory.Input Value) → what ≡ its_input.answers.asks → IsDone division weights acts w made of local m again e v s
   done_so what is =
       let i = its_input.answers in
       let theirs : theory.answer (is_majority w.weights) k (view member i.unit) [] what ≡ Some i.answers.outcome =
@@ -122,34 +122,37 @@ module _ (division : Division) (weights : List ℕ) (acts : List (Act Value)) (w
       }
 
   -- a claim that is opened drops the one that was open
-  pub start_is_act : (above : ℕ) → theory.Start above ≡ its_input.answers.asks → IsOneActMore division weights acts w e v
-  start_is_act above is = done_is_act division weights acts w made of local m again e v s d refl there (λ j b built. absurd cc)
-    where
-      d : IsDone division weights acts w made of local m again e v s
-      d = done_so (theory.Start above) is
+  module _ (above : ℕ) (is : theory.Start above ≡ its_input.answers.asks) where
+    abbrev d : IsDone division weights acts w made of local m again e v s
+    d = done_so (theory.Start above) is
 
-      there : (q : ℕ) → (q ≡ d.unit → ⊥) → q < length w.division.units
-          → (run (is_majority weights) (elsewhere (Take k d.input)) (here.at q)).members k ≡ nodes.view (node_of w k then) q
-      there q ne lt =
-          let up : ((here.at q).members k).up ≡ true = ap (λ (z : Member Value). z.up) (m.members k q x s.acts.is_up.stands lt) ∙ s.acts.is_up.up in
-          dropped_here Value (is_majority weights) (here.at q) k up
-          ∙ ap (λ (z : Member Value). record z { up = true; stage = Closed }) (m.members k q x s.acts.is_up.stands lt)
-          ∙ same
-        where
-          g : facts_at (member_at w k x) q ≡ facts_at (member_at w k then) q
-          g = sym (facts_there w k x then d.unit d.outcome s.taken.answer d.is refl q ne)
+    -- what is known of another unit stays
+    known_stays : (q : ℕ) → (q ≡ d.unit → ⊥) → facts_at (member_at w k x) q ≡ facts_at (member_at w k then) q
+    known_stays q ne = sym (facts_there w k x then d.unit d.outcome s.taken.answer d.is refl q ne)
 
-          closed : nodes.stage_at (option_map claim_of s.taken.answer.claim) q ≡ Closed
-          closed =
-              ap (λ c. nodes.stage_at c q) (claims (is_majority weights) w its_made here m k x s.acts.is_up.stands s.acts.is_up.up d.unit d.within (theory.Start above)
-              d.outcome s.taken d.answered d.is)
-              ∙ started k (nodes.view (node_of w k x) d.unit) (nodes.view (node_of w k x) d.unit).held above d.outcome d.answered (option_map claim_of x.claim) d.unit q ne
+    -- and there no claim is open
+    closed_there : (q : ℕ) → (q ≡ d.unit → ⊥) → nodes.stage_at (option_map claim_of s.taken.answer.claim) q ≡ Closed
+    closed_there q ne =
+        ap (λ c. nodes.stage_at c q) (claims (is_majority weights) w its_made here m k x s.acts.is_up.stands s.acts.is_up.up d.unit d.within (theory.Start above)
+        d.outcome s.taken d.answered d.is)
+        ∙ started k (nodes.view (node_of w k x) d.unit) (nodes.view (node_of w k x) d.unit).held above d.outcome d.answered (option_map claim_of x.claim) d.unit q ne
 
-          n : Closed ≡ nodes.stage_at (option_map claim_of s.taken.answer.claim) q
-          n = sym closed
+    dropped_so : (q : ℕ) → (q ≡ d.unit → ⊥) → record (nodes.view (node_of w k x) q) { up = true; stage = Closed } ≡ nodes.view (node_of w k then) q
+    dropped_so q ne =
+        let g = known_stays q ne in
+        let n : Closed ≡ nodes.stage_at (option_map claim_of s.taken.answer.claim) q = sym (closed_there q ne) in
+        λ i. record { opened = (g i).opened; promised = (g i).promised; voted = (g i).voted; held = (g i).held; up = true; stage = n i }
 
-          same : record (nodes.view (node_of w k x) q) { up = true; stage = Closed } ≡ nodes.view (node_of w k then) q
-          same = λ i. record { opened = (g i).opened; promised = (g i).promised; voted = (g i).voted; held = (g i).held; up = true; stage = n i }
+    there : (q : ℕ) → (q ≡ d.unit → ⊥) → q < length w.division.units
+        → (run (is_majority weights) (elsewhere (Take k d.input)) (here.at q)).members k ≡ nodes.view (node_of w k then) q
+    there q ne lt =
+        let up : ((here.at q).members k).up ≡ true = ap (λ (z : Member Value). z.up) (m.members k q x s.acts.is_up.stands lt) ∙ s.acts.is_up.up in
+        dropped_here Value (is_majority weights) (here.at q) k up
+        ∙ ap (λ (z : Member Value). record z { up = true; stage = Closed }) (m.members k q x s.acts.is_up.stands lt)
+        ∙ dropped_so q ne
+
+    pub start_is_act : IsOneActMore division weights acts w e v
+    start_is_act = done_is_act division weights acts w made of local m again e v s d refl there (λ j b built. absurd cc)
 
   -- a nudge says again what was said
   pub nudge_is_act : theory.Nudge ≡ its_input.answers.asks → IsOneActMore division weights acts w e v

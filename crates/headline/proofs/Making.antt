@@ -50,19 +50,25 @@ pub record IsWaiting (s : State) (u : ℕ) (c : Claim) : Type 0 where
   pub is : s.claim ≡ Some (record { unit = u; host = host; progress = Building c })
   pub host_is : host_in s.claim ≡ host
 
+abbrev building : Claim → Stage Value
+building c = stages.Building c
+
+abbrev closed_stage : Stage Value
+closed_stage = stages.Closed
+
+claims_same : (a b : Claim) → building a ≡ building b → a ≡ b
+claims_same a b e = cc
+
 progress_waits : (p : Progress) (c : Claim) → stage_of p ≡ stages.Building c → p ≡ Building c
 progress_waits (Gathering d joined k) c e = absurd cc
-progress_waits (Building d) c e = ap Building (claim_same d c e)
-  where
-    claim_same : (a b : Claim) → stages.Building {V = Value} a ≡ stages.Building b → a ≡ b
-    claim_same a b e = cc
+progress_waits (Building d) c e = ap Building (claims_same d c e)
 progress_waits (Voting b joined) c e = absurd cc
 
 open_waits : (s : State) (u : ℕ) (c : Claim) → (view s u).stage ≡ stages.Building c → IsWaiting s u c
 open_waits s u c e = by s.claim refl e
   where
     by : (o : Option OpenClaim) → s.claim ≡ o → nodes.stage_at (option_map claim_of o) u ≡ stages.Building c → IsWaiting s u c
-    by None is e = absurd (let no : stages.Closed {V = Value} ≡ stages.Building c = e in cc)
+    by None is e = absurd (let no : closed_stage ≡ building c = e in cc)
     by (Some o) is e =
         cond_both (u == o.unit) (stage_of o.progress) stages.Closed (λ z. z ≡ stages.Building c → IsWaiting s u c)
         (λ same e.
@@ -73,7 +79,7 @@ open_waits s u c e = by s.claim refl e
           is = is ∙ ap₂ (λ v p. Some (record { unit = v; host = o.host; progress = p })) unit progress;
           host_is = ap host_in is;
         })
-        (λ other e. absurd (let no : stages.Closed {V = Value} ≡ stages.Building c = e in cc)) e
+        (λ other e. absurd (let no : closed_stage ≡ building c = e in cc)) e
 
 -- the theory's events
 abbrev takes : ℕ → theory.Input Value → theory_world.Event Value
@@ -99,7 +105,7 @@ module _ (division : Division) (weights : List ℕ) (acts : List (Act Value)) (w
   abbrev member : State
   member = member_at w n s.node
 
-  i : IsInputOf w (events.Built n path given) s.node s.taken (inputs.Built path given)
+  abbrev i : IsInputOf w (events.Built n path given) s.node s.taken (inputs.Built path given)
   i = its_input division weights acts w made of local m again (events.Built n path given) v s (inputs.Built path given) (λ a e. e) tt
 
   abbrev u : ℕ
@@ -112,7 +118,7 @@ module _ (division : Division) (weights : List ℕ) (acts : List (Act Value)) (w
   asks : theory.Built built ≡ i.answers.asks
   asks = asks_for division weights acts w made of local m (unit_in member path) (λ u. theory.Built (built_at member u given (view member u).stage)) u i.answers.asks i.answers.is_asked
 
-  d : IsDone division weights acts w made of local m again (events.Built n path given) v s
+  abbrev d : IsDone division weights acts w made of local m again (events.Built n path given) v s
   d = done_so division weights acts w made of local m again (events.Built n path given) v s (inputs.Built path given) (λ a e. e) tt (theory.Built built) asks
 
   waiting : (c : Claim) × ((view member u).stage ≡ stages.Building c)

@@ -99,18 +99,19 @@ added_has : (s : Option (theory_says.Message Value)) (l : List (theory_says.Mess
 added_has None l z h = inl h
 added_has (Some y) l z h = ⊎_elim (λ e. inr (ap (λ x. Some x) e)) (λ old. inl old) h
 
+-- votes that are one are of one member for one claim
+abbrev vote_of : ℕ → Claim → theory_says.Message Value
+vote_of i c = theory_says.Vote i c
+
+votes_same : (a c : Claim) (i j : ℕ) → vote_of i a ≡ vote_of j c → (a ≡ c) × (i ≡ j)
+votes_same a c i j e = (cc, cc)
+
 -- a vote that is said is the vote of who says it, and a proposal is one
 vote_body : (k n : ℕ) (b : Claim) (body : Body Value) → says k body ≡ theory_says.Vote n b → (body ≡ bodies.Vote b) × (k ≡ n)
 vote_body k n b (bodies.Offer c) e = absurd cc
 vote_body k n b (bodies.Promise c r) e = absurd cc
 vote_body k n b (bodies.Propose c v) e = absurd cc
-vote_body k n b (bodies.Vote c) e = vote_same c e
-  where
-    claim_is : (a c : Claim) (i j : ℕ) → theory_says.Vote {V = Value} i a ≡ theory_says.Vote j c → (a ≡ c) × (i ≡ j)
-    claim_is a c i j e = (cc, cc)
-
-    vote_same : (c : Claim) → theory_says.Vote {V = Value} k c ≡ theory_says.Vote n b → (bodies.Vote {V = Value} c ≡ bodies.Vote b) × (k ≡ n)
-    vote_same c e = let both = claim_is c b k n e in (ap (λ (x : Claim). bodies.Vote x) both.0, both.1)
+vote_body k n b (bodies.Vote c) e = let both = votes_same c b k n e in (ap (λ (x : Claim). bodies.Vote x) both.0, both.1)
 vote_body k n b (bodies.Agreed v) e = absurd cc
 vote_body k n b bodies.Ask e = absurd cc
 vote_body k n b (bodies.Nay c p) e = absurd cc

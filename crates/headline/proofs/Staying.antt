@@ -9,6 +9,7 @@ use Rattle.agreement.specs.Member.{Facts}
 use Rattle.agreement.proofs.Nodes.{get_set}
 use Rattle.ballots.specs.declared.message.Message.{Message}
 use Rattle.ballots.specs.declared.message.Note.{Note}
+use Rattle.engine.specs.declared.Letter.{Letter}
 use Rattle.faults.specs.Bytes.{Text}
 use Rattle.node.specs.Arrival.{Arrival, Strange, Waits, Whole, arrival_of, arrival_of_all, arrival_of_new, arrival_of_piece, refusal_of}
 use Rattle.node.specs.Events as events
@@ -131,7 +132,7 @@ module _ (w : World) (made : IsMade w.division w.weights) (local : AreLocal w) (
     kept : AreKept w x.pieces
     kept = (local.each k x stands).pieces
 
-    does_sound : (letter : _) (input : Input) → IsNoMessage input → IsInput input → members.IsLetterOf s (members.unit_claimed s input) letter
+    does_sound : (letter : Letter) (input : Input) → IsNoMessage input → IsInput input → members.IsLetterOf s (members.unit_claimed s input) letter
         → ok t ≡ taken x.pieces (members.answer s letter input) → IsSoundStep w k x t
     does_sound letter input none can shown e = record {
       answer = input_sound s (node_is_member w made local k x stands) (in_range w made local k x stands) (known_named w made local k x stands) letter input t.answer
@@ -143,7 +144,7 @@ module _ (w : World) (made : IsMade w.division w.weights) (local : AreLocal w) (
         pieces_stay (Ok a) e = ap (λ (z : Taken). z.pieces) (ok_same t (record { answer = a; pieces = x.pieces }) e)
         pieces_stay (Err r) e = absurd (never_ok t _ e)
 
-    comes_sound : (letter : _) (a : Arrival) → IsGoodArrival w.sent a → ok t ≡ step_on s a → IsSoundStep w k x t
+    comes_sound : (letter : Letter) (a : Arrival) → IsGoodArrival w.sent a → ok t ≡ step_on s a → IsSoundStep w k x t
     comes_sound letter (Strange f pieces) good e = absurd (never_ok t _ e)
     comes_sound letter (Waits pieces) good e =
         let same = ok_same t (record { answer = nothing s; pieces = pieces }) e in record {
@@ -211,9 +212,9 @@ module _ (w : World) (made : IsMade w.division w.weights) (local : AreLocal w) (
           (All-cons (IsOfUnit v) n [] (moves n (record { note = is.note; unit = is.of_unit.0; of_unit = is.of_unit.1; claimers = is.claimers })) (All-nil (IsOfUnit v)))
 
   -- what was sent stays sent
-  more_sent : (sends : List Send) {pieces : List Piece} → All (λ p. (m : Message Value) × WasSentOf w.sent m p) pieces
+  more_sent : (sends : List Send) (pieces : List Piece) → All (λ p. (m : Message Value) × WasSentOf w.sent m p) pieces
       → All (λ p. (m : Message Value) × WasSentOf (with_sends w.sent sends) m p) pieces
-  more_sent sends {pieces} are =
+  more_sent sends pieces are =
       All-weaker (λ p. (m : Message Value) × WasSentOf w.sent m p) (λ p. (m : Message Value) × WasSentOf (with_sends w.sent sends) m p)
       (λ p o. (o.0, record { is_sent = sent_more w.sent sends o.0 o.1.is_sent; piece = o.1.piece })) pieces are
 
@@ -224,7 +225,7 @@ module _ (w : World) (made : IsMade w.division w.weights) (local : AreLocal w) (
     notes = All-weaker (IsOfUnit w) (IsOfUnit (record w { nodes = nodes; sent = with_sends w.sent sends; agreed = agreed }))
         (λ n o. record { note = o.note; unit = o.unit; of_unit = o.of_unit; claimers = o.claimers }) z.notes l.notes;
     claim = λ o e. let c = l.claim o e in record { is_open = c.is_open; progress = c.progress };
-    pieces = record { sent = (more_sent sends (l.pieces.sent)); once = l.pieces.once };
+    pieces = record { sent = more_sent sends z.pieces l.pieces.sent; once = l.pieces.once };
     down = l.down;
     up = l.up;
   }
@@ -235,7 +236,7 @@ module _ (w : World) (made : IsMade w.division w.weights) (local : AreLocal w) (
   stepped_so k x t nodes agreed stands sound = record {
     notes = notes_so k x t.answer (record w { nodes = nodes; sent = with_sends w.sent t.answer.sends; agreed = agreed }) refl refl stands sound.answer;
     claim = λ o e. record { is_open = subst (λ s. IsOpen s o) same (sound.answer.member.claim o e); progress = sound.answer.claim o e };
-    pieces = record { sent = more_sent t.answer.sends sound.pieces.0; once = sound.pieces.1 };
+    pieces = record { sent = more_sent t.answer.sends t.pieces sound.pieces.0; once = sound.pieces.1 };
     down = λ e. absurd (true≢false e);
     up = λ e. refl;
   }
