@@ -24,6 +24,7 @@ use Rattle.protocol.specs.declared.sends.Send.{Send}
 use Rattle.units.specs.Division.{Division}
 use Rattle.wire.specs.Messages.{IsMessage}
 use Rattle.world.specs.Happening.{Steps}
+use Rattle.world.specs.Lists.{IsListAfter}
 use Rattle.world.specs.Sent.{with_sends}
 use Rattle.world.specs.World.{IsMade, World, WorldNode, member_at, node_at, up_node, with_node}
 use Rattle.headline.specs.Laws.{IsOneActMore}
@@ -73,9 +74,18 @@ module _ (division : Division) (weights : List ℕ) (acts : List (Act Value)) (w
     pub written : All (λ (z : Send). IsMessage z.message) s.taken.answer.sends
     pub names : IsNaming (length w.weights) k outcome
 
-  module _ (d : IsDone) (allowed : may_happen (may_build division) here d.unit (Take k d.input) ≡ true)
-      (there : (q : ℕ) → (q ≡ d.unit → ⊥) → q < length w.division.units
-      → (run (is_majority weights) (elsewhere (Take k d.input)) (here.at q)).members k ≡ nodes.view (node_of w k then) q) where
+  -- It is an act there: what is built may be built, and the node is, for the other units, what the act leaves of its member.
+  pub record IsAct : Type 0 where
+    pub done : IsDone
+    pub allowed : may_happen (may_build division) here done.unit (Take k done.input) ≡ true
+    pub there : (q : ℕ) → (q ≡ done.unit → ⊥) → q < length w.division.units
+        → (run (is_majority weights) (elsewhere (Take k done.input)) (here.at q)).members k ≡ nodes.view (node_of w k then) q
+    pub is : IsActOf w e (Some (record { path = done.unit; event = Take k done.input }))
+
+  module _ (a : IsAct) where
+    abbrev d : IsDone
+    d = a.done
+
     abbrev act : Act Value
     act = record { path = d.unit; event = Take k d.input }
 
@@ -95,10 +105,10 @@ module _ (division : Division) (weights : List ℕ) (acts : List (Act Value)) (w
     -- so the act is its event
     same : new ≡ stepped
     same = one_more division weights acts w m act
-        ∙ act_is Value (is_majority weights) (may_build division) here d.unit (Take k d.input) d.outcome allowed taken
+        ∙ act_is Value (is_majority weights) (may_build division) here d.unit (Take k d.input) d.outcome a.allowed taken
 
     left : IsLeftAs w (is_majority weights) here d.unit (Take k d.input) d.outcome x then
-    left = left_so (is_majority weights) w its_made here m k x s.acts.is_up.stands s.acts.is_up.up d.unit d.within d.input d.outcome s.taken d.answered d.is there
+    left = left_so (is_majority weights) w its_made here m k x s.acts.is_up.stands s.acts.is_up.up d.unit d.within d.input d.outcome s.taken d.answered d.is a.there
 
     -- the claims in what goes out are of members
     claimers : All (λ (z : Send). All (λ k. k < length w.weights) (members_of z.message.body)) s.taken.answer.sends
@@ -137,18 +147,21 @@ module _ (division : Division) (weights : List ℕ) (acts : List (Act Value)) (w
     goes_on = ap (λ (c : Cluster Value). c.list) same
         ∙ ap (λ l. list_with d.unit here.list (lookup here.list d.unit) (decided_value (is_majority weights) l l)) sent_then
 
-    -- and so it is
-    its_list : v.agreed ≡ packages_of stepped.list
-    its_list =
+    -- and so each list is that may stand after the event
+    lists : (list : List Content) → IsListAfter w sent list → list ≡ packages_of stepped.list
+    lists list is =
         list_is division weights acts (with_act acts (Some act)) w made of m (slice_set w.nodes k then) sent (packages_of stepped.list) matches_then again
-        d.unit d.within others goes_on v.agreed s.list
+        d.unit d.within others goes_on list is
         ∙ ap (λ (c : Cluster Value). packages_of c.list) same
 
-    pub done_matches : Matches v new
-    done_matches = subst (λ z. Matches z new) (sym (s.leaves ∙ ap world its_list)) matches_then
+    pub only_list : (list : List Content) → IsListAfter w sent list → list ≡ v.agreed
+    only_list list is = lists list is ∙ sym (lists v.agreed s.list)
 
-    pub done_is_act : IsActOf w e (Some act) → IsOneActMore division weights acts w e v
-    done_is_act is = (Some act, is, done_matches)
+    pub done_matches : Matches v new
+    done_matches = subst (λ z. Matches z new) (sym (s.leaves ∙ ap world (lists v.agreed s.list))) matches_then
+
+    pub is_one_act_more : IsOneActMore division weights acts w e v
+    is_one_act_more = (Some act, a.is, done_matches)
 
   -- what a step is for the other units, if it opens no claim
   pub no_other : (d : IsDone) → elsewhere (Take k d.input) ≡ []

@@ -1,5 +1,5 @@
 -- Each delivery is an act, or none.
-use Rattle.std.proofs.Common.{◌≡◌, ◌⊎◌, ℕ, true, List, [], ◌∷◌, Some, None, Ok, slice_get, refl, sym, ap, subst, ◌∙◌, ⊎_elim}
+use Rattle.std.proofs.Common.{◌≡◌, ◌⊎◌, ℕ, true, List, [], ◌∷◌, Some, None, Ok, slice_get, refl, sym, ap, subst, ◌∙◌, ⊎_elim, inl, inr}
 use Rattle.agreement.specs.AgreedList.{Act, Cluster}
 use Rattle.agreement.specs.Quorums.{is_majority}
 use Rattle.agreement.specs.Step as theory
@@ -8,7 +8,7 @@ use Rattle.ballots.specs.declared.message.Message.{Message}
 use Rattle.node.specs.Arrival.{arrival_of}
 use Rattle.node.specs.Events as events
 use Rattle.node.specs.Ranges.{CanBeWritten}
-use Rattle.node.specs.Step.{running_step}
+use Rattle.node.specs.Step.{nothing, running_step}
 use Rattle.node.proofs.Pieces.{message_good}
 use Rattle.node.proofs.ranges.Written.{answers_written}
 use Rattle.package_record.specs.Laws.{BuildTextIsReadAgain}
@@ -24,19 +24,17 @@ use Rattle.wire.specs.Reading.{datagram_of}
 use Rattle.world.specs.Happening.{Steps}
 use Rattle.world.specs.Sent.{WasSent}
 use Rattle.world.specs.World.{IsMade, World, member_at}
-use Rattle.headline.specs.Laws.{IsOneActMore}
 use Rattle.headline.specs.Local.{AreLocal}
 use Rattle.headline.specs.Matches.{Matches}
 use Rattle.headline.specs.Mirrored.{after_all_acts}
 use Rattle.headline.proofs.Asking.{answers_with}
 use Rattle.headline.proofs.Cutting.{made_here}
 use Rattle.headline.proofs.Delivering.{by_arrival, delivered, no_build_in_delivery, place, theirs}
-use Rattle.headline.proofs.Doing.{IsDone, done_is_act, no_other}
+use Rattle.headline.proofs.Doing.{IsAct, IsDone, no_other}
 use Rattle.headline.proofs.Foreign.{comes_welcome, get_contains}
 use Rattle.headline.proofs.Members.{node_is_member}
 use Rattle.headline.proofs.Naming.{body_comes, message_names}
 use Rattle.headline.proofs.Opening.{message_opens_none}
-use Rattle.headline.proofs.Quiet.{waiting_is_none}
 use Rattle.headline.proofs.Ranging.{heard_names, in_range, known_named, own_stage}
 
 module _ (division : Division) (weights : List ℕ) (acts : List (Act Value)) (w : World) (made : IsMade division weights)
@@ -80,20 +78,23 @@ module _ (division : Division) (weights : List ℕ) (acts : List (Act Value)) (w
           (is_majority w.weights) (said x.sender x.body) (body_comes _ x.sender x.body (heard_names member x s.taken.answer e));
     }
 
-    pub heard_is_act : IsOneActMore division weights acts w (events.Deliver d n) v
-    heard_is_act = done_is_act division weights acts w made of local m again (events.Deliver d n) v s done refl
-        (no_other division weights acts w made of local m again (events.Deliver d n) v s done refl
-        (λ closed. message_opens_none Value (is_majority w.weights) n (view member answer.unit) closed (said x.sender x.body)))
-        (λ j b built. absurd (no_build_in_delivery n j at.0 b built))
+    pub heard_is_act : IsAct division weights acts w made of local m again (events.Deliver d n) v s
+    heard_is_act = record {
+      done = done;
+      allowed = refl;
+      there = no_other division weights acts w made of local m again (events.Deliver d n) v s done refl
+          (λ closed. message_opens_none Value (is_majority w.weights) n (view member answer.unit) closed (said x.sender x.body));
+      is = λ j b built. absurd (no_build_in_delivery n j at.0 b built);
+    }
 
-  -- So is each delivery: of a whole message, or of a piece.
-  pub delivery_is_act : IsOneActMore division weights acts w (events.Deliver d n) v
+  -- So each delivery is an act, or does nothing but keep a piece.
+  pub delivery_is_act : (s.taken.answer ≡ nothing member) ⊎ IsAct division weights acts w made of local m again (events.Deliver d n) v s
   delivery_is_act =
       let text = s.acts.asks.0 in
       let kept = (local.each n s.node s.acts.is_up.stands).pieces in
       ⊎_elim
-      (λ none. waiting_is_none division weights acts w made of local m again d n v s none)
-      (λ h. heard_is_act h.0 h.1 h.2)
+      (λ none. inl none)
+      (λ h. inr (heard_is_act h.0 h.1 h.2))
       (by_arrival division weights acts w made of local m again n s.node s.acts.is_up.stands s.acts.is_up.up s.taken
       (arrival_of member s.node.pieces (datagram_of text))
       (comes_welcome division weights acts w made of m again n s.node s.node.pieces kept text (get_contains w.sent d text s.acts.asks.1))

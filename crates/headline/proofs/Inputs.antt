@@ -27,17 +27,16 @@ use Rattle.protocol.specs.declared.input.Input.TheVariants as inputs
 use Rattle.units.specs.Division.{Division}
 use Rattle.world.specs.Happening.{Asks, Steps}
 use Rattle.world.specs.World.{IsMade, World, WorldNode, member_at, node_at, up_node}
-use Rattle.headline.specs.Laws.{IsOneActMore}
 use Rattle.headline.specs.Local.{AreLocal}
 use Rattle.headline.specs.Matches.{Matches, node_of}
 use Rattle.headline.specs.Mirrored.{after_all_acts}
 use Rattle.headline.proofs.Acting.{dropped_here}
 use Rattle.headline.proofs.Asking.{IsInputOf, answers_with, input_of}
 use Rattle.headline.proofs.Cutting.{answered, asks_for, made_here}
-use Rattle.headline.proofs.Doing.{IsDone, done_is_act, no_other}
+use Rattle.headline.proofs.Doing.{IsAct, IsDone, no_other}
 use Rattle.headline.proofs.Members.{facts_there, node_is_member}
 use Rattle.headline.proofs.Naming.{input_names}
-use Rattle.headline.proofs.Opening.{inquire_opens_none, nudge_opens_none}
+use Rattle.headline.proofs.Opening.{failed_opens_none, inquire_opens_none, nudge_opens_none}
 use Rattle.headline.proofs.Ranging.{in_range, is_one, known_named, own_stage}
 use Rattle.headline.proofs.Stepping.{claims}
 
@@ -151,46 +150,67 @@ module _ (division : Division) (weights : List ℕ) (acts : List (Act Value)) (w
         ∙ ap (λ (z : Member Value). record z { up = true; stage = Closed }) (m.members k q x s.acts.is_up.stands lt)
         ∙ dropped_so q ne
 
-    pub start_is_act : IsOneActMore division weights acts w e v
-    start_is_act = done_is_act division weights acts w made of local m again e v s d refl there (λ j b built. absurd cc)
+    pub start_is_act : IsAct division weights acts w made of local m again e v s
+    start_is_act = record { done = d; allowed = refl; there = there; is = λ j b built. absurd cc }
 
   -- a nudge says again what was said
-  pub nudge_is_act : theory.Nudge ≡ its_input.answers.asks → IsOneActMore division weights acts w e v
+  pub nudge_is_act : theory.Nudge ≡ its_input.answers.asks → IsAct division weights acts w made of local m again e v s
   nudge_is_act is =
-      let d = done_so theory.Nudge is in
-      done_is_act division weights acts w made of local m again e v s d refl
-      (no_other division weights acts w made of local m again e v s d refl
-      (λ closed. absurd (nudge_opens_none Value (is_majority weights) k (nodes.view (node_of w k x) d.unit) closed _ closed d.outcome d.answered)))
-      (λ j b built. absurd cc)
+      let d = done_so theory.Nudge is in record {
+        done = d;
+        allowed = refl;
+        there = no_other division weights acts w made of local m again e v s d refl
+            (λ closed. absurd (nudge_opens_none Value (is_majority weights) k (nodes.view (node_of w k x) d.unit) closed _ closed d.outcome d.answered));
+        is = λ j b built. absurd cc;
+      }
+
+  -- a build that failed closes the claim
+  pub fail_is_act : theory.Failed ≡ its_input.answers.asks → IsAct division weights acts w made of local m again e v s
+  fail_is_act is =
+      let d = done_so theory.Failed is in record {
+        done = d;
+        allowed = refl;
+        there = no_other division weights acts w made of local m again e v s d refl
+            (λ closed. absurd (failed_opens_none Value (is_majority weights) k (nodes.view (node_of w k x) d.unit) closed _ closed d.outcome d.answered));
+        is = λ j b built. absurd cc;
+      }
 
   -- and a question asks
-  pub inquire_is_act : theory.Inquire ≡ its_input.answers.asks → IsOneActMore division weights acts w e v
+  pub inquire_is_act : theory.Inquire ≡ its_input.answers.asks → IsAct division weights acts w made of local m again e v s
   inquire_is_act is =
-      let d = done_so theory.Inquire is in
-      done_is_act division weights acts w made of local m again e v s d refl
-      (no_other division weights acts w made of local m again e v s d refl
-      (λ closed. inquire_opens_none Value (is_majority weights) k (nodes.view (node_of w k x) d.unit) closed (nodes.view (node_of w k x) d.unit).held d.outcome d.answered))
-      (λ j b built. absurd cc)
+      let d = done_so theory.Inquire is in record {
+        done = d;
+        allowed = refl;
+        there = no_other division weights acts w made of local m again e v s d refl
+            (λ closed. inquire_opens_none Value (is_majority weights) k (nodes.view (node_of w k x) d.unit) closed (nodes.view (node_of w k x) d.unit).held d.outcome d.answered);
+        is = λ j b built. absurd cc;
+      }
 
 -- ---- the events
 
 module _ (division : Division) (weights : List ℕ) (acts : List (Act Value)) (w : World) (made : IsMade division weights)
     (of : (w.division ≡ division) × (w.weights ≡ weights)) (local : AreLocal w) (m : Matches w (after_all_acts division weights acts))
     (again : BuildTextIsReadAgain) (n : ℕ) (v : World) where
-  pub claim_is_act : (path : Text) (host above : ℕ) → Steps w (events.Claim n path host above) v
-      → IsOneActMore division weights acts w (events.Claim n path host above) v
+  pub claim_is_act : (path : Text) (host above : ℕ) (s : Steps w (events.Claim n path host above) v)
+      → IsAct division weights acts w made of local m again (events.Claim n path host above) v s
   claim_is_act path host above s =
       let i = its_input division weights acts w made of local m again (events.Claim n path host above) v s (inputs.Claim path host above) (λ a e. e) tt in
       start_is_act division weights acts w made of local m again (events.Claim n path host above) v s (inputs.Claim path host above) (λ a e. e) tt above
       (asks_for division weights acts w made of local m (unit_in (member_at w n s.node) path) (λ u. theory.Start above) i.answers.unit i.answers.asks i.answers.is_asked)
 
-  pub ask_is_act : (path : Text) → Steps w (events.Ask n path) v → IsOneActMore division weights acts w (events.Ask n path) v
+  pub failed_is_act : (path : Text) (s : Steps w (events.Failed n path) v) → IsAct division weights acts w made of local m again (events.Failed n path) v s
+  failed_is_act path s =
+      let i = its_input division weights acts w made of local m again (events.Failed n path) v s (inputs.Failed path) (λ a e. e) tt in
+      fail_is_act division weights acts w made of local m again (events.Failed n path) v s (inputs.Failed path) (λ a e. e) tt
+      (asks_for division weights acts w made of local m (unit_in (member_at w n s.node) path) (λ u. theory.Failed) i.answers.unit i.answers.asks i.answers.is_asked)
+
+  pub ask_is_act : (path : Text) (s : Steps w (events.Ask n path) v) → IsAct division weights acts w made of local m again (events.Ask n path) v s
   ask_is_act path s =
       let i = its_input division weights acts w made of local m again (events.Ask n path) v s (inputs.Ask path) (λ a e. e) tt in
       inquire_is_act division weights acts w made of local m again (events.Ask n path) v s (inputs.Ask path) (λ a e. e) tt
       (asks_for division weights acts w made of local m (unit_in (member_at w n s.node) path) (λ u. theory.Inquire) i.answers.unit i.answers.asks i.answers.is_asked)
 
-  pub nudged_is_act : Steps w (events.Nudge n) v → IsOneActMore division weights acts w (events.Nudge n) v
+  pub nudged_is_act : (s : Steps w (events.Nudge n) v) → IsAct division weights acts w made of local m again (events.Nudge n) v s
   nudged_is_act s =
       let i = its_input division weights acts w made of local m again (events.Nudge n) v s inputs.Nudge (λ a e. e) tt in
       nudge_is_act division weights acts w made of local m again (events.Nudge n) v s inputs.Nudge (λ a e. e) tt

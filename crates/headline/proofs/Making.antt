@@ -25,7 +25,6 @@ use Rattle.protocol.specs.declared.input.Input.TheVariants as inputs
 use Rattle.units.specs.Division.{Division}
 use Rattle.world.specs.Happening.{Steps}
 use Rattle.world.specs.World.{IsMade, World, member_at}
-use Rattle.headline.specs.Laws.{IsOneActMore}
 use Rattle.headline.specs.Local.{AreLocal}
 use Rattle.headline.specs.Matches.{Matches, node_of}
 use Rattle.headline.specs.Mirrored.{MakesBuild, after_all_acts}
@@ -33,7 +32,7 @@ use Rattle.headline.specs.Needs.{may_build}
 use Rattle.headline.proofs.Asking.{IsInputOf}
 use Rattle.headline.proofs.Building.{made_may_be_built}
 use Rattle.headline.proofs.Cutting.{asks_for}
-use Rattle.headline.proofs.Doing.{IsDone, done_is_act, no_other}
+use Rattle.headline.proofs.Doing.{IsAct, IsDone, no_other}
 use Rattle.headline.proofs.Inputs.{done_so, its_input}
 use Rattle.headline.proofs.Opening.{built_opens_none}
 
@@ -153,10 +152,12 @@ module _ (division : Division) (weights : List ℕ) (acts : List (Act Value)) (w
   }
 
   -- Each build is an act.
-  pub build_is_act : IsOneActMore division weights acts w (events.Built n path given) v
-  build_is_act =
-      done_is_act division weights acts w made of local m again (events.Built n path given) v s d may_be
-      (no_other division weights acts w made of local m again (events.Built n path given) v s d refl
-      (λ closed. absurd (built_opens_none Value (is_majority weights) n (nodes.view (node_of w n s.node) u) closed _ closed built d.outcome d.answered)))
-      (λ j b same. let both = build_taken n j built b same in
-      subst (λ b. MakesBuild w (events.Built n path given) j u b) both.1 (subst (λ j. MakesBuild w (events.Built n path given) j u built) both.0 makes))
+  pub build_is_act : IsAct division weights acts w made of local m again (events.Built n path given) v s
+  build_is_act = record {
+    done = d;
+    allowed = may_be;
+    there = no_other division weights acts w made of local m again (events.Built n path given) v s d refl
+        (λ closed. absurd (built_opens_none Value (is_majority weights) n (nodes.view (node_of w n s.node) u) closed _ closed built d.outcome d.answered));
+    is = λ j b same. let both = build_taken n j built b same in
+        subst (λ b. MakesBuild w (events.Built n path given) j u b) both.1 (subst (λ j. MakesBuild w (events.Built n path given) j u built) both.0 makes);
+  }

@@ -1,4 +1,4 @@
--- A delivery that leaves its message waiting is no act, and one at which the member says nothing is one.
+-- A delivery that leaves its message waiting is no act.
 use Rattle.std.proofs.Common.{◌≡◌, ℕ, Bool, true, List, [], Option, Some, None, slice_get, refl, sym, ap, ap₂, subst, ◌∙◌, ⊎_elim}
 use Rattle.agreement.specs.AgreedList.{Act, Cluster}
 use Rattle.agreement.specs.Member as theory_members
@@ -96,43 +96,3 @@ module _ (division : Division) (weights : List ℕ) (acts : List (Act Value)) (w
         (same_node_matches w here m n s.node then s.acts.is_up.stands (sym (ap (λ (a : Answer). with_note s.node.notes a.note) none)) s.acts.is_up.up
         (sym (ap (λ (a : Answer). a.claim) none))),
   )
-
-  -- A message at which the member says nothing is an act.
-  module _ (x : Message Value) (is_sent : WasSent w.sent x) (e : members.heard (member_at w n s.node) x ≡ answers_with s.taken.answer) where
-    abbrev unit : ℕ
-    unit = (theirs division weights acts w made of local m again n s.node s.acts.is_up.stands s.acts.is_up.up s.taken x is_sent e).unit
-
-    abbrev outcome : theory.Outcome Value
-    outcome = outcome_of (member_at w n s.node) unit x.sender x.body
-
-    pub quiet_delivery : outcome.send ≡ None → IsOneActMore division weights acts w (events.Deliver d n) v
-    quiet_delivery silent = (
-      Some act,
-      (λ j b built. absurd (no_build_in_delivery n j at.0 b built)),
-      subst (λ z. Matches z (after_all_acts division weights (with_act acts (Some act))))
-          (sym (only_the_node w v (events.Deliver d n) s (nothing_sent (member_at w n s.node) unit outcome.send s.taken.answer.sends silent answer.is.sends)))
-          (subst (Matches (with_node w n then)) (sym (one_more division weights acts w m act))
-          (quiet_step (is_majority weights) w here_made here m n s.node s.acts.is_up.stands s.acts.is_up.up unit answer.within (theory.Deliver at.0) outcome s.taken
-          there answer.is (majorities weights) (may_build division) (values_there division weights acts w m) refl silent
-          (left_so (is_majority weights) w here_made here m n s.node s.acts.is_up.stands s.acts.is_up.up unit answer.within (theory.Deliver at.0) outcome s.taken
-          there answer.is
-          (λ q ne lt. m.members n q s.node s.acts.is_up.stands lt
-          ∙ is_as_before (is_majority weights) w here_made here m n s.node s.acts.is_up.stands s.acts.is_up.up unit answer.within (theory.Deliver at.0) outcome s.taken
-          there answer.is
-          (λ closed. message_opens_none Value (is_majority w.weights) n (view (member_at w n s.node) unit) closed (said x.sender x.body)) q ne)))),
-    )
-      where
-        here_made : IsMade w.division w.weights
-        here_made = made_here division weights acts w made of local m
-
-        answer : AnswersMessage (member_at w n s.node) x s.taken.answer
-        answer = theirs division weights acts w made of local m again n s.node s.acts.is_up.stands s.acts.is_up.up s.taken x is_sent e
-
-        at : (i : ℕ) × (slice_get (here.at unit).sent i ≡ Some (said x.sender x.body))
-        at = place division weights acts w made of local m again n s.node s.acts.is_up.stands s.acts.is_up.up s.taken x is_sent e
-
-        there : theory.answer (is_majority weights) n (nodes.view (node_of w n s.node) unit) (here.at unit).sent (theory.Deliver at.0) ≡ Some outcome
-        there = delivered division weights acts w made of local m again n s.node s.acts.is_up.stands s.acts.is_up.up s.taken x is_sent e
-
-        act : Act Value
-        act = record { path = unit; event = Take n (theory.Deliver at.0) }

@@ -97,7 +97,7 @@ nothing_sent s u what (z ∷ zs) none are =
     absurd (let one : Says s u what z.message = are 0 z (omega arith) in let wrong : None ≡ Some _ = sym none ∙ one.body in cc)
 
 -- where the same was sent, nothing is decided
-list_same : (w : World) (after : List Text) (list : _) → after ≡ w.sent → IsListAfter w after list → list ≡ w.agreed
+pub list_same : (w : World) (after : List Text) (list : _) → after ≡ w.sent → IsListAfter w after list → list ≡ w.agreed
 list_same w after list same (inl (build, d, e)) =
     absurd (true≢false (sym d.decided.now ∙ ap (λ sent. is_majority w.weights (voters w sent d.name d.claim)) same ∙ d.decided.not_before))
 list_same w after list same (inr (none, e)) = e

@@ -34,65 +34,10 @@ abbrev pub EachEventKeepsLocal : Type 0
 EachEventKeepsLocal =
     (w v : World) (e : Event) → IsMade w.division w.weights → AreLocal w → EachIsOfAMessage w → Happens w e v → AreLocal v
 
--- Stops leave it so,
-abbrev pub StopsKeepLocal : Type 0
-StopsKeepLocal = (w v : World) (n : ℕ) → AreLocal w → Stops w n v → AreLocal v
-
--- restarts do,
-abbrev pub RestartsKeepLocal : Type 0
-RestartsKeepLocal = (w v : World) (n : ℕ) → AreLocal w → Restarts w n v → AreLocal v
-
--- and so do stops inside a step that leave nothing of its note, or a part.
-abbrev pub CutsKeepLocal : Type 0
-CutsKeepLocal = (w v : World) (e : Event) (l : Left) → AreLocal w → (l ≡ Whole → ⊥) → StopsIn w e l v → AreLocal v
-
 -- The event is one act more, or none: the world that it leaves matches what the acts leave then.
 abbrev pub IsOneActMore : Division → List ℕ → List (Act Value) → World → Event → World → Type 0
 IsOneActMore division weights acts w e v =
     (o : Option (Act Value)) × IsActOf w e o × Matches v (after_all_acts division weights (with_act acts o))
-
--- In a world that matches what some acts leave a stop between two steps is one act more, or none.
-abbrev pub StopsAreActs : Type 0
-StopsAreActs =
-    (division : Division) (weights : List ℕ) (acts : List (Act Value)) (w v : World) (n : ℕ)
-    → Matches w (after_all_acts division weights acts) → Stops w n v → IsOneActMore division weights acts w (Stop n) v
-
--- So is a restart,
-abbrev pub RestartsAreActs : Type 0
-RestartsAreActs =
-    (division : Division) (weights : List ℕ) (acts : List (Act Value)) (w v : World) (n : ℕ)
-    → Matches w (after_all_acts division weights acts) → Restarts w n v → IsOneActMore division weights acts w (Restart n) v
-
--- a stop inside any step, whatever it leaves of the note, where nodes are as they have to be,
-abbrev pub StopsInsideAreActs : Type 0
-StopsInsideAreActs =
-    (division : Division) (weights : List ℕ) (acts : List (Act Value)) (w v : World) (e : Event) (l : Left) → IsMade division weights
-    → (w.division ≡ division) × (w.weights ≡ weights) → AreLocal w → Matches w (after_all_acts division weights acts)
-    → StopsIn w e l v → IsOneActMore division weights acts w (StopIn e l) v
-
--- and so is a build that failed.
-abbrev pub FailuresAreActs : Type 0
-FailuresAreActs =
-    (division : Division) (weights : List ℕ) (acts : List (Act Value)) (w v : World) (n : ℕ) (path : Text) → IsMade division weights
-    → (w.division ≡ division) × (w.weights ≡ weights) → AreLocal w → Matches w (after_all_acts division weights acts)
-    → Steps w (Failed n path) v → IsOneActMore division weights acts w (Failed n path) v
-
--- So is a delivery that leaves its message waiting, or brings a piece that is kept already,
-abbrev pub WaitingPiecesAreActs : Type 0
-WaitingPiecesAreActs =
-    (division : Division) (weights : List ℕ) (acts : List (Act Value)) (w v : World) (d n : ℕ) → IsMade division weights
-    → (w.division ≡ division) × (w.weights ≡ weights) → AreLocal w → Matches w (after_all_acts division weights acts)
-    → (s : Steps w (Deliver d n) v) → s.taken.answer ≡ nothing (member_at w n s.node)
-    → IsOneActMore division weights acts w (Deliver d n) v
-
--- and a delivery of a message at which the member says nothing.
-abbrev pub SilentDeliveriesAreActs : Type 0
-SilentDeliveriesAreActs =
-    (division : Division) (weights : List ℕ) (acts : List (Act Value)) (w v : World) (d n : ℕ) → IsMade division weights
-    → (w.division ≡ division) × (w.weights ≡ weights) → AreLocal w → Matches w (after_all_acts division weights acts)
-    → (s : Steps w (Deliver d n) v) (m : Message Value) → WasSent w.sent m → heard (member_at w n s.node) m ≡ Ok s.taken.answer
-    → ((u : ℕ) → number_named w.division m.path ≡ Some u → (outcome_of (member_at w n s.node) u m.sender m.body).send ≡ None)
-    → IsOneActMore division weights acts w (Deliver d n) v
 
 -- An event of a world that matches what some acts leave is one act more, or none.
 abbrev pub EachEventIsAnAct : Type 0
@@ -107,10 +52,6 @@ EachRunIsActs =
     (division : Division) (weights : List ℕ) (events : List Event) (w : World) → IsMade division weights
     → Leads (start division weights) events w
     → (acts : List (Act Value)) × Mirrors division weights events w acts × Matches w (after_all_acts division weights acts) × AreLocal w
-
--- Where each event is an act, or none, and leaves nodes as they have to be, each run is some acts.
-abbrev pub RunsFollowEvents : Type 0
-RunsFollowEvents = EachEventIsAnAct → EachEventKeepsLocal → EachRunIsActs
 
 -- In a world that matches what acts leave, equal headers of sent pieces belong to equal messages.
 abbrev pub MatchedHeadersAreEqual : Type 0
@@ -160,27 +101,6 @@ pub record IsSafe (division : Division) (weights : List ℕ) (events : List Even
   pub jobs_stood : AtEachMoment division weights events last (λ early w. JobsStood division weights early w)
   -- equal headers of sent pieces belong to equal messages
   pub equal_headers : AtEachMoment division weights events last (λ early w. EqualHeaders w × EachIsOfAMessage w)
-
--- Where each run is some acts, this much holds at each moment: votes are lawful, headers tell messages apart, and what nodes
--- hold is in the list.
-pub record IsSafeSoFar (division : Division) (weights : List ℕ) (events : List Event) (last : World) : Type 0 where
-  pub one_proposal : AtEachMoment division weights events last (λ early w. OneProposal w)
-  pub promises_bound : AtEachMoment division weights events last (λ early w. PromisesBound w)
-  pub later_repeats : AtEachMoment division weights events last (λ early w. LaterRepeats w)
-  pub equal_headers : AtEachMoment division weights events last (λ early w. EqualHeaders w × EachIsOfAMessage w)
-  pub held : AtEachMoment division weights events last (λ early w. HeldIsListed w)
-  -- two nodes never hold different packages for one path
-  pub alike : AtEachMoment division weights events last (λ early w. HoldAlike w)
-
--- for each run
-abbrev pub ActsAreSafe : Type 0
-ActsAreSafe =
-    EachRunIsActs → (division : Division) (weights : List ℕ) (events : List Event) (last : World) → IsMade division weights
-    → Leads (start division weights) events last → IsSafeSoFar division weights events last
-
--- And nothing that was sent is foreign to a node.
-abbrev pub ActsAreNotForeign : Type 0
-ActsAreNotForeign = EachRunIsActs → NothingSentIsForeign
 
 -- Each run has one list, and is safe.
 abbrev pub EachRunHasOneList : Type 0

@@ -1,24 +1,15 @@
 //! What the events of a world are in the agreement theory, and what follows for a world that matches
 //! what acts of it leave.
 ghost use Rattle.headline.specs.Laws.{
-  ActsAreNotForeign,
-  ActsAreSafe,
-  CutsKeepLocal,
-  FailuresAreActs,
+  EachEventIsAnAct,
+  EachEventKeepsLocal,
+  EachRunIsActs,
   MatchedHeadersAreEqual,
   MatchedHeldIsListed,
   MatchedIsNotForeign,
   MatchedVotesAreLawful,
   NeedsAreMonotone,
-  RestartsAreActs,
-  RestartsKeepLocal,
-  RunsFollowEvents,
   SentWasSaid,
-  SilentDeliveriesAreActs,
-  StopsAreActs,
-  StopsInsideAreActs,
-  StopsKeepLocal,
-  WaitingPiecesAreActs,
 };
 
 /// What a build needs is spoiled by nothing that is held besides.
@@ -26,30 +17,12 @@ pub fn needs_are_monotone()
     ensures { NeedsAreMonotone }
 {}
 
-/// A stop, between two steps or inside one, is a stop of the member, and a restart is a restart.
-pub fn stops_are_acts()
-    ensures between { StopsAreActs }
-    ensures inside { StopsInsideAreActs }
-    ensures restarts { RestartsAreActs }
-{}
-
-/// They leave nodes as they have to be, where a stop inside a step leaves no whole note.
-pub fn stops_keep_nodes_sound()
-    ensures between { StopsKeepLocal }
-    ensures inside { CutsKeepLocal }
-    ensures restarts { RestartsKeepLocal }
-{}
-
-/// A build that failed drops the claim there, too.
-pub fn failures_are_acts()
-    ensures { FailuresAreActs }
-{}
-
-/// A delivery that leaves its message waiting is no act, and one at which the member says nothing is
-/// one.
-pub fn silent_deliveries_are_acts()
-    ensures waiting { WaitingPiecesAreActs }
-    ensures silent { SilentDeliveriesAreActs }
+/// Each event is one act of the agreements, or none, and leaves nodes as they have to be; so each
+/// run is some acts.
+pub fn events_are_acts()
+    ensures acts { EachEventIsAnAct }
+    ensures local { EachEventKeepsLocal }
+    ensures runs { EachRunIsActs }
 {}
 
 /// What was sent, with all its datagrams, was said by a member; equal headers of sent pieces belong
@@ -64,12 +37,4 @@ pub fn sent_was_said()
 pub fn matched_worlds_are_safe()
     ensures votes { MatchedVotesAreLawful }
     ensures held { MatchedHeldIsListed }
-{}
-
-/// Where each event is an act, each run is acts; and where each run is, votes are lawful at each
-/// moment, headers tell messages apart, what nodes hold is in the list, and nothing sent is foreign.
-pub fn runs_follow_events()
-    ensures runs { RunsFollowEvents }
-    ensures safe { ActsAreSafe }
-    ensures foreign { ActsAreNotForeign }
 {}
