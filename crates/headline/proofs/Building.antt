@@ -92,7 +92,7 @@ module _ (division : Division) (weights : List ℕ) (acts : List (Act Value)) (w
   held_there q v e = ap (λ (z : Member Value). z.held) (m.members k q x stands (held_within division weights acts w made of m local k q x v stands e)) ∙ e
 
   -- it has the records of the unit's packages
-  held_records : (q : ℕ) (v : Value) → (facts_at s q).held ≡ Some v
+  pub held_records : (q : ℕ) (v : Value) → (facts_at s q).held ≡ Some v
       → are_records_of w.division.tree (unit_at w.division q) (unit_at w.division q).packages v ≡ true
   held_records q v e =
       let o = in_order division weights acts w made of m in
@@ -102,7 +102,7 @@ module _ (division : Division) (weights : List ℕ) (acts : List (Act Value)) (w
       subst (λ (d : Division). are_records_of d.tree (unit_at d q) (unit_at d q).packages v ≡ true) (sym of.0) (are_records division made.divided a.0 q v a.1)
 
   -- so a package that it holds has a record there
-  has_its_record : (p : ℕ) → p < length w.division.tree → holds_package s p ≡ true → (r : Content) × (held_record s (path_at w.division.tree p) ≡ Some r)
+  pub has_its_record : (p : ℕ) → p < length w.division.tree → holds_package s p ≡ true → (r : Content) × (held_record s (path_at w.division.tree p) ≡ Some r)
   has_its_record p lt held = by (number_of w.division p) refl held
     where
       path : Text
