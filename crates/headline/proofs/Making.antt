@@ -63,7 +63,7 @@ progress_waits (Gathering d joined k) c e = absurd cc
 progress_waits (Building d) c e = ap Building (claims_same d c e)
 progress_waits (Voting b joined) c e = absurd cc
 
-open_waits : (s : State) (u : ℕ) (c : Claim) → (view s u).stage ≡ stages.Building c → IsWaiting s u c
+pub open_waits : (s : State) (u : ℕ) (c : Claim) → (view s u).stage ≡ stages.Building c → IsWaiting s u c
 open_waits s u c e = by s.claim refl e
   where
     by : (o : Option OpenClaim) → s.claim ≡ o → nodes.stage_at (option_map claim_of o) u ≡ stages.Building c → IsWaiting s u c

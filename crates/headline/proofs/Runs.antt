@@ -33,7 +33,7 @@ use Rattle.headline.proofs.Safe.{later_repeats, one_proposal, promises_bound}
 -- ---- at the start
 
 -- each node is a fresh one
-all_fresh : (n k : ℕ) (x : WorldNode) → slice_get (replicate n fresh_node) k ≡ Some x → fresh_node ≡ x
+pub all_fresh : (n k : ℕ) (x : WorldNode) → slice_get (replicate n fresh_node) k ≡ Some x → fresh_node ≡ x
 all_fresh zero k x e = absurd (let wrong : None ≡ Some x = e in cc)
 all_fresh (suc n) zero x e = some_node fresh_node x e
   where
