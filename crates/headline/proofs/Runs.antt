@@ -130,7 +130,7 @@ runs_are_acts step keeps division weights events w made led =
 module _ (runs : EachRunIsActs) (again : BuildTextIsReadAgain) (division : Division) (weights : List ℕ) (made : IsMade division weights)
     (events : List Event) (last : World) (led : Leads (start division weights) events last) where
   -- what holds of each world that matches what acts leave holds at each moment
-  at_each : (P : World → Type 0)
+  pub at_each : (P : World → Type 0)
       → ((acts : List (Act Value)) (w : World) → (w.division ≡ division) × (w.weights ≡ weights) → Matches w (after_all_acts division weights acts)
       → AreLocal w → P w)
       → AtEachMoment division weights events last (λ early w. P w)
