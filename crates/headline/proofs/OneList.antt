@@ -28,9 +28,11 @@ use Rattle.headline.proofs.Following.{happens_not_refused, one_follows, one_refu
 use Rattle.headline.proofs.Headers.{in_order}
 use Rattle.headline.proofs.Installed.{installable_is_held}
 use Rattle.headline.proofs.Listed.{list_fits}
-use Rattle.headline.proofs.Mirroring.{step_has_one_list}
-use Rattle.headline.proofs.Runs.{always_bound, always_listed, always_one_proposal, always_repeated, always_told_apart, at_each}
+use Rattle.headline.proofs.Mirroring.{event_is_act, step_has_one_list}
+use Rattle.headline.proofs.Runs.{always_bound, always_listed, always_one_proposal, always_repeated, always_told_apart, at_each, runs_are_acts}
 use Rattle.headline.proofs.Signed.{jobs_stood}
+use Rattle.headline.proofs.Staying.{event_keeps}
+use Rattle.package_record.proofs.BuildsRead.{build_is_read}
 
 -- ---- a world that matches
 
@@ -118,3 +120,10 @@ one_world runs again division weights events w a b e made led first second =
 
 pub one_answer : OneAnswer
 one_answer division weights events w e made led = (λ v f h refused. happens_not_refused w v e f h refused, λ f g a b. one_refusal w e f g a b)
+
+-- ---- by the laws of events
+
+pub each_run_is_acts : EachRunIsActs
+each_run_is_acts = runs_are_acts
+    (λ division weights acts w v e made of local m h. event_is_act division weights acts w made of local m build_is_read e v h)
+    (λ w v e made local each h. event_keeps w made local each e v h)

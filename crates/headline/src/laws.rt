@@ -3,6 +3,7 @@
 ghost use Rattle.headline.specs.Laws.{
   EachEventIsAnAct,
   EachEventKeepsLocal,
+  EachRunHasOneList,
   EachRunIsActs,
   MatchedHeadersAreEqual,
   MatchedHeldIsListed,
@@ -11,6 +12,8 @@ ghost use Rattle.headline.specs.Laws.{
   NeedsAreMonotone,
   SentWasSaid,
 };
+
+ghost use Rattle.world.specs.Laws.{NothingSentIsForeign, OneAnswer, OneWorldFollows};
 
 /// What a build needs is spoiled by nothing that is held besides.
 pub fn needs_are_monotone()
@@ -37,4 +40,20 @@ pub fn sent_was_said()
 pub fn matched_worlds_are_safe()
     ensures votes { MatchedVotesAreLawful }
     ensures held { MatchedHeldIsListed }
+{}
+
+/// In a world that is reached an event leaves one world at most; one that happens is not refused,
+/// and none is refused with two faults, nor as foreign.
+pub fn events_have_one_answer()
+    ensures world { OneWorldFollows }
+    ensures answer { OneAnswer }
+    ensures foreign { NothingSentIsForeign }
+{}
+
+/// For every list of events, at each moment, one list of packages stands, which only grows, with at
+/// most one package a path; each was built by a host under a claim for its unit, after every
+/// dependency in its signature stood in the list with that very signature; every package a node
+/// holds is in it, and a path a node shows installable has its run closure held there.
+pub fn worlds_have_one_list()
+    ensures { EachRunHasOneList }
 {}

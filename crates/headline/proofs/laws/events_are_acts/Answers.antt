@@ -1,5 +1,5 @@
 use Rattle.headline.proofs.Mirroring.{event_is_act}
-use Rattle.headline.proofs.Runs.{runs_are_acts}
+use Rattle.headline.proofs.OneList.{each_run_is_acts}
 use Rattle.headline.proofs.Staying.{event_keeps}
 use Rattle.headline.proofs.laws.events_are_acts.Goals as goal
 use Rattle.package_record.proofs.BuildsRead.{build_is_read}
@@ -11,6 +11,4 @@ pub returns-clause-local : goal.returns-clause-local
 returns-clause-local c = λ w v e made local each h. event_keeps w made local each e v h
 
 pub returns-clause-runs : goal.returns-clause-runs
-returns-clause-runs c = runs_are_acts
-    (λ division weights acts w v e made of local m h. event_is_act division weights acts w made of local m build_is_read e v h)
-    (λ w v e made local each h. event_keeps w made local each e v h)
+returns-clause-runs c = each_run_is_acts
