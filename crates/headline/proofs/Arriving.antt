@@ -40,11 +40,13 @@ use Rattle.node.specs.Kept.{are_all, has_number}
 
 carriers_same : (a b : Carrier) → same_carrier a b ≡ true → a ≡ b
 carriers_same (carriers.Promise c d) (carriers.Promise e f) h =
-    let p = and_parts (claim_same c e) (claim_same d f) h in ap₂ carriers.Promise (claim_same_true c e p.0) (claim_same_true d f p.1)
+    let p = and_parts (claim_same c e) (claim_same d f) h in ap₂ carriers.Promise
+        (claim_same_true c e p.0) (claim_same_true d f p.1)
 carriers_same (carriers.Promise c d) (carriers.Propose e) h = absurd (true≢false (sym h))
 carriers_same (carriers.Promise c d) carriers.Agreed h = absurd (true≢false (sym h))
 carriers_same (carriers.Propose c) (carriers.Promise e f) h = absurd (true≢false (sym h))
-carriers_same (carriers.Propose c) (carriers.Propose e) h = ap carriers.Propose (claim_same_true c e h)
+carriers_same (carriers.Propose c) (carriers.Propose e) h =
+    ap carriers.Propose (claim_same_true c e h)
 carriers_same (carriers.Propose c) carriers.Agreed h = absurd (true≢false (sym h))
 carriers_same carriers.Agreed (carriers.Promise e f) h = absurd (true≢false (sym h))
 carriers_same carriers.Agreed (carriers.Propose e) h = absurd (true≢false (sym h))
@@ -61,11 +63,13 @@ headers_same a b h =
     let path = same_bytes a.path b.path c.1 in
     let carrier = carriers_same a.carrier b.carrier d.1 in
     let size = eqb-true a.length b.length e.1 in
-    λ i. record { sender = sender i; tree = tree i; path = path i; carrier = carrier i; length = size i }
+    λ i. record { sender = sender i; tree = tree i; path = path i; carrier = carrier i; length =
+        size i }
 
 -- ---- the only one that passes
 
-none_pass : {X : Type 0} (t : X → Bool) (xs : List X) → ((x : X) → Contains xs x → t x ≡ false) → filter t xs ≡ []
+none_pass : {X : Type 0} (t : X → Bool) (xs : List X) → ((x : X) → Contains xs x → t x ≡ false)
+    → filter t xs ≡ []
 none_pass t [] none = refl
 none_pass t (x ∷ xs) none =
     ap (λ b. cond b (x ∷ filter t xs) (filter t xs)) (none x (zero, omega arith, refl))
@@ -78,17 +82,22 @@ only_passes t [] x (k, within, e) on once = absurd (omega arith)
 only_passes {X} t (y ∷ ys) x (zero, within, e) on once =
     cond-true (t y) (y ∷ filter t ys) (filter t ys) (ap t e ∙ on)
     ∙ ap (λ (l : List X). y ∷ l) (none_pass t ys (λ z h. false_from_ne_true (t z)
-    (λ also. once 0 (suc h.0) z (omega arith) (omega (arith, h.1)) (ap t e ∙ on) (ap t h.2 ∙ also))))
+    (λ also. once 0 (suc h.0) z (omega arith) (omega (arith, h.1)) (ap t e ∙ on)
+    (ap t h.2 ∙ also))))
     ∙ ap (λ (z : X). z ∷ []) e
 only_passes {X} t (y ∷ ys) x (suc k, within, e) on once =
-    let off : t y ≡ false = false_from_ne_true (t y) (λ also. once 0 (suc k) x (omega arith) within also (ap t e ∙ on)) in
+    let off : t y ≡ false = false_from_ne_true (t y)
+        (λ also. once 0 (suc k) x (omega arith) within also (ap t e ∙ on)) in
     ap (λ b. cond b (y ∷ filter t ys) (filter t ys)) off
-    ∙ only_passes t ys x (k, omega (arith, within), e) on (λ i j d lt l. once (suc i) (suc j) d (omega (arith, lt)) (omega (arith, l)))
+    ∙ only_passes t ys x (k, omega (arith, within), e) on
+    (λ i j d lt l. once (suc i) (suc j) d (omega (arith, lt)) (omega (arith, l)))
 
 -- ---- in a world that matches
 
-module _ (division : Division) (weights : List ℕ) (acts : List (Act Value)) (w : World) (made : IsMade division weights)
-    (of : (w.division ≡ division) × (w.weights ≡ weights)) (m : Matches w (after_all_acts division weights acts)) (again : BuildTextIsReadAgain) where
+module _ (division : Division) (weights : List ℕ) (acts : List (Act Value)) (w : World)
+    (made : IsMade division weights)
+    (of : (w.division ≡ division) × (w.weights ≡ weights))
+    (m : Matches w (after_all_acts division weights acts)) (again : BuildTextIsReadAgain) where
   -- what the acts leave
   abbrev here : Cluster Value
   here = after_all_acts division weights acts
@@ -99,18 +108,24 @@ module _ (division : Division) (weights : List ℕ) (acts : List (Act Value)) (w
     pub is_sent : WasSent w.sent message
     pub datagram : Contains (split_of message) d
 
-  pub read_as : (text : Text) (d : Datagram) → datagram_of text ≡ ok d → Contains w.sent text → CameOf d
+  pub read_as : (text : Text) (d : Datagram) → datagram_of text ≡ ok d → Contains w.sent text
+      → CameOf d
   read_as text d e h =
       let s = m.sent text h in
       let p = has_preimage datagram_text (split_of s.message) text s.datagram in
-      let same : p.0 ≡ d = ok_same p.0 d (sym (datagram_again p.0 (All-contains IsDatagram (split_of s.message) p.0 (split_good s.message s.went_out.is_message) p.1))
+      let same : p.0 ≡ d = ok_same p.0 d (sym
+          (datagram_again p.0 (All-contains IsDatagram (split_of s.message) p.0
+          (split_good s.message s.went_out.is_message) p.1))
       ∙ ap datagram_of (sym p.2) ∙ e) in
-      record { message = s.message; is_sent = s.went_out; datagram = subst (Contains (split_of s.message)) same p.1 }
+      record { message = s.message; is_sent = s.went_out; datagram =
+          subst (Contains (split_of s.message)) same p.1 }
 
   -- a message that comes in one datagram was sent
-  pub whole_came : (text : Text) (n : Message Value) → datagram_of text ≡ ok (datagrams.Whole n) → Contains w.sent text → WasSent w.sent n
+  pub whole_came : (text : Text) (n : Message Value) → datagram_of text ≡ ok (datagrams.Whole n)
+      → Contains w.sent text → WasSent w.sent n
   whole_came text n e h =
-      let c = read_as text (datagrams.Whole n) e h in by c.message c.is_sent (carried_in c.message.body) refl c.datagram
+      let c = read_as text (datagrams.Whole n) e h in by c.message c.is_sent
+          (carried_in c.message.body) refl c.datagram
     where
       whole_same : (a b : Message Value) → datagrams.Whole a ≡ datagrams.Whole b → a ≡ b
       whole_same a b h = cc
@@ -122,18 +137,24 @@ module _ (division : Division) (weights : List ℕ) (acts : List (Act Value)) (w
       only y x (zero, within, e) = e
       only y x (suc k, within, e) = absurd (omega arith)
 
-      by : (a : Message Value) → WasSent w.sent a → (o : Option (Carrier × Value)) → carried_in a.body ≡ o
+      by : (a : Message Value) → WasSent w.sent a → (o : Option (Carrier × Value))
+          → carried_in a.body ≡ o
           → Contains (split_by a o) (datagrams.Whole n) → WasSent w.sent n
-      by a s None is d = subst (WasSent w.sent) (whole_same a n (only (datagrams.Whole a) (datagrams.Whole n) d)) s
+      by a s None is d = subst (WasSent w.sent)
+          (whole_same a n (only (datagrams.Whole a) (datagrams.Whole n) d)) s
       by a s (Some x) is d =
-          let p = has_preimage (λ k. datagrams.Piece (piece_at (header_with a x.0 x.1) (build_text x.1) k)) (numbers_of (length (build_text x.1))) (datagrams.Whole n) d in
+          let p = has_preimage (λ k. datagrams.Piece
+              (piece_at (header_with a x.0 x.1) (build_text x.1) k))
+              (numbers_of (length (build_text x.1))) (datagrams.Whole n) d in
           absurd (no_piece _ p.2)
 
   -- ---- pieces that were all kept
 
-  module _ (h : Header) (pieces : List Piece) (first : Piece) (is_first : Contains pieces first) (its : first.header ≡ h)
+  module _ (h : Header) (pieces : List Piece) (first : Piece) (is_first : Contains pieces first)
+      (its : first.header ≡ h)
       (sent : All (λ p. CameOf (datagrams.Piece p)) pieces)
-      (once : AllPairs (λ p q. is_numbered q.header q.number p ≡ false) pieces) (all : are_all h pieces ≡ true) where
+      (once : AllPairs (λ p q. is_numbered q.header q.number p ≡ false) pieces)
+      (all : are_all h pieces ≡ true) where
     -- the message of the first
     pub origin : CameOf (datagrams.Piece first)
     origin = All-contains (λ p. CameOf (datagrams.Piece p)) pieces first sent is_first
@@ -142,15 +163,19 @@ module _ (division : Division) (weights : List ℕ) (acts : List (Act Value)) (w
     was_said = sent_was_said division weights acts w made of m again
 
     origin_carries : Carries origin.message h
-    origin_carries = carries origin.message (datagrams.Piece first) h origin.datagram (ap (λ (x : Header). Some x) its)
+    origin_carries = carries origin.message (datagrams.Piece first) h origin.datagram
+        (ap (λ (x : Header). Some x) its)
 
     -- a piece with the header is one of that message's
-    of_origin : (q : Piece) → Contains pieces q → q.header ≡ h → Contains (split_of origin.message) (datagrams.Piece q)
+    of_origin : (q : Piece) → Contains pieces q → q.header ≡ h
+        → Contains (split_of origin.message) (datagrams.Piece q)
     of_origin q there e =
         let c = All-contains (λ p. CameOf (datagrams.Piece p)) pieces q sent there in
         subst (λ (n : Message Value). Contains (split_of n) (datagrams.Piece q))
-        (said_equal division weights acts w made of m c.message origin.message h (was_said c.message c.is_sent) (was_said origin.message origin.is_sent)
-        (carries c.message (datagrams.Piece q) h c.datagram (ap (λ (x : Header). Some x) e)) origin_carries)
+        (said_equal division weights acts w made of m c.message origin.message h
+        (was_said c.message c.is_sent) (was_said origin.message origin.is_sent)
+        (carries c.message (datagrams.Piece q) h c.datagram (ap (λ (x : Header). Some x) e))
+        origin_carries)
         c.datagram
 
     abbrev text : Text
@@ -159,12 +184,17 @@ module _ (division : Division) (weights : List ℕ) (acts : List (Act Value)) (w
     -- so it is the piece of its number
     is_piece_at : (q : Piece) → Contains pieces q → q.header ≡ h → q ≡ piece_at h text q.number
     is_piece_at q there e =
-        let split : split_of origin.message ≡ pieces_of (header_with origin.message origin_carries.carrier origin_carries.build) text =
+        let split : split_of origin.message ≡ pieces_of
+            (header_with origin.message origin_carries.carrier origin_carries.build) text =
         ap (split_by origin.message) origin_carries.carried in
         let member = subst (λ ds. Contains ds (datagrams.Piece q)) split (of_origin q there e) in
-        let p = has_preimage (λ k. datagrams.Piece (piece_at (header_with origin.message origin_carries.carrier origin_carries.build) text k))
+        let p = has_preimage (λ k. datagrams.Piece
+            (piece_at (header_with origin.message origin_carries.carrier origin_carries.build) text
+            k))
         (numbers_of (length text)) (datagrams.Piece q) member in
-        let same = piece_same q (piece_at (header_with origin.message origin_carries.carrier origin_carries.build) text p.0) p.2 in
+        let same = piece_same q (piece_at
+            (header_with origin.message origin_carries.carrier origin_carries.build) text p.0)
+            p.2 in
         let number : p.0 ≡ q.number = sym (ap (λ (x : Piece). x.number) same) in
         same ∙ ap (λ k. piece_at k text p.0) origin_carries.header ∙ ap (piece_at h text) number
       where
@@ -180,28 +210,36 @@ module _ (division : Division) (weights : List ℕ) (acts : List (Act Value)) (w
         let header : h ≡ q.header = headers_same h q.header parts.1 in
         let number : q.number ≡ k = eqb-true q.number k parts.0 in
         let contained : Contains pieces q = (a.0, a.2, a.3) in
-        let same : q ≡ piece_at h text k = is_piece_at q contained (sym header) ∙ ap (piece_at h text) number in
-        only_passes (is_numbered h k) pieces (piece_at h text k) (subst (Contains pieces) same contained)
+        let same : q ≡ piece_at h text k = is_piece_at q contained (sym header)
+            ∙ ap (piece_at h text) number in
+        only_passes (is_numbered h k) pieces (piece_at h text k)
+            (subst (Contains pieces) same contained)
         (subst (λ (p : Piece). is_numbered h k p ≡ true) same a.4) (no_two k)
       where
-        no_two : (k : ℕ) → AllPairs (λ a b. is_numbered h k a ≡ true → is_numbered h k b ≡ true → ⊥) pieces
+        no_two : (k : ℕ) → AllPairs (λ a b. is_numbered h k a ≡ true → is_numbered h k b ≡ true → ⊥)
+            pieces
         no_two k i j d lt l first second =
             let q = get_or pieces j d in
             let parts = and_parts (q.number == k) (same_header h q.header) second in
             let header : h ≡ q.header = headers_same h q.header parts.1 in
             let number : k ≡ q.number = sym (eqb-true q.number k parts.0) in
-            true≢false (sym (subst (λ (n : ℕ). is_numbered q.header n (get_or pieces i d) ≡ true) number
-            (subst (λ (x : Header). is_numbered x k (get_or pieces i d) ≡ true) header first)) ∙ once i j d lt l)
+            true≢false (sym
+                (subst (λ (n : ℕ). is_numbered q.header n (get_or pieces i d) ≡ true) number
+            (subst (λ (x : Header). is_numbered x k (get_or pieces i d) ≡ true) header first))
+            ∙ once i j d lt l)
 
     all_there : AreAllThere h text pieces
-    all_there k d l = stands_once _ (AllPass-from_list_all (has_number h pieces) (numbers_of h.length) all k d l)
+    all_there k d l =
+        stands_once _ (AllPass-from_list_all (has_number h pieces) (numbers_of h.length) all k d l)
 
     -- What they join to is that message.
     pub joins_to : joined h (bytes_of h pieces) ≡ ok origin.message
     joins_to =
         ap (λ (x : Header). joined x (bytes_of x pieces)) (sym origin_carries.header)
-        ∙ pieces_join_in_any_order again origin.message origin_carries.carrier origin_carries.build pieces origin.is_sent.is_message origin_carries.carried
+        ∙ pieces_join_in_any_order again origin.message origin_carries.carrier origin_carries.build
+        pieces origin.is_sent.is_message origin_carries.carried
         (subst (λ (x : Header). AreAllThere x text pieces) (sym origin_carries.header) all_there)
 
     pub joined_came : (n : Message Value) → joined h (bytes_of h pieces) ≡ ok n → WasSent w.sent n
-    joined_came n e = subst (WasSent w.sent) (ok_same origin.message n (sym joins_to ∙ e)) origin.is_sent
+    joined_came n e =
+        subst (WasSent w.sent) (ok_same origin.message n (sym joins_to ∙ e)) origin.is_sent

@@ -41,18 +41,22 @@ abbrev pub answers_with : Answer → Result Answer Refusal
 answers_with a = Ok a
 
 -- a step that is taken on an input is what the member answers
-pub taken_is : (pieces : List Piece) (r : Result Answer Refusal) (t : Taken) → ok t ≡ taken pieces r → r ≡ answers_with t.answer
+pub taken_is : (pieces : List Piece) (r : Result Answer Refusal) (t : Taken) → ok t ≡ taken pieces r
+    → r ≡ answers_with t.answer
 taken_is pieces (Ok a) t e =
-    let same : t ≡ record { answer = a; pieces = pieces } = ok_same t (record { answer = a; pieces = pieces }) e in
+    let same : t ≡ record { answer = a; pieces = pieces } =
+        ok_same t (record { answer = a; pieces = pieces }) e in
     ap (λ (z : Taken). answers_with z.answer) (sym same)
 taken_is pieces (Err r) t e = absurd (never_ok t _ e)
 
 -- a member that is up is a node that is up
-pub same_view : (w : World) (k : ℕ) (x : WorldNode) (u : ℕ) → x.up ≡ true → nodes.view (node_of w k x) u ≡ view (member_at w k x) u
+pub same_view : (w : World) (k : ℕ) (x : WorldNode) (u : ℕ) → x.up ≡ true
+    → nodes.view (node_of w k x) u ≡ view (member_at w k x) u
 same_view w k x u up = ap (λ b. record (view (member_at w k x) u) { up = b }) up
 
 -- what is answered whatever was sent, is answered to the members
-pub any_sent : (enough : Quorums) (i : ℕ) (y : Member Value) (sent : List (messages.Message Value)) (input : theory.Input Value) (o : Outcome Value)
+pub any_sent : (enough : Quorums) (i : ℕ) (y : Member Value) (sent : List (messages.Message Value))
+    (input : theory.Input Value) (o : Outcome Value)
     → theory.answer enough i y [] input ≡ Some o → theory.answer enough i y sent input ≡ Some o
 any_sent enough i y sent (theory.Start above) o e = e
 any_sent enough i y sent (theory.Built v) o e = e
@@ -64,20 +68,24 @@ any_sent enough i y sent theory.Inquire o e = e
 -- ---- the input of an event
 
 -- The event asks its node this, which is no message.
-pub record IsInputOf (w : World) (e : Event) (x : WorldNode) (t : Taken) (input : Input) : Type 0 where
+pub record IsInputOf (w : World) (e : Event) (x : WorldNode) (t : Taken) (input : Input) : Type
+    0 where
   pub no_message : IsNoMessage input
   pub letter : Letter
   pub given : answer (member_at w (events.node_of e) x) letter input ≡ answers_with t.answer
   pub answers : AnswersInput (member_at w (events.node_of e) x) input t.answer
 
 -- so it is where the event asks for an input
-pub input_of : (w : World) → IsMade w.division w.weights → AreLocal w → (e : Event) (x : WorldNode) (t : Taken) (input : Input)
-    → Acts w e x t → ((asked : Asked) → Asks w e asked → asked ≡ Does input) → IsNoMessage input → IsInputOf w e x t input
+pub input_of : (w : World) → IsMade w.division w.weights → AreLocal w
+    → (e : Event) (x : WorldNode) (t : Taken) (input : Input)
+    → Acts w e x t → ((asked : Asked) → Asks w e asked → asked ≡ Does input) → IsNoMessage input
+    → IsInputOf w e x t input
 input_of w made local e x t input acts asks none = record {
   no_message = none;
   letter = acts.takes.letter;
   given = answered;
-  answers = input_is (member_at w k x) acts.takes.letter input t.answer (node_is_member w made local k x acts.is_up.stands) none answered;
+  answers = input_is (member_at w k x) acts.takes.letter input t.answer
+      (node_is_member w made local k x acts.is_up.stands) none answered;
 }
   where
     k : ℕ

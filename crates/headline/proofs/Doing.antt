@@ -42,8 +42,10 @@ use Rattle.headline.proofs.Standing.{IsLeftAs, sent_here, sent_there}
 use Rattle.headline.proofs.Stepping.{is_as_before, left_so, takes}
 use Rattle.headline.proofs.Stopping.{one_more}
 
-module _ (division : Division) (weights : List ℕ) (acts : List (Act Value)) (w : World) (made : IsMade division weights)
-    (of : (w.division ≡ division) × (w.weights ≡ weights)) (local : AreLocal w) (m : Matches w (after_all_acts division weights acts))
+module _ (division : Division) (weights : List ℕ) (acts : List (Act Value)) (w : World)
+    (made : IsMade division weights)
+    (of : (w.division ≡ division) × (w.weights ≡ weights)) (local : AreLocal w)
+    (m : Matches w (after_all_acts division weights acts))
     (again : BuildTextIsReadAgain) (e : Event) (v : World) (s : Steps w e v) where
   -- what the acts leave
   abbrev here : Cluster Value
@@ -62,24 +64,28 @@ module _ (division : Division) (weights : List ℕ) (acts : List (Act Value)) (w
   abbrev member : State
   member = member_at w k x
 
-  -- What the step is for a unit, in the theory. What it says can be written down, and names members.
+  -- What the step is for a unit, in the theory. What it says can be written down, and names
+  -- members.
   pub record IsDone : Type 0 where
     pub unit : ℕ
     pub within : unit < length w.division.units
     pub input : theory.Input Value
     pub outcome : Outcome Value
-    pub answered : theory.answer (is_majority weights) k (nodes.view (node_of w k x) unit) (here.at unit).sent input ≡ Some outcome
+    pub answered : theory.answer (is_majority weights) k (nodes.view (node_of w k x) unit)
+        (here.at unit).sent input ≡ Some outcome
     pub is : IsOutcome member unit outcome s.taken.answer
     pub out : GoesOut member outcome s.taken.answer
     pub written : All (λ (z : Send). IsMessage z.message) s.taken.answer.sends
     pub names : IsNaming (length w.weights) k outcome
 
-  -- It is an act there: what is built may be built, and the node is, for the other units, what the act leaves of its member.
+  -- It is an act there: what is built may be built, and the node is, for the other units, what the
+  -- act leaves of its member.
   pub record IsAct : Type 0 where
     pub done : IsDone
     pub allowed : may_happen (may_build division) here done.unit (Take k done.input) ≡ true
     pub there : (q : ℕ) → (q ≡ done.unit → ⊥) → q < length w.division.units
-        → (run (is_majority weights) (elsewhere (Take k done.input)) (here.at q)).members k ≡ nodes.view (node_of w k then) q
+        → (run (is_majority weights) (elsewhere (Take k done.input)) (here.at q)).members k ≡
+        nodes.view (node_of w k then) q
     pub is : IsActOf w e (Some (record { path = done.unit; event = Take k done.input }))
 
   module _ (a : IsAct) where
@@ -100,20 +106,26 @@ module _ (division : Division) (weights : List ℕ) (acts : List (Act Value)) (w
 
     -- the member takes the input
     taken : outcome (is_majority weights) (here.at d.unit) (Take k d.input) ≡ Some d.outcome
-    taken = takes (is_majority weights) w its_made here m k x s.acts.is_up.stands s.acts.is_up.up d.unit d.within d.input d.outcome s.taken d.answered d.is
+    taken = takes (is_majority weights) w its_made here m k x s.acts.is_up.stands s.acts.is_up.up
+        d.unit d.within d.input d.outcome s.taken d.answered d.is
 
     -- so the act is its event
     same : new ≡ stepped
     same = one_more division weights acts w m act
-        ∙ act_is Value (is_majority weights) (may_build division) here d.unit (Take k d.input) d.outcome a.allowed taken
+        ∙ act_is Value (is_majority weights) (may_build division) here d.unit (Take k d.input)
+        d.outcome a.allowed taken
 
     left : IsLeftAs w (is_majority weights) here d.unit (Take k d.input) d.outcome x then
-    left = left_so (is_majority weights) w its_made here m k x s.acts.is_up.stands s.acts.is_up.up d.unit d.within d.input d.outcome s.taken d.answered d.is a.there
+    left = left_so (is_majority weights) w its_made here m k x s.acts.is_up.stands s.acts.is_up.up
+        d.unit d.within d.input d.outcome s.taken d.answered d.is a.there
 
     -- the claims in what goes out are of members
-    claimers : All (λ (z : Send). All (λ k. k < length w.weights) (members_of z.message.body)) s.taken.answer.sends
-    claimers = All-weaker (λ (z : Send). Says member d.unit d.outcome.send z.message) (λ (z : Send). All (λ k. k < length w.weights) (members_of z.message.body))
-        (λ z says. body_names (length w.weights) k (is_one w its_made local k x s.acts.is_up.stands) z.message.body (d.names.send _ says.body))
+    claimers : All (λ (z : Send). All (λ k. k < length w.weights) (members_of z.message.body))
+        s.taken.answer.sends
+    claimers = All-weaker (λ (z : Send). Says member d.unit d.outcome.send z.message)
+        (λ (z : Send). All (λ k. k < length w.weights) (members_of z.message.body))
+        (λ z says. body_names (length w.weights) k (is_one w its_made local k x s.acts.is_up.stands)
+        z.message.body (d.names.send _ says.body))
         s.taken.answer.sends d.is.sends
 
     own : (b : Ballot Value) → d.outcome.send ≡ Some (messages.Propose b) → b.claim.member ≡ k
@@ -127,30 +139,38 @@ module _ (division : Division) (weights : List ℕ) (acts : List (Act Value)) (w
     world packages = record w { nodes = slice_set w.nodes k then; sent = sent; agreed = packages }
 
     stands_so : Matches (world (packages_of stepped.list)) stepped
-    stands_so = world_matches w (is_majority weights) here m d.unit d.within (Take k d.input) d.outcome taken x then s.acts.is_up.stands left
-        s.taken.answer d.is.sends d.out d.written claimers (is_one w its_made local k x s.acts.is_up.stands) own
+    stands_so = world_matches w (is_majority weights) here m d.unit d.within (Take k d.input)
+        d.outcome taken x then s.acts.is_up.stands left
+        s.taken.answer d.is.sends d.out d.written claimers
+            (is_one w its_made local k x s.acts.is_up.stands) own
 
     matches_then : Matches (world (packages_of stepped.list)) new
     matches_then = subst (Matches (world (packages_of stepped.list))) (sym same) stands_so
 
     others : (q : ℕ) → (q ≡ d.unit → ⊥) → (new.at q).sent ≡ (here.at q).sent
     others q ne = ap (λ (c : Cluster Value). (c.at q).sent) same
-        ∙ sent_there w (is_majority weights) here m d.unit d.within (Take k d.input) d.outcome taken x then s.acts.is_up.stands left q ne
+        ∙ sent_there w (is_majority weights) here m d.unit d.within (Take k d.input) d.outcome taken
+        x then s.acts.is_up.stands left q ne
 
-    sent_then : (after_event (is_majority weights) (here.at d.unit) (Take k d.input)).sent ≡ (new.at d.unit).sent
+    sent_then : (after_event (is_majority weights) (here.at d.unit) (Take k d.input)).sent ≡
+        (new.at d.unit).sent
     sent_then =
         ap (λ o. (after_any (here.at d.unit) k o).sent) taken
-        ∙ sym (sent_here w (is_majority weights) here m d.unit d.within (Take k d.input) d.outcome taken x then s.acts.is_up.stands left)
+        ∙ sym (sent_here w (is_majority weights) here m d.unit d.within (Take k d.input) d.outcome
+        taken x then s.acts.is_up.stands left)
         ∙ sym (ap (λ (c : Cluster Value). (c.at d.unit).sent) same)
 
-    goes_on : new.list ≡ list_with d.unit here.list (lookup here.list d.unit) (decided_value (is_majority weights) (new.at d.unit).sent (new.at d.unit).sent)
+    goes_on : new.list ≡ list_with d.unit here.list (lookup here.list d.unit)
+        (decided_value (is_majority weights) (new.at d.unit).sent (new.at d.unit).sent)
     goes_on = ap (λ (c : Cluster Value). c.list) same
-        ∙ ap (λ l. list_with d.unit here.list (lookup here.list d.unit) (decided_value (is_majority weights) l l)) sent_then
+        ∙ ap (λ l. list_with d.unit here.list (lookup here.list d.unit)
+        (decided_value (is_majority weights) l l)) sent_then
 
     -- and so each list is that may stand after the event
     lists : (list : List Content) → IsListAfter w sent list → list ≡ packages_of stepped.list
     lists list is =
-        list_is division weights acts (with_act acts (Some act)) w made of m (slice_set w.nodes k then) sent (packages_of stepped.list) matches_then again
+        list_is division weights acts (with_act acts (Some act)) w made of m
+            (slice_set w.nodes k then) sent (packages_of stepped.list) matches_then again
         d.unit d.within others goes_on list is
         ∙ ap (λ (c : Cluster Value). packages_of c.list) same
 
@@ -158,7 +178,8 @@ module _ (division : Division) (weights : List ℕ) (acts : List (Act Value)) (w
     only_list list is = lists list is ∙ sym (lists v.agreed s.list)
 
     pub done_matches : Matches v new
-    done_matches = subst (λ z. Matches z new) (sym (s.leaves ∙ ap world (lists v.agreed s.list))) matches_then
+    done_matches =
+        subst (λ z. Matches z new) (sym (s.leaves ∙ ap world (lists v.agreed s.list))) matches_then
 
     pub is_one_act_more : IsOneActMore division weights acts w e v
     is_one_act_more = (Some act, a.is, done_matches)
@@ -167,9 +188,11 @@ module _ (division : Division) (weights : List ℕ) (acts : List (Act Value)) (w
   pub no_other : (d : IsDone) → elsewhere (Take k d.input) ≡ []
       → ((nodes.view (node_of w k x) d.unit).stage ≡ Closed → d.outcome.member.stage ≡ Closed)
       → (q : ℕ) → (q ≡ d.unit → ⊥) → q < length w.division.units
-      → (run (is_majority weights) (elsewhere (Take k d.input)) (here.at q)).members k ≡ nodes.view (node_of w k then) q
+      → (run (is_majority weights) (elsewhere (Take k d.input)) (here.at q)).members k ≡ nodes.view
+      (node_of w k then) q
   no_other d none closed q ne lt =
       ap (λ es. (run (is_majority weights) es (here.at q)).members k) none
       ∙ m.members k q x s.acts.is_up.stands lt
-      ∙ is_as_before (is_majority weights) w (made_here division weights acts w made of local m) here m k x s.acts.is_up.stands s.acts.is_up.up
+      ∙ is_as_before (is_majority weights) w (made_here division weights acts w made of local m)
+      here m k x s.acts.is_up.stands s.acts.is_up.up
       d.unit d.within d.input d.outcome s.taken d.answered d.is closed q ne

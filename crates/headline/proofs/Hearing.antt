@@ -37,8 +37,10 @@ use Rattle.headline.proofs.Naming.{body_comes, message_names}
 use Rattle.headline.proofs.Opening.{message_opens_none}
 use Rattle.headline.proofs.Ranging.{heard_names, in_range, known_named, own_stage}
 
-module _ (division : Division) (weights : List ℕ) (acts : List (Act Value)) (w : World) (made : IsMade division weights)
-    (of : (w.division ≡ division) × (w.weights ≡ weights)) (local : AreLocal w) (m : Matches w (after_all_acts division weights acts))
+module _ (division : Division) (weights : List ℕ) (acts : List (Act Value)) (w : World)
+    (made : IsMade division weights)
+    (of : (w.division ≡ division) × (w.weights ≡ weights)) (local : AreLocal w)
+    (m : Matches w (after_all_acts division weights acts))
     (again : BuildTextIsReadAgain) (d n : ℕ) (v : World) (s : Steps w (events.Deliver d n) v) where
   -- the member
   abbrev member : State
@@ -51,15 +53,20 @@ module _ (division : Division) (weights : List ℕ) (acts : List (Act Value)) (w
   is_member = node_is_member w its_made local n s.node s.acts.is_up.stands
 
   -- a message that was sent is answered
-  module _ (x : Message Value) (is_sent : WasSent w.sent x) (e : members.heard member x ≡ answers_with s.taken.answer) where
+  module _ (x : Message Value) (is_sent : WasSent w.sent x)
+      (e : members.heard member x ≡ answers_with s.taken.answer) where
     abbrev answer : AnswersMessage member x s.taken.answer
-    answer = theirs division weights acts w made of local m again n s.node s.acts.is_up.stands s.acts.is_up.up s.taken x is_sent e
+    answer = theirs division weights acts w made of local m again n s.node s.acts.is_up.stands
+        s.acts.is_up.up s.taken x is_sent e
 
-    abbrev at : (i : ℕ) × (slice_get ((after_all_acts division weights acts).at answer.unit).sent i ≡ Some (said x.sender x.body))
-    at = place division weights acts w made of local m again n s.node s.acts.is_up.stands s.acts.is_up.up s.taken x is_sent e
+    abbrev at : (i : ℕ) × (slice_get ((after_all_acts division weights acts).at answer.unit).sent i
+        ≡ Some (said x.sender x.body))
+    at = place division weights acts w made of local m again n s.node s.acts.is_up.stands
+        s.acts.is_up.up s.taken x is_sent e
 
     written : CanBeWritten member s.taken.answer
-    written = answers_written member s.acts.takes.letter (inputs.Message x) s.taken.answer is_member (in_range w its_made local n s.node s.acts.is_up.stands)
+    written = answers_written member s.acts.takes.letter (inputs.Message x) s.taken.answer is_member
+        (in_range w its_made local n s.node s.acts.is_up.stands)
         (message_good x.path x.body is_sent.is_message.body) e
 
     abbrev done : IsDone division weights acts w made of local m again (events.Deliver d n) v s
@@ -68,34 +75,45 @@ module _ (division : Division) (weights : List ℕ) (acts : List (Act Value)) (w
       within = answer.within;
       input = theory.Deliver at.0;
       outcome = outcome_of member answer.unit x.sender x.body;
-      answered = delivered division weights acts w made of local m again n s.node s.acts.is_up.stands s.acts.is_up.up s.taken x is_sent e;
+      answered = delivered division weights acts w made of local m again n s.node
+          s.acts.is_up.stands s.acts.is_up.up s.taken x is_sent e;
       is = answer.is;
       out = answer.out;
       written = written.sends;
       names =
-          let known = known_named w its_made local n s.node s.acts.is_up.stands answer.unit answer.within in
-          message_names _ n (view member answer.unit) (record { promised = known.promised; voted = known.voted }) (own_stage member answer.unit is_member)
-          (is_majority w.weights) (said x.sender x.body) (body_comes _ x.sender x.body (heard_names member x s.taken.answer e));
+          let known = known_named w its_made local n s.node s.acts.is_up.stands answer.unit
+              answer.within in
+          message_names _ n (view member answer.unit)
+              (record { promised = known.promised; voted = known.voted })
+              (own_stage member answer.unit is_member)
+          (is_majority w.weights) (said x.sender x.body)
+          (body_comes _ x.sender x.body (heard_names member x s.taken.answer e));
     }
 
     pub heard_is_act : IsAct division weights acts w made of local m again (events.Deliver d n) v s
     heard_is_act = record {
       done = done;
       allowed = refl;
-      there = no_other division weights acts w made of local m again (events.Deliver d n) v s done refl
-          (λ closed. message_opens_none Value (is_majority w.weights) n (view member answer.unit) closed (said x.sender x.body));
+      there = no_other division weights acts w made of local m again (events.Deliver d n) v s done
+          refl
+          (λ closed. message_opens_none Value (is_majority w.weights) n (view member answer.unit)
+          closed (said x.sender x.body));
       is = λ j b built. absurd (no_build_in_delivery n j at.0 b built);
     }
 
   -- So each delivery is an act, or does nothing but keep a piece.
-  pub delivery_is_act : (s.taken.answer ≡ nothing member) ⊎ IsAct division weights acts w made of local m again (events.Deliver d n) v s
+  pub delivery_is_act : (s.taken.answer ≡ nothing member)
+      ⊎ IsAct division weights acts w made of local m again (events.Deliver d n) v s
   delivery_is_act =
       let text = s.acts.asks.0 in
       let kept = (local.each n s.node s.acts.is_up.stands).pieces in
       ⊎_elim
       (λ none. inl none)
       (λ h. inr (heard_is_act h.0 h.1 h.2))
-      (by_arrival division weights acts w made of local m again n s.node s.acts.is_up.stands s.acts.is_up.up s.taken
+      (by_arrival division weights acts w made of local m again n s.node s.acts.is_up.stands
+      s.acts.is_up.up s.taken
       (arrival_of member s.node.pieces (datagram_of text))
-      (comes_welcome division weights acts w made of m again n s.node s.node.pieces kept text (get_contains w.sent d text s.acts.asks.1))
-      (s.acts.takes.right_is ∙ ap (running_step member s.node.pieces s.acts.takes.letter) s.acts.asks.2))
+      (comes_welcome division weights acts w made of m again n s.node s.node.pieces kept text
+      (get_contains w.sent d text s.acts.asks.1))
+      (s.acts.takes.right_is ∙ ap (running_step member s.node.pieces s.acts.takes.letter)
+      s.acts.asks.2))

@@ -38,14 +38,17 @@ has_any among None = false
 has_any among (Some p) = among p
 
 -- what the engine has as agreed is held
-agreed_is_held : (s : State) (p : ℕ) → engine.has_agreed (engine_of s) p ≡ true → holds_package s p ≡ true
+agreed_is_held : (s : State) (p : ℕ) → engine.has_agreed (engine_of s) p ≡ true
+    → holds_package s p ≡ true
 agreed_is_held s p e =
     let all = positions s.division.tree in
     let found = sym (contains-from_list_nat (filter (holds_package s) all) p) ∙ e in
     (and_parts (is_in all p) (holds_package s p) (sym (in_kept (holds_package s) all p) ∙ found)).1
 
-module _ (division : Division) (weights : List ℕ) (acts : List (Act Value)) (w : World) (made : IsMade division weights)
-    (of : (w.division ≡ division) × (w.weights ≡ weights)) (local : AreLocal w) (m : Matches w (after_all_acts division weights acts)) where
+module _ (division : Division) (weights : List ℕ) (acts : List (Act Value)) (w : World)
+    (made : IsMade division weights)
+    (of : (w.division ≡ division) × (w.weights ≡ weights)) (local : AreLocal w)
+    (m : Matches w (after_all_acts division weights acts)) where
   tree_is : IsTree w.division.tree
   tree_is = (made_here division weights acts w made of local m).divided.tree
 
@@ -60,21 +63,28 @@ module _ (division : Division) (weights : List ℕ) (acts : List (Act Value)) (w
     tree = w.division.tree
 
     -- a record that is held names what its package runs on
-    record_runs : (path : Text) (r : Content) (p : ℕ) → held_record s path ≡ Some r → position_of tree path ≡ Some p → r.run ≡ set_of (map (path_at tree) (run_at tree p))
+    record_runs : (path : Text) (r : Content) (p : ℕ) → held_record s path ≡ Some r
+        → position_of tree path ≡ Some p → r.run ≡ set_of (map (path_at tree) (run_at tree p))
     record_runs path r p e at = by (unit_with w.division path) e
       where
-        of_build : (u : ℕ) (o : Option Value) → (facts_at s u).held ≡ o → option_and_then (record_in path) o ≡ Some r → r.run ≡ set_of (map (path_at tree) (run_at tree p))
+        of_build : (u : ℕ) (o : Option Value) → (facts_at s u).held ≡ o
+            → option_and_then (record_in path) o ≡ Some r
+            → r.run ≡ set_of (map (path_at tree) (run_at tree p))
         of_build u None is e = absurd (let no : None ≡ Some r = e in cc)
         of_build u (Some v) is e =
             let f = find_is (λ (c : Content). bytes_eq c.path path) v r e in
-            let o = record_of tree (unit_at w.division u) (unit_at w.division u).packages v (held_records division weights acts w made of local m k x stands u v is) r f.0 in
+            let o = record_of tree (unit_at w.division u) (unit_at w.division u).packages v
+                (held_records division weights acts w made of local m k x stands u v is) r f.0 in
             let lt = held_within division weights acts w made of m local k u x v stands is in
             let here = listed_at tree path p at in
-            let same : o.0 ≡ p = tree_is.once o.0 p (unit_listed w.division u o.0 divided lt o.1) here.0
+            let same : o.0 ≡ p =
+                tree_is.once o.0 p (unit_listed w.division u o.0 divided lt o.1) here.0
             (sym (o.2).path ∙ same_bytes r.path path f.1 ∙ sym here.1) in
             (o.2).run ∙ ap (λ q. set_of (map (path_at tree) (run_at tree q))) same
 
-        by : (o : Option ℕ) → option_and_then (λ u. option_and_then (record_in path) (facts_at s u).held) o ≡ Some r → r.run ≡ set_of (map (path_at tree) (run_at tree p))
+        by : (o : Option ℕ) → option_and_then
+            (λ u. option_and_then (record_in path) (facts_at s u).held) o ≡ Some r
+            → r.run ≡ set_of (map (path_at tree) (run_at tree p))
         by None e = absurd (let no : None ≡ Some r = e in cc)
         by (Some u) e = of_build u (facts_at s u).held refl e
 
@@ -83,33 +93,41 @@ module _ (division : Division) (weights : List ℕ) (acts : List (Act Value)) (w
       abbrev S : Text → Bool
       S path = has_any i.among (position_of tree path)
 
-      runs_along : (q : ℕ) → i.among q ≡ true → (t : Text) → Contains (set_of (map (path_at tree) (run_at tree q))) t → S t ≡ true
+      runs_along : (q : ℕ) → i.among q ≡ true → (t : Text)
+          → Contains (set_of (map (path_at tree) (run_at tree q))) t → S t ≡ true
       runs_along q there t h =
-          let d = has_preimage (path_at tree) (run_at tree q) t (from_set (map (path_at tree) (run_at tree q)) t h) in
-          ap (has_any i.among) (has_position tree t d.0 tree_is (run_listed tree tree_is q d.0 d.1).1 (sym d.2)) ∙ i.closed q d.0 there d.1
+          let d = has_preimage (path_at tree) (run_at tree q) t
+              (from_set (map (path_at tree) (run_at tree q)) t h) in
+          ap (has_any i.among) (has_position tree t d.0 tree_is
+              (run_listed tree tree_is q d.0 d.1).1 (sym d.2)) ∙ i.closed q d.0 there d.1
 
       is_closed : IsClosed (holds w k x) S
       is_closed path r there e = by (position_of tree path) refl there
         where
-          by : (o : Option ℕ) → position_of tree path ≡ o → has_any i.among o ≡ true → All (λ q. S q ≡ true) r.run
+          by : (o : Option ℕ) → position_of tree path ≡ o → has_any i.among o ≡ true
+              → All (λ q. S q ≡ true) r.run
           by None at there = absurd (true≢false (sym there))
           by (Some q) at there =
               let runs = record_runs path r q e at in
               subst (All (λ q. S q ≡ true)) (sym runs)
-              (λ j d lt. runs_along q there _ (Contains-get_or (set_of (map (path_at tree) (run_at tree q))) j d lt))
+              (λ j d lt. runs_along q there _ (Contains-get_or
+              (set_of (map (path_at tree) (run_at tree q))) j d lt))
 
       all_held : (path : Text) → S path ≡ true → is_some (holds w k x path) ≡ true
       all_held path there = by (position_of tree path) refl there
         where
-          by : (o : Option ℕ) → position_of tree path ≡ o → has_any i.among o ≡ true → is_some (holds w k x path) ≡ true
+          by : (o : Option ℕ) → position_of tree path ≡ o → has_any i.among o ≡ true
+              → is_some (holds w k x path) ≡ true
           by None at there = absurd (true≢false (sym there))
           by (Some q) at there =
               let here = listed_at tree path q at in
-              let r = has_its_record division weights acts w made of local m k x stands q here.0 (agreed_is_held s q (i.all_held q there)) in
+              let r = has_its_record division weights acts w made of local m k x stands q here.0
+                  (agreed_is_held s q (i.all_held q there)) in
               ap is_some (ap (held_record s) (sym here.1) ∙ r.1)
 
   -- What a node shows as installable is held with all that it runs on.
   pub installable_is_held : InstallableIsHeld w
   installable_is_held k p x path q stands up at letter closure =
       let i = letter.1 in
-      all_held k x stands p i q (closure (S k x stands p i) (ap (has_any i.among) at ∙ i.member) (is_closed k x stands p i))
+      all_held k x stands p i q (closure (S k x stands p i) (ap (has_any i.among) at ∙ i.member)
+          (is_closed k x stands p i))

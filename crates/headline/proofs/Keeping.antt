@@ -21,9 +21,11 @@ use Rattle.headline.specs.Local.{AreKept, AreLocal, IsLocal, IsOfUnit}
 module _ (w : World) (k : ℕ) (y : WorldNode) where
   -- what holds of a note holds of it where another node is another
   note_moves : (n : Note Value) → IsOfUnit w n → IsOfUnit (with_node w k y) n
-  note_moves n o = record { note = o.note; unit = o.unit; of_unit = o.of_unit; claimers = o.claimers }
+  note_moves n o =
+      record { note = o.note; unit = o.unit; of_unit = o.of_unit; claimers = o.claimers }
 
-  notes_move : (notes : List (Note Value)) → All (IsOfUnit w) notes → All (IsOfUnit (with_node w k y)) notes
+  notes_move : (notes : List (Note Value)) → All (IsOfUnit w) notes
+      → All (IsOfUnit (with_node w k y)) notes
   notes_move notes are = All-weaker (IsOfUnit w) (IsOfUnit (with_node w k y)) note_moves notes are
 
   -- and what holds of a node
@@ -40,7 +42,8 @@ module _ (w : World) (k : ℕ) (y : WorldNode) where
   pub all_but_one : AreLocal w → IsLocal (with_node w k y) k y → AreLocal (with_node w k y)
   all_but_one local new = record {
     each = λ j z g. ⊎_elim
-        (λ h. subst (λ (i : ℕ). IsLocal (with_node w k y) i z) (sym h.0) (subst (IsLocal (with_node w k y) k) (sym h.1) new))
+        (λ h. subst (λ (i : ℕ). IsLocal (with_node w k y) i z) (sym h.0)
+        (subst (IsLocal (with_node w k y) k) (sym h.1) new))
         (λ h. node_moves j z (local.each j z h.1))
         (get_set w.nodes k j y z g);
     one_for_each = length-set w.nodes k y ∙ local.one_for_each;
@@ -56,7 +59,8 @@ module _ (w : World) (k : ℕ) (y : WorldNode) where
 none_is_some : {X : Type 0} (x : X) → None ≡ Some x → ⊥
 none_is_some x e = cc
 
-pub down_stays : (w : World) (k : ℕ) (x : WorldNode) (behind : Text) → slice_get w.nodes k ≡ Some x → AreLocal w
+pub down_stays : (w : World) (k : ℕ) (x : WorldNode) (behind : Text) → slice_get w.nodes k ≡ Some x
+    → AreLocal w
     → AreLocal (with_node w k (down_node x.notes behind))
 down_stays w k x behind stands local = all_but_one w k (down_node x.notes behind) local (record {
   notes = notes_move w k (down_node x.notes behind) x.notes (local.each k x stands).notes;
@@ -66,7 +70,8 @@ down_stays w k x behind stands local = all_but_one w k (down_node x.notes behind
   up = λ e. absurd (true≢false (sym e));
 })
 
-pub restarted_stays : (w : World) (k : ℕ) (x : WorldNode) → slice_get w.nodes k ≡ Some x → AreLocal w
+pub restarted_stays : (w : World) (k : ℕ) (x : WorldNode) → slice_get w.nodes k ≡ Some x
+    → AreLocal w
     → AreLocal (with_node w k (restarted_node x.notes))
 restarted_stays w k x stands local = all_but_one w k (restarted_node x.notes) local (record {
   notes = notes_move w k (restarted_node x.notes) x.notes (local.each k x stands).notes;
@@ -76,16 +81,22 @@ restarted_stays w k x stands local = all_but_one w k (restarted_node x.notes) lo
   up = λ e. refl;
 })
 
--- Stops and restarts leave nodes as they have to be, and so do stops inside a step that leave nothing of its note, or a part.
+-- Stops and restarts leave nodes as they have to be, and so do stops inside a step that leave
+-- nothing of its note, or a part.
 pub stop_keeps : (w v : World) (n : ℕ) → AreLocal w → Stops w n v → AreLocal v
-stop_keeps w v n local s = subst AreLocal (sym s.leaves) (down_stays w n s.node [] s.is_up.stands local)
+stop_keeps w v n local s =
+    subst AreLocal (sym s.leaves) (down_stays w n s.node [] s.is_up.stands local)
 
 pub restart_keeps : (w v : World) (n : ℕ) → AreLocal w → Restarts w n v → AreLocal v
-restart_keeps w v n local s = subst AreLocal (sym s.leaves) (restarted_stays w n s.node s.stands local)
+restart_keeps w v n local s =
+    subst AreLocal (sym s.leaves) (restarted_stays w n s.node s.stands local)
 
-pub cut_keeps : (w v : World) (e : Event) (l : Left) → AreLocal w → (l ≡ left.Whole → ⊥) → StopsIn w e l v → AreLocal v
+pub cut_keeps : (w v : World) (e : Event) (l : Left) → AreLocal w → (l ≡ left.Whole → ⊥)
+    → StopsIn w e l v → AreLocal v
 cut_keeps w v e left.None local not_whole s =
-    subst AreLocal (sym s.leaves) (down_stays w (events.node_of e) s.node [] s.acts.is_up.stands local)
+    subst AreLocal (sym s.leaves) (down_stays w (events.node_of e) s.node [] s.acts.is_up.stands
+        local)
 cut_keeps w v e (left.Torn bytes) local not_whole s =
-    subst AreLocal (sym s.leaves) (down_stays w (events.node_of e) s.node bytes s.acts.is_up.stands local)
+    subst AreLocal (sym s.leaves) (down_stays w (events.node_of e) s.node bytes s.acts.is_up.stands
+        local)
 cut_keeps w v e left.Whole local not_whole s = absurd (not_whole refl)

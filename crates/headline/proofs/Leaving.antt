@@ -1,4 +1,5 @@
--- What a member's answer leaves: a member that is one, and notes that can be written down and name members.
+-- What a member's answer leaves: a member that is one, and notes that can be written down and name
+-- members.
 use Rattle.std.proofs.Common.{◌≡◌, ◌<◌, ℕ, List, [], length, Option, Some, None, Ok, option_map, refl, sym, ap, subst, ◌∙◌}
 use Rattle.std.specs.Prelude.{All}
 use Rattle.std.specs.Option.{ForSome}
@@ -55,37 +56,47 @@ fact_names n (fact.Voted c v) is = All-cons (λ k. k < n) c.member [] is (All-ni
 fact_names n (fact.Held v) is = All-nil (λ k. k < n)
 
 module _ (s : State) (member : IsMember s) (range : IsInRange s)
-    (known : (u : ℕ) → u < length s.division.units → AreNamed (length s.weights) (facts_of (view s u))) where
+    (known : (u : ℕ) → u < length s.division.units
+    → AreNamed (length s.weights) (facts_of (view s u))) where
   -- an answer by an outcome
-  by_outcome : (a : Answer) (u : ℕ) (o : Outcome Value) → IsOutcome s u o a → IsNaming (length s.weights) s.me o → CanBeWritten s a → IsMember (after s a) → LeavesSound s a
+  by_outcome : (a : Answer) (u : ℕ) (o : Outcome Value) → IsOutcome s u o a
+      → IsNaming (length s.weights) s.me o → CanBeWritten s a → IsMember (after s a)
+      → LeavesSound s a
   by_outcome a u o is names written then = record {
     note = λ n e. record {
       note = written.note n e;
       of_unit = written.named n e;
-      claimers = fact_names (length s.weights) n.fact (names.note (note_of n.fact) (sym is.note ∙ ap (option_map (λ (n : Note Value). note_of n.fact)) e));
+      claimers = fact_names (length s.weights) n.fact
+          (names.note (note_of n.fact) (sym is.note
+          ∙ ap (option_map (λ (n : Note Value). note_of n.fact)) e));
     };
     member = then;
     claim = written.claim;
   }
 
-  pub input_sound : (letter : Letter) (input : Input) (a : Answer) → IsNoMessage input → IsInput input → IsLetterOf s (unit_claimed s input) letter
+  pub input_sound : (letter : Letter) (input : Input) (a : Answer) → IsNoMessage input
+      → IsInput input → IsLetterOf s (unit_claimed s input) letter
       → answer s letter input ≡ answers_with a → LeavesSound s a
   input_sound letter input a none can shown e =
       let i = input_is s letter input a member none e in
       by_outcome a i.unit i.answers.outcome i.answers.is
-      (input_names (length s.weights) s.me (view s i.unit) (known i.unit i.within) (own_stage s i.unit member) member.one_of_them (is_majority s.weights) i.asks
+      (input_names (length s.weights) s.me (view s i.unit) (known i.unit i.within)
+      (own_stage s i.unit member) member.one_of_them (is_majority s.weights) i.asks
       i.answers.outcome i.answers.answers)
       (answers_written s letter input a member range (good_input input none) e)
       (members_stay s input a member can (record { letter = letter; shown = shown; right = sym e }))
 
-  pub message_sound : (letter : Letter) (m : Message Value) (a : Answer) → IsGoodBody m.path m.body → heard s m ≡ answers_with a → LeavesSound s a
+  pub message_sound : (letter : Letter) (m : Message Value) (a : Answer) → IsGoodBody m.path m.body
+      → heard s m ≡ answers_with a → LeavesSound s a
   message_sound letter m a good e =
       let i = message_is s m a member e in
       by_outcome a i.unit (outcome_of s i.unit m.sender m.body) i.is
-      (message_names (length s.weights) s.me (view s i.unit) (known i.unit i.within) (own_stage s i.unit member) (is_majority s.weights) (said m.sender m.body)
+      (message_names (length s.weights) s.me (view s i.unit) (known i.unit i.within)
+      (own_stage s i.unit member) (is_majority s.weights) (said m.sender m.body)
       (body_comes (length s.weights) m.sender m.body (heard_names s m a e)))
       (answers_written s letter (inputs.Message m) a member range good e)
-      (members_stay s (inputs.Message m) a member tt (record { letter = letter; shown = tt; right = sym e }))
+      (members_stay s (inputs.Message m) a member tt
+      (record { letter = letter; shown = tt; right = sym e }))
 
   pub nothing_sound : LeavesSound s (nothing s)
   nothing_sound = record {
@@ -97,7 +108,8 @@ module _ (s : State) (member : IsMember s) (range : IsInRange s)
       each = member.each;
       pledged = member.pledged;
       claim = λ o e. let c = member.claim o e in record {
-        unit = c.unit; not_held = c.not_held; host = c.host; claim = c.claim; own = c.own; joined = c.joined; short = c.short; ready = c.ready };
+        unit = c.unit; not_held = c.not_held; host = c.host; claim = c.claim; own = c.own; joined =
+            c.joined; short = c.short; ready = c.ready };
     };
     claim = range.claim;
   }

@@ -1,4 +1,5 @@
--- The claims that a member notes and says are of members, and what it proposes is under its own claim.
+-- The claims that a member notes and says are of members, and what it proposes is under its own
+-- claim.
 use Rattle.std.proofs.Common.{◌≡◌, ◌<◌, ◌&&◌, not, ℕ, List, [], ◌∷◌, Option, None, Some, IfSome, max, refl, sym, subst, suc, if◌then◌else◌}
 use Rattle.std.specs.Prelude.{All}
 use Rattle.std.specs.Option.{ForSome}
@@ -80,71 +81,91 @@ pub record IsNaming (n i : ℕ) (o : Outcome Value) : Type 0 where
 
 -- ---- what is known
 
-noted_named : (n : ℕ) (f : Facts Value) (note : members.Note Value) → AreNamed n f → Notes n note → AreNamed n (noted f note)
-noted_named n f (members.Opened round) are is = record { promised = are.promised; voted = are.voted }
+noted_named : (n : ℕ) (f : Facts Value) (note : members.Note Value) → AreNamed n f → Notes n note
+    → AreNamed n (noted f note)
+noted_named n f (members.Opened round) are is =
+    record { promised = are.promised; voted = are.voted }
 noted_named n f (members.Promised c) are is = record {
-  promised = cond_both (is_above c f.promised) (Some c) f.promised (λ (o : Option Claim). ForSome o (IsNamed n)) (λ t. for_this (IsNamed n) c is) (λ f. are.promised);
+  promised = cond_both (is_above c f.promised) (Some c) f.promised
+      (λ (o : Option Claim). ForSome o (IsNamed n)) (λ t. for_this (IsNamed n) c is)
+      (λ f. are.promised);
   voted = are.voted;
 }
 noted_named n f (members.Voted b) are is = record {
-  promised = cond_both (is_above b.claim f.promised) (Some b.claim) f.promised (λ (o : Option Claim). ForSome o (IsNamed n)) (λ t. for_this (IsNamed n) b.claim is) (λ f. are.promised);
+  promised = cond_both (is_above b.claim f.promised) (Some b.claim) f.promised
+      (λ (o : Option Claim). ForSome o (IsNamed n)) (λ t. for_this (IsNamed n) b.claim is)
+      (λ f. are.promised);
   voted = for_this (IsNamedIn n) b is;
 }
 noted_named n f (members.Held v) are is = record { promised = are.promised; voted = are.voted }
 
 -- what notes that name members restore names members
-pub restored_named : (n : ℕ) (notes : List (members.Note Value)) → All (Notes n) notes → AreNamed n (members.restored notes)
+pub restored_named : (n : ℕ) (notes : List (members.Note Value)) → All (Notes n) notes
+    → AreNamed n (members.restored notes)
 restored_named n [] are = record { promised = for_none (IsNamed n); voted = for_none (IsNamedIn n) }
-restored_named n (x ∷ xs) are = noted_named n (members.restored xs) x (restored_named n xs (All-tail (Notes n) x xs are)) (All-head (Notes n) x xs are)
+restored_named n (x ∷ xs) are = noted_named n (members.restored xs) x
+    (restored_named n xs (All-tail (Notes n) x xs are)) (All-head (Notes n) x xs are)
 
 -- ---- what a member does
 
-module _ (n i : ℕ) (x : Member Value) (known : AreNamed n (facts_of x)) (own : IsOwnStage i x.stage) where
+module _ (n i : ℕ) (x : Member Value) (known : AreNamed n (facts_of x))
+    (own : IsOwnStage i x.stage) where
   nothing : (y : Member Value) → IsNaming n i (still y)
   nothing y = record { note = for_none (Notes n); send = for_none (Tells n i) }
 
   telling : (y : Member Value) (m : messages.Message Value) → Tells n i m → IsNaming n i (says y m)
   telling y m is = record { note = for_none (Notes n); send = for_this (Tells n i) m is }
 
-  noting : (y : Member Value) (note : members.Note Value) (m : messages.Message Value) → Notes n note → Tells n i m → IsNaming n i (notes_and_says y note m)
-  noting y note m is told = record { note = for_this (Notes n) note is; send = for_this (Tells n i) m told }
+  noting : (y : Member Value) (note : members.Note Value) (m : messages.Message Value)
+      → Notes n note → Tells n i m → IsNaming n i (notes_and_says y note m)
+  noting y note m is told =
+      record { note = for_this (Notes n) note is; send = for_this (Tells n i) m told }
 
   offer_names : (c : Claim) → IsNamed n c → IsNaming n i (on_offer i x c)
   offer_names c is =
-      cond_both (is_above c x.promised) _ _ (IsNaming n i) (λ t. noting _ (members.Promised c) _ is (is, known.voted))
+      cond_both (is_above c x.promised) _ _ (IsNaming n i)
+          (λ t. noting _ (members.Promised c) _ is (is, known.voted))
       (λ f. cond_both (is_promised c x.promised && not (is_voted c x.voted)) _ _ (IsNaming n i)
       (λ t. telling x _ (is, known.voted)) (λ g. telling x _ (is, known.promised)))
 
   proposal_names : (b : Ballot Value) → IsNamedIn n b → IsNaming n i (on_propose i x b)
   proposal_names b is =
-      cond_both (not (is_below b.claim x.promised) && not (is_voted b.claim x.voted)) _ _ (IsNaming n i) (λ t. noting _ (members.Voted b) _ is is)
-      (λ f. cond_both (is_voted b.claim x.voted && is_promised b.claim x.promised) _ _ (IsNaming n i)
+      cond_both (not (is_below b.claim x.promised) && not (is_voted b.claim x.voted)) _ _
+          (IsNaming n i) (λ t. noting _ (members.Voted b) _ is is)
+      (λ f. cond_both (is_voted b.claim x.voted && is_promised b.claim x.promised) _ _
+      (IsNaming n i)
       (λ t. telling x _ is) (λ g. telling x _ (is, known.promised)))
 
-  quorum_names : (c : Claim) (k : Option (Ballot Value)) → c.member ≡ i → IsNaming n i (on_quorum x c k)
+  quorum_names : (c : Claim) (k : Option (Ballot Value)) → c.member ≡ i
+      → IsNaming n i (on_quorum x c k)
   quorum_names c None is = nothing _
   quorum_names c (Some b) is = telling _ (messages.Propose (ballot c b.value)) is
 
-  promise_names : (enough : Quorums) (s : Stage Value) (p : PromiseOf Value) → IsOwnStage i s → IsNaming n i (on_promise enough x s p)
+  promise_names : (enough : Quorums) (s : Stage Value) (p : PromiseOf Value) → IsOwnStage i s
+      → IsNaming n i (on_promise enough x s p)
   promise_names enough members.Closed p is = nothing x
   promise_names enough (members.Gathering c S k) p is =
       cond_both (claim_same p.claim c) _ _ (IsNaming n i)
-      (λ t. cond_both (enough (with_member S p.member)) _ _ (IsNaming n i) (λ q. quorum_names c (kept_report k p.report) is) (λ q. nothing _))
+      (λ t. cond_both (enough (with_member S p.member)) _ _ (IsNaming n i)
+      (λ q. quorum_names c (kept_report k p.report) is) (λ q. nothing _))
       (λ f. nothing x)
   promise_names enough (members.Building c) p is = nothing x
   promise_names enough (members.Voting b S) p is = nothing x
 
-  vote_names : (enough : Quorums) (s : Stage Value) (m : ℕ) (c : Claim) → IsNaming n i (on_vote enough x s m c)
+  vote_names : (enough : Quorums) (s : Stage Value) (m : ℕ) (c : Claim)
+      → IsNaming n i (on_vote enough x s m c)
   vote_names enough members.Closed m c = nothing x
   vote_names enough (members.Gathering d S k) m c = nothing x
   vote_names enough (members.Building d) m c = nothing x
   vote_names enough (members.Voting b S) m c =
       cond_both (claim_same c b.claim) _ _ (IsNaming n i)
-      (λ t. cond_both (enough (with_member S m)) _ _ (IsNaming n i) (λ q. noting _ (members.Held b.value) (messages.Agreed b.value) tt tt) (λ q. nothing _))
+      (λ t. cond_both (enough (with_member S m)) _ _ (IsNaming n i)
+      (λ q. noting _ (members.Held b.value) (messages.Agreed b.value) tt tt) (λ q. nothing _))
       (λ f. nothing x)
 
   agreed_names : (h : Option Value) (v : Value) → IsNaming n i (on_agreed x h v)
-  agreed_names None v = record { note = for_this (Notes n) (members.Held v) tt; send = for_none (Tells n i) }
+  agreed_names None v =
+      record { note = for_this (Notes n) (members.Held v) tt; send = for_none (Tells n i) }
   agreed_names (Some u) v = nothing x
 
   ask_names : (h : Option Value) → IsNaming n i (on_ask x h)
@@ -152,7 +173,8 @@ module _ (n i : ℕ) (x : Member Value) (known : AreNamed n (facts_of x)) (own :
   ask_names (Some v) = telling x (messages.Agreed v) tt
 
   -- when a message comes that names members
-  pub message_names : (enough : Quorums) (m : messages.Message Value) → Comes n m → IsNaming n i (on_message enough i x m)
+  pub message_names : (enough : Quorums) (m : messages.Message Value) → Comes n m
+      → IsNaming n i (on_message enough i x m)
   message_names enough (messages.Offer c) is = offer_names c is
   message_names enough (messages.Promise p) is = promise_names enough x.stage p own
   message_names enough (messages.Propose b) is = proposal_names b is
@@ -161,23 +183,27 @@ module _ (n i : ℕ) (x : Member Value) (known : AreNamed n (facts_of x)) (own :
   message_names enough (messages.Agreed v) is = agreed_names x.held v
   message_names enough messages.Ask is = ask_names x.held
 
-  start_names : i < n → (h : Option Value) (above : ℕ) (o : Outcome Value) → on_start i x h above ≡ Some o → IsNaming n i o
+  start_names : i < n → (h : Option Value) (above : ℕ) (o : Outcome Value)
+      → on_start i x h above ≡ Some o → IsNaming n i o
   start_names lt (Some v) above o e = absurd (let no : None ≡ Some o = e in cc)
   start_names lt None above o e =
       let round = suc (max above x.opened) in
       let c : Claim = record { round = round; member = i } in
       subst (IsNaming n i) (outcome_same _ o e)
-      (noting (record x { opened = round; stage = members.Gathering c nobody None }) (members.Opened round) (messages.Offer c) tt lt)
+      (noting (record x { opened = round; stage = members.Gathering c nobody None })
+      (members.Opened round) (messages.Offer c) tt lt)
     where
       outcome_same : (a b : Outcome Value) → Some a ≡ Some b → a ≡ b
       outcome_same a b e = cc
 
-  built_names : (s : Stage Value) (v : Value) (o : Outcome Value) → IsOwnStage i s → on_built x s v ≡ Some o → IsNaming n i o
+  built_names : (s : Stage Value) (v : Value) (o : Outcome Value) → IsOwnStage i s
+      → on_built x s v ≡ Some o → IsNaming n i o
   built_names members.Closed v o is e = absurd (let no : None ≡ Some o = e in cc)
   built_names (members.Gathering c S k) v o is e = absurd (let no : None ≡ Some o = e in cc)
   built_names (members.Building c) v o is e =
       subst (IsNaming n i) (outcome_same _ o e)
-      (telling (record x { stage = members.Voting (ballot c v) nobody }) (messages.Propose (ballot c v)) is)
+      (telling (record x { stage = members.Voting (ballot c v) nobody })
+      (messages.Propose (ballot c v)) is)
     where
       outcome_same : (a b : Outcome Value) → Some a ≡ Some b → a ≡ b
       outcome_same a b e = cc
@@ -186,16 +212,19 @@ module _ (n i : ℕ) (x : Member Value) (known : AreNamed n (facts_of x)) (own :
   failed_names : (s : Stage Value) (o : Outcome Value) → on_failed x s ≡ Some o → IsNaming n i o
   failed_names members.Closed o e = absurd (let no : None ≡ Some o = e in cc)
   failed_names (members.Gathering c S k) o e = absurd (let no : None ≡ Some o = e in cc)
-  failed_names (members.Building c) o e = subst (IsNaming n i) (outcome_same _ o e) (nothing (record x { stage = members.Closed }))
+  failed_names (members.Building c) o e =
+      subst (IsNaming n i) (outcome_same _ o e) (nothing (record x { stage = members.Closed }))
     where
       outcome_same : (a b : Outcome Value) → Some a ≡ Some b → a ≡ b
       outcome_same a b e = cc
   failed_names (members.Voting b S) o e = absurd (let no : None ≡ Some o = e in cc)
 
-  nudge_names : i < n → (s : Stage Value) (o : Outcome Value) → IsOwnStage i s → on_nudge x s ≡ Some o → IsNaming n i o
+  nudge_names : i < n → (s : Stage Value) (o : Outcome Value) → IsOwnStage i s
+      → on_nudge x s ≡ Some o → IsNaming n i o
   nudge_names lt members.Closed o is e = absurd (let no : None ≡ Some o = e in cc)
   nudge_names lt (members.Gathering c S k) o is e =
-      subst (IsNaming n i) (outcome_same _ o e) (telling x (messages.Offer c) (subst (λ k. k < n) (sym is) lt))
+      subst (IsNaming n i) (outcome_same _ o e)
+          (telling x (messages.Offer c) (subst (λ k. k < n) (sym is) lt))
     where
       outcome_same : (a b : Outcome Value) → Some a ≡ Some b → a ≡ b
       outcome_same a b e = cc
@@ -203,7 +232,8 @@ module _ (n i : ℕ) (x : Member Value) (known : AreNamed n (facts_of x)) (own :
     where
       outcome_same : (a b : Outcome Value) → Some a ≡ Some b → a ≡ b
       outcome_same a b e = cc
-  nudge_names lt (members.Voting b S) o is e = subst (IsNaming n i) (outcome_same _ o e) (telling x (messages.Propose b) is)
+  nudge_names lt (members.Voting b S) o is e =
+      subst (IsNaming n i) (outcome_same _ o e) (telling x (messages.Propose b) is)
     where
       outcome_same : (a b : Outcome Value) → Some a ≡ Some b → a ≡ b
       outcome_same a b e = cc
@@ -216,7 +246,8 @@ module _ (n i : ℕ) (x : Member Value) (known : AreNamed n (facts_of x)) (own :
       outcome_same a b e = cc
 
   -- when it is asked for something that is no delivery
-  pub input_names : i < n → (enough : Quorums) (input : theory.Input Value) (o : Outcome Value) → theory.answer enough i x [] input ≡ Some o → IsNaming n i o
+  pub input_names : i < n → (enough : Quorums) (input : theory.Input Value) (o : Outcome Value)
+      → theory.answer enough i x [] input ≡ Some o → IsNaming n i o
   input_names lt enough (theory.Start above) o e = start_names lt x.held above o e
   input_names lt enough (theory.Built v) o e = built_names x.stage v o own e
   input_names lt enough theory.Failed o e = failed_names x.stage o e
@@ -227,20 +258,26 @@ module _ (n i : ℕ) (x : Member Value) (known : AreNamed n (facts_of x)) (own :
 -- ---- as bodies
 
 -- a body that is said so names members
-pub body_names : (n i : ℕ) → i < n → (body : Body Value) → Tells n i (said i body) → All (λ k. k < n) (members_of body)
+pub body_names : (n i : ℕ) → i < n → (body : Body Value) → Tells n i (said i body)
+    → All (λ k. k < n) (members_of body)
 body_names n i lt (bodies.Offer c) is = All-cons (λ k. k < n) c.member [] is (All-nil (λ k. k < n))
-body_names n i lt (bodies.Promise c None) is = All-cons (λ k. k < n) c.member [] is.0 (All-nil (λ k. k < n))
+body_names n i lt (bodies.Promise c None) is =
+    All-cons (λ k. k < n) c.member [] is.0 (All-nil (λ k. k < n))
 body_names n i lt (bodies.Promise c (Some vote)) is =
-    All-cons (λ k. k < n) c.member (vote.0.member ∷ []) is.0 (All-cons (λ k. k < n) vote.0.member [] (is.1 _ refl) (All-nil (λ k. k < n)))
-body_names n i lt (bodies.Propose c v) is = All-cons (λ k. k < n) c.member [] (subst (λ k. k < n) (sym is) lt) (All-nil (λ k. k < n))
+    All-cons (λ k. k < n) c.member (vote.0.member ∷ []) is.0
+        (All-cons (λ k. k < n) vote.0.member [] (is.1 _ refl) (All-nil (λ k. k < n)))
+body_names n i lt (bodies.Propose c v) is =
+    All-cons (λ k. k < n) c.member [] (subst (λ k. k < n) (sym is) lt) (All-nil (λ k. k < n))
 body_names n i lt (bodies.Vote c) is = All-cons (λ k. k < n) c.member [] is (All-nil (λ k. k < n))
 body_names n i lt (bodies.Agreed v) is = All-nil (λ k. k < n)
 body_names n i lt bodies.Ask is = All-nil (λ k. k < n)
 body_names n i lt (bodies.Nay c p) is =
-    All-cons (λ k. k < n) c.member (p.member ∷ []) is.0 (All-cons (λ k. k < n) p.member [] (is.1 p refl) (All-nil (λ k. k < n)))
+    All-cons (λ k. k < n) c.member (p.member ∷ []) is.0
+        (All-cons (λ k. k < n) p.member [] (is.1 p refl) (All-nil (λ k. k < n)))
 
 -- and a body that names members comes so
-pub body_comes : (n i : ℕ) (body : Body Value) → All (λ k. k < n) (members_of body) → Comes n (said i body)
+pub body_comes : (n i : ℕ) (body : Body Value) → All (λ k. k < n) (members_of body)
+    → Comes n (said i body)
 body_comes n i (bodies.Offer c) are = All-head (λ k. k < n) c.member [] are
 body_comes n i (bodies.Promise c r) are = tt
 body_comes n i (bodies.Propose c v) are = All-head (λ k. k < n) c.member [] are

@@ -36,18 +36,23 @@ use Rattle.package_record.proofs.BuildsRead.{build_is_read}
 
 -- ---- a world that matches
 
-module _ (division : Division) (weights : List ℕ) (made : IsMade division weights) (acts : List (Act Value)) (w : World)
-    (of : (w.division ≡ division) × (w.weights ≡ weights)) (m : Matches w (after_all_acts division weights acts)) where
+module _ (division : Division) (weights : List ℕ) (made : IsMade division weights)
+    (acts : List (Act Value)) (w : World)
+    (of : (w.division ≡ division) × (w.weights ≡ weights))
+    (m : Matches w (after_all_acts division weights acts)) where
   -- the entries are of units
   units : All (λ n. n.path < length division.units) (after_all_acts division weights acts).list
-  units = subst (λ (d : Division). All (λ n. n.path < length d.units) (after_all_acts division weights acts).list) of.0 m.units
+  units = subst (λ (d : Division). All (λ n. n.path < length d.units)
+      (after_all_acts division weights acts).list) of.0 m.units
 
   -- Each package of the list fits the tree.
   all_fit : AllFit w
   all_fit =
-      subst (λ (d : Division). All (λ r. Fits d.tree r.path r.name r.built r.run) w.agreed) (sym of.0)
+      subst (λ (d : Division). All (λ r. Fits d.tree r.path r.name r.built r.run) w.agreed)
+          (sym of.0)
       (subst (All (λ r. Fits division.tree r.path r.name r.built r.run)) (sym m.list)
-      (λ k d lt. list_fits division made.divided (after_all_acts division weights acts).list (in_order division weights acts w made of m).allowed units _
+      (λ k d lt. list_fits division made.divided (after_all_acts division weights acts).list
+      (in_order division weights acts w made of m).allowed units _
       (All-contains_itself (packages_of (after_all_acts division weights acts).list) k d lt)))
 
   -- An audit of it says yes, where it has one package a path.
@@ -55,20 +60,26 @@ module _ (division : Division) (weights : List ℕ) (made : IsMade division weig
   audited one =
       subst (λ (d : Division). audit.IsAllowed d.tree (map entry_of w.agreed)) (sym of.0)
       (subst (λ l. audit.IsAllowed division.tree (map entry_of l)) (sym m.list)
-      (audit_says_yes division made.divided (after_all_acts division weights acts).list (in_order division weights acts w made of m).allowed units
+      (audit_says_yes division made.divided (after_all_acts division weights acts).list
+      (in_order division weights acts w made of m).allowed units
       (subst (λ l. AllPairs ◌≢◌ (paths_of l)) m.list one)))
 
 -- ---- at each moment
 
-module _ (runs : EachRunIsActs) (again : BuildTextIsReadAgain) (division : Division) (weights : List ℕ) (made : IsMade division weights)
+module _ (runs : EachRunIsActs) (again : BuildTextIsReadAgain) (division : Division)
+    (weights : List ℕ) (made : IsMade division weights)
     (events : List Event) (last : World) (led : Leads (start division weights) events last) where
-  always_built : AtEachMoment division weights events last (λ early w. All (WasBuilt division weights early) w.agreed)
-  always_built = each_moment division weights (λ early w. All (WasBuilt division weights early) w.agreed)
-      (λ early w l. let r = runs division weights early w made l in list_was_built division weights made early w r.0 r.1 r.2)
+  always_built : AtEachMoment division weights events last
+      (λ early w. All (WasBuilt division weights early) w.agreed)
+  always_built =
+      each_moment division weights (λ early w. All (WasBuilt division weights early) w.agreed)
+      (λ early w l. let r = runs division weights early w made l in list_was_built division weights
+      made early w r.0 r.1 r.2)
       events last led
 
   always_fits : AtEachMoment division weights events last (λ early w. AllFit w)
-  always_fits = at_each runs again division weights made events last led AllFit (λ acts w of m local. all_fit division weights made acts w of m)
+  always_fits = at_each runs again division weights made events last led AllFit
+      (λ acts w of m local. all_fit division weights made acts w of m)
 
   always_installable : AtEachMoment division weights events last (λ early w. InstallableIsHeld w)
   always_installable = at_each runs again division weights made events last led InstallableIsHeld
@@ -79,12 +90,15 @@ module _ (runs : EachRunIsActs) (again : BuildTextIsReadAgain) (division : Divis
       (λ early w l.
       let r = runs division weights early w made l in
       let later = leads_later (start division weights) w early l in
-      audited division weights made r.0 w (later.division, later.weights) r.2 (one_there division weights early w l))
+      audited division weights made r.0 w (later.division, later.weights) r.2
+          (one_there division weights early w l))
       events last led
 
-  always_jobs : AtEachMoment division weights events last (λ early w. JobsStood division weights early w)
+  always_jobs : AtEachMoment division weights events last
+      (λ early w. JobsStood division weights early w)
   always_jobs = each_moment division weights (λ early w. JobsStood division weights early w)
-      (λ early w l. let r = runs division weights early w made l in jobs_stood division weights made runs again early w r.0 r.1 r.2)
+      (λ early w l. let r = runs division weights early w made l in jobs_stood division weights made
+      runs again early w r.0 r.1 r.2)
       events last led
 
   has_one_list : HasOneList division weights events last
@@ -109,21 +123,26 @@ module _ (runs : EachRunIsActs) (again : BuildTextIsReadAgain) (division : Divis
 
 -- Each run has one list, and is safe.
 pub each_has_one_list : EachRunIsActs → BuildTextIsReadAgain → EachRunHasOneList
-each_has_one_list runs again division weights events w made led = (has_one_list runs again division weights made events w led, is_safe runs again division weights made events w led)
+each_has_one_list runs again division weights events w made led =
+    (has_one_list runs again division weights made events w led, is_safe runs again division weights
+    made events w led)
 
 -- One world follows an event, and an event has one answer.
 pub one_world : EachRunIsActs → BuildTextIsReadAgain → OneWorldFollows
 one_world runs again division weights events w a b e made led first second =
     let r = runs division weights events w made led in
     let later = leads_later (start division weights) w events led in
-    one_follows w a b e (λ v step s. step_has_one_list division weights r.0 w made (later.division, later.weights) r.3 r.2 again e v step s) first second
+    one_follows w a b e (λ v step s. step_has_one_list division weights r.0 w made
+        (later.division, later.weights) r.3 r.2 again e v step s) first second
 
 pub one_answer : OneAnswer
-one_answer division weights events w e made led = (λ v f h refused. happens_not_refused w v e f h refused, λ f g a b. one_refusal w e f g a b)
+one_answer division weights events w e made led =
+    (λ v f h refused. happens_not_refused w v e f h refused, λ f g a b. one_refusal w e f g a b)
 
 -- ---- by the laws of events
 
 pub each_run_is_acts : EachRunIsActs
 each_run_is_acts = runs_are_acts
-    (λ division weights acts w v e made of local m h. event_is_act division weights acts w made of local m build_is_read e v h)
+    (λ division weights acts w v e made of local m h. event_is_act division weights acts w made of
+    local m build_is_read e v h)
     (λ w v e made local each h. event_keeps w made local each e v h)

@@ -50,7 +50,8 @@ all_has : {X : Type 0} (P : X → Type 0) (xs : List X) → ((x : X) → Has xs 
 all_has P [] each = All-nil P
 all_has P (x ∷ xs) each = All-cons P x xs (each x (inl refl)) (all_has P xs (λ y h. each y (inr h)))
 
-module _ (w : World) (made : IsMade w.division w.weights) (local : AreLocal w) (k : ℕ) (x : WorldNode) (stands : slice_get w.nodes k ≡ Some x) where
+module _ (w : World) (made : IsMade w.division w.weights) (local : AreLocal w) (k : ℕ)
+    (x : WorldNode) (stands : slice_get w.nodes k ≡ Some x) where
   here : IsLocal w k x
   here = local.each k x stands
 
@@ -59,27 +60,37 @@ module _ (w : World) (made : IsMade w.division w.weights) (local : AreLocal w) (
   is_one = subst (λ n. k < n) local.one_for_each (get_within w.nodes k x stands)
 
   on_units : All (λ (n : Note Value). (u : ℕ) × (number_named w.division n.path ≡ Some u)) x.notes
-  on_units = All-weaker (IsOfUnit w) (λ (n : Note Value). (u : ℕ) × (number_named w.division n.path ≡ Some u)) (λ n o. (o.unit, o.of_unit)) x.notes here.notes
+  on_units = All-weaker (IsOfUnit w) (λ (n : Note Value). (u : ℕ)
+      × (number_named w.division n.path ≡ Some u)) (λ n o. (o.unit, o.of_unit)) x.notes here.notes
 
   -- all that it knows can be written down
   pub in_range : IsInRange (member_at w k x)
   in_range =
-      let r = restored_written w.division w.weights k x.notes made.divided made.weigh is_one on_units
+      let r = restored_written w.division w.weights k x.notes made.divided made.weigh is_one
+          on_units
       (All-weaker (IsOfUnit w) IsNote (λ n o. o.note) x.notes here.notes) in record {
         facts = λ u lt. r.facts u lt;
         claim = λ o e. (here.claim o e).progress;
       }
 
   -- and names members
-  pub known_named : (u : ℕ) → u < length w.division.units → AreNamed (length w.weights) (facts_of (nodes.view (node_of w k x) u))
+  pub known_named : (u : ℕ) → u < length w.division.units
+      → AreNamed (length w.weights) (facts_of (nodes.view (node_of w k x) u))
   known_named u lt =
-      let noted = map (λ (n : Note Value). note_of n.fact) (filter (λ n. bytes_eq n.path (unit_at w.division u).name) x.notes) in
-      let are = restored_named (length w.weights) (reverse noted) (all_has (Notes (length w.weights)) (reverse noted) (λ note h.
-      let a = mapped_has (λ (n : Note Value). note_of n.fact) (filter (λ n. bytes_eq n.path (unit_at w.division u).name) x.notes) note (reversed_has noted note h) in
-      let b = filtered_has (λ (n : Note Value). bytes_eq n.path (unit_at w.division u).name) x.notes a.0 a.1 in
+      let noted = map (λ (n : Note Value). note_of n.fact)
+          (filter (λ n. bytes_eq n.path (unit_at w.division u).name) x.notes) in
+      let are = restored_named (length w.weights) (reverse noted)
+          (all_has (Notes (length w.weights)) (reverse noted) (λ note h.
+      let a = mapped_has (λ (n : Note Value). note_of n.fact)
+          (filter (λ n. bytes_eq n.path (unit_at w.division u).name) x.notes) note
+          (reversed_has noted note h) in
+      let b = filtered_has (λ (n : Note Value). bytes_eq n.path (unit_at w.division u).name) x.notes
+          a.0 a.1 in
       let o = All-contains (IsOfUnit w) x.notes a.0 here.notes (has_contains x.notes a.0 b.0) in
-      subst (Notes (length w.weights)) a.2 (fact_named (length w.weights) (a.0).fact o.claimers))) in
-      let same = (notes_restore w.division w.weights k x.notes made.divided made.weigh is_one on_units).facts u lt in
+      subst (Notes (length w.weights)) a.2 (fact_named (length w.weights) (a.0).fact
+          o.claimers))) in
+      let same = (notes_restore w.division w.weights k x.notes made.divided made.weigh is_one
+          on_units).facts u lt in
       let its = subst (AreNamed (length w.weights)) (sym same) are in
       record { promised = its.promised; voted = its.voted }
 
@@ -94,14 +105,16 @@ own_progress me (Voting b joined) e = e
 pub own_stage : (s : State) (u : ℕ) → IsMember s → IsOwnStage s.me (view s u).stage
 own_stage s u is = by s.claim is.claim
   where
-    by : (o : Option OpenClaim) → ForSome o (IsOpen s) → IsOwnStage s.me (nodes.stage_at (option_map claim_of o) u)
+    by : (o : Option OpenClaim) → ForSome o (IsOpen s)
+        → IsOwnStage s.me (nodes.stage_at (option_map claim_of o) u)
     by None are = tt
     by (Some o) are = cond_both (u == o.unit) (stage_of o.progress) theory.Closed (IsOwnStage s.me)
         (λ t. own_progress s.me o.progress (are o refl).own) (λ f. tt)
 
 -- ---- what comes
 
-first_fails : (b : Bool) (f : Refusal) (rest : Option Refusal) → (if b then Some f else rest) ≡ None → (b ≡ false) × (rest ≡ None)
+first_fails : (b : Bool) (f : Refusal) (rest : Option Refusal) → (if b then Some f else rest) ≡ None
+    → (b ≡ false) × (rest ≡ None)
 first_fails true f rest e = absurd (let no : Some f ≡ None = e in cc)
 first_fails false f rest e = (refl, e)
 
@@ -112,12 +125,16 @@ not_not false e = absurd (let no : true ≡ false = e in cc)
 below_all : (n : ℕ) (ks : List ℕ) → list_all (λ k. nat_lt k n) ks ≡ true → All (λ k. k < n) ks
 below_all n [] e = All-nil (λ k. k < n)
 below_all n (k ∷ ks) e =
-    let p = and_parts (nat_lt k n) (list_all (λ k. nat_lt k n) ks) e in All-cons (λ k. k < n) k ks (ltb-true k n p.0) (below_all n ks p.1)
+    let p = and_parts (nat_lt k n) (list_all (λ k. nat_lt k n) ks) e in All-cons (λ k. k < n) k ks
+        (ltb-true k n p.0) (below_all n ks p.1)
 
 -- a message that is answered names members
-pub heard_names : (s : State) (m : Message Value) (a : Answer) → heard s m ≡ Ok a → All (λ k. k < length s.weights) (members_of m.body)
+pub heard_names : (s : State) (m : Message Value) (a : Answer) → heard s m ≡ Ok a
+    → All (λ k. k < length s.weights) (members_of m.body)
 heard_names s m a e =
-    let tested = (not_refused (header_refusal s m.tree (m.sender ∷ members_of m.body) m.path) _ a e).0 in
+    let tested =
+        (not_refused (header_refusal s m.tree (m.sender ∷ members_of m.body) m.path) _ a e).0 in
     let later = (first_fails _ refusals.OtherTree _ tested).1 in
     let all = not_not _ (first_fails _ refusals.NotAMember _ later).0 in
-    below_all (length s.weights) (members_of m.body) (and_parts (nat_lt m.sender (length s.weights)) _ all).1
+    below_all (length s.weights) (members_of m.body)
+        (and_parts (nat_lt m.sender (length s.weights)) _ all).1

@@ -33,7 +33,8 @@ use Rattle.headline.proofs.Safe.{later_repeats, one_proposal, promises_bound}
 -- ---- at the start
 
 -- each node is a fresh one
-pub all_fresh : (n k : ℕ) (x : WorldNode) → slice_get (replicate n fresh_node) k ≡ Some x → fresh_node ≡ x
+pub all_fresh : (n k : ℕ) (x : WorldNode) → slice_get (replicate n fresh_node) k ≡ Some x
+    → fresh_node ≡ x
 all_fresh zero k x e = absurd (let wrong : None ≡ Some x = e in cc)
 all_fresh (suc n) zero x e = some_node fresh_node x e
   where
@@ -44,12 +45,16 @@ all_fresh (suc n) (suc k) x e = all_fresh n k x e
 -- which knows nothing
 nothing_known : (division : Division) (weights : List ℕ) (k u : ℕ) → u < length division.units
     → facts_at (member_at (start division weights) k fresh_node) u ≡ no_facts
-nothing_known division weights k u lt = get_or-map (λ x. no_facts) division.units u no_unit no_facts lt
+nothing_known division weights k u lt =
+    get_or-map (λ x. no_facts) division.units u no_unit no_facts lt
 
-pub start_matches : (division : Division) (weights : List ℕ) → Matches (start division weights) beginning
+pub start_matches : (division : Division) (weights : List ℕ)
+    → Matches (start division weights) beginning
 start_matches division weights = record {
-  members = λ k u x e lt. subst (λ n. first ≡ nodes.view (node_of (start division weights) k n) u) (all_fresh (length weights) k x e) (fresh_view k u lt);
-  logs = λ k u x e lt. subst (λ (n : WorldNode). [] ≡ log_of (start division weights) u n) (all_fresh (length weights) k x e) refl;
+  members = λ k u x e lt. subst (λ n. first ≡ nodes.view (node_of (start division weights) k n) u)
+      (all_fresh (length weights) k x e) (fresh_view k u lt);
+  logs = λ k u x e lt. subst (λ (n : WorldNode). [] ≡ log_of (start division weights) u n)
+      (all_fresh (length weights) k x e) refl;
   sent = λ text h. absurd (let lt = h.1 in omega (arith, lt));
   votes = λ u n b lt h. absurd h;
   proposals = λ u b v lt h. absurd h;
@@ -60,14 +65,18 @@ start_matches division weights = record {
     first : Member Value
     first = (theory.start {V = Value}).members 0
 
-    fresh_view : (k u : ℕ) → u < length division.units → first ≡ nodes.view (node_of (start division weights) k fresh_node) u
+    fresh_view : (k u : ℕ) → u < length division.units
+        → first ≡ nodes.view (node_of (start division weights) k fresh_node) u
     fresh_view k u lt =
-        let g : no_facts ≡ facts_at (member_at (start division weights) k fresh_node) u = sym (nothing_known division weights k u lt) in
-        λ i. record { opened = (g i).opened; promised = (g i).promised; voted = (g i).voted; held = (g i).held; up = true; stage = Closed }
+        let g : no_facts ≡ facts_at (member_at (start division weights) k fresh_node) u =
+            sym (nothing_known division weights k u lt) in
+        λ i. record { opened = (g i).opened; promised = (g i).promised; voted = (g i).voted; held =
+            (g i).held; up = true; stage = Closed }
 
 pub start_local : (division : Division) (weights : List ℕ) → AreLocal (start division weights)
 start_local division weights = record {
-  each = λ k x e. subst (IsLocal (start division weights) k) (all_fresh (length weights) k x e) (record {
+  each = λ k x e. subst (IsLocal (start division weights) k) (all_fresh (length weights) k x e)
+      (record {
     notes = All-nil (IsOfUnit (start division weights));
     claim = λ o e. absurd (let wrong : None ≡ Some o = e in cc);
     pieces = record {
@@ -83,32 +92,39 @@ start_local division weights = record {
 -- ---- from event to event
 
 -- what a run is so far
-record IsSoFar (division : Division) (weights : List ℕ) (events : List Event) (w : World) : Type 0 where
+record IsSoFar (division : Division) (weights : List ℕ) (events : List Event) (w : World) : Type
+    0 where
   acts : List (Act Value)
   mirrors : Mirrors division weights events w acts
   is_match : Matches w (after_all_acts division weights acts)
   is_local : AreLocal w
   of : (w.division ≡ division) × (w.weights ≡ weights)
 
-module _ (division : Division) (weights : List ℕ) (made : IsMade division weights) (step : EachEventIsAnAct) (keeps : EachEventKeepsLocal) where
-  one_on : (events : List Event) (w v : World) (e : Event) → IsSoFar division weights events w → Happens w e v
+module _ (division : Division) (weights : List ℕ) (made : IsMade division weights)
+    (step : EachEventIsAnAct) (keeps : EachEventKeepsLocal) where
+  one_on : (events : List Event) (w v : World) (e : Event) → IsSoFar division weights events w
+      → Happens w e v
       → IsSoFar division weights (events ++ e ∷ []) v
   one_on events w v e f h =
       let o = step division weights f.acts w v e made f.of f.is_local f.is_match h in
       let later = event_later w v e h in
-      let made_here = subst (λ (d : Division). IsMade d w.weights) (sym f.of.0) (subst (IsMade division) (sym f.of.1) made) in
+      let made_here = subst (λ (d : Division). IsMade d w.weights) (sym f.of.0)
+          (subst (IsMade division) (sym f.of.1) made) in
       record {
         acts = with_act f.acts o.0;
         mirrors = and_then events w v f.acts e o.0 f.mirrors f.is_match h o.1;
         is_match = o.2;
-        is_local = keeps w v e made_here f.is_local (each_is_of_a_message w (after_all_acts division weights f.acts) f.is_match) h;
+        is_local = keeps w v e made_here f.is_local
+            (each_is_of_a_message w (after_all_acts division weights f.acts) f.is_match) h;
         of = (later.division ∙ f.of.0, later.weights ∙ f.of.1);
       }
 
-  all_on : (before events : List Event) (w v : World) → IsSoFar division weights before w → Leads w events v
+  all_on : (before events : List Event) (w v : World) → IsSoFar division weights before w
+      → Leads w events v
       → IsSoFar division weights (before ++ events) v
   all_on before [] w v f l =
-      subst (λ (es : List Event). IsSoFar division weights es v) (sym (append-nil before)) (subst (IsSoFar division weights before) (sym l) f)
+      subst (λ (es : List Event). IsSoFar division weights es v) (sym (append-nil before))
+          (subst (IsSoFar division weights before) (sym l) f)
   all_on before (e ∷ es) w v f l =
       subst (λ (all : List Event). IsSoFar division weights all v) (append_assoc before (e ∷ []) es)
       (all_on (before ++ e ∷ []) es l.0 v (one_on before w l.0 e f l.1) l.2)
@@ -127,11 +143,13 @@ runs_are_acts step keeps division weights events w made led =
 
 -- ---- at each moment, where each run is acts
 
-module _ (runs : EachRunIsActs) (again : BuildTextIsReadAgain) (division : Division) (weights : List ℕ) (made : IsMade division weights)
+module _ (runs : EachRunIsActs) (again : BuildTextIsReadAgain) (division : Division)
+    (weights : List ℕ) (made : IsMade division weights)
     (events : List Event) (last : World) (led : Leads (start division weights) events last) where
   -- what holds of each world that matches what acts leave holds at each moment
   pub at_each : (P : World → Type 0)
-      → ((acts : List (Act Value)) (w : World) → (w.division ≡ division) × (w.weights ≡ weights) → Matches w (after_all_acts division weights acts)
+      → ((acts : List (Act Value)) (w : World) → (w.division ≡ division) × (w.weights ≡ weights)
+      → Matches w (after_all_acts division weights acts)
       → AreLocal w → P w)
       → AtEachMoment division weights events last (λ early w. P w)
   at_each P holds = each_moment division weights (λ early w. P w)
@@ -142,26 +160,33 @@ module _ (runs : EachRunIsActs) (again : BuildTextIsReadAgain) (division : Divis
       events last led
 
   pub always_one_proposal : AtEachMoment division weights events last (λ early w. OneProposal w)
-  always_one_proposal = at_each OneProposal (λ acts w of m local. one_proposal division weights acts w made of m again)
+  always_one_proposal = at_each OneProposal
+      (λ acts w of m local. one_proposal division weights acts w made of m again)
 
   pub always_bound : AtEachMoment division weights events last (λ early w. PromisesBound w)
-  always_bound = at_each PromisesBound (λ acts w of m local. promises_bound division weights acts w made of m again)
+  always_bound = at_each PromisesBound (λ acts w of m local. promises_bound division weights acts w
+      made of m again)
 
   pub always_repeated : AtEachMoment division weights events last (λ early w. LaterRepeats w)
-  always_repeated = at_each LaterRepeats (λ acts w of m local. later_repeats division weights acts w made of m again)
+  always_repeated = at_each LaterRepeats (λ acts w of m local. later_repeats division weights acts w
+      made of m again)
 
-  pub always_told_apart : AtEachMoment division weights events last (λ early w. EqualHeaders w × EachIsOfAMessage w)
-  always_told_apart = at_each (λ w. EqualHeaders w × EachIsOfAMessage w) (λ acts w of m local. headers_are_equal division weights acts w made of m again)
+  pub always_told_apart : AtEachMoment division weights events last
+      (λ early w. EqualHeaders w × EachIsOfAMessage w)
+  always_told_apart = at_each (λ w. EqualHeaders w × EachIsOfAMessage w)
+      (λ acts w of m local. headers_are_equal division weights acts w made of m again)
 
   pub always_listed : AtEachMoment division weights events last (λ early w. HeldIsListed w)
-  always_listed = at_each HeldIsListed (λ acts w of m local. held_is_listed division weights acts w made of m local)
+  always_listed = at_each HeldIsListed (λ acts w of m local. held_is_listed division weights acts w
+      made of m local)
 
   pub always_alike : AtEachMoment division weights events last (λ early w. HoldAlike w)
   always_alike = each_moment division weights (λ early w. HoldAlike w)
       (λ early w l.
       let r = runs division weights early w made l in
       let later = leads_later (start division weights) w early l in
-      held_alike w (held_is_listed division weights r.0 w made (later.division, later.weights) r.2 r.3) (one_there division weights early w l))
+      held_alike w (held_is_listed division weights r.0 w made (later.division, later.weights) r.2
+          r.3) (one_there division weights early w l))
       events last led
 
 -- Nothing that was sent is foreign, where each run is acts.
@@ -169,4 +194,5 @@ pub none_is_foreign : BuildTextIsReadAgain → EachRunIsActs → NothingSentIsFo
 none_is_foreign again runs division weights events w e f made led refused =
     let r = runs division weights events w made led in
     let later = leads_later (start division weights) w events led in
-    never_foreign division weights r.0 w made (later.division, later.weights) r.2 again r.3 e f refused
+    never_foreign division weights r.0 w made (later.division, later.weights) r.2 again r.3 e f
+        refused

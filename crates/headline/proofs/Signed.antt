@@ -17,7 +17,7 @@ use Rattle.protocol.specs.Given.{Given}
 use Rattle.protocol.specs.Jobs.{job_of, record_by}
 use Rattle.protocol.specs.State.{Building, State, Value}
 use Rattle.units.specs.Division.{Division, unit_at}
-use Rattle.world.specs.Safety.{JobWasGiven, JobsStood}
+use Rattle.world.specs.Safety.{IsOfJob, JobGiven, JobWasGiven, JobsStood}
 use Rattle.world.specs.Sent.{WasProposed, message}
 use Rattle.world.specs.World.{IsMade, World, member_at}
 use Rattle.headline.specs.Laws.{EachRunIsActs}
@@ -25,23 +25,30 @@ use Rattle.headline.specs.Matches.{Matches, WasSaid}
 use Rattle.headline.specs.Mirrored.{Mirrors, after_all_acts}
 use Rattle.headline.proofs.Built.{of_run}
 use Rattle.headline.proofs.Headers.{in_order, sent_was_said}
-use Rattle.headline.proofs.Jobs.{JobGiven, claim_has_job, given_later}
+use Rattle.headline.proofs.Jobs.{claim_has_job, given_later}
 use Rattle.headline.proofs.Walking.{WasMade, built_was_made}
 
-module _ (division : Division) (weights : List ℕ) (made : IsMade division weights) (runs : EachRunIsActs) (again : BuildTextIsReadAgain)
-    (events : List Event) (w : World) (acts : List (Act Value)) (mirrors : Mirrors division weights events w acts) (m : Matches w (after_all_acts division weights acts)) where
+module _ (division : Division) (weights : List ℕ) (made : IsMade division weights)
+    (runs : EachRunIsActs) (again : BuildTextIsReadAgain)
+    (events : List Event) (w : World) (acts : List (Act Value))
+    (mirrors : Mirrors division weights events w acts)
+    (m : Matches w (after_all_acts division weights acts)) where
   of : (w.division ≡ division) × (w.weights ≡ weights)
   of = of_run division weights made events w acts mirrors
 
-  module _ (name : Text) (c : Claim) (build : Value) (proposed : WasProposed w w.sent name c build) where
+  module _ (name : Text) (c : Claim) (build : Value)
+      (proposed : WasProposed w w.sent name c build) where
     -- the proposal was said
-    said : WasSaid w (after_all_acts division weights acts) (message w name proposed.0 (Propose c build))
-    said = sent_was_said division weights acts w made of m again (message w name proposed.0 (Propose c build)) proposed.1
+    said : WasSaid w (after_all_acts division weights acts)
+        (message w name proposed.0 (Propose c build))
+    said = sent_was_said division weights acts w made of m again
+        (message w name proposed.0 (Propose c build)) proposed.1
 
     -- and its build was made
     was : WasMade division weights events said.unit build
     was = built_was_made division weights events w acts mirrors said.unit build
-        (((in_order division weights acts w made of m).sound said.unit).said (messages.Propose (ballot c build)) said.said_there).2.1
+        (((in_order division weights acts w made of m).sound said.unit).said
+        (messages.Propose (ballot c build)) said.said_there).2.1
 
     -- by the job of the claim that waited for it
     abbrev maker : State
@@ -53,42 +60,25 @@ module _ (division : Division) (weights : List ℕ) (made : IsMade division weig
     given : JobGiven division weights events job
     given = subst (λ es. JobGiven division weights es job) (sym was.among)
         (given_later division weights was.before (was.event ∷ was.behind) job
-        (claim_has_job division weights made runs again was.before was.world was.acts was.mirrors was.maker was.makes.node
-        (record { unit = said.unit; host = was.makes.host; progress = Building was.makes.claim }) was.makes.claim was.makes.stands was.makes.opened refl))
+        (claim_has_job division weights made runs again was.before was.world was.acts was.mirrors
+        was.maker was.makes.node
+        (record { unit = said.unit; host = was.makes.host; progress = Building was.makes.claim })
+        was.makes.claim was.makes.stands was.makes.opened refl))
 
     named : job.path ≡ name
     named =
-        ap (λ (d : Division). (unit_at d said.unit).name) ((of_run division weights made was.before was.world was.acts was.mirrors).0 ∙ sym of.0)
+        ap (λ (d : Division). (unit_at d said.unit).name)
+            ((of_run division weights made was.before was.world was.acts was.mirrors).0 ∙ sym of.0)
         ∙ sym said.about
 
     -- each record is the job's
-    abbrev IsOfJob : Content → Type 0
-    IsOfJob r = (r.claim ≡ job.claim) × (r.host ≡ job.host) × (r.built ≡ job.deps)
-
-    of_job : All IsOfJob build
-    of_job = subst (All IsOfJob) (sym was.makes.build_is)
-        (All-map IsOfJob (record_by was.world.division.tree job was.makes.files) (unit_at was.world.division said.unit).packages (λ k d lt. (refl, refl, refl)))
+    of_job : All (IsOfJob job) build
+    of_job = subst (All (IsOfJob job)) (sym was.makes.build_is)
+        (All-map (IsOfJob job) (record_by was.world.division.tree job was.makes.files)
+        (unit_at was.world.division said.unit).packages (λ k d lt. (refl, refl, refl)))
 
     its_job : JobWasGiven division weights events name build
-    its_job = record {
-      before = given.before;
-      event = given.event;
-      behind = given.behind;
-      among = given.among;
-      world = given.world;
-      led = given.led;
-      node = given.node;
-      taken = given.taken;
-      acts = given.acts;
-      datagram = given.datagram;
-      receiver = given.receiver;
-      delivers = given.delivers;
-      job = job;
-      given = given.given;
-      for_unit = named;
-      of_job = of_job;
-      stood = given.stood;
-    }
+    its_job = record { job = job; was_given = given; for_unit = named; of_job = of_job }
 
   -- So it is with each build that was proposed.
   pub jobs_stood : JobsStood division weights events w

@@ -29,8 +29,8 @@ pub record IsOfUnit (w : World) (n : Note Value) : Type 0 where
   pub of_unit : number_named w.division n.path ≡ Some unit
   pub claimers : All (λ k. k < length w.weights) (members_noted n.fact)
 
--- Node k's open claim is one that its member may have: its own, for a unit that it does not hold, whose build needs
--- nothing that it does not hold. What the claim keeps is of the unit.
+-- Node k's open claim is one that its member may have: its own, for a unit that it does not hold,
+-- whose build needs nothing that it does not hold. What the claim keeps is of the unit.
 pub record IsItsClaim (w : World) (k : ℕ) (x : WorldNode) (o : OpenClaim) : Type 0 where
   pub is_open : IsOpen (member_at w k x) o
   pub progress : IsProgressOf (name_at (member_at w k x) o.unit) o.progress

@@ -27,14 +27,16 @@ name_of w u = (unit_at w.division u).name
 
 -- node k as a node of the theory
 abbrev pub node_of : World → ℕ → WorldNode → nodes.Node Value
-node_of w k x = record { facts = facts_at (member_at w k x); up = x.up; claim = option_map claim_of x.claim }
+node_of w k x =
+    record { facts = facts_at (member_at w k x); up = x.up; claim = option_map claim_of x.claim }
 
 -- what node k noted of unit u, the last note first
 abbrev pub log_of : World → ℕ → WorldNode → List (theory_of_one.Note Value)
-log_of w u x = map (λ n. note_of n.fact) (reverse (filter (λ n. bytes_eq n.path (name_of w u)) x.notes))
+log_of w u x =
+    map (λ n. note_of n.fact) (reverse (filter (λ n. bytes_eq n.path (name_of w u)) x.notes))
 
--- The datagram is one of a message that a member of the world said, for a unit, and that was sent, with all its pieces.
--- The claims in it are of members of the world.
+-- The datagram is one of a message that a member of the world said, for a unit, and that was sent,
+-- with all its pieces. The claims in it are of members of the world.
 pub record IsSaid (w : World) (c : Cluster Value) (text : Text) : Type 0 where
   pub message : Message Value
   pub unit : ℕ
@@ -52,20 +54,39 @@ abbrev pub packages_of : List (Entry Value) → List Content
 packages_of [] = []
 packages_of (e ∷ es) = packages_of es ++ e.value
 
--- The world is, unit by unit, what the agreements are.
+-- Each node is, unit by unit, the member there,
+abbrev pub AreMembers : World → Cluster Value → Type 0
+AreMembers w c =
+    (k u : ℕ) (x : WorldNode) → slice_get w.nodes k ≡ Some x → u < length w.division.units
+    → (c.at u).members k ≡ nodes.view (node_of w k x) u
+
+-- and noted the same.
+abbrev pub NotedTheSame : World → Cluster Value → Type 0
+NotedTheSame w c =
+    (k u : ℕ) (x : WorldNode) → slice_get w.nodes k ≡ Some x → u < length w.division.units
+    → (c.at u).logs k ≡ log_of w u x
+
+-- The votes that were said were sent,
+abbrev pub VotesWereSent : World → Cluster Value → Type 0
+VotesWereSent w c =
+    (u m : ℕ) (b : Claim) → u < length w.division.units → Has (c.at u).sent (theory.Vote m b)
+    → WasSent w.sent (message w (name_of w u) m (Vote b))
+
+-- and so were the proposals.
+abbrev pub ProposalsWereSent : World → Cluster Value → Type 0
+ProposalsWereSent w c =
+    (u : ℕ) (b : Claim) (v : Value) → u < length w.division.units
+    → Has (c.at u).sent (theory.Propose (ballot b v))
+    → WasSent w.sent (message w (name_of w u) b.member (Propose b v))
+
+-- The world is, unit by unit, what the agreements are: what was sent was said, and the lists are
+-- one.
 pub record Matches (w : World) (c : Cluster Value) : Type 0 where
-  -- each node is the member there, and noted the same
-  pub members : (k u : ℕ) (x : WorldNode) → slice_get w.nodes k ≡ Some x → u < length w.division.units
-      → (c.at u).members k ≡ nodes.view (node_of w k x) u
-  pub logs : (k u : ℕ) (x : WorldNode) → slice_get w.nodes k ≡ Some x → u < length w.division.units
-      → (c.at u).logs k ≡ log_of w u x
-  -- what was sent was said; and the votes and proposals that were said were sent
+  pub members : AreMembers w c
+  pub logs : NotedTheSame w c
   pub sent : (text : Text) → Contains w.sent text → IsSaid w c text
-  pub votes : (u m : ℕ) (b : Claim) → u < length w.division.units → Has (c.at u).sent (theory.Vote m b)
-      → WasSent w.sent (message w (name_of w u) m (Vote b))
-  pub proposals : (u : ℕ) (b : Claim) (v : Value) → u < length w.division.units → Has (c.at u).sent (theory.Propose (ballot b v))
-      → WasSent w.sent (message w (name_of w u) b.member (Propose b v))
-  -- the lists are one
+  pub votes : VotesWereSent w c
+  pub proposals : ProposalsWereSent w c
   pub list : w.agreed ≡ packages_of c.list
   pub units : All (λ e. e.path < length w.division.units) c.list
 

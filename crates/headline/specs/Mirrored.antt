@@ -9,15 +9,19 @@ use Rattle.agreement.specs.Step as theory
 use Rattle.agreement.specs.World as theory_of_one
 use Rattle.protocol.specs.Given.{Given}
 use Rattle.protocol.specs.Jobs.{build_by, job_of}
-use Rattle.protocol.specs.State.{Building, Value}
+use Rattle.protocol.specs.State.{Building, State, Value}
 use Rattle.node.specs.Events.{Event, Built}
 use Rattle.headline.specs.Matches.{Matches}
 use Rattle.headline.specs.Needs.{may_build}
 use Rattle.world.specs.Happening.{Happens}
 use Rattle.world.specs.World.{World, WorldNode, member_at, start}
 
--- The event is that node k, which is up, took a Built for unit u, for which its open claim waited, and this is the build
--- of the claim's job and the event's files.
+-- what the job of a claim on this host makes of the files
+abbrev pub made_of : State → ℕ → ℕ → Claim → Given → Value
+made_of s u host c files = build_by s u (job_of s u host c) files
+
+-- The event is that node k, which is up, took a Built for unit u, for which its open claim waited,
+-- and this is the build of the claim's job and the event's files.
 pub record MakesBuild (w : World) (e : Event) (k u : ℕ) (build : Value) : Type 0 where
   pub path : Text
   pub files : Given
@@ -29,11 +33,12 @@ pub record MakesBuild (w : World) (e : Event) (k u : ℕ) (build : Value) : Type
   pub host : ℕ
   pub claim : Claim
   pub opened : node.claim ≡ Some (record { unit = u; host = host; progress = Building claim })
-  pub build_is : build ≡ build_by (member_at w k node) u (job_of (member_at w k node) u host claim) files
+  pub build_is : build ≡ made_of (member_at w k node) u host claim files
 
 -- what the acts leave
 abbrev pub after_all_acts : Division → List ℕ → List (Act Value) → Cluster Value
-after_all_acts division weights acts = after_acts (is_majority weights) (may_build division) acts beginning
+after_all_acts division weights acts =
+    after_acts (is_majority weights) (may_build division) acts beginning
 
 -- the acts, and one more, if there is one
 abbrev pub with_act : List (Act Value) → Option (Act Value) → List (Act Value)
@@ -44,12 +49,15 @@ with_act acts (Some a) = acts ++ a ∷ []
 abbrev pub IsActOf : World → Event → Option (Act Value) → Type 0
 IsActOf w e None = Prim.Unit {0}
 IsActOf w e (Some a) =
-    (k : ℕ) (v : Value) → a.event ≡ theory_of_one.Take k (theory.Built v) → MakesBuild w e k a.path v
+    (k : ℕ) (v : Value) → a.event ≡ theory_of_one.Take k (theory.Built v)
+    → MakesBuild w e k a.path v
 
 -- The world and what the acts leave are one at each moment: each event was one act, or none.
-pub data Mirrors (division : Division) (weights : List ℕ) : List Event → World → List (Act Value) → Type 0 where
+pub data Mirrors (division : Division) (weights : List ℕ) : List Event → World → List (Act Value)
+    → Type 0 where
   at_start : Mirrors division weights [] (start division weights) []
-  and_then : (events : List Event) (w v : World) (acts : List (Act Value)) (e : Event) (o : Option (Act Value))
+  and_then : (events : List Event) (w v : World) (acts : List (Act Value)) (e : Event)
+      (o : Option (Act Value))
       → Mirrors division weights events w acts
       → Matches w (after_all_acts division weights acts)
       → Happens w e v → IsActOf w e o

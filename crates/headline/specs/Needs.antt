@@ -1,4 +1,5 @@
--- What a build has to be, and to stand on, to be built for a unit. The agreement theory takes this as its test.
+-- What a build has to be, and to stand on, to be built for a unit. The agreement theory takes this
+-- as its test.
 use Rattle.units.specs.Division.{Division, unit_at}
 use Rattle.std.specs.Prelude.{◌&&◌, ℕ, Bool, true, false, List, [], ◌∷◌, Option, None, Some, map, option_and_then}
 use Rattle.std.specs.List.{list_all, list_any}
@@ -20,15 +21,16 @@ same_texts [] (t ∷ ts) = false
 same_texts (s ∷ ss) [] = false
 same_texts (s ∷ ss) (t ∷ ts) = bytes_eq s t && same_texts ss ts
 
--- Whether the record is one of the unit's package at the position: by its path, its name, what it was built on, and what
--- it runs on.
+-- Whether the record is one of the unit's package at the position: by its path, its name, what it
+-- was built on, and what it runs on.
 abbrev pub is_record_of : Tree → Unit → ℕ → Content → Bool
 is_record_of tree x p r =
     bytes_eq r.path (path_at tree p) && bytes_eq r.name (name_at tree p)
     && same_texts (map (λ d. d.path) r.built) (set_of (map (path_at tree) x.build))
     && same_texts r.run (set_of (map (path_at tree) (run_at tree p)))
 
--- Whether the records are those of the unit's packages at these positions, each once, in their order.
+-- Whether the records are those of the unit's packages at these positions, each once, in their
+-- order.
 abbrev pub are_records_of : Tree → Unit → List ℕ → Value → Bool
 are_records_of tree x [] [] = true
 are_records_of tree x [] (r ∷ rs) = false
@@ -49,8 +51,9 @@ abbrev pub stands_on : Division → (ℕ → Option Value) → Content → Bool
 stands_on division stands r =
     list_all (λ d. is_signed (option_and_then stands (unit_with division d.path)) d) r.built
 
--- Whether the build may be built for the unit, on what stands there by unit: its records are those of the unit's packages,
--- and each stands on what is there.
+-- Whether the build may be built for the unit, on what stands there by unit: its records are those
+-- of the unit's packages, and each stands on what is there.
 abbrev pub may_build : Division → Needs Value
 may_build division stands u build =
-    are_records_of division.tree (unit_at division u) (unit_at division u).packages build && list_all (stands_on division stands) build
+    are_records_of division.tree (unit_at division u) (unit_at division u).packages build
+    && list_all (stands_on division stands) build

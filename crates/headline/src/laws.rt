@@ -1,5 +1,5 @@
-//! What the events of a world are in the agreement theory, and what follows for a world that matches
-//! what acts of it leave.
+//! What the events of a world are in the agreement theory, and what follows for a world that
+//! matches what acts of it leave.
 ghost use Rattle.headline.specs.Laws.{
   EachEventIsAnAct,
   EachEventKeepsLocal,

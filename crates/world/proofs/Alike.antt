@@ -9,16 +9,20 @@ use Rattle.world.specs.Headline.{HasOneAPath, HeldIsListed, HoldAlike}
 use Rattle.world.specs.World.{World}
 
 -- an earlier package has another path than a later one
-apart : (list : List Content) → AllPairs ◌≢◌ (map (λ r. r.path) list) → (i j : ℕ) (r q : Content) → i < j → j < length list
+apart : (list : List Content) → AllPairs ◌≢◌ (map (λ r. r.path) list) → (i j : ℕ) (r q : Content)
+    → i < j → j < length list
     → get_or list i r ≡ r → get_or list j q ≡ q → r.path ≡ q.path → ⊥
 apart list one i j r q lt within er eq same =
     let long = length-map list (λ (r : Content). r.path) in
     one i j r.path lt (omega (arith, within, long))
-    (get_or-map (λ (r : Content). r.path) list i r r.path (omega (arith, lt, within)) ∙ ap (λ (r : Content). r.path) er ∙ same
-    ∙ sym (ap (λ (r : Content). r.path) eq) ∙ sym (get_or-map (λ (r : Content). r.path) list j q r.path within))
+    (get_or-map (λ (r : Content). r.path) list i r r.path (omega (arith, lt, within))
+    ∙ ap (λ (r : Content). r.path) er ∙ same
+    ∙ sym (ap (λ (r : Content). r.path) eq)
+    ∙ sym (get_or-map (λ (r : Content). r.path) list j q r.path within))
 
 -- so the list has one package for the path
-pub only_one_with : (list : List Content) → AllPairs ◌≢◌ (map (λ r. r.path) list) → (r q : Content) → Contains list r → Contains list q
+pub only_one_with : (list : List Content) → AllPairs ◌≢◌ (map (λ r. r.path) list) → (r q : Content)
+    → Contains list r → Contains list q
     → r.path ≡ q.path → r ≡ q
 only_one_with list one r q (i, wi, er) (j, wj, eq) same = ⊎_elim
     (λ (e : i ≡ j). sym er ∙ same_place i j e wi ∙ eq)
@@ -28,7 +32,8 @@ only_one_with list one r q (i, wi, er) (j, wj, eq) same = ⊎_elim
     (cases_lt i j))
     (cases_eq i j)
   where
-    any_default : (l : List Content) (k : ℕ) (a b : Content) → k < length l → get_or l k a ≡ get_or l k b
+    any_default : (l : List Content) (k : ℕ) (a b : Content) → k < length l
+        → get_or l k a ≡ get_or l k b
     any_default [] k a b lt = absurd (omega arith)
     any_default (x ∷ xs) zero a b lt = refl
     any_default (x ∷ xs) (suc k) a b lt = any_default xs k a b (omega (arith, lt))

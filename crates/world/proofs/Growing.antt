@@ -22,8 +22,10 @@ pub by_kind : (P : World → World → Type 0)
     → ((w v : World) (n : ℕ) → Stops w n v → P w v)
     → ((w v : World) (n : ℕ) → Restarts w n v → P w v)
     → (w v : World) (e : Event) → Happens w e v → P w v
-by_kind P step within stop restart w v (Claim n path host above) h = step w v (Claim n path host above) h
-by_kind P step within stop restart w v (Built n path packages) h = step w v (Built n path packages) h
+by_kind P step within stop restart w v (Claim n path host above) h =
+    step w v (Claim n path host above) h
+by_kind P step within stop restart w v (Built n path packages) h =
+    step w v (Built n path packages) h
 by_kind P step within stop restart w v (Failed n path) h = step w v (Failed n path) h
 by_kind P step within stop restart w v (Nudge n) h = step w v (Nudge n) h
 by_kind P step within stop restart w v (Ask n path) h = step w v (Ask n path) h
@@ -32,8 +34,8 @@ by_kind P step within stop restart w v (Stop n) h = stop w v n h
 by_kind P step within stop restart w v (StopIn e l) h = within w v e l h
 by_kind P step within stop restart w v (Restart n) h = restart w v n h
 
--- The later world has the tree, the units, the weights and the number of nodes of the earlier one; and what was sent and
--- agreed comes behind what was.
+-- The later world has the tree, the units, the weights and the number of nodes of the earlier one;
+-- and what was sent and agreed comes behind what was.
 pub record IsLater (w v : World) : Type 0 where
   pub division : v.division ≡ w.division
   pub weights : v.weights ≡ w.weights
@@ -42,14 +44,16 @@ pub record IsLater (w v : World) : Type 0 where
   pub agreed : IsBeginningOf w.agreed v.agreed
 
 -- the list after an event begins with the list before it
-with_build_longer : (list : List Content) (build : Value) → IsBeginningOf list (with_build list build)
+with_build_longer : (list : List Content) (build : Value)
+    → IsBeginningOf list (with_build list build)
 with_build_longer list build = by_case (list_any (λ r. has_path list r.path) build)
   where
     by_case : (b : Bool) → IsBeginningOf list (cond b list (list ++ build))
     by_case true = ([], sym (append-nil list))
     by_case false = (build, refl)
 
-pub list_longer : (w : World) (after : List Text) (list : List Content) → IsListAfter w after list → IsBeginningOf w.agreed list
+pub list_longer : (w : World) (after : List Text) (list : List Content) → IsListAfter w after list
+    → IsBeginningOf w.agreed list
 list_longer w after list (inl (build, decided, e)) =
     let g = with_build_longer w.agreed build in (g.0, e ∙ g.1)
 list_longer w after list (inr (none, e)) = ([], e ∙ sym (append-nil w.agreed))
@@ -92,7 +96,8 @@ same_later w v e = record {
 }
 
 -- what comes behind what came behind
-behind_again : {X : Type 0} (a b c : List X) → (more : List X) × (b ≡ a ++ more) → (more : List X) × (c ≡ b ++ more)
+behind_again : {X : Type 0} (a b c : List X) → (more : List X) × (b ≡ a ++ more) → (more : List X)
+    × (c ≡ b ++ more)
     → (more : List X) × (c ≡ a ++ more)
 behind_again a b c f s = (f.0 ++ s.0, s.1 ∙ ap (λ l. l ++ s.0) f.1 ∙ append_assoc a f.0 s.0)
 
@@ -114,9 +119,11 @@ leads_later w v (e ∷ es) l = then_later w l.0 v (event_later w l.0 e l.1) (lea
 -- What holds at the start and is left by each event holds at each moment.
 pub each_moment : (division : Division) (weights : List ℕ) (P : List Event → World → Type 0)
     → ((events : List Event) (w : World) → Leads (start division weights) events w → P events w)
-    → (events : List Event) (last : World) → Leads (start division weights) events last → AtEachMoment division weights events last P
+    → (events : List Event) (last : World) → Leads (start division weights) events last
+    → AtEachMoment division weights events last P
 each_moment division weights P each events last led early late e =
-    let parts = leads_in_parts (start division weights) last early late (subst (λ es. Leads (start division weights) es last) e led) in
+    let parts = leads_in_parts (start division weights) last early late
+        (subst (λ es. Leads (start division weights) es last) e led) in
     (parts.0, parts.1, parts.2, each early parts.0 parts.1)
 
 -- what is kept by each event is kept by events in turn
@@ -130,5 +137,6 @@ pub list_grows : (division : Division) (weights : List ℕ) (events : List Event
     → Leads (start division weights) events last
     → AtEachMoment division weights events last (λ early w. IsBeginningOf w.agreed last.agreed)
 list_grows division weights events last led early late e =
-    let parts = leads_in_parts (start division weights) last early late (subst (λ es. Leads (start division weights) es last) e led) in
+    let parts = leads_in_parts (start division weights) last early late
+        (subst (λ es. Leads (start division weights) es last) e led) in
     (parts.0, parts.1, parts.2, (leads_later parts.0 last late parts.2).agreed)

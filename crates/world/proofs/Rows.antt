@@ -40,14 +40,17 @@ module _ (d : Division) (path : Text) where
   no_stop_of_one_that_is_down : fault_before first_down (Stop 0) ≡ Some fault.NodeDown
   no_stop_of_one_that_is_down = refl
 
-  no_stop_inside_either : fault_before first_down (StopIn (Nudge 0) left.Whole) ≡ Some fault.NodeDown
+  no_stop_inside_either : fault_before first_down (StopIn (Nudge 0) left.Whole) ≡ Some
+      fault.NodeDown
   no_stop_inside_either = refl
 
   -- only a step may be cut short, and that comes before all else
-  no_stop_inside_a_restart : fault_before first_down (StopIn (Restart 7) left.None) ≡ Some (fault.BadTrace 0)
+  no_stop_inside_a_restart : fault_before first_down (StopIn (Restart 7) left.None) ≡ Some
+      (fault.BadTrace 0)
   no_stop_inside_a_restart = refl
 
-  no_stop_inside_a_stop : fault_before all_up (StopIn (StopIn (Nudge 0) left.None) left.None) ≡ Some (fault.BadTrace 0)
+  no_stop_inside_a_stop : fault_before all_up (StopIn (StopIn (Nudge 0) left.None) left.None) ≡ Some
+      (fault.BadTrace 0)
   no_stop_inside_a_stop = refl
 
   -- what the host is, the world doesn't test
@@ -58,7 +61,8 @@ module _ (d : Division) (path : Text) where
 sent_again : with_datagram ((1 ∷ []) ∷ (2 ∷ []) ∷ []) (1 ∷ []) ≡ (1 ∷ []) ∷ (2 ∷ []) ∷ []
 sent_again = refl
 
-sent_first : with_datagram ((1 ∷ []) ∷ (2 ∷ []) ∷ []) (1 ∷ 2 ∷ []) ≡ (1 ∷ []) ∷ (2 ∷ []) ∷ (1 ∷ 2 ∷ []) ∷ []
+sent_first : with_datagram ((1 ∷ []) ∷ (2 ∷ []) ∷ []) (1 ∷ 2 ∷ []) ≡ (1 ∷ []) ∷ (2 ∷ [])
+    ∷ (1 ∷ 2 ∷ []) ∷ []
 sent_first = refl
 
 -- where the third weighs more than the others together, its vote is enough

@@ -3,6 +3,7 @@ use Rattle.std.specs.Prelude.{◌≡◌, ◌⊎◌, ◌&&◌, ℕ, Bool, true, f
 use Rattle.faults.specs.Answers.{first_that_applies}
 use Rattle.faults.specs.Bytes.{Text}
 use Rattle.ballots.specs.declared.message.Note.{Note}
+use Rattle.package_record.specs.Content.{Content}
 use Rattle.protocol.specs.State.{Value}
 use Rattle.protocol.specs.declared.input.Input.TheVariants as inputs
 use Rattle.node.specs.OnLog.{IsFull}
@@ -39,7 +40,8 @@ pub record IsUp (w : World) (e : Event) (x : WorldNode) : Type 0 where
   pub stands : slice_get w.nodes (node_of e) ≡ Some x
   pub up : x.up ≡ true
 
--- The event's node is up, and this is its step on what the event asks. A host has a number of 16 bits.
+-- The event's node is up, and this is its step on what the event asks. A host has a number of 16
+-- bits.
 pub record Acts (w : World) (e : Event) (x : WorldNode) (t : Taken) : Type 0 where
   pub is_up : IsUp w e x
   pub asked : Asked
@@ -49,6 +51,13 @@ pub record Acts (w : World) (e : Event) (x : WorldNode) (t : Taken) : Type 0 whe
 
 -- ---- what it leaves
 
+-- the world once node k took this step, where the list is this one then
+abbrev pub stepped : World → ℕ → WorldNode → Taken → List Content → World
+stepped w k x t list = record (with_node w k (up_node (after (node_at w k x) t))) {
+  sent = with_sends w.sent t.answer.sends;
+  agreed = list;
+}
+
 -- The whole step: the note stands, the datagrams are sent, and the list goes on.
 pub record Steps (w : World) (e : Event) (w' : World) : Type 0 where
   pub node : WorldNode
@@ -56,7 +65,7 @@ pub record Steps (w : World) (e : Event) (w' : World) : Type 0 where
   pub acts : Acts w e node taken
   pub room : ¬ IsFull (node_at w (node_of e) node) taken.answer.note
   pub list : IsListAfter w (with_sends w.sent taken.answer.sends) w'.agreed
-  pub leaves : w' ≡ record (with_node w (node_of e) (up_node (after (node_at w (node_of e) node) taken))) { sent = with_sends w.sent taken.answer.sends; agreed = w'.agreed }
+  pub leaves : w' ≡ stepped w (node_of e) node taken w'.agreed
 
 -- the node where it stopped inside a step with this note, and that much was left of it
 abbrev pub left_node : Left → List (Note Value) → Option (Note Value) → WorldNode
@@ -199,7 +208,8 @@ pub record LogIsFull (w : World) (e : Event) : Type 0 where
 -- the node refuses the event with this
 abbrev pub IsRefusedByNode : World → Event → WorldFault → Type 0
 IsRefusedByNode w e f =
-    ((r : NodeFault) × NodeRefuses w e r × (f ≡ fault.Node r)) ⊎ (LogIsFull w e × (f ≡ fault.Node (node_fault.Log Full)))
+    ((r : NodeFault) × NodeRefuses w e r × (f ≡ fault.Node r))
+    ⊎ (LogIsFull w e × (f ≡ fault.Node (node_fault.Log Full)))
 
 -- the event is refused with this
 abbrev pub IsRefused : World → Event → WorldFault → Type 0

@@ -32,8 +32,8 @@ pub record IsDecidedFor (w : World) (after : List Text) (build : Value) : Type 0
   pub decided : IsDecided w after name claim
   pub proposed : WasProposed w after name claim build
 
--- The list after an event that left these datagrams: it has the build of the claim that was decided, and without such a
--- claim it stays.
+-- The list after an event that left these datagrams: it has the build of the claim that was
+-- decided, and without such a claim it stays.
 abbrev pub IsListAfter : World → List Text → List Content → Type 0
 IsListAfter w after list =
     ((build : Value) × IsDecidedFor w after build × (list ≡ with_build w.agreed build))

@@ -15,7 +15,8 @@ use Rattle.wire.specs.Messages.{IsMessage}
 use Rattle.world.specs.World.{World}
 use Rattle.std.specs.Prelude.{Option}
 
--- A message was sent: all its datagrams were. (Numbers out of their range would share their bytes with others.)
+-- A message was sent: all its datagrams were. (Numbers out of their range would share their bytes
+-- with others.)
 pub record WasSent (sent : List Text) (m : Message Value) : Type 0 where
   pub is_message : IsMessage m
   pub went_out : list_all (is_among sent) (datagrams_of m) ≡ true
@@ -30,7 +31,8 @@ with_sends sent sends = fold with_datagram sent (map (λ s. s.1) (datagrams_to s
 
 -- what a member of the world says about the unit of this name
 abbrev pub message : World → Text → ℕ → Body Value → Message Value
-message w name m body = record { sender = m; tree = tree_digest w.division.tree; path = name; body = body }
+message w name m body =
+    record { sender = m; tree = tree_digest w.division.tree; path = name; body = body }
 
 -- the members from which a vote for the claim of the unit of this name was sent
 abbrev pub voters : World → List Text → Text → Claim → Members

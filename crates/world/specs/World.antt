@@ -53,15 +53,18 @@ member_at w k x = record (restored (fresh w.division w.weights k) x.notes) { cla
 
 -- the node as its own contracts see it
 abbrev pub node_at : World → ℕ → WorldNode → NodeState
-node_at w k x = record { member = member_at w k x; notes = x.notes; pieces = x.pieces; stopped = false }
+node_at w k x =
+    record { member = member_at w k x; notes = x.notes; pieces = x.pieces; stopped = false }
 
 -- a node that is up
 abbrev pub up_node : NodeState → WorldNode
-up_node n = record { notes = n.notes; behind = []; up = true; claim = n.member.claim; pieces = n.pieces }
+up_node n =
+    record { notes = n.notes; behind = []; up = true; claim = n.member.claim; pieces = n.pieces }
 
 -- a node that is down: it keeps nothing but its notes, and what a torn write left behind them
 abbrev pub down_node : List (Note Value) → Text → WorldNode
-down_node notes behind = record { notes = notes; behind = behind; up = false; claim = None; pieces = [] }
+down_node notes behind =
+    record { notes = notes; behind = behind; up = false; claim = None; pieces = [] }
 
 -- a node that started again: it has its notes, and what a torn write left is cut off
 abbrev pub restarted_node : List (Note Value) → WorldNode

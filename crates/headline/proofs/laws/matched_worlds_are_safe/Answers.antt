@@ -11,4 +11,5 @@ returns-clause-votes c = λ division weights acts w made of m. (
 )
 
 pub returns-clause-held : goal.returns-clause-held
-returns-clause-held c = λ division weights acts w made of local m. held_is_listed division weights acts w made of m local
+returns-clause-held c = λ division weights acts w made of local m. held_is_listed division weights
+    acts w made of m local
