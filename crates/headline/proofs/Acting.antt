@@ -18,15 +18,15 @@ module _ (V : Type 0) (enough : Quorums) where
       → (after_event enough u (Stop i)).members i ≡ down (u.members i)
   stop_here u i up =
       ap (λ b. (after_any u i (when b (Some (still (down (u.members i)))))).members i) up
-          ∙ put_same u.members i (down (u.members i))
+      ∙ put_same u.members i (down (u.members i))
 
   pub restart_here : (u : World V) (i : ℕ) → (u.members i).up ≡ false
       → (after_event enough u (Restart i)).members i ≡
       record (u.members i) { up = true; stage = Closed }
   restart_here u i up =
       ap (λ b.
-          (after_any u i (when (not b)
-          (Some (still (record (u.members i) { up = true; stage = Closed }))))).members i) up
+      (after_any u i (when (not b)
+      (Some (still (record (u.members i) { up = true; stage = Closed }))))).members i) up
       ∙ put_same u.members i _
 
   -- one after the other, they only drop the open claim
@@ -36,7 +36,7 @@ module _ (V : Type 0) (enough : Quorums) where
   dropped_here u i up =
       let s = stop_here u i up in
       restart_here (after_event enough u (Stop i)) i (ap (λ m. m.up) s)
-          ∙ ap (λ (m : Member V). record m { up = true; stage = Closed }) s
+      ∙ ap (λ (m : Member V). record m { up = true; stage = Closed }) s
 
   -- ---- what an event is elsewhere
 
@@ -49,7 +49,7 @@ module _ (V : Type 0) (enough : Quorums) where
       → (after_any w i (when b (Some (still y)))).logs j ≡ w.logs j
   silent_logs w i j b y =
       cond_both b (Some (still y)) None (λ o. (after_any w i o).logs j ≡ w.logs j)
-          (λ e. put_again w.logs i j) (λ e. refl)
+      (λ e. put_again w.logs i j) (λ e. refl)
 
   pub elsewhere_logs : (w : World V) (e : Event V) (j : ℕ)
       → (run enough (elsewhere e) w).logs j ≡ w.logs j
@@ -72,7 +72,7 @@ module _ (V : Type 0) (enough : Quorums) where
       → after_act enough may c (record { path = p; event = e }) ≡ cluster_after enough c p e
   act_is may c p e o a s =
       cond-true (may_happen may c p e && is_some (outcome enough (c.at p) e))
-          (cluster_after enough c p e) c (and_from _ _ a (ap is_some s))
+      (cluster_after enough c p e) c (and_from _ _ a (ap is_some s))
 
   -- at its path
   pub at_here : (c : Cluster V) (p : ℕ) (e : Event V) (o : Outcome V)
@@ -80,7 +80,7 @@ module _ (V : Type 0) (enough : Quorums) where
       → (cluster_after enough c p e).at p ≡ after (c.at p) (member_of e) o
   at_here c p e o s =
       cond-true (eqb p p) (after_event enough (c.at p) e) (run enough (elsewhere e) (c.at p))
-          (eq-eqb p p refl)
+      (eq-eqb p p refl)
       ∙ ap (after_any (c.at p) (member_of e)) s
 
   -- and at the others
@@ -88,7 +88,7 @@ module _ (V : Type 0) (enough : Quorums) where
       → (cluster_after enough c p e).at q ≡ run enough (elsewhere e) (c.at q)
   at_there c p q e ne =
       cond-false (eqb q p) (after_event enough (c.at q) e) (run enough (elsewhere e) (c.at q))
-          (ne_eqb q p ne)
+      (ne_eqb q p ne)
 
   -- ---- the list
 
@@ -109,7 +109,7 @@ module _ (V : Type 0) (enough : Quorums) where
   list_stays quorums c p e o value s none =
       let sent : (after_event enough (c.at p) e).sent ≡ (c.at p).sent =
       ap (λ w. w.sent) (ap (after_any (c.at p) (member_of e)) s)
-          ∙ ap (λ x. add_sent x (c.at p).sent) none in
+      ∙ ap (λ x. add_sent x (c.at p).sent) none in
       ap (λ all. list_with p c.list (lookup c.list p) (decided_value enough all all)) sent
       ∙ settled quorums (c.at p) p c.list (lookup c.list p)
       (decided_value enough (c.at p).sent (c.at p).sent) value refl

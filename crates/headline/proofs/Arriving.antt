@@ -41,7 +41,7 @@ use Rattle.node.specs.Kept.{are_all, has_number}
 carriers_same : (a b : Carrier) → same_carrier a b ≡ true → a ≡ b
 carriers_same (carriers.Promise c d) (carriers.Promise e f) h =
     let p = and_parts (claim_same c e) (claim_same d f) h in ap₂ carriers.Promise
-        (claim_same_true c e p.0) (claim_same_true d f p.1)
+    (claim_same_true c e p.0) (claim_same_true d f p.1)
 carriers_same (carriers.Promise c d) (carriers.Propose e) h = absurd (true≢false (sym h))
 carriers_same (carriers.Promise c d) carriers.Agreed h = absurd (true≢false (sym h))
 carriers_same (carriers.Propose c) (carriers.Promise e f) h = absurd (true≢false (sym h))
@@ -63,8 +63,14 @@ headers_same a b h =
     let path = same_bytes a.path b.path c.1 in
     let carrier = carriers_same a.carrier b.carrier d.1 in
     let size = eqb-true a.length b.length e.1 in
-    λ i. record { sender = sender i; tree = tree i; path = path i; carrier = carrier i; length =
-        size i }
+    λ i. record {
+      sender = sender i;
+      tree = tree i;
+      path = path i;
+      carrier = carrier i;
+      length =
+          size i;
+    }
 
 -- ---- the only one that passes
 
@@ -87,7 +93,7 @@ only_passes {X} t (y ∷ ys) x (zero, within, e) on once =
     ∙ ap (λ (z : X). z ∷ []) e
 only_passes {X} t (y ∷ ys) x (suc k, within, e) on once =
     let off : t y ≡ false = false_from_ne_true (t y)
-        (λ also. once 0 (suc k) x (omega arith) within also (ap t e ∙ on)) in
+    (λ also. once 0 (suc k) x (omega arith) within also (ap t e ∙ on)) in
     ap (λ b. cond b (y ∷ filter t ys) (filter t ys)) off
     ∙ only_passes t ys x (k, omega (arith, within), e) on
     (λ i j d lt l. once (suc i) (suc j) d (omega (arith, lt)) (omega (arith, l)))
@@ -114,18 +120,22 @@ module _ (division : Division) (weights : List ℕ) (acts : List (Act Value)) (w
       let s = m.sent text h in
       let p = has_preimage datagram_text (split_of s.message) text s.datagram in
       let same : p.0 ≡ d = ok_same p.0 d (sym
-          (datagram_again p.0 (All-contains IsDatagram (split_of s.message) p.0
-          (split_good s.message s.went_out.is_message) p.1))
+      (datagram_again p.0 (All-contains IsDatagram (split_of s.message) p.0
+      (split_good s.message s.went_out.is_message) p.1))
       ∙ ap datagram_of (sym p.2) ∙ e) in
-      record { message = s.message; is_sent = s.went_out; datagram =
-          subst (Contains (split_of s.message)) same p.1 }
+      record {
+        message = s.message;
+        is_sent = s.went_out;
+        datagram =
+            subst (Contains (split_of s.message)) same p.1;
+      }
 
   -- a message that comes in one datagram was sent
   pub whole_came : (text : Text) (n : Message Value) → datagram_of text ≡ ok (datagrams.Whole n)
       → Contains w.sent text → WasSent w.sent n
   whole_came text n e h =
       let c = read_as text (datagrams.Whole n) e h in by c.message c.is_sent
-          (carried_in c.message.body) refl c.datagram
+      (carried_in c.message.body) refl c.datagram
     where
       whole_same : (a b : Message Value) → datagrams.Whole a ≡ datagrams.Whole b → a ≡ b
       whole_same a b h = cc
@@ -144,8 +154,8 @@ module _ (division : Division) (weights : List ℕ) (acts : List (Act Value)) (w
           (whole_same a n (only (datagrams.Whole a) (datagrams.Whole n) d)) s
       by a s (Some x) is d =
           let p = has_preimage (λ k. datagrams.Piece
-              (piece_at (header_with a x.0 x.1) (build_text x.1) k))
-              (numbers_of (length (build_text x.1))) (datagrams.Whole n) d in
+          (piece_at (header_with a x.0 x.1) (build_text x.1) k))
+          (numbers_of (length (build_text x.1))) (datagrams.Whole n) d in
           absurd (no_piece _ p.2)
 
   -- ---- pieces that were all kept
@@ -185,16 +195,16 @@ module _ (division : Division) (weights : List ℕ) (acts : List (Act Value)) (w
     is_piece_at : (q : Piece) → Contains pieces q → q.header ≡ h → q ≡ piece_at h text q.number
     is_piece_at q there e =
         let split : split_of origin.message ≡ pieces_of
-            (header_with origin.message origin_carries.carrier origin_carries.build) text =
+        (header_with origin.message origin_carries.carrier origin_carries.build) text =
         ap (split_by origin.message) origin_carries.carried in
         let member = subst (λ ds. Contains ds (datagrams.Piece q)) split (of_origin q there e) in
         let p = has_preimage (λ k. datagrams.Piece
-            (piece_at (header_with origin.message origin_carries.carrier origin_carries.build) text
-            k))
+        (piece_at (header_with origin.message origin_carries.carrier origin_carries.build) text
+        k))
         (numbers_of (length text)) (datagrams.Piece q) member in
         let same = piece_same q (piece_at
-            (header_with origin.message origin_carries.carrier origin_carries.build) text p.0)
-            p.2 in
+        (header_with origin.message origin_carries.carrier origin_carries.build) text p.0)
+        p.2 in
         let number : p.0 ≡ q.number = sym (ap (λ (x : Piece). x.number) same) in
         same ∙ ap (λ k. piece_at k text p.0) origin_carries.header ∙ ap (piece_at h text) number
       where
@@ -211,9 +221,9 @@ module _ (division : Division) (weights : List ℕ) (acts : List (Act Value)) (w
         let number : q.number ≡ k = eqb-true q.number k parts.0 in
         let contained : Contains pieces q = (a.0, a.2, a.3) in
         let same : q ≡ piece_at h text k = is_piece_at q contained (sym header)
-            ∙ ap (piece_at h text) number in
+        ∙ ap (piece_at h text) number in
         only_passes (is_numbered h k) pieces (piece_at h text k)
-            (subst (Contains pieces) same contained)
+        (subst (Contains pieces) same contained)
         (subst (λ (p : Piece). is_numbered h k p ≡ true) same a.4) (no_two k)
       where
         no_two : (k : ℕ) → AllPairs (λ a b. is_numbered h k a ≡ true → is_numbered h k b ≡ true → ⊥)
@@ -224,7 +234,7 @@ module _ (division : Division) (weights : List ℕ) (acts : List (Act Value)) (w
             let header : h ≡ q.header = headers_same h q.header parts.1 in
             let number : k ≡ q.number = sym (eqb-true q.number k parts.0) in
             true≢false (sym
-                (subst (λ (n : ℕ). is_numbered q.header n (get_or pieces i d) ≡ true) number
+            (subst (λ (n : ℕ). is_numbered q.header n (get_or pieces i d) ≡ true) number
             (subst (λ (x : Header). is_numbered x k (get_or pieces i d) ≡ true) header first))
             ∙ once i j d lt l)
 

@@ -45,7 +45,7 @@ pub taken_is : (pieces : List Piece) (r : Result Answer Refusal) (t : Taken) →
     → r ≡ answers_with t.answer
 taken_is pieces (Ok a) t e =
     let same : t ≡ record { answer = a; pieces = pieces } =
-        ok_same t (record { answer = a; pieces = pieces }) e in
+    ok_same t (record { answer = a; pieces = pieces }) e in
     ap (λ (z : Taken). answers_with z.answer) (sym same)
 taken_is pieces (Err r) t e = absurd (never_ok t _ e)
 

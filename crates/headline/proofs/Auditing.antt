@@ -1,7 +1,7 @@
 -- An audit of the list says yes.
-use Rattle.std.proofs.Common.{◌≡◌, ◌≢◌, ◌<◌, ℕ, zero, suc, List, [], ◌∷◌, ◌++◌, length, map, get_or, None, Some, append_assoc, append-nil, refl, sym, ap, subst, ◌∙◌, arith}
+use Rattle.std.proofs.Common.{◌≡◌, ◌≢◌, ◌<◌, ℕ, zero, suc, List, [], ◌∷◌, ◌++◌, length, map, get_or, None, Some, append_assoc, append-nil, refl, sym, ap, subst, arith}
 use Rattle.std.specs.Prelude.{All, AllPairs, Any, Contains}
-use Rattle.std.proofs.lemmas.List.{length-append, map-append}
+use Rattle.std.proofs.lemmas.List.{map-append}
 use Rattle.std.proofs.lemmas.List.Elements.{All-map, All-weaker, Contains-append_left, Contains-append_right}
 use Rattle.faults.specs.Bytes.{Text}
 use Rattle.agreement.specs.AgreedList.{Entry, IsAllowed, lookup}
@@ -47,11 +47,11 @@ others_before : (done : List Content) (r : Content) (rest : List Content)
 others_before [] r rest one k d lt = absurd (omega (arith, lt))
 others_before (c ∷ cs) r rest one zero d lt =
     first_of_pairs ◌≢◌ c.path (paths_of (cs ++ r ∷ rest)) one r.path
-        (image (λ (c : Content). c.path) (cs ++ r ∷ rest) r
+    (image (λ (c : Content). c.path) (cs ++ r ∷ rest) r
     (Contains-append_right cs (r ∷ rest) r (zero, omega arith, refl)))
 others_before (c ∷ cs) r rest one (suc k) d lt =
     others_before cs r rest (rest_of_pairs ◌≢◌ c.path (paths_of (cs ++ r ∷ rest)) one) k d
-        (omega (arith, lt))
+    (omega (arith, lt))
 
 -- the paths of the first part differ
 first_part : (done rest : List Content) → AllPairs ◌≢◌ (paths_of (done ++ rest))
@@ -60,7 +60,7 @@ first_part [] rest one i j d lt within = absurd (omega (arith, within))
 first_part (c ∷ cs) rest one zero zero d lt within = absurd (omega (arith, lt))
 first_part (c ∷ cs) rest one zero (suc j) d lt within =
     first_of_pairs ◌≢◌ c.path (paths_of (cs ++ rest)) one (get_or (paths_of cs) j d)
-        (there cs rest j d (omega (arith, within)))
+    (there cs rest j d (omega (arith, within)))
   where
     there : (cs rest : List Content) (j : ℕ) (d : Text) → j < length (paths_of cs)
         → Contains (paths_of (cs ++ rest)) (get_or (paths_of cs) j d)
@@ -71,7 +71,7 @@ first_part (c ∷ cs) rest one zero (suc j) d lt within =
 first_part (c ∷ cs) rest one (suc i) zero d lt within = absurd (omega (arith, lt))
 first_part (c ∷ cs) rest one (suc i) (suc j) d lt within =
     first_part cs rest (rest_of_pairs ◌≢◌ c.path (paths_of (cs ++ rest)) one) i j d
-        (omega (arith, lt)) (omega (arith, within))
+    (omega (arith, lt)) (omega (arith, within))
 
 -- ---- entries one by one
 
@@ -84,8 +84,12 @@ signed_entry done d (c, there, same) =
       entry_of c,
       i.1,
       i.2,
-      record { path = ap (λ (d : Dep). d.path) same; name = ap (λ (d : Dep). d.name) same; digest =
-          ap (λ (d : Dep). d.digest) same },
+      record {
+        path = ap (λ (d : Dep). d.path) same;
+        name = ap (λ (d : Dep). d.name) same;
+        digest =
+            ap (λ (d : Dep). d.digest) same;
+      },
     )
 
 more_signed : (done : List Content) (r : Content) (d : Dep) → HasSignature done d
@@ -105,20 +109,22 @@ extend tree done [] ok one each =
 extend tree done (r ∷ rs) ok one each =
     let mine = each r (zero, omega arith, refl) in
     let new : IsNew (map entry_of done) r.path = All-map (λ (e : audited.Entry). e.path ≢ r.path)
-        entry_of done (others_before done r rs one) in
+    entry_of done (others_before done r rs one) in
     let stood : StoodEarlier (map entry_of done) r.built =
     All-weaker (HasSignature done) (λ d. Any (IsSignatureOf d) (map entry_of done))
-        (signed_entry done) r.built mine.1 in
+    (signed_entry done) r.built mine.1 in
     let follows = may_follow_if_fits tree (map entry_of done) (entry_of r) r.run mine.0 new stood in
     let more : audit.IsAllowed tree (map entry_of (done ++ r ∷ [])) =
     subst (audit.IsAllowed tree) (sym (map-append entry_of done (r ∷ [])))
-        (extended tree (map entry_of done) (entry_of r) ok follows) in
+    (extended tree (map entry_of done) (entry_of r) ok follows) in
     subst (λ l. audit.IsAllowed tree (map entry_of l)) (append_assoc done (r ∷ []) rs)
     (extend tree (done ++ r ∷ []) rs more (subst (λ l. AllPairs ◌≢◌ (paths_of l))
     (sym (append_assoc done (r ∷ []) rs)) one)
-    (λ q h. let its = each q (suc h.0, omega (arith, h.1), h.2) in
-    (its.0, All-weaker (HasSignature done) (HasSignature (done ++ r ∷ [])) (more_signed done r)
-    q.built its.1)))
+    (λ q h. let its = each q (suc h.0, omega (arith, h.1), h.2) in (
+      its.0,
+      All-weaker (HasSignature done) (HasSignature (done ++ r ∷ [])) (more_signed done r)
+          q.built its.1,
+    )))
 
 -- So an audit of what stands in allowed entries says yes.
 pub audit_says_yes : (division : Division) → IsDivision division → (list : List (Entry Value))

@@ -1,10 +1,10 @@
 -- What a member builds for its open claim may be built on what it holds.
 use Rattle.std.proofs.Common.{◌≡◌, ◌<◌, ◌&&◌, ℕ, zero, suc, Bool, true, false, List, [], ◌∷◌, length, map, Option, None, Some, find, option_and_then, slice_get, eqb, eqb-true, refl, sym, ap, subst, ◌∙◌, arith}
 use Rattle.std.specs.Prelude.{All, Contains, is_some}
-use Rattle.std.specs.List.{list_all, list_any}
+use Rattle.std.specs.List.{list_all}
 use Rattle.std.specs.Str.{bytes_eq}
 use Rattle.std.proofs.lemmas.Bool.{and_from, cond_both, true≢false}
-use Rattle.std.proofs.lemmas.List.Elements.{All-contains, All-weaker}
+use Rattle.std.proofs.lemmas.List.Elements.{All-contains}
 use Rattle.std.proofs.lemmas.List.Folds.{list_any_at}
 use Rattle.std.proofs.lemmas.List.Quantifiers.{position-Some}
 use Rattle.faults.specs.Bytes.{Text}
@@ -17,13 +17,13 @@ use Rattle.agreement.proofs.AgreedList.{held_listed}
 use Rattle.agreement.proofs.Majorities.{majorities}
 use Rattle.claims.specs.Job.{Task}
 use Rattle.claims.specs.declared.deps.Dep.{Dep}
-use Rattle.listing.specs.Tree.{ArePositions, Tree, path_at, position_of}
+use Rattle.listing.specs.Tree.{path_at}
 use Rattle.package_record.specs.Content.{Content}
 use Rattle.protocol.specs.Given.{Given}
 use Rattle.protocol.specs.Jobs.{build_by, deps_of, job_of, record_by, signature}
 use Rattle.protocol.specs.State.{State, Value, facts_at, held_record, holds_package, is_held_any, record_in, unit_with}
 use Rattle.protocol.proofs.HeldRecords.{builds_stand, jobs_have_all}
-use Rattle.units.specs.Division.{Division, IsDivision, no_unit, number_of, unit_at}
+use Rattle.units.specs.Division.{Division, no_unit, number_of, unit_at}
 use Rattle.units.specs.Units.{Unit, is_in}
 use Rattle.units.proofs.Kept.{unit_good}
 use Rattle.units.proofs.Lists.{in_contains}
@@ -37,7 +37,7 @@ use Rattle.headline.proofs.Cutting.{made_here}
 use Rattle.headline.proofs.Headers.{in_order}
 use Rattle.headline.proofs.Holding.{find_is, held_within}
 use Rattle.headline.proofs.Monotone.{needs_are_monotone}
-use Rattle.headline.proofs.Recorded.{IsRecordOf, are_records, has_record, record_told}
+use Rattle.headline.proofs.Recorded.{are_records, has_record, record_told}
 use Rattle.headline.proofs.Speaking.{passes}
 
 -- what passes is found
@@ -52,12 +52,17 @@ find_some {X} t (y ∷ ys) x h on = by (t y) refl (λ off. find_some t ys x (lat
 
     by : (b : Bool) → t y ≡ b → (t y ≡ false → (z : X) × (find t ys ≡ Some z)) → (z : X)
         × (find t (y ∷ ys) ≡ Some z)
-    by true e rest = (y, cond_both (t y) (Some y) (find t ys) (λ o. o ≡ Some y) (λ on. refl)
-        (λ off. absurd (true≢false (sym e ∙ off))))
+    by true e rest = (
+      y,
+      cond_both (t y) (Some y) (find t ys) (λ o. o ≡ Some y) (λ on. refl)
+          (λ off. absurd (true≢false (sym e ∙ off))),
+    )
     by false e rest =
-        let r = rest e in
-        (r.0, cond_both (t y) (Some y) (find t ys) (λ o. o ≡ Some r.0)
-        (λ on. absurd (true≢false (sym on ∙ e))) (λ off. r.1))
+        let r = rest e in (
+          r.0,
+          cond_both (t y) (Some y) (find t ys) (λ o. o ≡ Some r.0)
+              (λ on. absurd (true≢false (sym on ∙ e))) (λ off. r.1),
+        )
 
 -- each entry was allowed
 entry_allowed : (may : Needs Value) (list : List (Entry Value)) (u : ℕ) (v : Value)
@@ -66,9 +71,12 @@ entry_allowed : (may : Needs Value) (list : List (Entry Value)) (u : ℕ) (v : V
 entry_allowed may [] u v allowed e = absurd (let no : None ≡ Some v = e in cc)
 entry_allowed may (n ∷ ns) u v allowed e =
     cond_both (eqb n.path u) (Some n.value) (lookup ns u)
-        (λ o. o ≡ Some v → (f : ℕ → Option Value) × (may f u v ≡ true))
-    (λ same h. (lookup ns, subst (λ x. may (lookup ns) u x ≡ true) (value_is n.value v h)
-    (subst (λ p. may (lookup ns) p n.value ≡ true) (eqb-true n.path u same) allowed.1)))
+    (λ o. o ≡ Some v → (f : ℕ → Option Value) × (may f u v ≡ true))
+    (λ same h. (
+      lookup ns,
+      subst (λ x. may (lookup ns) u x ≡ true) (value_is n.value v h)
+          (subst (λ p. may (lookup ns) p n.value ≡ true) (eqb-true n.path u same) allowed.1),
+    ))
     (λ other h. entry_allowed may ns u v allowed.2 h) e
   where
     value_is : (a b : Value) → Some a ≡ Some b → a ≡ b
@@ -111,12 +119,12 @@ module _ (division : Division) (weights : List ℕ) (acts : List (Act Value)) (w
   held_records q v e =
       let o = in_order division weights acts w made of m in
       let listed = held_listed Value (is_majority weights) (majorities weights) (may_build division)
-          (needs_are_monotone division)
+      (needs_are_monotone division)
       (WasBuilt (is_majority weights) (may_build division) acts beginning) here o k q v
       (held_there q v e) in
       let a = entry_allowed (may_build division) here.list q v o.allowed listed in
       subst (λ (d : Division). are_records_of d.tree (unit_at d q) (unit_at d q).packages v ≡ true)
-          (sym of.0) (are_records division made.divided a.0 q v a.1)
+      (sym of.0) (are_records division made.divided a.0 q v a.1)
 
   -- so a package that it holds has a record there
   pub has_its_record : (p : ℕ) → p < length w.division.tree → holds_package s p ≡ true
@@ -137,12 +145,14 @@ module _ (division : Division) (weights : List ℕ) (acts : List (Act Value)) (w
       of_build q e (Some v) is some =
           let at = position-Some (λ (u : Unit). is_in u.packages p) w.division.units q no_unit e in
           let r = has_record w.division.tree (unit_at w.division q) (unit_at w.division q).packages
-              v (held_records q v is) p
+          v (held_records q v is) p
           (in_contains (unit_at w.division q).packages p at.1) in
           let f = find_some (λ (c : Content). bytes_eq c.path path) v r.0 r.1
-              (equal_bytes (r.0).path path (r.2).path) in
-          (f.0, ap (option_and_then (λ u. option_and_then (record_in path) (facts_at s u).held))
-          (found ∙ e) ∙ ap (option_and_then (record_in path)) is ∙ f.1)
+          (equal_bytes (r.0).path path (r.2).path) in (
+            f.0,
+            ap (option_and_then (λ u. option_and_then (record_in path) (facts_at s u).held))
+                (found ∙ e) ∙ ap (option_and_then (record_in path)) is ∙ f.1,
+          )
 
       by : (o : Option ℕ) → number_of w.division p ≡ o → is_held_any s o ≡ true → (r : Content)
           × (held_record s path ≡ Some r)
@@ -160,7 +170,7 @@ module _ (division : Division) (weights : List ℕ) (acts : List (Act Value)) (w
         (map (path_at w.division.tree) (unit_at w.division u).build)
     signs_all = jobs_have_all s u (λ i d lt.
         has_its_record _ ((unit_good w.division u its_made.divided within).needs.within i d lt)
-            (ready i d lt))
+        (ready i d lt))
 
     -- so the records are those of the unit's packages
     recorded : (ps : List ℕ) → are_records_of w.division.tree (unit_at w.division u) ps
@@ -168,9 +178,9 @@ module _ (division : Division) (weights : List ℕ) (acts : List (Act Value)) (w
     recorded [] = refl
     recorded (p ∷ ps) =
         and_from (is_record_of w.division.tree (unit_at w.division u) p
-            (record_by w.division.tree job given p))
-            (are_records_of w.division.tree (unit_at w.division u) ps
-            (map (record_by w.division.tree job given) ps))
+        (record_by w.division.tree job given p))
+        (are_records_of w.division.tree (unit_at w.division u) ps
+        (map (record_by w.division.tree job given) ps))
         (record_told w.division.tree (unit_at w.division u) p
         (record_by w.division.tree job given p)
         (record { path = refl; name = refl; built = signs_all; run = refl }))
@@ -202,8 +212,8 @@ module _ (division : Division) (weights : List ℕ) (acts : List (Act Value)) (w
     stand [] = refl
     stand (p ∷ ps) =
         and_from (stands_on w.division (held_by here k) (record_by w.division.tree job given p))
-            (list_all (stands_on w.division (held_by here k))
-            (map (record_by w.division.tree job given) ps))
+        (list_all (stands_on w.division (held_by here k))
+        (map (record_by w.division.tree job given) ps))
         (passes (λ d. is_signed (option_and_then (held_by here k) (unit_with w.division d.path)) d)
         (deps_of s u)
         (λ d h. let b = All-contains (λ d. (r : Content) × (held_record s d.path ≡ Some r)

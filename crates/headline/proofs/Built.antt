@@ -1,7 +1,7 @@
 -- Each package of the list was built by an event: under a claim for its unit, on packages that
 -- stood in the list.
-use Rattle.std.proofs.Common.{◌≡◌, ◌<◌, ◌==◌, ℕ, zero, suc, List, [], ◌∷◌, length, Option, None, Some, eqb, eqb-true, refl, sym, ap, subst, ◌∙◌, arith}
-use Rattle.std.specs.Prelude.{All, Contains, map}
+use Rattle.std.proofs.Common.{◌≡◌, ◌<◌, ℕ, suc, List, [], ◌∷◌, length, None, Some, eqb, eqb-true, sym, ap, subst, arith}
+use Rattle.std.specs.Prelude.{All, Contains}
 use Rattle.std.proofs.lemmas.Bool.{cond_both}
 use Rattle.std.proofs.lemmas.List.{get_or_default}
 use Rattle.agreement.specs.AgreedList.{Act, Cluster, Entry, WasBuilt as WasBuiltInActs, beginning, lookup}
@@ -11,16 +11,15 @@ use Rattle.agreement.proofs.Majorities.{majorities}
 use Rattle.node.specs.Events.{Event}
 use Rattle.package_record.specs.Content.{Content}
 use Rattle.protocol.specs.Jobs.{job_of, record_by}
-use Rattle.protocol.specs.State.{Building, Value}
+use Rattle.protocol.specs.State.{Value}
 use Rattle.units.specs.Division.{Division, IsDivision, unit_at}
 use Rattle.units.proofs.Kept.{unit_listed}
 use Rattle.units.proofs.Places.{has_position}
-use Rattle.world.specs.Happening.{Leads}
-use Rattle.world.specs.Headline.{Builds, HasSignature, WasBuilt}
+use Rattle.world.specs.Headline.{HasSignature, WasBuilt}
 use Rattle.world.specs.World.{IsMade, World, member_at, start}
 use Rattle.world.proofs.Growing.{leads_later}
 use Rattle.headline.specs.Matches.{Matches, packages_of}
-use Rattle.headline.specs.Mirrored.{MakesBuild, Mirrors, after_all_acts}
+use Rattle.headline.specs.Mirrored.{Mirrors, after_all_acts}
 use Rattle.headline.specs.Needs.{may_build}
 use Rattle.headline.proofs.Headers.{in_order}
 use Rattle.headline.proofs.Listed.{of_entry, stands_listed}
@@ -43,7 +42,7 @@ module _ (division : Division) (weights : List ℕ) (made : IsMade division weig
       → Mirrors division weights events w acts → (w.division ≡ division) × (w.weights ≡ weights)
   of_run events w acts mirrors =
       let later = leads_later (start division weights) w events
-          (mirrors_lead division weights events w acts mirrors) in (later.division, later.weights)
+      (mirrors_lead division weights events w acts mirrors) in (later.division, later.weights)
 
   -- a record of what was made was built
   record_built : (events : List Event) (u : ℕ) (build : Value)
@@ -121,16 +120,20 @@ module _ (division : Division) (weights : List ℕ) (made : IsMade division weig
           let o = in_order division weights acts w made of m in
           let n = of_entry division (after_all_acts division weights acts).list o.allowed r h in
           let fine = listed_fine Value (is_majority weights) (majorities weights)
-              (may_build division) (needs_are_monotone division)
+          (may_build division) (needs_are_monotone division)
           (WasBuiltInActs (is_majority weights) (may_build division) acts beginning)
           (after_all_acts division weights acts) o n.unit n.build n.entry in
           let within = entry_within (length w.division.units)
-              (after_all_acts division weights acts).list n.unit n.build m.units n.entry in
+          (after_all_acts division weights acts).list n.unit n.build m.units n.entry in
           record_built events n.unit n.build (built_was_made division weights events w acts mirrors
-              n.unit n.build fine)
+          n.unit n.build fine)
           (subst (λ (d : Division). n.unit < length d.units) of.0 within) r n.there
 
       each : All (WasBuilt division weights events)
           (packages_of (after_all_acts division weights acts).list)
-      each k d lt = one _ (k, lt, get_or_default
-          (packages_of (after_all_acts division weights acts).list) k _ d lt)
+      each k d lt = one _ (
+        k,
+        lt,
+        get_or_default
+            (packages_of (after_all_acts division weights acts).list) k _ d lt,
+      )

@@ -1,16 +1,13 @@
 -- A stop inside an input's step that leaves its whole note is such a stop of the member; and a
 -- claim that fails is dropped there.
-use Rattle.std.proofs.Common.{◌≡◌, ℕ, true, List, [], Option, Some, None, refl, sym, ap, subst, ◌∙◌}
+use Rattle.std.proofs.Common.{◌≡◌, ℕ, true, List, [], Option, Some, None, sym, ap, subst, ◌∙◌}
 use Rattle.agreement.specs.AgreedList.{Act, Cluster}
-use Rattle.agreement.specs.Member as theory_stage
-use Rattle.agreement.specs.Member.{Closed, Member, Stage}
 use Rattle.agreement.specs.Nodes as nodes
 use Rattle.agreement.specs.Quorums.{is_majority}
 use Rattle.agreement.specs.Step as theory
 use Rattle.agreement.specs.Step.{Outcome, on_failed}
-use Rattle.agreement.specs.World.{StopIn, Take}
+use Rattle.agreement.specs.World.{StopIn}
 use Rattle.agreement.proofs.Majorities.{majorities}
-use Rattle.faults.specs.Bytes.{Text}
 use Rattle.node.specs.Events as events
 use Rattle.node.specs.Events.{Event}
 use Rattle.node.specs.Step.{Asked, Does}
@@ -18,11 +15,9 @@ use Rattle.node.specs.declared.event.Left.TheVariants as left
 use Rattle.protocol.specs.InTheAgreement.{view}
 use Rattle.protocol.specs.Laws.{IsNoMessage, for_unit}
 use Rattle.protocol.specs.State.{Value}
-use Rattle.protocol.specs.Step.{unit_in}
 use Rattle.protocol.specs.declared.input.Input.{Input}
-use Rattle.protocol.specs.declared.input.Input.TheVariants as inputs
 use Rattle.units.specs.Division.{Division}
-use Rattle.world.specs.Happening.{Asks, Steps, StopsIn}
+use Rattle.world.specs.Happening.{Asks, StopsIn}
 use Rattle.world.specs.World.{IsMade, World, WorldNode, member_at}
 use Rattle.headline.specs.Laws.{IsOneActMore}
 use Rattle.headline.specs.Local.{AreLocal}
@@ -30,8 +25,6 @@ use Rattle.headline.specs.Matches.{Matches, node_of}
 use Rattle.headline.specs.Mirrored.{after_all_acts, with_act}
 use Rattle.headline.specs.Needs.{may_build}
 use Rattle.headline.proofs.Asking.{IsInputOf, any_sent, input_of, same_view}
-use Rattle.headline.proofs.Opening.{failed_opens_none}
-use Rattle.headline.proofs.Stepping.{is_as_before, left_so, nothing_sent, only_the_node, quiet_step}
 use Rattle.headline.proofs.Stopping.{one_more, values_there}
 use Rattle.headline.proofs.StoppingInside.{cut_matches}
 
@@ -92,7 +85,7 @@ module _ (division : Division) (weights : List ℕ) (acts : List (Act Value)) (w
   asks_for (Some v) f u input e =
       let both : (v, f v) ≡ (u, input) = pair_same (v, f v) (u, input) e in
       ap f (sym (ap (λ (p : ℕ × theory.Input Value). p.0) both))
-          ∙ ap (λ (p : ℕ × theory.Input Value). p.1) both
+      ∙ ap (λ (p : ℕ × theory.Input Value). p.1) both
     where
       pair_same : (a b : ℕ × theory.Input Value) → Some a ≡ Some b → a ≡ b
       pair_same a b e = cc

@@ -1,34 +1,32 @@
 -- What is decided in a step is decided in the agreements, so that the lists stay one.
-use Rattle.std.proofs.Common.{◌≡◌, ◌<◌, ◌==◌, ◌⊎◌, ℕ, zero, suc, Bool, true, false, cond, List, [], ◌∷◌, ◌++◌, length, map, Option, None, Some, get_or, refl, sym, ap, subst, ◌∙◌, ⊎_elim, inl, inr, arith, eqb-true, eq-eqb}
+use Rattle.std.proofs.Common.{◌≡◌, ◌<◌, ◌==◌, ℕ, zero, suc, Bool, true, false, cond, List, [], ◌∷◌, ◌++◌, length, map, Option, None, Some, refl, sym, ap, subst, ◌∙◌, ⊎_elim, inl, inr, arith, eq-eqb}
 use Rattle.std.specs.Prelude.{All, Contains}
 use Rattle.std.specs.List.{list_any}
 use Rattle.std.specs.Str.{bytes_eq}
-use Rattle.std.proofs.lemmas.Bool.{cases_eq, cond_both, cond-true, false_from_ne_true, true≢false}
+use Rattle.std.proofs.lemmas.Bool.{cases_eq, cond-true, false_from_ne_true, true≢false}
 use Rattle.std.proofs.lemmas.List.Elements.{Contains-append_cases}
 use Rattle.std.proofs.lemmas.List.Folds.{Any-from_list_any, list_any_at}
 use Rattle.faults.specs.Bytes.{Text}
 use Rattle.agreement.specs.Agreed.{IsAgreed, IsValue, decided_value}
 use Rattle.agreement.specs.Agreed as theory
-use Rattle.agreement.specs.AgreedList.{Act, Cluster, Entry, IsAllowed, WasBuilt, beginning, list_with, lookup}
+use Rattle.agreement.specs.AgreedList.{Act, Cluster, Entry, IsAllowed, list_with, lookup}
 use Rattle.agreement.specs.Messages as messages
 use Rattle.agreement.specs.Quorums.{is_majority}
-use Rattle.agreement.specs.Votes.{Ballot, Has, VoteOf, ballot}
-use Rattle.agreement.specs.World.{WasVoted}
+use Rattle.agreement.specs.Votes.{Ballot, Has, ballot}
 use Rattle.agreement.specs.declared.claim.Claim.{Claim}
 use Rattle.agreement.proofs.Agreed.{found}
 use Rattle.agreement.proofs.Kept.{vote_sent}
 use Rattle.agreement.proofs.Majorities.{majorities}
-use Rattle.agreement.proofs.Sound.{IsCast}
-use Rattle.ballots.specs.declared.message.Body.TheVariants.{Propose, Vote}
+use Rattle.ballots.specs.declared.message.Body.TheVariants.{Propose}
 use Rattle.ballots.specs.declared.message.Message.{Message}
 use Rattle.package_record.specs.Build.{AreAlike}
 use Rattle.package_record.specs.Content.{Content}
 use Rattle.package_record.specs.Laws.{BuildTextIsReadAgain}
 use Rattle.protocol.specs.State.{Value}
 use Rattle.units.specs.Division.{Division, IsDivision}
-use Rattle.units.proofs.Places.{equal_bytes, same_bytes}
+use Rattle.units.proofs.Places.{same_bytes}
 use Rattle.world.specs.Lists.{IsDecided, IsDecidedFor, IsListAfter, has_path, with_build}
-use Rattle.world.specs.Sent.{WasSent, message, voters}
+use Rattle.world.specs.Sent.{message, voters}
 use Rattle.world.specs.World.{IsMade, World, WorldNode}
 use Rattle.world.proofs.Distinct.{has_path_of}
 use Rattle.headline.specs.Matches.{Matches, WasSaid, name_of, packages_of}
@@ -121,8 +119,8 @@ module _ (division : Division) (weights : List ℕ) (acts more : List (Act Value
     (goes_on : (after_all_acts division weights more).list ≡ list_with u
     (after_all_acts division weights acts).list
     (lookup (after_all_acts division weights acts).list u)
-        (decided_value (is_majority weights) ((after_all_acts division weights more).at u).sent
-        ((after_all_acts division weights more).at u).sent)) where
+    (decided_value (is_majority weights) ((after_all_acts division weights more).at u).sent
+    ((after_all_acts division weights more).at u).sent)) where
   -- what the acts leave, before and after
   abbrev old : Cluster Value
   old = after_all_acts division weights acts
@@ -162,9 +160,13 @@ module _ (division : Division) (weights : List ℕ) (acts more : List (Act Value
   was_agreed q b e =
       let some = (majorities weights).meet (votes_in old q b) (votes_in old q b) e e in
       let sound = (in_order division weights acts w made of m).sound q in
-      let vote = sound.said (messages.Vote some.0 b) (vote_sent (old.at q).sent b some.0 some.1) in
-      (vote.0, (e,
-      (sound.noted (record { member = some.0; ballot = ballot b vote.0 }) vote.1).proposed))
+      let vote = sound.said (messages.Vote some.0 b) (vote_sent (old.at q).sent b some.0 some.1) in (
+        vote.0,
+        (
+          e,
+          (sound.noted (record { member = some.0; ballot = ballot b vote.0 }) vote.1).proposed,
+        ),
+      )
 
   -- so where nothing is agreed before, and something is proposed and voted for then, it is decided
   -- now
@@ -181,13 +183,13 @@ module _ (division : Division) (weights : List ℕ) (acts more : List (Act Value
         not_before = false_from_ne_true (is_majority w.weights
             (voters w w.sent (name_of w u) b.claim)) (λ before.
             let enough = majority_within weights (voters w w.sent (name_of w u) b.claim)
-                (votes_in old u b.claim)
+            (votes_in old u b.claim)
             (λ k lt e. voted_there division weights acts w made of m again u (name_of w u) b.claim
             b.value within refl k lt b.claim.member proposal.is_message e)
             (enough_here (voters w w.sent (name_of w u) b.claim) before) in
             let a = was_agreed u b.claim enough in
             let value = subst (IsValue (is_majority weights) (old.at u)) none
-                ((in_order division weights acts w made of m).values u) in
+            ((in_order division weights acts w made of m).values u) in
             value (ballot b.claim a.0) a.1);
       }
 
@@ -203,7 +205,7 @@ module _ (division : Division) (weights : List ℕ) (acts more : List (Act Value
       by None is None e = refl
       by None is (Some a) e =
           let f = found Value (is_majority weights) (majorities weights) (λ v. Unit {0})
-              (new.at u).sent (new.at u).sent a e in
+          (new.at u).sent (new.at u).sent a e in
           absurd (none (name_of w u) (f.0).claim (decided_now is f.0 (f.1).0 (f.1).1))
 
   -- ---- something is decided
@@ -261,21 +263,21 @@ module _ (division : Division) (weights : List ℕ) (acts more : List (Act Value
         → with_build w.agreed build ≡ packages_of new.list
     had_entry a e =
         let stays : new.list ≡ old.list = goes_on
-            ∙ ap (λ o. list_with u old.list o
-            (decided_value (is_majority weights) (new.at u).sent (new.at u).sent)) e in
+        ∙ ap (λ o. list_with u old.list o
+        (decided_value (is_majority weights) (new.at u).sent (new.at u).sent)) e in
         let same : a ≡ build =
-            some_same a build (sym e ∙ ap (λ l. lookup l u) (sym stays) ∙ its_entry) in
+        some_same a build (sym e ∙ ap (λ l. lookup l u) (sym stays) ∙ its_entry) in
         let listed : All (Contains (packages_of old.list)) build =
-            subst (All (Contains (packages_of old.list))) same (entry_listed old.list u a e) in
+        subst (All (Contains (packages_of old.list))) same (entry_listed old.list u a e) in
         let there : Contains w.agreed (some.0) = subst (λ l. Contains l some.0) (sym m.list)
-            (subst (Contains (packages_of old.list)) (some.1).2
-            (listed (some.1).0 some.0 (some.1).1)) in
+        (subst (Contains (packages_of old.list)) (some.1).2
+        (listed (some.1).0 some.0 (some.1).1)) in
         let known : list_any (λ r. has_path w.agreed r.path) build ≡ true =
         list_any_at (λ (r : Content). has_path w.agreed r.path) build (some.1).0 some.0 (some.1).1
         (subst (λ (r : Content). has_path w.agreed r.path ≡ true) (sym (some.1).2)
         (path_there w.agreed some.0 there)) in
         cond-true (list_any (λ r. has_path w.agreed r.path) build) w.agreed (w.agreed ++ build)
-            known ∙ m.list ∙ ap packages_of (sym stays)
+        known ∙ m.list ∙ ap packages_of (sym stays)
 
     -- and where it had none, its packages are new
     had_none : lookup old.list u ≡ None → with_build w.agreed build ≡ packages_of new.list
@@ -296,11 +298,11 @@ module _ (division : Division) (weights : List ℕ) (acts more : List (Act Value
             ∙ ap (λ l. lookup l u) (sym (goes None e)) ∙ its_entry in cc)
         by (Some a) e =
             let here : lookup (record { path = u; value = a } ∷ old.list) u ≡ Some a =
-                cond-true (u == u) (Some a) (lookup old.list u) (eq-eqb u u refl) in
+            cond-true (u == u) (Some a) (lookup old.list u) (eq-eqb u u refl) in
             let same : a ≡ build = some_same a build
-                (sym here ∙ ap (λ l. lookup l u) (sym (goes (Some a) e)) ∙ its_entry) in
+            (sym here ∙ ap (λ l. lookup l u) (sym (goes (Some a) e)) ∙ its_entry) in
             let fresh : list_any (λ r. has_path w.agreed r.path) build ≡ false = false_from_ne_true
-                (list_any (λ r. has_path w.agreed r.path) build) (λ known. is_new a e same known) in
+            (list_any (λ r. has_path w.agreed r.path) build) (λ known. is_new a e same known) in
             ap (λ b. cond b w.agreed (w.agreed ++ build)) fresh
             ∙ ap (λ l. l ++ build) m.list ∙ ap (λ x. packages_of old.list ++ x) (sym same)
             ∙ ap packages_of (sym (goes (Some a) e))
@@ -310,18 +312,18 @@ module _ (division : Division) (weights : List ℕ) (acts more : List (Act Value
                 → list_any (λ r. has_path w.agreed r.path) build ≡ true → ⊥
             is_new a e same known =
                 let allowed = subst (IsAllowed (may_build division)) (goes (Some a) e)
-                    (in_order division weights more v made of after).allowed in
+                (in_order division weights more v made of after).allowed in
                 let mine =
-                    subst (λ x. may_build division (lookup old.list) u x ≡ true) same allowed.1 in
+                subst (λ x. may_build division (lookup old.list) u x ≡ true) same allowed.1 in
                 let one =
-                    Any-from_list_any (λ (r : Content). has_path w.agreed r.path) build known in
+                Any-from_list_any (λ (r : Content). has_path w.agreed r.path) build known in
                 let other = there_by_path w.agreed (one.1).path one.4 in
                 let o = of_another division old.list u allowed.2
-                    (subst (λ d. All (λ n. n.path < length d.units) old.list) of.0 m.units) none
-                    other.0
+                (subst (λ d. All (λ n. n.path < length d.units) old.list) of.0 m.units) none
+                other.0
                 (subst (λ l. Contains l other.0) m.list other.1) in
                 o.other (no_path_of_both division made.divided o.on (lookup old.list) o.unit u
-                    o.build build o.listed (subst (λ d. u < length d.units) of.0 within)
+                o.build build o.listed (subst (λ d. u < length d.units) of.0 within)
                 o.allowed mine other.0 one.1 o.there (one.0, one.2, one.3) other.2)
 
     decided_list : with_build w.agreed build ≡ packages_of new.list

@@ -129,7 +129,7 @@ module _ (division : Division) (weights : List ℕ) (acts : List (Act Value)) (w
           ≡ Some (outcome_of s theirs.unit n.sender n.body)
       delivered =
           ap (option_map
-              (on_message (is_majority weights) k (nodes.view (node_of w k x) theirs.unit))) place.1
+          (on_message (is_majority weights) k (nodes.view (node_of w k x) theirs.unit))) place.1
           ∙ ap (λ y. Some (on_message (is_majority weights) k y (said n.sender n.body)))
           (same_view w k x theirs.unit up)
           ∙ ap (λ ws. Some
@@ -181,25 +181,25 @@ module _ (division : Division) (weights : List ℕ) (acts : List (Act Value)) (w
       no_whole h = cc
   stop_inside_is_act (events.Claim n path host above) left.Whole v s =
       input_cut_is_act division weights acts w made of local m (events.Claim n path host above) v
-          (inputs.Claim path host above) (λ a h. h) tt s
+      (inputs.Claim path host above) (λ a h. h) tt s
   stop_inside_is_act (events.Built n path packages) left.Whole v s =
       input_cut_is_act division weights acts w made of local m (events.Built n path packages) v
-          (inputs.Built path packages) (λ a h. h) tt s
+      (inputs.Built path packages) (λ a h. h) tt s
   stop_inside_is_act (events.Failed n path) left.Whole v s =
       input_cut_is_act division weights acts w made of local m (events.Failed n path) v
-          (inputs.Failed path) (λ a h. h) tt s
+      (inputs.Failed path) (λ a h. h) tt s
   stop_inside_is_act (events.Nudge n) left.Whole v s =
       input_cut_is_act division weights acts w made of local m (events.Nudge n) v inputs.Nudge
-          (λ a h. h) tt s
+      (λ a h. h) tt s
   stop_inside_is_act (events.Ask n path) left.Whole v s =
       input_cut_is_act division weights acts w made of local m (events.Ask n path) v
-          (inputs.Ask path) (λ a h. h) tt s
+      (inputs.Ask path) (λ a h. h) tt s
   stop_inside_is_act (events.Deliver d n) left.Whole v s =
       let text = s.acts.asks.0 in
       let there = get_contains w.sent d text s.acts.asks.1 in
       let kept = (local.each n s.node s.acts.is_up.stands).pieces in
       deliver_cut n s.node s.acts.is_up.stands s.acts.is_up.up s.taken
-          (events.StopIn (events.Deliver d n) left.Whole) v
+      (events.StopIn (events.Deliver d n) left.Whole) v
       (by_arrival n s.node s.acts.is_up.stands s.acts.is_up.up s.taken
       (arrival_of (member_at w n s.node) s.node.pieces (datagram_of text))
       (comes_welcome division weights acts w made of m again n s.node s.node.pieces kept text there)

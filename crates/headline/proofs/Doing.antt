@@ -1,18 +1,18 @@
 -- A step of a node is a step of its member: an act after which the world matches.
-use Rattle.std.proofs.Common.{◌≡◌, ◌<◌, ℕ, true, List, [], ◌∷◌, length, Option, Some, None, slice_get, slice_set, refl, sym, ap, ap₂, subst, ◌∙◌}
+use Rattle.std.proofs.Common.{◌≡◌, ◌<◌, ℕ, true, List, [], length, Some, slice_set, sym, ap, subst, ◌∙◌}
 use Rattle.std.specs.Prelude.{All}
-use Rattle.std.proofs.lemmas.List.Elements.{All-contains, All-weaker}
+use Rattle.std.proofs.lemmas.List.Elements.{All-weaker}
 use Rattle.faults.specs.Bytes.{Text}
 use Rattle.agreement.specs.Agreed.{decided_value}
 use Rattle.agreement.specs.AgreedList.{Act, Cluster, cluster_after, elsewhere, list_with, lookup, may_happen}
 use Rattle.agreement.specs.Member.{Closed}
 use Rattle.agreement.specs.Messages as messages
 use Rattle.agreement.specs.Nodes as nodes
-use Rattle.agreement.specs.Quorums.{Quorums, is_majority}
+use Rattle.agreement.specs.Quorums.{is_majority}
 use Rattle.agreement.specs.Step as theory
 use Rattle.agreement.specs.Step.{Outcome}
 use Rattle.agreement.specs.Votes.{Ballot}
-use Rattle.agreement.specs.World.{Take, add_sent, after_any, after_event, outcome, run}
+use Rattle.agreement.specs.World.{Take, after_any, after_event, outcome, run}
 use Rattle.node.specs.Events.{Event, node_of as whose}
 use Rattle.node.specs.Step.{after}
 use Rattle.package_record.specs.Content.{Content}
@@ -26,7 +26,7 @@ use Rattle.wire.specs.Messages.{IsMessage}
 use Rattle.world.specs.Happening.{Steps}
 use Rattle.world.specs.Lists.{IsListAfter}
 use Rattle.world.specs.Sent.{with_sends}
-use Rattle.world.specs.World.{IsMade, World, WorldNode, member_at, node_at, up_node, with_node}
+use Rattle.world.specs.World.{IsMade, World, WorldNode, member_at, node_at, up_node}
 use Rattle.headline.specs.Laws.{IsOneActMore}
 use Rattle.headline.specs.Local.{AreLocal}
 use Rattle.headline.specs.Matches.{Matches, node_of, packages_of}
@@ -35,7 +35,7 @@ use Rattle.headline.specs.Needs.{may_build}
 use Rattle.headline.proofs.Acting.{act_is}
 use Rattle.headline.proofs.Cutting.{made_here}
 use Rattle.headline.proofs.Deciding.{list_is}
-use Rattle.headline.proofs.Naming.{IsNaming, Tells, body_names}
+use Rattle.headline.proofs.Naming.{IsNaming, body_names}
 use Rattle.headline.proofs.Ranging.{is_one}
 use Rattle.headline.proofs.Speaking.{world_matches}
 use Rattle.headline.proofs.Standing.{IsLeftAs, sent_here, sent_there}
@@ -142,7 +142,7 @@ module _ (division : Division) (weights : List ℕ) (acts : List (Act Value)) (w
     stands_so = world_matches w (is_majority weights) here m d.unit d.within (Take k d.input)
         d.outcome taken x then s.acts.is_up.stands left
         s.taken.answer d.is.sends d.out d.written claimers
-            (is_one w its_made local k x s.acts.is_up.stands) own
+        (is_one w its_made local k x s.acts.is_up.stands) own
 
     matches_then : Matches (world (packages_of stepped.list)) new
     matches_then = subst (Matches (world (packages_of stepped.list))) (sym same) stands_so
@@ -170,7 +170,7 @@ module _ (division : Division) (weights : List ℕ) (acts : List (Act Value)) (w
     lists : (list : List Content) → IsListAfter w sent list → list ≡ packages_of stepped.list
     lists list is =
         list_is division weights acts (with_act acts (Some act)) w made of m
-            (slice_set w.nodes k then) sent (packages_of stepped.list) matches_then again
+        (slice_set w.nodes k then) sent (packages_of stepped.list) matches_then again
         d.unit d.within others goes_on list is
         ∙ ap (λ (c : Cluster Value). packages_of c.list) same
 

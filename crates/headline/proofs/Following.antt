@@ -1,9 +1,7 @@
 -- An event leaves one world at most, or is refused with one fault.
-use Rattle.std.proofs.Common.{◌≡◌, ◌<◌, ◌⊎◌, ◌&&◌, ℕ, Bool, true, false, not, nat_le, List, [], ◌∷◌, length, Option, None, Some, Result, Ok, Err, slice_get, refl, sym, ap, ap₂, subst, ◌∙◌, arith, ⊎_elim, inl, inr, true≢false, if◌then◌else◌}
+use Rattle.std.proofs.Common.{◌≡◌, ◌&&◌, ℕ, Bool, true, false, not, nat_le, List, [], ◌∷◌, length, None, Some, Result, Ok, Err, slice_get, refl, sym, ap, ap₂, subst, ◌∙◌, inl, inr, true≢false, if◌then◌else◌}
 use Rattle.std.proofs.lemmas.Bool.{lt-leb}
 use Rattle.faults.specs.Answers.{first_that_applies}
-use Rattle.faults.specs.Bytes.{Text}
-use Rattle.ballots.specs.declared.message.Note.{Note}
 use Rattle.engine.specs.declared.Letter.{Letter}
 use Rattle.node.specs.Events as events
 use Rattle.node.specs.Events.{Event, is_step}
@@ -18,7 +16,7 @@ use Rattle.node.specs.declared.fault.NodeFault.TheVariants as node_fault
 use Rattle.package_record.specs.Content.{Content}
 use Rattle.protocol.specs.Step.{IsLetterOf, answer}
 use Rattle.protocol.proofs.OneAnswer.{one_answer}
-use Rattle.world.specs.Happening.{Acts, Asks, Happens, HasRoomFor, IsRefused, IsRefusedByNode, IsUp, LogIsFull, NodeRefuses, Restarts, Steps, Stops, StopsIn, fault_before, is_bad_stop, is_restart, is_up, lacks_datagram, leaves_note, left_node, up_of}
+use Rattle.world.specs.Happening.{Acts, Asks, Happens, HasRoomFor, IsRefused, IsRefusedByNode, IsUp, NodeRefuses, Restarts, Steps, Stops, StopsIn, fault_before, is_bad_stop, is_restart, is_up, lacks_datagram, leaves_note, left_node, up_of}
 use Rattle.world.specs.Lists.{IsListAfter}
 use Rattle.world.specs.Sent.{with_sends}
 use Rattle.world.specs.World.{World, WorldNode, down_node, node_at, restarted_node, up_node, with_node}
@@ -93,7 +91,7 @@ one_answered w e x y r q a b =
     let node = one_node w (events.node_of e) x y a.stands b.stands in
     let same = one_asked w e a.asked b.asked a.asks b.asks in
     let there = subst (λ z. Takes (node_at w (events.node_of e) z) b.asked r) node
-        (subst (λ z. Takes (node_at w (events.node_of e) x) z r) same a.takes) in
+    (subst (λ z. Takes (node_at w (events.node_of e) x) z r) same a.takes) in
     (node, one_right (node_at w (events.node_of e) y) b.asked r q there b.takes)
 
 took_same : (a b : Taken) → steps_ok a ≡ steps_ok b → a ≡ b
@@ -104,7 +102,7 @@ one_act : (w : World) (e : Event) (x y : WorldNode) (t u : Taken) → Acts w e x
     → (x ≡ y) × (t ≡ u)
 one_act w e x y t u a b =
     let same = one_answered w e x y (Ok t) (Ok u) (acted w e x t a)
-        (acted w e y u b) in (same.0, took_same t u same.1)
+    (acted w e y u b) in (same.0, took_same t u same.1)
 
 -- ---- one world follows
 
@@ -115,8 +113,8 @@ pub one_step : (w a b : World) (e : Event) (s : Steps w e a) (q : Steps w e b)
 one_step w a b e s q only =
     let same = one_act w e s.node q.node s.taken q.taken s.acts q.acts in
     let list : b.agreed ≡ a.agreed = only b.agreed
-        (subst (λ (t : Taken). IsListAfter w (with_sends w.sent t.answer.sends) b.agreed)
-        (sym same.1) q.list) in
+    (subst (λ (t : Taken). IsListAfter w (with_sends w.sent t.answer.sends) b.agreed)
+    (sym same.1) q.list) in
     s.leaves
     ∙ ap (λ l. left_so s.node s.taken l) (sym list)
     ∙ ap₂ (λ x t. left_so x t b.agreed) same.0 same.1
@@ -124,24 +122,27 @@ one_step w a b e s q only =
   where
     left_so : WorldNode → Taken → List Content → World
     left_so x t list = record (with_node w (events.node_of e)
-        (up_node (after (node_at w (events.node_of e) x) t))) { sent =
-        with_sends w.sent t.answer.sends; agreed = list }
+        (up_node (after (node_at w (events.node_of e) x) t))) {
+          sent =
+              with_sends w.sent t.answer.sends;
+          agreed = list;
+        }
 
 pub one_cut : (w a b : World) (e : Event) (l : Left) → StopsIn w e l a → StopsIn w e l b → a ≡ b
 one_cut w a b e l s q =
     let same = one_act w e s.node q.node s.taken q.taken s.acts q.acts in
     s.leaves ∙ ap₂ (λ (x : WorldNode) (t : Taken). with_node w (events.node_of e)
-        (left_node l x.notes t.answer.note)) same.0 same.1 ∙ sym q.leaves
+    (left_node l x.notes t.answer.note)) same.0 same.1 ∙ sym q.leaves
 
 pub one_stop : (w a b : World) (n : ℕ) → Stops w n a → Stops w n b → a ≡ b
 one_stop w a b n s q =
     s.leaves ∙ ap (λ (x : WorldNode). with_node w n (down_node x.notes []))
-        (one_node w n s.node q.node s.is_up.stands q.is_up.stands) ∙ sym q.leaves
+    (one_node w n s.node q.node s.is_up.stands q.is_up.stands) ∙ sym q.leaves
 
 pub one_restart : (w a b : World) (n : ℕ) → Restarts w n a → Restarts w n b → a ≡ b
 one_restart w a b n s q =
     s.leaves ∙ ap (λ (x : WorldNode). with_node w n (restarted_node x.notes))
-        (one_node w n s.node q.node s.stands q.stands) ∙ sym q.leaves
+    (one_node w n s.node q.node s.stands q.stands) ∙ sym q.leaves
 
 -- ---- one answer
 
@@ -167,12 +168,12 @@ one_refusal w e f g (inr (none, inl (r, x, is))) (inr (also, inl (q, y, was))) =
     is ∙ ap fault.Node (faults_same r q same.1) ∙ sym was
 one_refusal w e f g (inr (none, inl (r, x, is))) (inr (also, inr (full, was))) =
     absurd (never_both full.taken r
-        (sym (one_answered w e x.node full.node (Err r) (Ok full.taken) (refused w e r x)
-        (acted w e full.node full.taken full.acts)).1))
+    (sym (one_answered w e x.node full.node (Err r) (Ok full.taken) (refused w e r x)
+    (acted w e full.node full.taken full.acts)).1))
 one_refusal w e f g (inr (none, inr (full, is))) (inr (also, inl (q, y, was))) =
     absurd (never_both full.taken q
-        (one_answered w e full.node y.node (Ok full.taken) (Err q)
-        (acted w e full.node full.taken full.acts) (refused w e q y)).1)
+    (one_answered w e full.node y.node (Ok full.taken) (Err q)
+    (acted w e full.node full.taken full.acts) (refused w e q y)).1)
 one_refusal w e f g (inr (none, inr (full, is))) (inr (also, inr (again, was))) = is ∙ sym was
 
 -- ---- what happens is not refused
@@ -198,7 +199,7 @@ up_passes : (w : World) (e : Event) (x : WorldNode) → IsUp w e x → is_bad_st
     → is_restart e ≡ false → lacks_datagram w e ≡ false → fault_before w e ≡ None
 up_passes w e x up good none there =
     no_test (is_bad_stop e) (nat_le (length w.nodes) (events.node_of e))
-        (not (is_restart e) && not (is_up w (events.node_of e)))
+    (not (is_restart e) && not (is_up w (events.node_of e)))
     (is_restart e && is_up w (events.node_of e)) (lacks_datagram w e) good
     (within_nodes w (events.node_of e) x up.stands)
     (ap (λ b. not (is_restart e) && not b) on ∙ both_false (not (is_restart e)))
@@ -238,9 +239,9 @@ not_by_node w e x t f a room (inl (r, y, is)) =
     never_both t r (one_answered w e x y.node (Ok t) (Err r) a (refused w e r y)).1
 not_by_node w e x t f a room (inr (full, is)) =
     let same = one_answered w e x full.node (Ok t) (Ok full.taken) a
-        (acted w e full.node full.taken full.acts) in
+    (acted w e full.node full.taken full.acts) in
     room full.noted (subst
-        (λ (z : WorldNode). IsFull (node_at w (events.node_of e) z) t.answer.note) (sym same.0)
+    (λ (z : WorldNode). IsFull (node_at w (events.node_of e) z) t.answer.note) (sym same.0)
     (subst (λ (z : Taken). IsFull (node_at w (events.node_of e) full.node) z.answer.note)
     (sym (took_same t full.taken same.1)) full.full))
 
@@ -254,8 +255,8 @@ step_not_refused : (w v : World) (e : Event) (f : WorldFault) → is_bad_stop e 
     → is_restart e ≡ false → Steps w e v → IsRefused w e f → ⊥
 step_not_refused w v e f good none s =
     refused_not w e f (step_passes w e s.node s.taken good none s.acts)
-        (not_by_node w e s.node s.taken f (acted w e s.node s.taken s.acts)
-        (λ noted full. s.room full))
+    (not_by_node w e s.node s.taken f (acted w e s.node s.taken s.acts)
+    (λ noted full. s.room full))
 
 cut_not_refused : (w v : World) (e : Event) (l : Left) (f : WorldFault) → StopsIn w e l v
     → IsRefused w (events.StopIn e l) f → ⊥
@@ -265,8 +266,13 @@ cut_not_refused w v e l f s =
     (record { stands = s.acts.is_up.stands; up = s.acts.is_up.up }) (ap not s.step) refl
     (sent_there w e s.acts.asked s.acts.asks))
     (not_by_node w (events.StopIn e l) s.node s.taken f
-    (record { stands = s.acts.is_up.stands; asked = s.acts.asked; asks = s.acts.asks; takes =
-    s.acts.takes }) (room l s.room))
+    (record {
+      stands = s.acts.is_up.stands;
+      asked = s.acts.asked;
+      asks = s.acts.asks;
+      takes =
+          s.acts.takes;
+    }) (room l s.room))
   where
     room : (l : Left) → HasRoomFor w (events.node_of e) s.node l s.taken.answer.note
         → leaves_note (events.StopIn e l) ≡ true

@@ -1,12 +1,10 @@
 -- No datagram that was sent is foreign to a node.
-use Rattle.std.proofs.Common.{◌≡◌, ◌<◌, ◌==◌, ℕ, zero, suc, Bool, true, false, not, ◌&&◌, ◌⊎◌, nat_le, List, [], ◌∷◌, length, None, Some, is_none, Result, Ok, Err, nat_lt, get_or, eqb-true, slice_get, refl, sym, ap, subst, ◌∙◌, arith, inl, inr, ⊎_elim, true≢false}
+use Rattle.std.proofs.Common.{◌≡◌, ◌<◌, ℕ, zero, suc, Bool, true, false, not, ◌&&◌, ◌⊎◌, nat_le, List, [], ◌∷◌, length, None, Some, is_none, Result, Ok, Err, nat_lt, slice_get, refl, sym, ap, subst, ◌∙◌, arith, inl, inr, ⊎_elim}
 use Rattle.std.specs.Prelude.{All, AllPairs, Contains}
 use Rattle.std.specs.List.{list_all}
 use Rattle.std.specs.Str.{bytes_eq}
-use Rattle.std.proofs.lemmas.Bool.{and_from, and_parts, cond_both, eq-eqb, false_from_ne_true, lt-ltb}
+use Rattle.std.proofs.lemmas.Bool.{and_from, cond_both, lt-ltb}
 use Rattle.std.proofs.lemmas.List.Elements.{All-append, All-cons, All-contains, All-head, All-nil, All-tail, All-weaker, Contains-push}
-use Rattle.std.proofs.lemmas.List.Folds.{list_any_at}
-use Rattle.std.proofs.lemmas.List.Quantifiers.{all_pairs_push}
 use Rattle.faults.specs.Answers.{first_that_applies}
 use Rattle.faults.specs.Bytes.{Text}
 use Rattle.agreement.specs.AgreedList.{Act}
@@ -34,7 +32,7 @@ use Rattle.stable_record.specs.declared.log_fault.LogFault.TheVariants.{Full}
 use Rattle.units.specs.Division.{Division, number_named}
 use Rattle.units.proofs.Names.{name_is_found}
 use Rattle.units.proofs.Places.{equal_bytes}
-use Rattle.wire.specs.Joining.{bytes_of, is_numbered, same_header}
+use Rattle.wire.specs.Joining.{bytes_of, is_numbered}
 use Rattle.wire.specs.Pieces.{IsDatagram, body_with, split_of}
 use Rattle.wire.specs.Reading.{datagram_of, joined}
 use Rattle.wire.specs.Spelling.{datagram_text}
@@ -54,7 +52,7 @@ use Rattle.world.specs.declared.fault.WorldFault.TheVariants as worlds
 use Rattle.headline.specs.Local.{AreKept, AreLocal}
 use Rattle.headline.specs.Matches.{Matches, WasSaid}
 use Rattle.headline.specs.Mirrored.{after_all_acts}
-use Rattle.headline.proofs.Arriving.{CameOf, headers_same, joins_to, origin, read_as, whole_came}
+use Rattle.headline.proofs.Arriving.{CameOf, joins_to, origin, read_as, whole_came}
 use Rattle.headline.proofs.Headers.{carries, divided, ok, sent_was_said, some_same}
 use Rattle.headline.proofs.Said.{has_preimage}
 
@@ -65,8 +63,8 @@ all_below : (n : ℕ) (ks : List ℕ) → All (λ k. k < n) ks → list_all (λ 
 all_below n [] are = refl
 all_below n (k ∷ ks) are =
     and_from (nat_lt k n) (list_all (λ k. nat_lt k n) ks)
-        (lt-ltb k n (All-head (λ k. k < n) k ks are))
-        (all_below n ks (All-tail (λ k. k < n) k ks are))
+    (lt-ltb k n (All-head (λ k. k < n) k ks are))
+    (all_below n ks (All-tail (λ k. k < n) k ks are))
 
 -- of tests that all fail, none applies
 none_applies : (a b c : Bool) (x y z : Refusal) → a ≡ false → b ≡ false → c ≡ false
@@ -82,7 +80,7 @@ not_refused : (s : State) (tree : Text) (named : List ℕ) (path : Text) (u : �
     → header_refusal s tree named path ≡ None
 not_refused s tree named path u et en eu =
     none_applies (not (bytes_eq tree (tree_digest s.division.tree)))
-        (not (list_all (λ k. nat_lt k (length s.weights)) named))
+    (not (list_all (λ k. nat_lt k (length s.weights)) named))
     (is_none (number_named s.division path)) refusals.OtherTree refusals.NotAMember
     refusals.Unlisted
     (ap not (equal_bytes tree (tree_digest s.division.tree) et))
@@ -149,11 +147,11 @@ module _ (division : Division) (weights : List ℕ) (acts : List (Act Value)) (w
       let a = said c.message c.is_sent in
       let b = carries c.message (datagrams.Piece p) p.header c.datagram refl in
       let body = ap (λ (n : Message Value). n.body)
-          (message_again c.message b.carrier b.build b.carried) in
+      (message_again c.message b.carrier b.build b.carried) in
       let claimers : All (λ k. k < length w.weights) (members_in b.carrier) =
       subst (All (λ k. k < length w.weights)) (same_members b.carrier b.build)
-          (subst (λ (z : Body Value). All (λ k. k < length w.weights) (members_of z)) (sym body)
-          a.claimers) in
+      (subst (λ (z : Body Value). All (λ k. k < length w.weights) (members_of z)) (sym body)
+      a.claimers) in
       subst (λ (h : Header). refusal_of s h ≡ None) b.header
       (not_refused s c.message.tree (c.message.sender ∷ members_in b.carrier) c.message.path a.unit
       a.tree
@@ -197,11 +195,11 @@ module _ (division : Division) (weights : List ℕ) (acts : List (Act Value)) (w
           (λ all.
           let first = Contains-push pieces p in
           let message = origin division weights acts w made of m again p.header
-              (with_piece pieces p) p first refl all_came each_once all in
+          (with_piece pieces p) p first refl all_came each_once all in
           let whole = joins_to division weights acts w made of m again p.header
-              (with_piece pieces p) p first refl all_came each_once all in
+          (with_piece pieces p) p first refl all_came each_once all in
           subst (λ r. IsWelcome w (arrival_of_all (without p.header pieces) r)) (sym whole)
-              message.is_sent)
+          message.is_sent)
           (λ waits. tt)
 
     piece_comes : (p : Piece) → CameOf division weights acts w made of m again (datagrams.Piece p)
@@ -216,10 +214,12 @@ module _ (division : Division) (weights : List ℕ) (acts : List (Act Value)) (w
     read_there : (text : Text) → Contains w.sent text → (d : Datagram) × (datagram_of text ≡ ok d)
     read_there text h =
         let there = m.sent text h in
-        let p = has_preimage datagram_text (split_of there.message) text there.datagram in
-        (p.0, ap datagram_of p.2 ∙ datagram_again p.0
-        (All-contains IsDatagram (split_of there.message) p.0
-        (split_good there.message there.went_out.is_message) p.1))
+        let p = has_preimage datagram_text (split_of there.message) text there.datagram in (
+          p.0,
+          ap datagram_of p.2 ∙ datagram_again p.0
+              (All-contains IsDatagram (split_of there.message) p.0
+              (split_good there.message there.went_out.is_message) p.1),
+        )
 
     -- A datagram that was sent is welcome.
     pub comes_welcome : (text : Text) → Contains w.sent text
@@ -230,7 +230,7 @@ module _ (division : Division) (weights : List ℕ) (acts : List (Act Value)) (w
             → IsWelcome w (arrival_of s pieces (datagram_of text))
         by (datagrams.Whole n) e =
             subst (λ r. IsWelcome w (arrival_of s pieces r)) (sym e)
-                (whole_came division weights acts w made of m again text n e h)
+            (whole_came division weights acts w made of m again text n e h)
         by (datagrams.Piece p) e =
             subst (λ r. IsWelcome w (arrival_of s pieces r)) (sym e)
             (piece_comes p (read_as division weights acts w made of m again text (datagrams.Piece p)
@@ -295,7 +295,7 @@ pub never_foreign : (division : Division) (weights : List ℕ) (acts : List (Act
     → AreLocal w → (e : Event) (f : Foreign) → IsRefused w e (worlds.Node (fault.Foreign f)) → ⊥
 never_foreign division weights acts w made of m again local e f (inl before) =
     five_tests (is_bad_stop e) (nat_le (length w.nodes) (events.node_of e))
-        (not (is_restart e) && not (is_up w (events.node_of e)))
+    (not (is_restart e) && not (is_up w (events.node_of e)))
     (is_restart e && is_up w (events.node_of e)) (lacks_datagram w e) (fault.Foreign f) before
 never_foreign division weights acts w made of m again local e f (inr (none, inr (full, h))) =
     node_log f (node_same (fault.Foreign f) (fault.Log Full) h)

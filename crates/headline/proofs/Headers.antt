@@ -116,8 +116,8 @@ carries n d h m e = by (carried_in n.body) refl m
         (only_one (datagrams.Whole n) d m) ∙ e in cc)
     by (Some x) is m =
         let p = has_preimage (λ k. datagrams.Piece
-            (piece_at (header_with n x.0 x.1) (build_text x.1) k))
-            (numbers_of (length (build_text x.1))) d m in
+        (piece_at (header_with n x.0 x.1) (build_text x.1) k))
+        (numbers_of (length (build_text x.1))) d m in
         record {
           carrier = x.0;
           build = x.1;
@@ -203,7 +203,7 @@ module _ (division : Division) (weights : List ℕ) (acts : List (Act Value)) (w
       second : Has (reached.at sa.unit).sent (said a.sender (body_with ca.carrier cb.build))
       second =
           subst (λ (k : ℕ). Has (reached.at sa.unit).sent (said k (body_with ca.carrier cb.build)))
-              (sym alike.sender)
+          (sym alike.sender)
           (subst (λ (z : Body Value). Has (reached.at sa.unit).sent (said b.sender z)) body_b
           (subst (λ (u : ℕ). Has (reached.at u).sent (said b.sender b.body)) (sym units)
           sb.said_there))
@@ -223,7 +223,7 @@ module _ (division : Division) (weights : List ℕ) (acts : List (Act Value)) (w
   of_a_said n s d h =
       let there = m.sent (datagram_text d) (datagram_was_sent w.sent n s d h) in
       let p = has_preimage datagram_text (split_of there.message) (datagram_text d)
-          there.datagram in
+      there.datagram in
       let same = one_datagram d p.0
       (All-contains IsDatagram (split_of n) d (split_good n s.is_message) h)
       (All-contains IsDatagram (split_of there.message) p.0
@@ -248,8 +248,8 @@ module _ (division : Division) (weights : List ℕ) (acts : List (Act Value)) (w
       → WasSaid w reached n
   whole_was_said n s none =
       let o = of_a_said n s (datagrams.Whole n)
-          (subst (λ ds. Contains ds (datagrams.Whole n)) (sym (ap (split_by n) none))
-          (zero, omega arith, refl)) in
+      (subst (λ ds. Contains ds (datagrams.Whole n)) (sym (ap (split_by n) none))
+      (zero, omega arith, refl)) in
       by o.message (carried_in o.message.body) refl o.datagram o.was_said
     where
       whole_same : (a b : Message Value) → datagrams.Whole a ≡ datagrams.Whole b → a ≡ b
@@ -262,8 +262,8 @@ module _ (division : Division) (weights : List ℕ) (acts : List (Act Value)) (w
           (whole_same a n (only_one (datagrams.Whole a) (datagrams.Whole n) h)) was
       by a (Some x) is h was =
           let p = has_preimage (λ k. datagrams.Piece
-              (piece_at (header_with a x.0 x.1) (build_text x.1) k))
-              (numbers_of (length (build_text x.1))) (datagrams.Whole n) h in
+          (piece_at (header_with a x.0 x.1) (build_text x.1) k))
+          (numbers_of (length (build_text x.1))) (datagrams.Whole n) h in
           absurd (let wrong = p.2 in cc)
 
   module _ (again : BuildTextIsReadAgain) where
@@ -302,11 +302,11 @@ module _ (division : Division) (weights : List ℕ) (acts : List (Act Value)) (w
             → piece_of_a k ≡ piece_of_b k
         each k there =
             let mine = subst (λ ds. Contains ds (piece_of_a k)) (sym split_a)
-                (contains_map piece_of_a (numbers_of (length (build_text ca.build))) k there) in
+            (contains_map piece_of_a (numbers_of (length (build_text ca.build))) k there) in
             let other =
-                subst (λ ds. Contains ds (piece_of_a k)) split_b (within (piece_of_a k) mine) in
+            subst (λ ds. Contains ds (piece_of_a k)) split_b (within (piece_of_a k) mine) in
             let p = has_preimage piece_of_b (numbers_of (length (build_text cb.build)))
-                (piece_of_a k) other in
+            (piece_of_a k) other in
             let number : k ≡ p.0 = number_same (piece_at _ _ k) (piece_at _ _ p.0) p.2 in
             p.2 ∙ ap piece_of_b (sym number)
           where

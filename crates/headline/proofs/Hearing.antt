@@ -1,6 +1,6 @@
 -- Each delivery is an act, or none.
-use Rattle.std.proofs.Common.{◌≡◌, ◌⊎◌, ℕ, true, List, [], ◌∷◌, Some, None, Ok, slice_get, refl, sym, ap, subst, ◌∙◌, ⊎_elim, inl, inr}
-use Rattle.agreement.specs.AgreedList.{Act, Cluster}
+use Rattle.std.proofs.Common.{◌≡◌, ◌⊎◌, ℕ, List, Some, slice_get, refl, ap, ◌∙◌, ⊎_elim, inl, inr}
+use Rattle.agreement.specs.AgreedList.{Act}
 use Rattle.agreement.specs.Quorums.{is_majority}
 use Rattle.agreement.specs.Step as theory
 use Rattle.ballots.specs.InTheAgreement.{said}
@@ -82,10 +82,10 @@ module _ (division : Division) (weights : List ℕ) (acts : List (Act Value)) (w
       written = written.sends;
       names =
           let known = known_named w its_made local n s.node s.acts.is_up.stands answer.unit
-              answer.within in
+          answer.within in
           message_names _ n (view member answer.unit)
-              (record { promised = known.promised; voted = known.voted })
-              (own_stage member answer.unit is_member)
+          (record { promised = known.promised; voted = known.voted })
+          (own_stage member answer.unit is_member)
           (is_majority w.weights) (said x.sender x.body)
           (body_comes _ x.sender x.body (heard_names member x s.taken.answer e));
     }

@@ -34,7 +34,7 @@ pub entry_listed : (list : List (Entry Value)) (u : ℕ) (v : Value) → lookup 
 entry_listed [] u v e = absurd (let wrong : None ≡ Some v = e in cc)
 entry_listed (e ∷ es) u v h =
     cond_both (e.path == u) (Some e.value) (lookup es u)
-        (λ o. o ≡ Some v → All (Contains (packages_of es ++ e.value)) v)
+    (λ o. o ≡ Some v → All (Contains (packages_of es ++ e.value)) v)
     (λ same h. subst (All (Contains (packages_of es ++ e.value))) (some_same e.value v h)
     (λ k d lt. Contains-append_right (packages_of es) e.value _
     (All-contains_itself e.value k d lt)))
@@ -69,7 +69,7 @@ module _ (division : Division) (weights : List ℕ) (acts : List (Act Value)) (w
       (λ past. absurd (
       let each = (node_is_member w made_here local k x stands).each in
       let none : facts_at (member_at w k x) u ≡ no_facts =
-          get_or_past (member_at w k x).facts u no_facts (omega (arith, past, each)) in
+      get_or_past (member_at w k x).facts u no_facts (omega (arith, past, each)) in
       let wrong : None ≡ Some build = sym (ap (λ (f : Facts Value). f.held) none) ∙ e in cc))
       (cases_lt u (length w.division.units))
 
@@ -79,7 +79,7 @@ module _ (division : Division) (weights : List ℕ) (acts : List (Act Value)) (w
   builds_listed k u x build stands e =
       let lt = held_within k u x build stands e in
       let there : held_by here k u ≡ Some build =
-          ap (λ (z : Member Value). z.held) (m.members k u x stands lt) ∙ e in
+      ap (λ (z : Member Value). z.held) (m.members k u x stands lt) ∙ e in
       subst (λ (l : List Content). All (Contains l) build) (sym m.list)
       (entry_listed here.list u build
       (held_listed Value (is_majority weights) (majorities weights) (may_build division)
@@ -97,9 +97,11 @@ module _ (division : Division) (weights : List ℕ) (acts : List (Act Value)) (w
           → option_and_then (record_in path) held ≡ Some r → (r.path ≡ path) × Contains w.agreed r
       of_build u None is e = absurd (let wrong : None ≡ Some r = e in cc)
       of_build u (Some build) is e =
-          let f = find_is (λ (r : Content). bytes_eq r.path path) build r e in
-          (same_bytes r.path path f.1, All-contains (Contains w.agreed) build r
-          (builds_listed k u x build stands is) f.0)
+          let f = find_is (λ (r : Content). bytes_eq r.path path) build r e in (
+            same_bytes r.path path f.1,
+            All-contains (Contains w.agreed) build r
+                (builds_listed k u x build stands is) f.0,
+          )
 
       by : (u : Option ℕ) → option_and_then (λ u. option_and_then (record_in path)
           (facts_at (member_at w k x) u).held) u ≡ Some r
@@ -109,5 +111,7 @@ module _ (division : Division) (weights : List ℕ) (acts : List (Act Value)) (w
 
   -- Each package that a node holds, up or down, is in the list.
   pub held_is_listed : HeldIsListed w
-  held_is_listed = record { builds = λ k u x build stands e. builds_listed k u x build stands e;
-      paths = λ k x path r stands e. package_listed k x path r stands e }
+  held_is_listed = record {
+    builds = λ k u x build stands e. builds_listed k u x build stands e;
+    paths = λ k x path r stands e. package_listed k x path r stands e;
+  }

@@ -1,9 +1,8 @@
 -- Each claim, nudge and question is an act.
-use Rattle.std.proofs.Common.{◌≡◌, ◌<◌, ◌==◌, ℕ, Bool, true, false, List, [], ◌∷◌, length, Option, Some, None, Ok, option_map, refl, sym, ap, subst, ◌∙◌}
+use Rattle.std.proofs.Common.{◌≡◌, ◌<◌, ◌==◌, ℕ, true, List, [], length, Option, Some, None, option_map, refl, sym, ap, ◌∙◌}
 use Rattle.std.proofs.lemmas.Bool.{cond-false, ne_eqb}
 use Rattle.agreement.specs.AgreedList.{Act, Cluster, elsewhere}
-use Rattle.agreement.specs.Member as theory_stage
-use Rattle.agreement.specs.Member.{Closed, Member, Stage, facts_of}
+use Rattle.agreement.specs.Member.{Closed, Member}
 use Rattle.agreement.specs.Nodes as nodes
 use Rattle.agreement.specs.Quorums.{is_majority}
 use Rattle.agreement.specs.Step as theory
@@ -31,7 +30,7 @@ use Rattle.headline.specs.Local.{AreLocal}
 use Rattle.headline.specs.Matches.{Matches, node_of}
 use Rattle.headline.specs.Mirrored.{after_all_acts}
 use Rattle.headline.proofs.Acting.{dropped_here}
-use Rattle.headline.proofs.Asking.{IsInputOf, answers_with, input_of}
+use Rattle.headline.proofs.Asking.{IsInputOf, input_of}
 use Rattle.headline.proofs.Cutting.{answered, asks_for, made_here}
 use Rattle.headline.proofs.Doing.{IsAct, IsDone, no_other}
 use Rattle.headline.proofs.Members.{facts_there, node_is_member}
@@ -61,7 +60,7 @@ started : (i : ℕ) (x : Member Value) (h : Option Value) (above : ℕ) (o : Out
 started i x (Some v) above o e old u q ne = absurd (let no : None ≡ Some o = e in cc)
 started i x None above o e old u q ne =
     ap (λ (o : Outcome Value). nodes.stage_at (nodes.claim_then old u o.member.stage) q)
-        (sym (outcome_same _ o e))
+    (sym (outcome_same _ o e))
     ∙ cond-false (q == u) _ Closed (ne_eqb q u ne)
   where
     outcome_same : (a b : Outcome Value) → Some a ≡ Some b → a ≡ b
@@ -112,7 +111,7 @@ module _ (division : Division) (weights : List ℕ) (acts : List (Act Value)) (w
   done_so what is =
       let i = its_input.answers in
       let theirs : theory.answer (is_majority w.weights) k (view member i.unit) [] what ≡ Some
-          i.answers.outcome =
+      i.answers.outcome =
       ap (theory.answer (is_majority w.weights) k (view member i.unit) []) is ∙ i.answers.answers in
       record {
         unit = i.unit;
@@ -127,8 +126,8 @@ module _ (division : Division) (weights : List ℕ) (acts : List (Act Value)) (w
         names =
             let known = known_named w its_made local k x s.acts.is_up.stands i.unit i.within in
             input_names (length w.weights) k (view member i.unit)
-                (record { promised = known.promised; voted = known.voted })
-                (own_stage member i.unit is_member)
+            (record { promised = known.promised; voted = known.voted })
+            (own_stage member i.unit is_member)
             (is_one w its_made local k x s.acts.is_up.stands) (is_majority w.weights) what
             i.answers.outcome theirs;
       }
@@ -148,7 +147,7 @@ module _ (division : Division) (weights : List ℕ) (acts : List (Act Value)) (w
         → nodes.stage_at (option_map claim_of s.taken.answer.claim) q ≡ Closed
     closed_there q ne =
         ap (λ c. nodes.stage_at c q) (claims (is_majority weights) w its_made here m k x
-            s.acts.is_up.stands s.acts.is_up.up d.unit d.within (theory.Start above)
+        s.acts.is_up.stands s.acts.is_up.up d.unit d.within (theory.Start above)
         d.outcome s.taken d.answered d.is)
         ∙ started k (nodes.view (node_of w k x) d.unit) (nodes.view (node_of w k x) d.unit).held
         above d.outcome d.answered (option_map claim_of x.claim) d.unit q ne
@@ -159,16 +158,23 @@ module _ (division : Division) (weights : List ℕ) (acts : List (Act Value)) (w
     dropped_so q ne =
         let g = known_stays q ne in
         let n : Closed ≡ nodes.stage_at (option_map claim_of s.taken.answer.claim) q =
-            sym (closed_there q ne) in
-        λ i. record { opened = (g i).opened; promised = (g i).promised; voted = (g i).voted; held =
-            (g i).held; up = true; stage = n i }
+        sym (closed_there q ne) in
+        λ i. record {
+          opened = (g i).opened;
+          promised = (g i).promised;
+          voted = (g i).voted;
+          held =
+              (g i).held;
+          up = true;
+          stage = n i;
+        }
 
     there : (q : ℕ) → (q ≡ d.unit → ⊥) → q < length w.division.units
         → (run (is_majority weights) (elsewhere (Take k d.input)) (here.at q)).members k ≡
         nodes.view (node_of w k then) q
     there q ne lt =
         let up : ((here.at q).members k).up ≡ true = ap (λ (z : Member Value). z.up)
-            (m.members k q x s.acts.is_up.stands lt) ∙ s.acts.is_up.up in
+        (m.members k q x s.acts.is_up.stands lt) ∙ s.acts.is_up.up in
         dropped_here Value (is_majority weights) (here.at q) k up
         ∙ ap (λ (z : Member Value). record z { up = true; stage = Closed })
         (m.members k q x s.acts.is_up.stands lt)
@@ -228,9 +234,9 @@ module _ (division : Division) (weights : List ℕ) (acts : List (Act Value)) (w
       → IsAct division weights acts w made of local m again (events.Claim n path host above) v s
   claim_is_act path host above s =
       let i = its_input division weights acts w made of local m again
-          (events.Claim n path host above) v s (inputs.Claim path host above) (λ a e. e) tt in
+      (events.Claim n path host above) v s (inputs.Claim path host above) (λ a e. e) tt in
       start_is_act division weights acts w made of local m again (events.Claim n path host above) v
-          s (inputs.Claim path host above) (λ a e. e) tt above
+      s (inputs.Claim path host above) (λ a e. e) tt above
       (asks_for division weights acts w made of local m (unit_in (member_at w n s.node) path)
       (λ u. theory.Start above) i.answers.unit i.answers.asks i.answers.is_asked)
 
@@ -238,9 +244,9 @@ module _ (division : Division) (weights : List ℕ) (acts : List (Act Value)) (w
       → IsAct division weights acts w made of local m again (events.Failed n path) v s
   failed_is_act path s =
       let i = its_input division weights acts w made of local m again (events.Failed n path) v s
-          (inputs.Failed path) (λ a e. e) tt in
+      (inputs.Failed path) (λ a e. e) tt in
       fail_is_act division weights acts w made of local m again (events.Failed n path) v s
-          (inputs.Failed path) (λ a e. e) tt
+      (inputs.Failed path) (λ a e. e) tt
       (asks_for division weights acts w made of local m (unit_in (member_at w n s.node) path)
       (λ u. theory.Failed) i.answers.unit i.answers.asks i.answers.is_asked)
 
@@ -248,9 +254,9 @@ module _ (division : Division) (weights : List ℕ) (acts : List (Act Value)) (w
       → IsAct division weights acts w made of local m again (events.Ask n path) v s
   ask_is_act path s =
       let i = its_input division weights acts w made of local m again (events.Ask n path) v s
-          (inputs.Ask path) (λ a e. e) tt in
+      (inputs.Ask path) (λ a e. e) tt in
       inquire_is_act division weights acts w made of local m again (events.Ask n path) v s
-          (inputs.Ask path) (λ a e. e) tt
+      (inputs.Ask path) (λ a e. e) tt
       (asks_for division weights acts w made of local m (unit_in (member_at w n s.node) path)
       (λ u. theory.Inquire) i.answers.unit i.answers.asks i.answers.is_asked)
 
@@ -258,9 +264,9 @@ module _ (division : Division) (weights : List ℕ) (acts : List (Act Value)) (w
       → IsAct division weights acts w made of local m again (events.Nudge n) v s
   nudged_is_act s =
       let i = its_input division weights acts w made of local m again (events.Nudge n) v s
-          inputs.Nudge (λ a e. e) tt in
+      inputs.Nudge (λ a e. e) tt in
       nudge_is_act division weights acts w made of local m again (events.Nudge n) v s inputs.Nudge
-          (λ a e. e) tt
+      (λ a e. e) tt
       (nudge_for s.node.claim i.answers.unit i.answers.asks i.answers.is_asked)
     where
       nudge_for : (o : Option OpenClaim) (u : ℕ) (input : theory.Input Value)
@@ -268,7 +274,7 @@ module _ (division : Division) (weights : List ℕ) (acts : List (Act Value)) (w
       nudge_for None u input e = absurd (let no : None ≡ Some (u, input) = e in cc)
       nudge_for (Some o) u input e =
           let both : (o.unit, theory.Nudge) ≡ (u, input) =
-              pair_same (o.unit, theory.Nudge) (u, input) e in
+          pair_same (o.unit, theory.Nudge) (u, input) e in
           ap (λ (p : ℕ × theory.Input Value). p.1) both
         where
           pair_same : (a b : ℕ × theory.Input Value) → Some a ≡ Some b → a ≡ b

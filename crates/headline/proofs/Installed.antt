@@ -1,5 +1,5 @@
 -- A node that shows a path as installable holds all of the path's run closure.
-use Rattle.std.proofs.Common.{◌≡◌, ◌<◌, ℕ, Bool, true, false, List, length, map, get_or, Option, None, Some, option_and_then, slice_get, refl, sym, ap, subst, ◌∙◌}
+use Rattle.std.proofs.Common.{◌≡◌, ℕ, Bool, true, false, List, map, Option, None, Some, option_and_then, slice_get, refl, sym, ap, subst, ◌∙◌}
 use Rattle.std.specs.Prelude.{All, Contains, filter, is_some}
 use Rattle.std.specs.FinSet.{contains-from_list_nat}
 use Rattle.std.specs.Str.{bytes_eq}
@@ -10,7 +10,6 @@ use Rattle.faults.specs.Pieces.{set_of}
 use Rattle.agreement.specs.AgreedList.{Act}
 use Rattle.engine.specs.Letters.{IsInstallable}
 use Rattle.engine.specs.State as engine
-use Rattle.engine.specs.declared.Letter.TheVariants as letters
 use Rattle.engine.proofs.Turned.{run_listed}
 use Rattle.listing.specs.Tree.{IsTree, Tree, path_at, position_of, run_at}
 use Rattle.package_record.specs.Content.{Content}
@@ -21,7 +20,7 @@ use Rattle.units.proofs.Kept.{unit_listed}
 use Rattle.units.proofs.Lists.{in_kept}
 use Rattle.units.proofs.Places.{has_position, listed_at, same_bytes}
 use Rattle.units.proofs.Sets.{from_set}
-use Rattle.world.specs.Headline.{InstallableIsHeld, IsClosed, IsInRunClosure, holds}
+use Rattle.world.specs.Headline.{InstallableIsHeld, IsClosed, holds}
 use Rattle.world.specs.World.{IsMade, World, WorldNode, member_at}
 use Rattle.headline.specs.Local.{AreLocal}
 use Rattle.headline.specs.Matches.{Matches}
@@ -74,11 +73,11 @@ module _ (division : Division) (weights : List ℕ) (acts : List (Act Value)) (w
         of_build u (Some v) is e =
             let f = find_is (λ (c : Content). bytes_eq c.path path) v r e in
             let o = record_of tree (unit_at w.division u) (unit_at w.division u).packages v
-                (held_records division weights acts w made of local m k x stands u v is) r f.0 in
+            (held_records division weights acts w made of local m k x stands u v is) r f.0 in
             let lt = held_within division weights acts w made of m local k u x v stands is in
             let here = listed_at tree path p at in
             let same : o.0 ≡ p =
-                tree_is.once o.0 p (unit_listed w.division u o.0 divided lt o.1) here.0
+            tree_is.once o.0 p (unit_listed w.division u o.0 divided lt o.1) here.0
             (sym (o.2).path ∙ same_bytes r.path path f.1 ∙ sym here.1) in
             (o.2).run ∙ ap (λ q. set_of (map (path_at tree) (run_at tree q))) same
 
@@ -97,9 +96,9 @@ module _ (division : Division) (weights : List ℕ) (acts : List (Act Value)) (w
           → Contains (set_of (map (path_at tree) (run_at tree q))) t → S t ≡ true
       runs_along q there t h =
           let d = has_preimage (path_at tree) (run_at tree q) t
-              (from_set (map (path_at tree) (run_at tree q)) t h) in
+          (from_set (map (path_at tree) (run_at tree q)) t h) in
           ap (has_any i.among) (has_position tree t d.0 tree_is
-              (run_listed tree tree_is q d.0 d.1).1 (sym d.2)) ∙ i.closed q d.0 there d.1
+          (run_listed tree tree_is q d.0 d.1).1 (sym d.2)) ∙ i.closed q d.0 there d.1
 
       is_closed : IsClosed (holds w k x) S
       is_closed path r there e = by (position_of tree path) refl there
@@ -122,7 +121,7 @@ module _ (division : Division) (weights : List ℕ) (acts : List (Act Value)) (w
           by (Some q) at there =
               let here = listed_at tree path q at in
               let r = has_its_record division weights acts w made of local m k x stands q here.0
-                  (agreed_is_held s q (i.all_held q there)) in
+              (agreed_is_held s q (i.all_held q there)) in
               ap is_some (ap (held_record s) (sym here.1) ∙ r.1)
 
   -- What a node shows as installable is held with all that it runs on.
@@ -130,4 +129,4 @@ module _ (division : Division) (weights : List ℕ) (acts : List (Act Value)) (w
   installable_is_held k p x path q stands up at letter closure =
       let i = letter.1 in
       all_held k x stands p i q (closure (S k x stands p i) (ap (has_any i.among) at ∙ i.member)
-          (is_closed k x stands p i))
+      (is_closed k x stands p i))

@@ -1,6 +1,6 @@
 -- Each claim that waits for a build was given its job by the delivery that made it wait, when all
 -- that the job signs stood in the list.
-use Rattle.std.proofs.Common.{◌≡◌, ◌<◌, ◌⊎◌, ℕ, true, false, List, [], ◌∷◌, ◌++◌, length, replicate, Option, None, Some, Ok, append_assoc, slice_get, slice_set, refl, sym, ap, subst, ◌∙◌, ⊎_elim, inl, inr, true≢false}
+use Rattle.std.proofs.Common.{◌≡◌, ◌⊎◌, ℕ, true, List, [], ◌∷◌, ◌++◌, length, None, Some, Ok, append_assoc, slice_get, slice_set, refl, sym, ap, subst, ◌∙◌, ⊎_elim, inl, inr, true≢false}
 use Rattle.std.specs.Prelude.{All}
 use Rattle.std.proofs.lemmas.List.Elements.{All-weaker}
 use Rattle.agreement.specs.AgreedList.{Act}
@@ -10,8 +10,7 @@ use Rattle.agreement.proofs.Nodes.{get_set}
 use Rattle.ballots.specs.declared.message.Message.{Message}
 use Rattle.claims.specs.Job.{Task}
 use Rattle.claims.specs.declared.deps.Dep.{Dep}
-use Rattle.listing.specs.Tree.{ArePositions}
-use Rattle.node.specs.Arrival.{Arrival, Strange, Waits, Whole, arrival_of}
+use Rattle.node.specs.Arrival.{arrival_of}
 use Rattle.node.specs.Events as kinds
 use Rattle.node.specs.Events.{Event, is_step}
 use Rattle.node.specs.Step as steps
@@ -22,9 +21,9 @@ use Rattle.package_record.specs.Content.{Content}
 use Rattle.package_record.specs.Laws.{BuildTextIsReadAgain}
 use Rattle.protocol.specs.Answers.{Answer, after}
 use Rattle.protocol.specs.Jobs.{deps_of, job_of, signature}
-use Rattle.protocol.specs.Laws.{IsNoMessage, IsReady}
+use Rattle.protocol.specs.Laws.{IsNoMessage}
 use Rattle.protocol.specs.Member.{IsInput, IsMember}
-use Rattle.protocol.specs.State.{Building, OpenClaim, State, Value, facts_then, held_record}
+use Rattle.protocol.specs.State.{Building, OpenClaim, State, Value, held_record}
 use Rattle.protocol.specs.Step as members
 use Rattle.protocol.specs.Step.{Answers}
 use Rattle.protocol.specs.declared.input.Input.{Input}
@@ -35,16 +34,16 @@ use Rattle.protocol.proofs.WaitingClaims.{waiting_claims}
 use Rattle.units.specs.Division.{Division}
 use Rattle.units.proofs.Kept.{unit_good}
 use Rattle.wire.specs.Reading.{datagram_of}
-use Rattle.world.specs.Happening.{Acts, Asks, Happens, Leads, Restarts, Steps, Stops, StopsIn}
+use Rattle.world.specs.Happening.{Acts, Asks, Happens, Steps, StopsIn}
 use Rattle.world.specs.Headline.{HasSignature}
 use Rattle.world.specs.Safety.{JobGiven}
 use Rattle.world.specs.Sent.{WasSent}
-use Rattle.world.specs.World.{IsMade, World, WorldNode, down_node, fresh_node, member_at, node_at, restarted_node, start, up_node}
+use Rattle.world.specs.World.{IsMade, World, WorldNode, member_at, node_at, up_node}
 use Rattle.world.proofs.Growing.{event_later}
 use Rattle.headline.specs.Laws.{EachRunIsActs}
 use Rattle.headline.specs.Local.{AreLocal}
 use Rattle.headline.specs.Matches.{Matches}
-use Rattle.headline.specs.Mirrored.{Mirrors, after_all_acts, and_then, at_start, with_act}
+use Rattle.headline.specs.Mirrored.{Mirrors, after_all_acts, and_then, at_start}
 use Rattle.headline.proofs.Asking.{answers_with, taken_is}
 use Rattle.headline.proofs.Built.{of_run}
 use Rattle.headline.proofs.Cutting.{made_here}
@@ -102,13 +101,13 @@ cut_there : (w : World) (e : Event) (v : World) (l : Left) (k : ℕ) (z : WorldN
     → ComesFrom w (kinds.StopIn e l) v k z
 cut_there w e v left.None k z o s there is =
     no_claim_there w (kinds.StopIn e left.None) v (kinds.node_of e) k _ z o
-        (ap (λ (u : World). u.nodes) s.leaves) refl there is
+    (ap (λ (u : World). u.nodes) s.leaves) refl there is
 cut_there w e v (left.Torn bytes) k z o s there is =
     no_claim_there w (kinds.StopIn e (left.Torn bytes)) v (kinds.node_of e) k _ z o
-        (ap (λ (u : World). u.nodes) s.leaves) refl there is
+    (ap (λ (u : World). u.nodes) s.leaves) refl there is
 cut_there w e v left.Whole k z o s there is =
     no_claim_there w (kinds.StopIn e left.Whole) v (kinds.node_of e) k _ z o
-        (ap (λ (u : World). u.nodes) s.leaves) refl there is
+    (ap (λ (u : World). u.nodes) s.leaves) refl there is
 
 comes_from : (w : World) (e : Event) (v : World) → Happens w e v
     → (k : ℕ) (z : WorldNode) (o : OpenClaim) → slice_get v.nodes k ≡ Some z → z.claim ≡ Some o
@@ -173,13 +172,16 @@ module _ (division : Division) (weights : List ℕ) (acts : List (Act Value)) (w
       let same : did.asked ≡ Does input = asks did.asked did.asks in
       let given : members.answer s did.takes.letter input ≡ answers_with t.answer =
       taken_is x.pieces (members.answer s did.takes.letter input) t
-          (did.takes.right_is ∙ ap (running_step s x.pieces did.takes.letter) same) in
-      (
+      (did.takes.right_is ∙ ap (running_step s x.pieces did.takes.letter) same) in (
         inl (waited_before s did.takes.letter input t.answer none given o c left_open waits),
         job_stays input (subst steps.IsAsked same did.can_be)
-            (record { letter = did.takes.letter; shown = subst
-            (λ a. members.IsLetterOf s (steps.unit_asked s a) did.takes.letter) same
-            did.takes.shown; right = sym given }),
+            (record {
+              letter = did.takes.letter;
+              shown = subst
+                  (λ a. members.IsLetterOf s (steps.unit_asked s a) did.takes.letter) same
+                  did.takes.shown;
+              right = sym given;
+            }),
       )
 
   came : (d n : ℕ) → e ≡ kinds.Deliver d n → (t.answer ≡ nothing s)
@@ -191,10 +193,9 @@ module _ (division : Division) (weights : List ℕ) (acts : List (Act Value)) (w
   )
   came d n is (inr (message, was, heard)) =
       let answers : Answers s (inputs.Message message) (Ok t.answer) =
-          record { letter = did.takes.letter; shown = tt; right = sym heard } in
-      (
+      record { letter = did.takes.letter; shown = tt; right = sym heard } in (
         ⊎_elim (λ job. inr ((d, n, is), job)) (λ before. inl before)
-        (waiting_claims s (inputs.Message message) t.answer o c is_member answers left_open waits),
+            (waiting_claims s (inputs.Message message) t.answer o c is_member answers left_open waits),
         job_stays (inputs.Message message) tt answers,
       )
 
@@ -210,29 +211,29 @@ step_gives : (division : Division) (weights : List ℕ) (acts : List (Act Value)
 step_gives division weights acts w made of local m again (kinds.Claim n path host above) x t did o c
     left_open waits step =
     asked_input division weights acts w made of local m again (kinds.Claim n path host above) x t
-        did o c left_open waits (inputs.Claim path host above) tt (λ a h. h)
+    did o c left_open waits (inputs.Claim path host above) tt (λ a h. h)
 step_gives division weights acts w made of local m again (kinds.Built n path files) x t did o c
     left_open waits step =
     asked_input division weights acts w made of local m again (kinds.Built n path files) x t did o c
-        left_open waits (inputs.Built path files) tt (λ a h. h)
+    left_open waits (inputs.Built path files) tt (λ a h. h)
 step_gives division weights acts w made of local m again (kinds.Failed n path) x t did o c left_open
     waits step =
     asked_input division weights acts w made of local m again (kinds.Failed n path) x t did o c
-        left_open waits (inputs.Failed path) tt (λ a h. h)
+    left_open waits (inputs.Failed path) tt (λ a h. h)
 step_gives division weights acts w made of local m again (kinds.Nudge n) x t did o c left_open waits
     step =
     asked_input division weights acts w made of local m again (kinds.Nudge n) x t did o c left_open
-        waits inputs.Nudge tt (λ a h. h)
+    waits inputs.Nudge tt (λ a h. h)
 step_gives division weights acts w made of local m again (kinds.Ask n path) x t did o c left_open
     waits step =
     asked_input division weights acts w made of local m again (kinds.Ask n path) x t did o c
-        left_open waits (inputs.Ask path) tt (λ a h. h)
+    left_open waits (inputs.Ask path) tt (λ a h. h)
 step_gives division weights acts w made of local m again (kinds.Deliver d n) x t did o c left_open
     waits step =
     let text = did.asks.0 in
     let kept = (local.each n x did.is_up.stands).pieces in
     came division weights acts w made of local m again (kinds.Deliver d n) x t did o c left_open
-        waits d n refl
+    waits d n refl
     (by_arrival division weights acts w made of local m again n x did.is_up.stands did.is_up.up t
     (arrival_of (member_at w n x) x.pieces (datagram_of text))
     (comes_welcome division weights acts w made of m again n x x.pieces kept text
@@ -257,10 +258,12 @@ module _ (division : Division) (weights : List ℕ) (made : IsMade division weig
       → All (HasSignature w.agreed) (deps_of (member_at w k x) u)
   signed_there w local acts of m k x stands u =
       All-weaker (λ (d : Dep). (r : Content) × (held_record (member_at w k x) d.path ≡ Some r)
-          × (d ≡ signature r)) (HasSignature w.agreed)
-      (λ d h. (h.0,
-      ((held_is_listed division weights acts w made of m local).paths k x d.path h.0 stands h.1).1,
-      sym h.2))
+      × (d ≡ signature r)) (HasSignature w.agreed)
+      (λ d h. (
+        h.0,
+        ((held_is_listed division weights acts w made of m local).paths k x d.path h.0 stands h.1).1,
+        sym h.2,
+      ))
       (deps_of (member_at w k x) u) (builds_stand (member_at w k x) u)
 
   -- the member that is left by the step is the one that answered so
@@ -275,7 +278,7 @@ module _ (division : Division) (weights : List ℕ) (made : IsMade division weig
       → v.weights ≡ w.weights → member_at v k z ≡ member_at w k z
   same_division w v k z division weights =
       ap (λ d. member_at (record v { division = d }) k z) division
-          ∙ ap (λ ws. member_at (record v { division = w.division; weights = ws }) k z) weights
+      ∙ ap (λ ws. member_at (record v { division = w.division; weights = ws }) k z) weights
 
   -- Each claim that waits was given its job.
   pub claim_has_job : (events : List Event) (w : World) (acts : List (Act Value))
@@ -284,11 +287,11 @@ module _ (division : Division) (weights : List ℕ) (made : IsMade division weig
       → JobGiven division weights events (job_of (member_at w k x) o.unit o.host c)
   claim_has_job events w acts at_start k x o c stands is waits =
       absurd (let no : None ≡ Some o = ap (λ (n : WorldNode). n.claim)
-          (all_fresh (length weights) k x stands) ∙ is in cc)
+      (all_fresh (length weights) k x stands) ∙ is in cc)
   claim_has_job events last acts (and_then before w v others e a mirrors m h act) k x o c stands is
       waits =
       by (comes_from w e v h k x o stands is)
-          (λ j y there claimed. claim_has_job before w others mirrors j y o c there claimed waits)
+      (λ j y there claimed. claim_has_job before w others mirrors j y o c there claimed waits)
     where
       r : (acts : List (Act Value)) × Mirrors division weights before w acts
           × Matches w (after_all_acts division weights acts) × AreLocal w
@@ -355,7 +358,7 @@ module _ (division : Division) (weights : List ℕ) (made : IsMade division weig
           → JobGiven division weights (before ++ e ∷ []) (job_of (member_at v k x) o.unit o.host c)
       by (was_there there) earlier =
           subst (JobGiven division weights (before ++ e ∷ []))
-              (sym (ap (λ z. job_of z o.unit o.host c) (same_division w v k x later.0 later.1)))
+          (sym (ap (λ z. job_of z o.unit o.host c) (same_division w v k x later.0 later.1)))
           (given_later division weights before (e ∷ []) (job_of (member_at w k x) o.unit o.host c)
           (earlier k x there is))
       by (took step s who node) earlier = stepped s step who node earlier

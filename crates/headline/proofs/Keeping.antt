@@ -1,5 +1,5 @@
 -- Stops and restarts leave nodes as they have to be.
-use Rattle.std.proofs.Common.{◌≡◌, ℕ, false, List, [], Some, None, slice_get, refl, sym, subst, arith, ⊎_elim, ◌∙◌}
+use Rattle.std.proofs.Common.{◌≡◌, ℕ, List, [], Some, None, slice_get, refl, sym, subst, arith, ⊎_elim, ◌∙◌}
 use Rattle.std.specs.Prelude.{All}
 use Rattle.std.proofs.lemmas.Bool.{true≢false}
 use Rattle.std.proofs.lemmas.List.{length-set}
@@ -95,8 +95,8 @@ pub cut_keeps : (w v : World) (e : Event) (l : Left) → AreLocal w → (l ≡ l
     → StopsIn w e l v → AreLocal v
 cut_keeps w v e left.None local not_whole s =
     subst AreLocal (sym s.leaves) (down_stays w (events.node_of e) s.node [] s.acts.is_up.stands
-        local)
+    local)
 cut_keeps w v e (left.Torn bytes) local not_whole s =
     subst AreLocal (sym s.leaves) (down_stays w (events.node_of e) s.node bytes s.acts.is_up.stands
-        local)
+    local)
 cut_keeps w v e left.Whole local not_whole s = absurd (not_whole refl)

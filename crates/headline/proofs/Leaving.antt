@@ -1,10 +1,9 @@
 -- What a member's answer leaves: a member that is one, and notes that can be written down and name
 -- members.
-use Rattle.std.proofs.Common.{◌≡◌, ◌<◌, ℕ, List, [], length, Option, Some, None, Ok, option_map, refl, sym, ap, subst, ◌∙◌}
+use Rattle.std.proofs.Common.{◌≡◌, ◌<◌, ℕ, [], length, Some, option_map, sym, ap, ◌∙◌}
 use Rattle.std.specs.Prelude.{All}
 use Rattle.std.specs.Option.{ForSome}
 use Rattle.std.proofs.lemmas.List.Elements.{All-cons, All-nil}
-use Rattle.agreement.specs.Member as theory
 use Rattle.agreement.specs.Member.{facts_of}
 use Rattle.agreement.specs.Quorums.{is_majority}
 use Rattle.agreement.specs.Step.{Outcome}
@@ -21,7 +20,7 @@ use Rattle.protocol.specs.Answers.{Answer, after}
 use Rattle.protocol.specs.InTheAgreement.{view}
 use Rattle.protocol.specs.Laws.{IsNoMessage, IsOutcome}
 use Rattle.protocol.specs.Member.{IsInput, IsMember}
-use Rattle.protocol.specs.State.{State, Value, name_at}
+use Rattle.protocol.specs.State.{State, Value}
 use Rattle.protocol.specs.Step.{IsLetterOf, answer, heard, outcome_of, unit_claimed}
 use Rattle.protocol.specs.declared.input.Input.{Input}
 use Rattle.protocol.specs.declared.input.Input.TheVariants as inputs
@@ -108,8 +107,16 @@ module _ (s : State) (member : IsMember s) (range : IsInRange s)
       each = member.each;
       pledged = member.pledged;
       claim = λ o e. let c = member.claim o e in record {
-        unit = c.unit; not_held = c.not_held; host = c.host; claim = c.claim; own = c.own; joined =
-            c.joined; short = c.short; ready = c.ready };
+        unit = c.unit;
+        not_held = c.not_held;
+        host = c.host;
+        claim = c.claim;
+        own = c.own;
+        joined =
+            c.joined;
+        short = c.short;
+        ready = c.ready;
+      };
     };
     claim = range.claim;
   }

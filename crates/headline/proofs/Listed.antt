@@ -1,18 +1,15 @@
 -- What stands in the list: each package was built by an event, and fits the tree; and an audit says
 -- yes.
-use Rattle.std.proofs.Common.{◌≡◌, ◌≢◌, ◌<◌, ◌==◌, ◌&&◌, ℕ, zero, suc, true, false, List, [], ◌∷◌, ◌++◌, length, map, get_or, Option, None, Some, option_and_then, append_assoc, eqb, eq-eqb, refl, sym, ap, subst, ◌∙◌, arith, ⊎_elim}
-use Rattle.std.specs.Prelude.{All, AllPairs, Any, Contains}
-use Rattle.std.specs.List.{list_all, list_any}
+use Rattle.std.proofs.Common.{◌≡◌, ◌<◌, ◌&&◌, ℕ, suc, true, List, [], ◌∷◌, length, get_or, Option, None, Some, option_and_then, eqb, eq-eqb, refl, sym, ap, subst, ◌∙◌, arith, ⊎_elim}
+use Rattle.std.specs.Prelude.{All, Contains}
+use Rattle.std.specs.List.{list_all}
 use Rattle.std.specs.Str.{bytes_eq}
-use Rattle.std.proofs.lemmas.Bool.{and_parts, cond-false, cond-true, cond_both, ne_eqb, true≢false}
-use Rattle.std.proofs.lemmas.List.{map-append}
-use Rattle.std.proofs.lemmas.List.Elements.{All-contains, Contains-append_cases, Contains-append_left}
+use Rattle.std.proofs.lemmas.Bool.{and_parts, cond-false, cond-true, ne_eqb, true≢false}
+use Rattle.std.proofs.lemmas.List.Elements.{All-contains, Contains-append_cases}
 use Rattle.std.proofs.lemmas.List.Folds.{Any-from_list_any}
 use Rattle.std.proofs.lemmas.List.Sums.{AllPass-from_list_all}
 use Rattle.agreement.specs.AgreedList.{Entry, IsAllowed, lookup}
-use Rattle.auditing.specs.Allowed as audit
 use Rattle.auditing.specs.Fits.{Fits}
-use Rattle.auditing.specs.declared.entry.Entry as audited
 use Rattle.claims.specs.declared.deps.Dep.{Dep}
 use Rattle.engine.proofs.Together.{not_ignored}
 use Rattle.package_record.specs.Content.{Content}
@@ -22,11 +19,11 @@ use Rattle.units.specs.Division.{Division, IsDivision, unit_at}
 use Rattle.units.proofs.Kept.{unit_listed}
 use Rattle.units.proofs.Places.{has_position, same_bytes}
 use Rattle.units.proofs.WellMade.{one_unit_has}
-use Rattle.world.specs.Headline.{HasSignature, entry_of}
+use Rattle.world.specs.Headline.{HasSignature}
 use Rattle.headline.specs.Matches.{packages_of}
 use Rattle.headline.specs.Needs.{are_records_of, is_signed, may_build, same_signature, stands_on}
 use Rattle.headline.proofs.Holding.{entry_listed}
-use Rattle.headline.proofs.Recorded.{IsRecordOf, are_records, record_of}
+use Rattle.headline.proofs.Recorded.{are_records, record_of}
 
 -- ---- entries
 
@@ -64,7 +61,7 @@ of_entry division (n ∷ ns) allowed r h = ⊎_elim
 pub signatures_same : (a b : Dep) → same_signature a b ≡ true → a ≡ b
 signatures_same a b e =
     let x = and_parts (bytes_eq a.path b.path && bytes_eq a.name b.name)
-        (bytes_eq a.digest b.digest) e in
+    (bytes_eq a.digest b.digest) e in
     let y = and_parts (bytes_eq a.path b.path) (bytes_eq a.name b.name) x.0 in
     let path = same_bytes a.path b.path y.0 in
     let name = same_bytes a.name b.name y.1 in
@@ -78,20 +75,19 @@ pub stands_listed : (division : Division) (list : List (Entry Value)) (u : ℕ) 
     → (r : Content) → Contains build r → All (HasSignature (packages_of list)) r.built
 stands_listed division list u build may r h k d lt =
     let all = (and_parts
-        (are_records_of division.tree (unit_at division u) (unit_at division u).packages build)
-        (list_all (stands_on division (lookup list)) build) may).1 in
+    (are_records_of division.tree (unit_at division u) (unit_at division u).packages build)
+    (list_all (stands_on division (lookup list)) build) may).1 in
     let mine = All-contains (λ r. stands_on division (lookup list) r ≡ true) build r
-        (AllPass-from_list_all (stands_on division (lookup list)) build all) h in
+    (AllPass-from_list_all (stands_on division (lookup list)) build all) h in
     by (get_or r.built k d) (AllPass-from_list_all
-        (λ d. is_signed (option_and_then (lookup list) (unit_with division d.path)) d) r.built mine
-        k d lt)
+    (λ d. is_signed (option_and_then (lookup list) (unit_with division d.path)) d) r.built mine
+    k d lt)
   where
     of_build : (d : Dep) (q : ℕ) (o : Option Value) → lookup list q ≡ o → is_signed o d ≡ true
         → HasSignature (packages_of list) d
     of_build d q None is e = absurd (true≢false (sym e))
     of_build d q (Some v) is e =
-        let a = Any-from_list_any (λ (c : Content). same_signature (signature c) d) v e in
-        (
+        let a = Any-from_list_any (λ (c : Content). same_signature (signature c) d) v e in (
           a.1,
           subst (Contains (packages_of list)) a.3 (entry_listed list q v is a.0 a.1 a.2),
           signatures_same (signature a.1) d a.4,
@@ -115,7 +111,7 @@ module _ (division : Division) (is : IsDivision division) where
       → Fits division.tree r.path r.name r.built r.run
   record_fits f u build lt may r h =
       let o = record_of division.tree (unit_at division u) (unit_at division u).packages build
-          (are_records division is f u build may) r h in
+      (are_records division is f u build may) r h in
       let one = one_unit_has division u o.0 is lt o.1 in record {
         position = o.0;
         listed = has_position division.tree r.path o.0 is.tree

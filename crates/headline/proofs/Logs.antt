@@ -60,10 +60,10 @@ has_filtered : {X : Type 0} (t : X → Bool) (xs : List X) (x : X) → t x ≡ t
 has_filtered t [] x e h = absurd h
 has_filtered t (y ∷ ys) x e (inl same) =
     subst (λ l. Has l x) (sym (cond-true (t y) (y ∷ filter t ys) (filter t ys) (ap t same ∙ e)))
-        (inl same)
+    (inl same)
 has_filtered t (y ∷ ys) x e (inr h) =
     cond_both (t y) (y ∷ filter t ys) (filter t ys) (λ l. Has l x)
-        (λ on. inr (has_filtered t ys x e h)) (λ off. has_filtered t ys x e h)
+    (λ on. inr (has_filtered t ys x e h)) (λ off. has_filtered t ys x e h)
 
 pub filtered_has : {X : Type 0} (t : X → Bool) (xs : List X) (x : X) → Has (filter t xs) x
     → Has xs x × (t x ≡ true)
@@ -82,7 +82,7 @@ pub noted_is_on_log : (w : World) (u : ℕ) (x : WorldNode) (n : Note Value) →
     → Has (log_of w u x) (note_of n.fact)
 noted_is_on_log w u x n h e =
     has_mapped (λ (n : Note Value). note_of n.fact)
-        (reverse (filter (λ n. bytes_eq n.path (name_of w u)) x.notes)) n
+    (reverse (filter (λ n. bytes_eq n.path (name_of w u)) x.notes)) n
     (has_reversed (filter (λ n. bytes_eq n.path (name_of w u)) x.notes) n
     (has_filtered (λ n. bytes_eq n.path (name_of w u)) x.notes n
     (equal_bytes n.path (name_of w u) e) (contains_has x.notes n h)))
@@ -93,7 +93,7 @@ pub on_log_was_noted : (w : World) (u : ℕ) (x : WorldNode) (note : theory.Note
     → (n : Note Value) × Contains x.notes n × (n.path ≡ name_of w u) × (note_of n.fact ≡ note)
 on_log_was_noted w u x note h =
     let a = mapped_has (λ (n : Note Value). note_of n.fact)
-        (reverse (filter (λ n. bytes_eq n.path (name_of w u)) x.notes)) note h in
+    (reverse (filter (λ n. bytes_eq n.path (name_of w u)) x.notes)) note h in
     let b = reversed_has (filter (λ n. bytes_eq n.path (name_of w u)) x.notes) a.0 a.1 in
     let r = filtered_has (λ n. bytes_eq n.path (name_of w u)) x.notes a.0 b in
     (a.0, has_contains x.notes a.0 r.0, same_bytes (a.0).path (name_of w u) r.1, a.2)

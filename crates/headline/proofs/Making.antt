@@ -1,5 +1,5 @@
 -- Each build is an act, and the act builds what the event's files make.
-use Rattle.std.proofs.Common.{◌≡◌, ◌<◌, ◌==◌, ℕ, Bool, true, false, List, [], Option, Some, None, option_map, eqb-true, refl, sym, ap, ap₂, subst, ◌∙◌}
+use Rattle.std.proofs.Common.{◌≡◌, ◌==◌, ℕ, true, List, Option, Some, None, option_map, eqb-true, refl, sym, ap, ap₂, subst, ◌∙◌}
 use Rattle.std.proofs.lemmas.Bool.{cond_both}
 use Rattle.agreement.specs.AgreedList.{Act, Cluster, held_by}
 use Rattle.agreement.specs.Member as stages
@@ -20,7 +20,6 @@ use Rattle.protocol.specs.Jobs.{build_by, job_of}
 use Rattle.protocol.specs.Laws.{built_at, for_unit}
 use Rattle.protocol.specs.State.{Building, Gathering, OpenClaim, Progress, State, Value, Voting}
 use Rattle.protocol.specs.Step.{host_in, unit_in}
-use Rattle.protocol.specs.declared.input.Input.{Input}
 use Rattle.protocol.specs.declared.input.Input.TheVariants as inputs
 use Rattle.units.specs.Division.{Division}
 use Rattle.world.specs.Happening.{Steps}
@@ -73,7 +72,7 @@ open_waits s u c e = by s.claim refl e
     by None is e = absurd (let no : closed_stage ≡ building c = e in cc)
     by (Some o) is e =
         cond_both (u == o.unit) (stage_of o.progress) stages.Closed
-            (λ z. z ≡ stages.Building c → IsWaiting s u c)
+        (λ z. z ≡ stages.Building c → IsWaiting s u c)
         (λ same e.
         let unit : o.unit ≡ u = sym (eqb-true u o.unit same) in
         let progress : o.progress ≡ Building c = progress_waits o.progress c e in
@@ -184,5 +183,5 @@ module _ (division : Division) (weights : List ℕ) (acts : List (Act Value)) (w
         (nodes.view (node_of w n s.node) u) closed _ closed built d.outcome d.answered));
     is = λ j b same. let both = build_taken n j built b same in
         subst (λ b. MakesBuild w (events.Built n path given) j u b) both.1
-            (subst (λ j. MakesBuild w (events.Built n path given) j u built) both.0 makes);
+        (subst (λ j. MakesBuild w (events.Built n path given) j u built) both.0 makes);
   }

@@ -44,11 +44,11 @@ pub node_is_member : (w : World) → IsMade w.division w.weights → AreLocal w
 node_is_member w made local k x stands =
     let l = local.each k x stands in
     let within : k < length w.weights =
-        subst (λ n. k < n) local.one_for_each (get_within w.nodes k x stands) in
+    subst (λ n. k < n) local.one_for_each (get_within w.nodes k x stands) in
     let on_units = All-weaker (IsOfUnit w) (λ (n : Note Value). (u : ℕ)
-        × (number_named w.division n.path ≡ Some u)) (λ n o. (o.unit, o.of_unit)) x.notes l.notes in
+    × (number_named w.division n.path ≡ Some u)) (λ n o. (o.unit, o.of_unit)) x.notes l.notes in
     let r = (notes_restore w.division w.weights k x.notes made.divided made.weigh within
-        on_units).member in
+    on_units).member in
     record {
       division = r.division;
       weights = r.weights;
@@ -101,7 +101,7 @@ pub facts_there : (w : World) (k : ℕ) (x y : WorldNode) (u : ℕ) (o : Outcome
     → facts_at (member_at w k y) q ≡ facts_at (member_at w k x) q
 facts_there w k x y u o a is e q ne =
     facts_then_are w k x y u o a is e q
-        ∙ put_other (facts_at (member_at w k x)) u q (facts_of o.member) ne
+    ∙ put_other (facts_at (member_at w k x)) u q (facts_of o.member) ne
 
 -- ---- and the log of each unit
 
@@ -128,7 +128,7 @@ module _ (w : World) (made : IsMade w.division w.weights) (q : ℕ) where
   not_on_it notes n e =
       let parts : filter is_on (notes ++ n ∷ []) ≡ filter is_on notes =
       filter-append is_on notes (n ∷ []) ∙ ap (λ b. filter is_on notes ++ cond b (n ∷ []) []) e
-          ∙ append-nil (filter is_on notes) in
+      ∙ append-nil (filter is_on notes) in
       ap (λ ns. map (λ (n : Note Value). note_of n.fact) (reverse ns)) parts
 
   -- the log of the answer's unit

@@ -1,5 +1,5 @@
 -- Each event is an act, or none; and so each run is acts.
-use Rattle.std.proofs.Common.{◌≡◌, ◌⊎◌, ℕ, List, true, ap, ⊎_elim, ◌∙◌, sym, true≢false}
+use Rattle.std.proofs.Common.{◌≡◌, ℕ, List, true, ap, ⊎_elim, ◌∙◌, sym, true≢false}
 use Rattle.agreement.specs.AgreedList.{Act}
 use Rattle.node.specs.Events as events
 use Rattle.node.specs.Events.{Event, is_step}
@@ -18,7 +18,7 @@ use Rattle.headline.specs.Local.{AreLocal}
 use Rattle.headline.specs.Matches.{Matches}
 use Rattle.headline.specs.Mirrored.{after_all_acts}
 use Rattle.headline.proofs.Delivering.{stop_inside_is_act}
-use Rattle.headline.proofs.Doing.{IsAct, is_one_act_more, only_list}
+use Rattle.headline.proofs.Doing.{is_one_act_more, only_list}
 use Rattle.headline.proofs.Hearing.{delivery_is_act}
 use Rattle.headline.proofs.Inputs.{ask_is_act, claim_is_act, failed_is_act, nudged_is_act}
 use Rattle.headline.proofs.Making.{build_is_act}
@@ -36,19 +36,19 @@ module _ (division : Division) (weights : List ℕ) (acts : List (Act Value)) (w
       → IsOneActMore division weights acts w e v
   event_is_act (events.Claim n path host above) v s =
       is_one_act_more division weights acts w made of local m again (events.Claim n path host above)
-          v s (claim_is_act division weights acts w made of local m again n v path host above s)
+      v s (claim_is_act division weights acts w made of local m again n v path host above s)
   event_is_act (events.Built n path files) v s =
       is_one_act_more division weights acts w made of local m again (events.Built n path files) v s
-          (build_is_act division weights acts w made of local m again n v path files s)
+      (build_is_act division weights acts w made of local m again n v path files s)
   event_is_act (events.Failed n path) v s =
       is_one_act_more division weights acts w made of local m again (events.Failed n path) v s
-          (failed_is_act division weights acts w made of local m again n v path s)
+      (failed_is_act division weights acts w made of local m again n v path s)
   event_is_act (events.Nudge n) v s =
       is_one_act_more division weights acts w made of local m again (events.Nudge n) v s
-          (nudged_is_act division weights acts w made of local m again n v s)
+      (nudged_is_act division weights acts w made of local m again n v s)
   event_is_act (events.Ask n path) v s =
       is_one_act_more division weights acts w made of local m again (events.Ask n path) v s
-          (ask_is_act division weights acts w made of local m again n v path s)
+      (ask_is_act division weights acts w made of local m again n v path s)
   event_is_act (events.Deliver d n) v s = ⊎_elim
       (λ none. waiting_is_none division weights acts w made of local m again d n v s none)
       (λ a. is_one_act_more division weights acts w made of local m again (events.Deliver d n) v s
@@ -68,24 +68,24 @@ module _ (division : Division) (weights : List ℕ) (acts : List (Act Value)) (w
       → HasOnlyList e v s
   step_has_one_list (events.Claim n path host above) v step s =
       only_list division weights acts w made of local m again (events.Claim n path host above) v s
-          (claim_is_act division weights acts w made of local m again n v path host above s)
+      (claim_is_act division weights acts w made of local m again n v path host above s)
   step_has_one_list (events.Built n path files) v step s =
       only_list division weights acts w made of local m again (events.Built n path files) v s
-          (build_is_act division weights acts w made of local m again n v path files s)
+      (build_is_act division weights acts w made of local m again n v path files s)
   step_has_one_list (events.Failed n path) v step s =
       only_list division weights acts w made of local m again (events.Failed n path) v s
-          (failed_is_act division weights acts w made of local m again n v path s)
+      (failed_is_act division weights acts w made of local m again n v path s)
   step_has_one_list (events.Nudge n) v step s =
       only_list division weights acts w made of local m again (events.Nudge n) v s
-          (nudged_is_act division weights acts w made of local m again n v s)
+      (nudged_is_act division weights acts w made of local m again n v s)
   step_has_one_list (events.Ask n path) v step s =
       only_list division weights acts w made of local m again (events.Ask n path) v s
-          (ask_is_act division weights acts w made of local m again n v path s)
+      (ask_is_act division weights acts w made of local m again n v path s)
   step_has_one_list (events.Deliver d n) v step s = ⊎_elim
       (λ (none : s.taken.answer ≡ nothing (member_at w n s.node)) list is.
       let same = ap (λ (a : Answer). with_sends w.sent a.sends) none in
       list_same w (with_sends w.sent s.taken.answer.sends) list same is
-          ∙ sym (list_same w (with_sends w.sent s.taken.answer.sends) v.agreed same s.list))
+      ∙ sym (list_same w (with_sends w.sent s.taken.answer.sends) v.agreed same s.list))
       (λ a. only_list division weights acts w made of local m again (events.Deliver d n) v s a)
       (delivery_is_act division weights acts w made of local m again d n v s)
   step_has_one_list (events.Stop n) v step s = absurd (true≢false (sym step))

@@ -30,9 +30,9 @@ signed_more f g more (Some u) d h = by_held (f u) refl h
 pub needs_are_monotone : (division : Division) → IsMonotone (may_build division)
 needs_are_monotone division f g more u build h =
     let p = and_parts (are_records_of division.tree (unit_at division u)
-        (unit_at division u).packages build) (list_all (stands_on division f) build) h in
+    (unit_at division u).packages build) (list_all (stands_on division f) build) h in
     and_from (are_records_of division.tree (unit_at division u) (unit_at division u).packages build)
-        (list_all (stands_on division g) build) p.0
+    (list_all (stands_on division g) build) p.0
     (all_weaker (stands_on division f) (stands_on division g)
     (λ r. all_weaker (λ d. is_signed (option_and_then f (unit_with division d.path)) d)
     (λ d. is_signed (option_and_then g (unit_with division d.path)) d)

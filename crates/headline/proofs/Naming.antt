@@ -1,6 +1,6 @@
 -- The claims that a member notes and says are of members, and what it proposes is under its own
 -- claim.
-use Rattle.std.proofs.Common.{◌≡◌, ◌<◌, ◌&&◌, not, ℕ, List, [], ◌∷◌, Option, None, Some, IfSome, max, refl, sym, subst, suc, if◌then◌else◌}
+use Rattle.std.proofs.Common.{◌≡◌, ◌<◌, ◌&&◌, not, ℕ, List, [], ◌∷◌, Option, None, Some, max, refl, sym, subst, suc}
 use Rattle.std.specs.Prelude.{All}
 use Rattle.std.specs.Option.{ForSome}
 use Rattle.std.proofs.lemmas.Bool.{cond_both}
@@ -124,14 +124,14 @@ module _ (n i : ℕ) (x : Member Value) (known : AreNamed n (facts_of x))
   offer_names : (c : Claim) → IsNamed n c → IsNaming n i (on_offer i x c)
   offer_names c is =
       cond_both (is_above c x.promised) _ _ (IsNaming n i)
-          (λ t. noting _ (members.Promised c) _ is (is, known.voted))
+      (λ t. noting _ (members.Promised c) _ is (is, known.voted))
       (λ f. cond_both (is_promised c x.promised && not (is_voted c x.voted)) _ _ (IsNaming n i)
       (λ t. telling x _ (is, known.voted)) (λ g. telling x _ (is, known.promised)))
 
   proposal_names : (b : Ballot Value) → IsNamedIn n b → IsNaming n i (on_propose i x b)
   proposal_names b is =
       cond_both (not (is_below b.claim x.promised) && not (is_voted b.claim x.voted)) _ _
-          (IsNaming n i) (λ t. noting _ (members.Voted b) _ is is)
+      (IsNaming n i) (λ t. noting _ (members.Voted b) _ is is)
       (λ f. cond_both (is_voted b.claim x.voted && is_promised b.claim x.promised) _ _
       (IsNaming n i)
       (λ t. telling x _ is) (λ g. telling x _ (is, known.promised)))
@@ -224,7 +224,7 @@ module _ (n i : ℕ) (x : Member Value) (known : AreNamed n (facts_of x))
   nudge_names lt members.Closed o is e = absurd (let no : None ≡ Some o = e in cc)
   nudge_names lt (members.Gathering c S k) o is e =
       subst (IsNaming n i) (outcome_same _ o e)
-          (telling x (messages.Offer c) (subst (λ k. k < n) (sym is) lt))
+      (telling x (messages.Offer c) (subst (λ k. k < n) (sym is) lt))
     where
       outcome_same : (a b : Outcome Value) → Some a ≡ Some b → a ≡ b
       outcome_same a b e = cc
@@ -265,7 +265,7 @@ body_names n i lt (bodies.Promise c None) is =
     All-cons (λ k. k < n) c.member [] is.0 (All-nil (λ k. k < n))
 body_names n i lt (bodies.Promise c (Some vote)) is =
     All-cons (λ k. k < n) c.member (vote.0.member ∷ []) is.0
-        (All-cons (λ k. k < n) vote.0.member [] (is.1 _ refl) (All-nil (λ k. k < n)))
+    (All-cons (λ k. k < n) vote.0.member [] (is.1 _ refl) (All-nil (λ k. k < n)))
 body_names n i lt (bodies.Propose c v) is =
     All-cons (λ k. k < n) c.member [] (subst (λ k. k < n) (sym is) lt) (All-nil (λ k. k < n))
 body_names n i lt (bodies.Vote c) is = All-cons (λ k. k < n) c.member [] is (All-nil (λ k. k < n))
@@ -273,7 +273,7 @@ body_names n i lt (bodies.Agreed v) is = All-nil (λ k. k < n)
 body_names n i lt bodies.Ask is = All-nil (λ k. k < n)
 body_names n i lt (bodies.Nay c p) is =
     All-cons (λ k. k < n) c.member (p.member ∷ []) is.0
-        (All-cons (λ k. k < n) p.member [] (is.1 p refl) (All-nil (λ k. k < n)))
+    (All-cons (λ k. k < n) p.member [] (is.1 p refl) (All-nil (λ k. k < n)))
 
 -- and a body that names members comes so
 pub body_comes : (n i : ℕ) (body : Body Value) → All (λ k. k < n) (members_of body)

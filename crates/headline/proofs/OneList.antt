@@ -4,14 +4,13 @@ use Rattle.agreement.specs.AgreedList.{Act}
 use Rattle.auditing.specs.Allowed as audit
 use Rattle.node.specs.Events.{Event}
 use Rattle.package_record.specs.Build.{paths_of}
-use Rattle.package_record.specs.Content.{Content}
 use Rattle.package_record.specs.Laws.{BuildTextIsReadAgain}
 use Rattle.protocol.specs.State.{Value}
 use Rattle.std.specs.Prelude.{All, AllPairs, map, ◌≢◌}
-use Rattle.std.proofs.lemmas.List.Elements.{All-contains_itself, All-weaker}
+use Rattle.std.proofs.lemmas.List.Elements.{All-contains_itself}
 use Rattle.units.specs.Division.{Division}
 use Rattle.auditing.specs.Fits.{Fits}
-use Rattle.world.specs.Happening.{Happens, Leads}
+use Rattle.world.specs.Happening.{Leads}
 use Rattle.world.specs.Headline.{AllFit, AtEachMoment, AuditSaysYes, HasOneList, InstallableIsHeld, WasBuilt, entry_of}
 use Rattle.world.specs.Laws.{OneAnswer, OneWorldFollows}
 use Rattle.world.specs.Safety.{JobsStood}
@@ -19,9 +18,8 @@ use Rattle.world.specs.World.{IsMade, World, start}
 use Rattle.world.proofs.Distinct.{one_a_path, one_there}
 use Rattle.world.proofs.Growing.{each_moment, leads_later, list_grows}
 use Rattle.headline.specs.Laws.{EachRunHasOneList, EachRunIsActs, IsSafe}
-use Rattle.headline.specs.Local.{AreLocal}
 use Rattle.headline.specs.Matches.{Matches, packages_of}
-use Rattle.headline.specs.Mirrored.{Mirrors, after_all_acts}
+use Rattle.headline.specs.Mirrored.{after_all_acts}
 use Rattle.headline.proofs.Auditing.{audit_says_yes}
 use Rattle.headline.proofs.Built.{list_was_built}
 use Rattle.headline.proofs.Following.{happens_not_refused, one_follows, one_refusal}
@@ -49,7 +47,7 @@ module _ (division : Division) (weights : List ℕ) (made : IsMade division weig
   all_fit : AllFit w
   all_fit =
       subst (λ (d : Division). All (λ r. Fits d.tree r.path r.name r.built r.run) w.agreed)
-          (sym of.0)
+      (sym of.0)
       (subst (All (λ r. Fits division.tree r.path r.name r.built r.run)) (sym m.list)
       (λ k d lt. list_fits division made.divided (after_all_acts division weights acts).list
       (in_order division weights acts w made of m).allowed units _
@@ -91,7 +89,7 @@ module _ (runs : EachRunIsActs) (again : BuildTextIsReadAgain) (division : Divis
       let r = runs division weights early w made l in
       let later = leads_later (start division weights) w early l in
       audited division weights made r.0 w (later.division, later.weights) r.2
-          (one_there division weights early w l))
+      (one_there division weights early w l))
       events last led
 
   always_jobs : AtEachMoment division weights events last
@@ -123,9 +121,11 @@ module _ (runs : EachRunIsActs) (again : BuildTextIsReadAgain) (division : Divis
 
 -- Each run has one list, and is safe.
 pub each_has_one_list : EachRunIsActs → BuildTextIsReadAgain → EachRunHasOneList
-each_has_one_list runs again division weights events w made led =
-    (has_one_list runs again division weights made events w led, is_safe runs again division weights
-    made events w led)
+each_has_one_list runs again division weights events w made led = (
+  has_one_list runs again division weights made events w led,
+  is_safe runs again division weights
+      made events w led,
+)
 
 -- One world follows an event, and an event has one answer.
 pub one_world : EachRunIsActs → BuildTextIsReadAgain → OneWorldFollows
@@ -133,7 +133,7 @@ one_world runs again division weights events w a b e made led first second =
     let r = runs division weights events w made led in
     let later = leads_later (start division weights) w events led in
     one_follows w a b e (λ v step s. step_has_one_list division weights r.0 w made
-        (later.division, later.weights) r.3 r.2 again e v step s) first second
+    (later.division, later.weights) r.3 r.2 again e v step s) first second
 
 pub one_answer : OneAnswer
 one_answer division weights events w e made led =

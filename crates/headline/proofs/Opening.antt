@@ -13,13 +13,13 @@ module _ (V : Type 0) (enough : Quorums) (i : ℕ) (x : Member V) (closed : x.st
   pub message_opens_none : (m : Message V) → (on_message enough i x m).member.stage ≡ Closed
   message_opens_none (Offer c) =
       cond_both (is_above c x.promised) _ _ (λ (o : Outcome V). o.member.stage ≡ Closed)
-          (λ t. closed)
+      (λ t. closed)
       (λ f. cond_both (is_promised c x.promised && not (is_voted c x.voted)) _ _
       (λ (o : Outcome V). o.member.stage ≡ Closed) (λ t. closed) (λ f. closed))
   message_opens_none (Promise p) = ap (λ s. (on_promise enough x s p).member.stage) closed ∙ closed
   message_opens_none (Propose b) =
       cond_both (not (is_below b.claim x.promised) && not (is_voted b.claim x.voted)) _ _
-          (λ (o : Outcome V). o.member.stage ≡ Closed) (λ t. closed)
+      (λ (o : Outcome V). o.member.stage ≡ Closed) (λ t. closed)
       (λ f. cond_both (is_voted b.claim x.voted && is_promised b.claim x.promised) _ _
       (λ (o : Outcome V). o.member.stage ≡ Closed) (λ t. closed) (λ f. closed))
   message_opens_none (Vote m c) = ap (λ s. (on_vote enough x s m c).member.stage) closed ∙ closed

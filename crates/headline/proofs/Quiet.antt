@@ -1,41 +1,24 @@
 -- A delivery that leaves its message waiting is no act.
-use Rattle.std.proofs.Common.{◌≡◌, ℕ, Bool, true, List, [], Option, Some, None, slice_get, refl, sym, ap, ap₂, subst, ◌∙◌, ⊎_elim}
+use Rattle.std.proofs.Common.{◌≡◌, ℕ, Bool, true, List, [], Option, Some, None, slice_get, sym, ap, ap₂, subst, ◌∙◌, ⊎_elim}
 use Rattle.agreement.specs.AgreedList.{Act, Cluster}
 use Rattle.agreement.specs.Member as theory_members
 use Rattle.agreement.specs.Nodes as nodes
-use Rattle.agreement.specs.Quorums.{is_majority}
-use Rattle.agreement.specs.Step as theory
-use Rattle.agreement.specs.World.{Take}
-use Rattle.agreement.proofs.Majorities.{majorities}
 use Rattle.agreement.proofs.Nodes.{get_set}
-use Rattle.ballots.specs.InTheAgreement.{said}
-use Rattle.ballots.specs.declared.message.Message.{Message}
 use Rattle.ballots.specs.declared.message.Note.{Note}
 use Rattle.node.specs.Events as events
 use Rattle.node.specs.State.{with_note}
 use Rattle.node.specs.Step.{after, nothing}
 use Rattle.package_record.specs.Laws.{BuildTextIsReadAgain}
 use Rattle.protocol.specs.Answers.{Answer}
-use Rattle.protocol.specs.InTheAgreement.{view}
-use Rattle.protocol.specs.Laws.{AnswersMessage}
 use Rattle.protocol.specs.State.{OpenClaim, Value}
-use Rattle.protocol.specs.Step as members
-use Rattle.protocol.specs.Step.{outcome_of}
 use Rattle.units.specs.Division.{Division}
 use Rattle.world.specs.Happening.{Steps}
-use Rattle.world.specs.Sent.{WasSent}
 use Rattle.world.specs.World.{IsMade, World, WorldNode, member_at, node_at, up_node, with_node}
 use Rattle.headline.specs.Laws.{IsOneActMore}
 use Rattle.headline.specs.Local.{AreLocal}
 use Rattle.headline.specs.Matches.{Matches, log_of, node_of}
-use Rattle.headline.specs.Mirrored.{after_all_acts, with_act}
-use Rattle.headline.specs.Needs.{may_build}
-use Rattle.headline.proofs.Asking.{answers_with}
-use Rattle.headline.proofs.Cutting.{made_here}
-use Rattle.headline.proofs.Delivering.{delivered, no_build_in_delivery, place, theirs}
-use Rattle.headline.proofs.Opening.{message_opens_none}
-use Rattle.headline.proofs.Stepping.{is_as_before, left_so, nothing_sent, only_the_node, quiet_step}
-use Rattle.headline.proofs.Stopping.{one_more, values_there}
+use Rattle.headline.specs.Mirrored.{after_all_acts}
+use Rattle.headline.proofs.Stepping.{only_the_node}
 
 -- a node that noted the same, is up or down as before, and has the same claim, is the same member
 same_node_matches : (w : World) (c : Cluster Value) → Matches w c → (k : ℕ) (x y : WorldNode)
@@ -78,7 +61,7 @@ same_node_matches w c m k x y stands notes up claim = record {
     same : node_of w k x ≡ node_of w k y
     same =
         ap (λ (ns : List (Note Value)). node_of w k
-            (record { notes = ns; behind = []; up = x.up; claim = x.claim; pieces = [] })) notes
+        (record { notes = ns; behind = []; up = x.up; claim = x.claim; pieces = [] })) notes
         ∙ ap (λ (b : Bool). node_of w k
         (record { notes = y.notes; behind = []; up = b; claim = x.claim; pieces = [] })) up
         ∙ ap (λ (c : Option OpenClaim). node_of w k

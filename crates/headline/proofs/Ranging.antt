@@ -1,12 +1,11 @@
 -- What a node of a world knows can be written down, and names members of the world.
-use Rattle.std.proofs.Common.{◌≡◌, ◌<◌, ◌==◌, ℕ, zero, suc, true, false, not, nat_lt, Bool, List, [], ◌∷◌, length, map, filter, reverse, Option, Some, None, Ok, option_map, slice_get, refl, sym, ap, subst, ◌∙◌, arith, eqb-true, inl, inr, ltb-true, if◌then◌else◌}
-use Rattle.std.specs.Prelude.{All, Contains}
+use Rattle.std.proofs.Common.{◌≡◌, ◌<◌, ◌==◌, ℕ, true, false, not, nat_lt, Bool, List, [], ◌∷◌, length, map, filter, reverse, Option, Some, None, Ok, option_map, slice_get, refl, sym, subst, inl, inr, ltb-true, if◌then◌else◌}
+use Rattle.std.specs.Prelude.{All}
 use Rattle.std.specs.Option.{ForSome}
 use Rattle.std.specs.List.{list_all}
 use Rattle.std.specs.Str.{bytes_eq}
 use Rattle.std.proofs.lemmas.Bool.{and_parts, cond_both}
 use Rattle.std.proofs.lemmas.List.Elements.{All-contains, All-head, All-nil, All-cons, All-weaker}
-use Rattle.faults.specs.Answers.{first_that_applies}
 use Rattle.agreement.specs.Member as theory
 use Rattle.agreement.specs.Member.{Facts, facts_of}
 use Rattle.agreement.specs.Nodes as nodes
@@ -21,8 +20,8 @@ use Rattle.node.proofs.ranges.Restored.{restored_written}
 use Rattle.protocol.specs.Answers.{Answer}
 use Rattle.protocol.specs.InTheAgreement.{claim_of, stage_of, view}
 use Rattle.protocol.specs.Member.{IsMember, IsOpen, claim_in}
-use Rattle.protocol.specs.State.{Building, Gathering, OpenClaim, Progress, State, Value, Voting, facts_at}
-use Rattle.protocol.specs.Step.{header_refusal, heard, hears, members_of}
+use Rattle.protocol.specs.State.{Building, Gathering, OpenClaim, Progress, State, Value, Voting}
+use Rattle.protocol.specs.Step.{header_refusal, heard, members_of}
 use Rattle.protocol.specs.declared.refusal.Refusal.{Refusal}
 use Rattle.protocol.specs.declared.refusal.Refusal.TheVariants as refusals
 use Rattle.protocol.proofs.Answering.{not_refused}
@@ -32,7 +31,7 @@ use Rattle.wire.specs.Messages.{IsNote}
 use Rattle.world.specs.World.{IsMade, World, WorldNode, member_at}
 use Rattle.headline.specs.Local.{AreLocal, IsLocal, IsOfUnit, members_noted}
 use Rattle.headline.specs.Matches.{node_of}
-use Rattle.headline.proofs.Logs.{contains_has, filtered_has, has_contains, mapped_has, reversed_has}
+use Rattle.headline.proofs.Logs.{filtered_has, has_contains, mapped_has, reversed_has}
 use Rattle.headline.proofs.Members.{get_within}
 use Rattle.headline.proofs.Naming.{AreNamed, IsOwnStage, Notes, restored_named}
 
@@ -67,7 +66,7 @@ module _ (w : World) (made : IsMade w.division w.weights) (local : AreLocal w) (
   pub in_range : IsInRange (member_at w k x)
   in_range =
       let r = restored_written w.division w.weights k x.notes made.divided made.weigh is_one
-          on_units
+      on_units
       (All-weaker (IsOfUnit w) IsNote (λ n o. o.note) x.notes here.notes) in record {
         facts = λ u lt. r.facts u lt;
         claim = λ o e. (here.claim o e).progress;
@@ -78,19 +77,19 @@ module _ (w : World) (made : IsMade w.division w.weights) (local : AreLocal w) (
       → AreNamed (length w.weights) (facts_of (nodes.view (node_of w k x) u))
   known_named u lt =
       let noted = map (λ (n : Note Value). note_of n.fact)
-          (filter (λ n. bytes_eq n.path (unit_at w.division u).name) x.notes) in
+      (filter (λ n. bytes_eq n.path (unit_at w.division u).name) x.notes) in
       let are = restored_named (length w.weights) (reverse noted)
-          (all_has (Notes (length w.weights)) (reverse noted) (λ note h.
+      (all_has (Notes (length w.weights)) (reverse noted) (λ note h.
       let a = mapped_has (λ (n : Note Value). note_of n.fact)
-          (filter (λ n. bytes_eq n.path (unit_at w.division u).name) x.notes) note
-          (reversed_has noted note h) in
+      (filter (λ n. bytes_eq n.path (unit_at w.division u).name) x.notes) note
+      (reversed_has noted note h) in
       let b = filtered_has (λ (n : Note Value). bytes_eq n.path (unit_at w.division u).name) x.notes
-          a.0 a.1 in
+      a.0 a.1 in
       let o = All-contains (IsOfUnit w) x.notes a.0 here.notes (has_contains x.notes a.0 b.0) in
       subst (Notes (length w.weights)) a.2 (fact_named (length w.weights) (a.0).fact
-          o.claimers))) in
+      o.claimers))) in
       let same = (notes_restore w.division w.weights k x.notes made.divided made.weigh is_one
-          on_units).facts u lt in
+      on_units).facts u lt in
       let its = subst (AreNamed (length w.weights)) (sym same) are in
       record { promised = its.promised; voted = its.voted }
 
@@ -126,15 +125,15 @@ below_all : (n : ℕ) (ks : List ℕ) → list_all (λ k. nat_lt k n) ks ≡ tru
 below_all n [] e = All-nil (λ k. k < n)
 below_all n (k ∷ ks) e =
     let p = and_parts (nat_lt k n) (list_all (λ k. nat_lt k n) ks) e in All-cons (λ k. k < n) k ks
-        (ltb-true k n p.0) (below_all n ks p.1)
+    (ltb-true k n p.0) (below_all n ks p.1)
 
 -- a message that is answered names members
 pub heard_names : (s : State) (m : Message Value) (a : Answer) → heard s m ≡ Ok a
     → All (λ k. k < length s.weights) (members_of m.body)
 heard_names s m a e =
     let tested =
-        (not_refused (header_refusal s m.tree (m.sender ∷ members_of m.body) m.path) _ a e).0 in
+    (not_refused (header_refusal s m.tree (m.sender ∷ members_of m.body) m.path) _ a e).0 in
     let later = (first_fails _ refusals.OtherTree _ tested).1 in
     let all = not_not _ (first_fails _ refusals.NotAMember _ later).0 in
     below_all (length s.weights) (members_of m.body)
-        (and_parts (nat_lt m.sender (length s.weights)) _ all).1
+    (and_parts (nat_lt m.sender (length s.weights)) _ all).1

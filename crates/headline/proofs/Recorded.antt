@@ -1,8 +1,8 @@
 -- What a build that may be built for a unit has: the records of the unit's packages, and of no
 -- other's.
-use Rattle.std.proofs.Common.{◌≡◌, ◌<◌, ◌&&◌, ◌⊎◌, ℕ, zero, suc, Bool, true, false, List, [], ◌∷◌, ◌++◌, length, map, Option, None, Some, refl, sym, ap, ap₂, subst, ◌∙◌, ⊎_elim, inl, inr, arith}
+use Rattle.std.proofs.Common.{◌≡◌, ◌<◌, ◌&&◌, ℕ, zero, suc, true, List, [], ◌∷◌, length, map, Option, Some, refl, sym, ap, ap₂, subst, ◌∙◌, arith}
 use Rattle.std.specs.Prelude.{Contains}
-use Rattle.std.specs.List.{list_all, list_any}
+use Rattle.std.specs.List.{list_all}
 use Rattle.std.specs.Str.{bytes_eq}
 use Rattle.std.proofs.lemmas.Bool.{and_from, and_parts, true≢false}
 use Rattle.faults.specs.Bytes.{Text}
@@ -25,7 +25,7 @@ texts_same [] (t ∷ ts) e = absurd (true≢false (sym e))
 texts_same (s ∷ ss) [] e = absurd (true≢false (sym e))
 texts_same (s ∷ ss) (t ∷ ts) e =
     let parts = and_parts (bytes_eq s t) (same_texts ss ts) e in ap₂ (λ x xs. x ∷ xs)
-        (same_bytes s t parts.0) (texts_same ss ts parts.1)
+    (same_bytes s t parts.0) (texts_same ss ts parts.1)
 
 pub same_texts_of : (s t : List Text) → s ≡ t → same_texts s t ≡ true
 same_texts_of s t e = subst (λ u. same_texts s u ≡ true) e (itself s)
@@ -47,12 +47,12 @@ pub record_tells : (tree : Tree) (x : Unit) (p : ℕ) (r : Content) → is_recor
     → IsRecordOf tree x p r
 record_tells tree x p r e =
     let a = and_parts (bytes_eq r.path (path_at tree p) && bytes_eq r.name (name_at tree p) &&
-        same_texts (map (λ d. d.path) r.built) (set_of (map (path_at tree) x.build)))
+    same_texts (map (λ d. d.path) r.built) (set_of (map (path_at tree) x.build)))
     (same_texts r.run (set_of (map (path_at tree) (run_at tree p)))) e in
     let b = and_parts (bytes_eq r.path (path_at tree p) && bytes_eq r.name (name_at tree p))
-        (same_texts (map (λ d. d.path) r.built) (set_of (map (path_at tree) x.build))) a.0 in
+    (same_texts (map (λ d. d.path) r.built) (set_of (map (path_at tree) x.build))) a.0 in
     let c = and_parts (bytes_eq r.path (path_at tree p)) (bytes_eq r.name (name_at tree p))
-        b.0 in record {
+    b.0 in record {
       path = same_bytes r.path (path_at tree p) c.0;
       name = same_bytes r.name (name_at tree p) c.1;
       built = texts_same (map (λ d. d.path) r.built) (set_of (map (path_at tree) x.build)) b.1;
@@ -63,7 +63,7 @@ pub record_told : (tree : Tree) (x : Unit) (p : ℕ) (r : Content) → IsRecordO
     → is_record_of tree x p r ≡ true
 record_told tree x p r is =
     and_from (bytes_eq r.path (path_at tree p) && bytes_eq r.name (name_at tree p) && same_texts
-        (map (λ d. d.path) r.built) (set_of (map (path_at tree) x.build)))
+    (map (λ d. d.path) r.built) (set_of (map (path_at tree) x.build)))
     (same_texts r.run (set_of (map (path_at tree) (run_at tree p))))
     (and_from (bytes_eq r.path (path_at tree p) && bytes_eq r.name (name_at tree p))
     (same_texts (map (λ d. d.path) r.built) (set_of (map (path_at tree) x.build)))
@@ -79,9 +79,12 @@ pub record_of : (tree : Tree) (x : Unit) (ps : List ℕ) (build : Value)
 record_of tree x ps [] e r (k, within, at) = absurd (omega arith)
 record_of tree x [] (q ∷ qs) e r h = absurd (true≢false (sym e))
 record_of tree x (p ∷ ps) (q ∷ qs) e r (zero, within, at) =
-    let parts = and_parts (is_record_of tree x p q) (are_records_of tree x ps qs) e in
-    (p, (zero, omega arith, refl), record_tells tree x p r
-    (subst (λ (z : Content). is_record_of tree x p z ≡ true) at parts.0))
+    let parts = and_parts (is_record_of tree x p q) (are_records_of tree x ps qs) e in (
+      p,
+      (zero, omega arith, refl),
+      record_tells tree x p r
+          (subst (λ (z : Content). is_record_of tree x p z ≡ true) at parts.0),
+    )
 record_of tree x (p ∷ ps) (q ∷ qs) e r (suc k, within, at) =
     let parts = and_parts (is_record_of tree x p q) (are_records_of tree x ps qs) e in
     let later = record_of tree x ps qs parts.1 r (k, omega (arith, within), at) in
@@ -94,9 +97,12 @@ pub has_record : (tree : Tree) (x : Unit) (ps : List ℕ) (build : Value)
 has_record tree x [] build e p (k, within, at) = absurd (omega arith)
 has_record tree x (q ∷ qs) [] e p h = absurd (true≢false (sym e))
 has_record tree x (q ∷ qs) (r ∷ rs) e p (zero, within, at) =
-    let parts = and_parts (is_record_of tree x q r) (are_records_of tree x qs rs) e in
-    (r, (zero, omega arith, refl), record_tells tree x p r
-    (subst (λ (n : ℕ). is_record_of tree x n r ≡ true) at parts.0))
+    let parts = and_parts (is_record_of tree x q r) (are_records_of tree x qs rs) e in (
+      r,
+      (zero, omega arith, refl),
+      record_tells tree x p r
+          (subst (λ (n : ℕ). is_record_of tree x n r ≡ true) at parts.0),
+    )
 has_record tree x (q ∷ qs) (r ∷ rs) e p (suc k, within, at) =
     let parts = and_parts (is_record_of tree x q r) (are_records_of tree x qs rs) e in
     let later = has_record tree x qs rs parts.1 p (k, omega (arith, within), at) in
@@ -123,6 +129,6 @@ module _ (d : Division) (is : IsDivision d) where
       let x = record_of d.tree (unit_at d u) (unit_at d u).packages a (are_records f u a ea) r hr in
       let y = record_of d.tree (unit_at d q) (unit_at d q).packages b (are_records g q b eb) s hs in
       let one : x.0 ≡ y.0 = is.tree.once x.0 y.0 (unit_listed d u x.0 is lu x.1)
-          (unit_listed d q y.0 is lq y.1) (sym (x.2).path ∙ same ∙ (y.2).path) in
+      (unit_listed d q y.0 is lq y.1) (sym (x.2).path ∙ same ∙ (y.2).path) in
       some_number u q (sym (one_unit_has d u x.0 is lu x.1).0 ∙ ap (number_of d) one
-          ∙ (one_unit_has d q y.0 is lq y.1).0)
+      ∙ (one_unit_has d q y.0 is lq y.1).0)

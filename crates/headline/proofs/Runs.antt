@@ -1,5 +1,5 @@
 -- Runs of a world: they begin as the agreements do, and what each event keeps holds at each moment.
-use Rattle.std.proofs.Common.{◌≡◌, ◌<◌, ℕ, zero, suc, true, false, List, [], ◌∷◌, ◌++◌, length, replicate, Some, None, slice_get, append_assoc, append-nil, refl, sym, subst, ◌∙◌, arith}
+use Rattle.std.proofs.Common.{◌≡◌, ◌<◌, ℕ, zero, suc, true, List, [], ◌∷◌, ◌++◌, length, replicate, Some, None, slice_get, append_assoc, append-nil, refl, sym, subst, ◌∙◌, arith}
 use Rattle.std.proofs.lemmas.Bool.{true≢false}
 use Rattle.std.proofs.lemmas.List.{get_or-map, length-replicate}
 use Rattle.std.proofs.lemmas.List.Elements.{All-nil}
@@ -69,23 +69,30 @@ start_matches division weights = record {
         → first ≡ nodes.view (node_of (start division weights) k fresh_node) u
     fresh_view k u lt =
         let g : no_facts ≡ facts_at (member_at (start division weights) k fresh_node) u =
-            sym (nothing_known division weights k u lt) in
-        λ i. record { opened = (g i).opened; promised = (g i).promised; voted = (g i).voted; held =
-            (g i).held; up = true; stage = Closed }
+        sym (nothing_known division weights k u lt) in
+        λ i. record {
+          opened = (g i).opened;
+          promised = (g i).promised;
+          voted = (g i).voted;
+          held =
+              (g i).held;
+          up = true;
+          stage = Closed;
+        }
 
 pub start_local : (division : Division) (weights : List ℕ) → AreLocal (start division weights)
 start_local division weights = record {
   each = λ k x e. subst (IsLocal (start division weights) k) (all_fresh (length weights) k x e)
       (record {
-    notes = All-nil (IsOfUnit (start division weights));
-    claim = λ o e. absurd (let wrong : None ≡ Some o = e in cc);
-    pieces = record {
-      sent = All-nil (λ p. (m : Message Value) × WasSentOf [] m p);
-      once = λ i j d lt within. absurd (omega (arith, within));
-    };
-    down = λ e. absurd (true≢false e);
-    up = λ e. refl;
-  });
+        notes = All-nil (IsOfUnit (start division weights));
+        claim = λ o e. absurd (let wrong : None ≡ Some o = e in cc);
+        pieces = record {
+          sent = All-nil (λ p. (m : Message Value) × WasSentOf [] m p);
+          once = λ i j d lt within. absurd (omega (arith, within));
+        };
+        down = λ e. absurd (true≢false e);
+        up = λ e. refl;
+      });
   one_for_each = length-replicate (length weights) fresh_node;
 }
 
@@ -109,7 +116,7 @@ module _ (division : Division) (weights : List ℕ) (made : IsMade division weig
       let o = step division weights f.acts w v e made f.of f.is_local f.is_match h in
       let later = event_later w v e h in
       let made_here = subst (λ (d : Division). IsMade d w.weights) (sym f.of.0)
-          (subst (IsMade division) (sym f.of.1) made) in
+      (subst (IsMade division) (sym f.of.1) made) in
       record {
         acts = with_act f.acts o.0;
         mirrors = and_then events w v f.acts e o.0 f.mirrors f.is_match h o.1;
@@ -124,7 +131,7 @@ module _ (division : Division) (weights : List ℕ) (made : IsMade division weig
       → IsSoFar division weights (before ++ events) v
   all_on before [] w v f l =
       subst (λ (es : List Event). IsSoFar division weights es v) (sym (append-nil before))
-          (subst (IsSoFar division weights before) (sym l) f)
+      (subst (IsSoFar division weights before) (sym l) f)
   all_on before (e ∷ es) w v f l =
       subst (λ (all : List Event). IsSoFar division weights all v) (append_assoc before (e ∷ []) es)
       (all_on (before ++ e ∷ []) es l.0 v (one_on before w l.0 e f l.1) l.2)
@@ -186,7 +193,7 @@ module _ (runs : EachRunIsActs) (again : BuildTextIsReadAgain) (division : Divis
       let r = runs division weights early w made l in
       let later = leads_later (start division weights) w early l in
       held_alike w (held_is_listed division weights r.0 w made (later.division, later.weights) r.2
-          r.3) (one_there division weights early w l))
+      r.3) (one_there division weights early w l))
       events last led
 
 -- Nothing that was sent is foreign, where each run is acts.
@@ -195,4 +202,4 @@ none_is_foreign again runs division weights events w e f made led refused =
     let r = runs division weights events w made led in
     let later = leads_later (start division weights) w events led in
     never_foreign division weights r.0 w made (later.division, later.weights) r.2 again r.3 e f
-        refused
+    refused

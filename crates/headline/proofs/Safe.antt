@@ -46,7 +46,7 @@ weight_within : (ws : List ℕ) (S R : Members) → ((k : ℕ) → k < length ws
 weight_within [] S R h = omega arith
 weight_within (w ∷ ws) S R h =
     here (S 0) (R 0) refl refl (weight_within ws (λ k. S (suc k)) (λ k. R (suc k))
-        (λ k lt. h (suc k) (omega (arith, lt))))
+    (λ k lt. h (suc k) (omega (arith, lt))))
   where
     here : (s r : Bool) → S 0 ≡ s → R 0 ≡ r
         → weight ws (λ k. S (suc k)) ≤ weight ws (λ k. R (suc k))
@@ -68,9 +68,9 @@ majority_within ws S R h s = let m =
 pub few_members : (weights : List ℕ) → AreWeights weights → length weights ≤ most_members
 few_members weights are =
     let counted = and_parts (nat_le 1 (length weights) && nat_le (length weights) most_members)
-        (list_all is_weight weights) are in
+    (list_all is_weight weights) are in
     leb-true (length weights) most_members (and_parts (nat_le 1 (length weights))
-        (nat_le (length weights) most_members) counted.0).1
+    (nat_le (length weights) most_members) counted.0).1
 
 -- a note of a vote is of that vote
 ballot_noted : (a b : Ballot Value) → members.Voted a ≡ members.Voted b → a ≡ b
@@ -118,7 +118,7 @@ module _ (division : Division) (weights : List ℕ) (acts : List (Act Value)) (w
   pub promises_bound : PromisesBound w
   promises_bound k x name c d report stands promised noted below =
       by report (l.bounds promise (ballot d noted.0) p.said_there voted below)
-          (l.reports promise p.said_there)
+      (l.reports promise p.said_there)
     where
       p : WasSaid w here (message w name k (Promise c report))
       p = said_at (message w name k (Promise c report)) promised
@@ -146,9 +146,11 @@ module _ (division : Division) (weights : List ℕ) (acts : List (Act Value)) (w
           (subst (λ (l : List (members.Note Value)). Has l (members.Voted (ballot b.0 b.1))) logs
           reported.1) in
           let path_is : (n.0).path ≡ name = n.2 ∙ sym p.about in
-          let fact_is = vote_noted (n.0).fact b.0 b.1 n.3 in
-          (reaches, subst (Contains x.notes) (λ i. record { path = path_is i; fact = fact_is i })
-          n.1)
+          let fact_is = vote_noted (n.0).fact b.0 b.1 n.3 in (
+            reaches,
+            subst (Contains x.notes) (λ i. record { path = path_is i; fact = fact_is i })
+                n.1,
+          )
 
   -- ---- later proposals
 

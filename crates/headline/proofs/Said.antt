@@ -15,8 +15,11 @@ pub has_preimage : {X Y : Type 0} (f : X → Y) (xs : List X) (y : Y) → Contai
 has_preimage f [] y (k, within, here) = absurd (omega arith)
 has_preimage f (x ∷ xs) y (zero, within, here) = (x, (zero, omega arith, refl), sym here)
 has_preimage f (x ∷ xs) y (suc k, within, here) =
-    let r = has_preimage f xs y (k, omega arith, here) in (r.0,
-        (suc r.1.0, omega (arith, r.1.1), r.1.2), r.2)
+    let r = has_preimage f xs y (k, omega arith, here) in (
+      r.0,
+      (suc r.1.0, omega (arith, r.1.1), r.1.2),
+      r.2,
+    )
 
 -- so each datagram is one of a message that was sent
 pub each_is_of_a_message : (w : World) (c : Cluster Value) → Matches w c → EachIsOfAMessage w

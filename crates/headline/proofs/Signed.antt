@@ -1,19 +1,16 @@
 -- The dependencies of every build that was ever proposed stood in the list when its job was given.
-use Rattle.std.proofs.Common.{◌≡◌, ℕ, List, ◌∷◌, ◌++◌, map, Some, refl, sym, ap, subst, ◌∙◌}
+use Rattle.std.proofs.Common.{◌≡◌, ℕ, List, ◌∷◌, refl, sym, ap, subst, ◌∙◌}
 use Rattle.std.specs.Prelude.{All}
 use Rattle.std.proofs.lemmas.List.Elements.{All-map}
-use Rattle.agreement.specs.AgreedList.{Act, Cluster}
+use Rattle.agreement.specs.AgreedList.{Act}
 use Rattle.agreement.specs.Messages as messages
 use Rattle.agreement.specs.Votes.{ballot}
 use Rattle.agreement.specs.declared.claim.Claim.{Claim}
 use Rattle.ballots.specs.declared.message.Body.TheVariants.{Propose}
-use Rattle.ballots.specs.declared.message.Message.{Message}
 use Rattle.claims.specs.Job.{Task}
 use Rattle.faults.specs.Bytes.{Text}
 use Rattle.node.specs.Events.{Event}
-use Rattle.package_record.specs.Content.{Content}
 use Rattle.package_record.specs.Laws.{BuildTextIsReadAgain}
-use Rattle.protocol.specs.Given.{Given}
 use Rattle.protocol.specs.Jobs.{job_of, record_by}
 use Rattle.protocol.specs.State.{Building, State, Value}
 use Rattle.units.specs.Division.{Division, unit_at}
@@ -68,7 +65,7 @@ module _ (division : Division) (weights : List ℕ) (made : IsMade division weig
     named : job.path ≡ name
     named =
         ap (λ (d : Division). (unit_at d said.unit).name)
-            ((of_run division weights made was.before was.world was.acts was.mirrors).0 ∙ sym of.0)
+        ((of_run division weights made was.before was.world was.acts was.mirrors).0 ∙ sym of.0)
         ∙ sym said.about
 
     -- each record is the job's

@@ -1,11 +1,11 @@
 -- What a step says goes out, and what was sent then was said: the match of a step that sends.
 use Rattle.std.proofs.Common.{◌≡◌, ◌<◌, ◌⊎◌, ℕ, zero, suc, true, List, [], ◌∷◌, ◌++◌, length, map, Bool, Option, None, Some, slice_get, slice_set, refl, sym, ap, subst, ◌∙◌, ⊎_elim, inl, inr, arith}
-use Rattle.std.specs.Prelude.{All, Contains, flat_map}
+use Rattle.std.specs.Prelude.{All, Contains}
 use Rattle.std.specs.List.{list_all}
 use Rattle.std.proofs.lemmas.Bool.{and_from, cases_eq}
 use Rattle.std.proofs.lemmas.List.{map-append}
 use Rattle.std.proofs.lemmas.List.Elements.{All-contains, All-cons, Contains-append_cases, Contains-append_left, Contains-append_right}
-use Rattle.std.proofs.lemmas.List.Sums.{AllPass-from_list_all, list_all-from_AllPass}
+use Rattle.std.proofs.lemmas.List.Sums.{AllPass-from_list_all}
 use Rattle.faults.specs.Bytes.{Text, is_among}
 use Rattle.agreement.specs.Agreed.{decided_value}
 use Rattle.agreement.specs.AgreedList.{Cluster, Entry, cluster_after, list_with, lookup}
@@ -76,7 +76,7 @@ pub passes : {X : Type 0} (p : X → Bool) (xs : List X) → ((x : X) → Contai
 passes p [] each = refl
 passes p (x ∷ xs) each =
     and_from (p x) (list_all p xs) (each x (zero, omega arith, refl))
-        (passes p xs (λ y h. each y (suc h.0, omega (arith, h.1), h.2)))
+    (passes p xs (λ y h. each y (suc h.0, omega (arith, h.1), h.2)))
 
 -- what was sent stays sent
 pub sent_more : (sent : List Text) (sends : List Send) (n : Message Value) → WasSent sent n
@@ -138,7 +138,7 @@ proposal_body k b v (bodies.Offer c) e = absurd cc
 proposal_body k b v (bodies.Promise c r) e = absurd cc
 proposal_body k b v (bodies.Propose c u) e =
     let same = ballot_is (ballot c u) (ballot b v) e in ap
-        (λ (x : Ballot Value). bodies.Propose x.claim x.value) same
+    (λ (x : Ballot Value). bodies.Propose x.claim x.value) same
   where
     ballot_is : (x y : Ballot Value) → theory_says.Propose x ≡ theory_says.Propose y → x ≡ y
     ballot_is x y e = cc
@@ -171,8 +171,12 @@ module _ (w : World) (enough : Quorums) (c : Cluster Value) (m : Matches w c) (u
 
   -- the world then, where its list is that of the agreements
   abbrev world : World
-  world = record w { nodes = slice_set w.nodes (member_of e) y; sent = sent; agreed = packages_of
-      then.list }
+  world = record w {
+    nodes = slice_set w.nodes (member_of e) y;
+    sent = sent;
+    agreed = packages_of
+        then.list;
+  }
 
   -- what was said at a unit stays said there
   stays : (q : ℕ) (z : theory_says.Message Value) → Has (c.at q).sent z → Has (then.at q).sent z
@@ -220,7 +224,7 @@ module _ (w : World) (enough : Quorums) (c : Cluster Value) (m : Matches w c) (u
           → IsSaid world then text
       by (z, there, datagram) =
           let s = All-contains (λ z. Says (member_at w (member_of e) x) u o.send z.message) a.sends
-              z says_so there in record {
+          z says_so there in record {
             message = z.message;
             unit = u;
             went_out = sent_now w.sent a.sends z there
@@ -249,16 +253,21 @@ module _ (w : World) (enough : Quorums) (c : Cluster Value) (m : Matches w c) (u
       let one = out z send must in
       let there : Contains a.sends one.1 = (one.0, one.2, one.3) in
       let s = All-contains (λ z. Says (member_at w (member_of e) x) u o.send z.message) a.sends
-          one.1 says_so there in
+      one.1 says_so there in
       let same_sender : (one.1).message.sender ≡ k = s.sender ∙ sym sender in
       let same_tree = s.tree in
       let same_path = s.path in
       let same_body : (one.1).message.body ≡ body = is_body (one.1).message.body one.4 in
       let same : (one.1).message ≡ message w (name_of w u) k body =
-      λ i. record { sender = same_sender i; tree = same_tree i; path = same_path i; body = same_body
-          i } in
+      λ i. record {
+        sender = same_sender i;
+        tree = same_tree i;
+        path = same_path i;
+        body = same_body
+            i;
+      } in
       subst (WasSent sent) same (sent_now w.sent a.sends one.1 there
-          (All-contains (λ z. IsMessage z.message) a.sends one.1 written there))
+      (All-contains (λ z. IsMessage z.message) a.sends one.1 written there))
 
   -- the votes that were said were sent
   votes_then : (q n : ℕ) (b : Claim) → q < length w.division.units

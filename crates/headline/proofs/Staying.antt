@@ -1,7 +1,6 @@
 -- Each event leaves nodes as they have to be.
-use Rattle.std.proofs.Common.{◌≡◌, ◌<◌, ◌⊎◌, ℕ, zero, suc, true, false, List, [], ◌∷◌, ◌++◌, length, Option, None, Some, Result, Ok, Err, slice_get, slice_set, refl, sym, ap, subst, ◌∙◌, arith, ⊎_elim}
+use Rattle.std.proofs.Common.{◌≡◌, ◌<◌, ℕ, true, false, List, [], ◌∷◌, length, Option, None, Some, Result, Ok, Err, slice_get, slice_set, refl, sym, ap, subst, ◌∙◌, ⊎_elim}
 use Rattle.std.specs.Prelude.{All, AllPairs, Contains}
-use Rattle.std.specs.Option.{ForSome}
 use Rattle.std.proofs.lemmas.Bool.{cond_both, true≢false}
 use Rattle.std.proofs.lemmas.List.{length-set}
 use Rattle.std.proofs.lemmas.List.Elements.{All-append, All-cons, All-contains, All-filter, All-nil, All-weaker}
@@ -17,7 +16,6 @@ use Rattle.node.specs.Events.{Event, is_step}
 use Rattle.node.specs.Kept.{are_all, has_number, with_piece, without}
 use Rattle.node.specs.State.{with_note}
 use Rattle.node.specs.Step.{Asked, Does, IsAsked, Taken, Takes, heard, nothing, running_step, step_on, taken}
-use Rattle.node.specs.declared.event.Left.{Left}
 use Rattle.node.specs.declared.event.Left.TheVariants as left
 use Rattle.node.proofs.Pieces.{joined_good, message_good, with_once, without_once}
 use Rattle.protocol.specs.Answers.{Answer, after}
@@ -31,8 +29,8 @@ use Rattle.protocol.specs.declared.input.Input.TheVariants as inputs
 use Rattle.protocol.specs.declared.refusal.Refusal.{Refusal}
 use Rattle.protocol.specs.declared.sends.Send.{Send}
 use Rattle.units.specs.Division.{number_named}
-use Rattle.wire.specs.Joining.{bytes_of, is_numbered, same_header}
-use Rattle.wire.specs.Messages.{IsGoodBody, IsMessage}
+use Rattle.wire.specs.Joining.{bytes_of, is_numbered}
+use Rattle.wire.specs.Messages.{IsGoodBody}
 use Rattle.wire.specs.Pieces.{IsDatagram, split_of}
 use Rattle.wire.specs.Reading.{datagram_of, joined}
 use Rattle.wire.specs.Spelling.{datagram_text}
@@ -43,13 +41,13 @@ use Rattle.wire.specs.declared.datagram.Header.{Header}
 use Rattle.wire.specs.declared.datagram.Piece.{Piece}
 use Rattle.wire.proofs.Cutting.{split_good}
 use Rattle.wire.proofs.DatagramTexts.{datagram_again}
-use Rattle.world.specs.Happening.{Acts, Asks, Happens, Steps, StopsIn}
+use Rattle.world.specs.Happening.{Acts, Happens, Steps, StopsIn}
 use Rattle.world.specs.Safety.{EachIsOfAMessage, WasSentOf}
 use Rattle.world.specs.Sent.{WasSent, with_sends}
 use Rattle.world.specs.World.{IsMade, World, WorldNode, down_node, member_at, node_at, up_node, with_node}
 use Rattle.node.specs.Step as steps
-use Rattle.headline.specs.Local.{AreKept, AreLocal, IsItsClaim, IsLocal, IsOfUnit, members_noted}
-use Rattle.headline.proofs.Asking.{answers_with, never_ok, ok, ok_same, taken_is}
+use Rattle.headline.specs.Local.{AreKept, AreLocal, IsLocal, IsOfUnit, members_noted}
+use Rattle.headline.proofs.Asking.{never_ok, ok, ok_same, taken_is}
 use Rattle.headline.proofs.Delivering.{heard_is}
 use Rattle.headline.proofs.Foreign.{get_contains}
 use Rattle.headline.proofs.Headers as read
@@ -65,7 +63,7 @@ use Rattle.headline.proofs.Speaking.{sent_more}
 abbrev IsKeptBy : List Text → List Piece → Type 0
 IsKeptBy sent pieces =
     All (λ p. (m : Message Value) × WasSentOf sent m p) pieces
-        × AllPairs (λ p q. is_numbered q.header q.number p ≡ false) pieces
+    × AllPairs (λ p q. is_numbered q.header q.number p ≡ false) pieces
 
 -- What arrives: pieces that are kept so, and of a message that it is good.
 abbrev IsGoodArrival : List Text → Arrival → Type 0
@@ -78,8 +76,11 @@ module _ (sent : List Text) (pieces : List Piece) (kept : IsKeptBy sent pieces) 
       → ((m : Message Value) → r ≡ Ok m → IsGoodBody m.path m.body)
       → IsGoodArrival sent (arrival_of_all (without h pieces) r)
   all_arrive h (Ok m) good = (
-    (All-filter _ (λ p. (m : Message Value) × WasSentOf sent m p) pieces kept.0, without_once h
-    pieces kept.1),
+    (
+      All-filter _ (λ p. (m : Message Value) × WasSentOf sent m p) pieces kept.0,
+      without_once h
+          pieces kept.1,
+    ),
     good m refl,
   )
   all_arrive h (Err f) good = tt
@@ -107,13 +108,15 @@ module _ (sent : List Text) (pieces : List Piece) (kept : IsKeptBy sent pieces) 
   piece_arrives p m was (Some r) = tt
   piece_arrives p m was None =
       cond_both (has_number p.header pieces p.number) (Waits pieces) (arrival_of_new pieces p)
-          (IsGoodArrival sent) (λ there. kept) (λ new. new_arrives p m was new)
+      (IsGoodArrival sent) (λ there. kept) (λ new. new_arrives p m was new)
 
   datagram_arrives : (s : State) (d : Datagram) (m : Message Value) → WasSent sent m
       → Contains (split_of m) d → IsGoodArrival sent (arrival_of s pieces (read.ok d))
-  datagram_arrives s (datagrams.Whole n) m was there =
-      (kept, message_good n.path n.body (All-contains IsDatagram (split_of m) (datagrams.Whole n)
-      (split_good m was.is_message) there).0.body)
+  datagram_arrives s (datagrams.Whole n) m was there = (
+    kept,
+    message_good n.path n.body (All-contains IsDatagram (split_of m) (datagrams.Whole n)
+        (split_good m was.is_message) there).0.body,
+  )
   datagram_arrives s (datagrams.Piece p) m was there =
       piece_arrives p m (record { is_sent = was; piece = there }) (refusal_of s p.header)
 
@@ -128,9 +131,9 @@ text_arrives w s pieces kept each text h =
     let is : text ≡ datagram_text d = (o.2).2 in
     let again : datagram_of text ≡ read.ok d =
     ap datagram_of is ∙ datagram_again d (All-contains IsDatagram (split_of o.0) d
-        (split_good o.0 o.1.is_message) there) in
+    (split_good o.0 o.1.is_message) there) in
     subst (λ r. IsGoodArrival w.sent (arrival_of s pieces r)) (sym again)
-        (datagram_arrives w.sent pieces (kept.sent, kept.once) s d o.0 o.1 there)
+    (datagram_arrives w.sent pieces (kept.sent, kept.once) s d o.0 o.1 there)
 
 -- ---- what a step leaves
 
@@ -214,7 +217,7 @@ module _ (w : World) (made : IsMade w.division w.weights) (local : AreLocal w)
   act_sound (events.Deliver d n) x t step acts =
       let text = acts.asks.0 in
       comes_sound n x acts.is_up.stands t acts.takes.letter
-          (arrival_of (member_at w n x) x.pieces (datagram_of text))
+      (arrival_of (member_at w n x) x.pieces (datagram_of text))
       (text_arrives w (member_at w n x) x.pieces (local.each n x acts.is_up.stands).pieces each text
       (get_contains w.sent d text acts.asks.1))
       (acts.takes.right_is ∙ ap (running_step (member_at w n x) x.pieces acts.takes.letter)
@@ -249,8 +252,13 @@ module _ (w : World) (made : IsMade w.division w.weights) (local : AreLocal w)
           let is = sound.note n e in
           All-append (IsOfUnit v) x.notes (n ∷ []) olds
           (All-cons (IsOfUnit v) n [] (moves n
-          (record { note = is.note; unit = is.of_unit.0; of_unit = is.of_unit.1; claimers =
-          is.claimers })) (All-nil (IsOfUnit v)))
+          (record {
+            note = is.note;
+            unit = is.of_unit.0;
+            of_unit = is.of_unit.1;
+            claimers =
+                is.claimers;
+          })) (All-nil (IsOfUnit v)))
 
   -- what was sent stays sent
   more_sent : (sends : List Send) (pieces : List Piece)
@@ -258,7 +266,7 @@ module _ (w : World) (made : IsMade w.division w.weights) (local : AreLocal w)
       → All (λ p. (m : Message Value) × WasSentOf (with_sends w.sent sends) m p) pieces
   more_sent sends pieces are =
       All-weaker (λ p. (m : Message Value) × WasSentOf w.sent m p)
-          (λ p. (m : Message Value) × WasSentOf (with_sends w.sent sends) m p)
+      (λ p. (m : Message Value) × WasSentOf (with_sends w.sent sends) m p)
       (λ p o. (o.0, record { is_sent = sent_more w.sent sends o.0 o.1.is_sent; piece = o.1.piece }))
       pieces are
 
@@ -282,15 +290,19 @@ module _ (w : World) (made : IsMade w.division w.weights) (local : AreLocal w)
       → slice_get w.nodes k ≡ Some x → IsSoundStep w k x t
       → IsLocal (record
       w { nodes = nodes; sent = with_sends w.sent t.answer.sends; agreed = agreed }) k
-          (up_node (steps.after (node_at w k x) t))
+      (up_node (steps.after (node_at w k x) t))
   stepped_so k x t nodes agreed stands sound = record {
     notes = notes_so k x t.answer (record
         w { nodes = nodes; sent = with_sends w.sent t.answer.sends; agreed = agreed }) refl refl
-            stands sound.answer;
-    claim = λ o e. record { is_open = subst (λ s. IsOpen s o) same (sound.answer.member.claim o e);
-        progress = sound.answer.claim o e };
-    pieces = record { sent = more_sent t.answer.sends t.pieces sound.pieces.0; once = sound.pieces.1
-        };
+        stands sound.answer;
+    claim = λ o e. record {
+      is_open = subst (λ s. IsOpen s o) same (sound.answer.member.claim o e);
+      progress = sound.answer.claim o e;
+    };
+    pieces = record {
+      sent = more_sent t.answer.sends t.pieces sound.pieces.0;
+      once = sound.pieces.1;
+    };
     down = λ e. absurd (true≢false e);
     up = λ e. refl;
   }
@@ -323,8 +335,12 @@ module _ (w : World) (made : IsMade w.division w.weights) (local : AreLocal w)
           (up_node (steps.after (node_at w (events.node_of e) s.node) s.taken))
 
       then : World
-      then = record w { nodes = nodes; sent = with_sends w.sent s.taken.answer.sends; agreed =
-          v.agreed }
+      then = record w {
+        nodes = nodes;
+        sent = with_sends w.sent s.taken.answer.sends;
+        agreed =
+            v.agreed;
+      }
 
   -- a stop inside a step that leaves its whole note
   whole_keeps : (e : Event) (v : World) → StopsIn w e left.Whole v → AreLocal v

@@ -42,7 +42,7 @@ module _ (enough : Quorums) (w : World) (made : IsMade w.division w.weights) (c 
   pub takes : outcome enough (c.at u) (Take k input) ≡ Some o
   takes =
       ap (λ (z : Member Value). when z.up (theory.answer enough k z (c.at u).sent input))
-          (m.members k u x stands within)
+      (m.members k u x stands within)
       ∙ ap (λ b. when b (theory.answer enough k (nodes.view (node_of w k x) u) (c.at u).sent input))
       up
       ∙ answered
@@ -59,12 +59,19 @@ module _ (enough : Quorums) (w : World) (made : IsMade w.division w.weights) (c 
   pub is_member : o.member ≡ nodes.view (node_of w k then) u
   is_member =
       let g : facts_of o.member ≡ facts_at (member_at w k then) u =
-          sym (facts_here w k x then u o t.answer is refl) in
+      sym (facts_here w k x then u o t.answer is refl) in
       let n : o.member.stage ≡ nodes.stage_at (option_map claim_of t.answer.claim) u =
       sym (ap (λ c. nodes.stage_at c u) claims
-          ∙ stage_here (option_map claim_of x.claim) u o.member.stage) in
-      λ i. record { opened = (g i).opened; promised = (g i).promised; voted = (g i).voted; held =
-          (g i).held; up = is_up i; stage = n i }
+      ∙ stage_here (option_map claim_of x.claim) u o.member.stage) in
+      λ i. record {
+        opened = (g i).opened;
+        promised = (g i).promised;
+        voted = (g i).voted;
+        held =
+            (g i).held;
+        up = is_up i;
+        stage = n i;
+      }
 
   -- and as it was at the others, unless the step opens a claim
   pub is_as_before : ((nodes.view (node_of w k x) u).stage ≡ Closed → o.member.stage ≡ Closed)
@@ -72,13 +79,20 @@ module _ (enough : Quorums) (w : World) (made : IsMade w.division w.weights) (c 
       → nodes.view (node_of w k x) q ≡ nodes.view (node_of w k then) q
   is_as_before closed q ne =
       let g : facts_at (member_at w k x) q ≡ facts_at (member_at w k then) q =
-          sym (facts_there w k x then u o t.answer is refl q ne) in
+      sym (facts_there w k x then u o t.answer is refl q ne) in
       let n : nodes.stage_at (option_map claim_of x.claim) q ≡ nodes.stage_at
-          (option_map claim_of t.answer.claim) q =
+      (option_map claim_of t.answer.claim) q =
       sym (ap (λ c. nodes.stage_at c q) claims
-          ∙ stage_there (option_map claim_of x.claim) u q o.member.stage ne closed) in
-      λ i. record { opened = (g i).opened; promised = (g i).promised; voted = (g i).voted; held =
-          (g i).held; up = up i; stage = n i }
+      ∙ stage_there (option_map claim_of x.claim) u q o.member.stage ne closed) in
+      λ i. record {
+        opened = (g i).opened;
+        promised = (g i).promised;
+        voted = (g i).voted;
+        held =
+            (g i).held;
+        up = up i;
+        stage = n i;
+      }
 
   -- so node and log are left as the member's are
   pub left_so : ((q : ℕ) → (q ≡ u → ⊥) → q < length w.division.units
@@ -101,7 +115,7 @@ module _ (enough : Quorums) (w : World) (made : IsMade w.division w.weights) (c 
       (record { path = u; event = Take k input }))
   quiet_step quorums may values allowed none left =
       subst (Matches (with_node w k then)) (sym
-          (act_is Value enough may c u (Take k input) o allowed takes))
+      (act_is Value enough may c u (Take k input) o allowed takes))
       (quiet_matches w enough c m u within (Take k input) o takes x then stands left quorums
       (values u) none)
 
@@ -113,15 +127,15 @@ pub nothing_sent : (s : State) (u : ℕ) (what : Option (messages.Message Value)
 nothing_sent s u what [] none are = refl
 nothing_sent s u what (z ∷ zs) none are =
     absurd (let one : Says s u what z.message = are 0 z (omega arith) in let wrong : None ≡ Some _ =
-        sym none ∙ one.body in cc)
+    sym none ∙ one.body in cc)
 
 -- where the same was sent, nothing is decided
 pub list_same : (w : World) (after : List Text) (list : _) → after ≡ w.sent
     → IsListAfter w after list → list ≡ w.agreed
 list_same w after list same (inl (build, d, e)) =
     absurd (true≢false
-        (sym d.decided.now ∙ ap (λ sent. is_majority w.weights (voters w sent d.name d.claim)) same
-        ∙ d.decided.not_before))
+    (sym d.decided.now ∙ ap (λ sent. is_majority w.weights (voters w sent d.name d.claim)) same
+    ∙ d.decided.not_before))
 list_same w after list same (inr (none, e)) = e
 
 -- so only the node is another
@@ -131,5 +145,8 @@ only_the_node w v e s none =
     let sent : with_sends w.sent s.taken.answer.sends ≡ w.sent = ap (with_sends w.sent) none in
     let list = list_same w (with_sends w.sent s.taken.answer.sends) v.agreed sent s.list in
     s.leaves ∙ ap₂ (λ texts packages.
-        record (with_node w (whose e) (up_node (after (node_at w (whose e) s.node) s.taken))) { sent
-            = texts; agreed = packages }) sent list
+    record (with_node w (whose e) (up_node (after (node_at w (whose e) s.node) s.taken))) {
+      sent
+          = texts;
+      agreed = packages;
+    }) sent list

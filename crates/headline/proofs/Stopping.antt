@@ -145,8 +145,12 @@ module _ (division : Division) (weights : List ℕ) (acts : List (Act Value)) (w
             (down_matches (is_majority weights) (majorities weights) (may_build division) w reached
             m values_there k x stands some behind up)),
       ))
-      (λ none. (None, tt, subst (λ u. Matches u reached) (sym is)
-      (no_units w reached k (down_node x.notes behind) none m)))
+      (λ none. (
+        None,
+        tt,
+        subst (λ u. Matches u reached) (sym is)
+            (no_units w reached k (down_node x.notes behind) none m),
+      ))
       (some_or_none (length w.division.units))
 
   pub stop_is_act : (n : ℕ) (v : World) → Stops w n v
@@ -158,10 +162,10 @@ module _ (division : Division) (weights : List ℕ) (acts : List (Act Value)) (w
       → IsOneActMore division weights acts w (events.StopIn e l) v
   cut_is_act e left.None v not_whole s =
       goes_down (events.StopIn e left.None) (events.node_of e) s.node [] s.acts.is_up.stands
-          s.acts.is_up.up v s.leaves
+      s.acts.is_up.up v s.leaves
   cut_is_act e (left.Torn bytes) v not_whole s =
       goes_down (events.StopIn e (left.Torn bytes)) (events.node_of e) s.node bytes
-          s.acts.is_up.stands s.acts.is_up.up v s.leaves
+      s.acts.is_up.stands s.acts.is_up.up v s.leaves
   cut_is_act e left.Whole v not_whole s = absurd (not_whole refl)
 
   pub restart_is_act : (n : ℕ) (v : World) → Restarts w n v
@@ -178,6 +182,10 @@ module _ (division : Division) (weights : List ℕ) (acts : List (Act Value)) (w
             (up_matches (is_majority weights) (majorities weights) (may_build division) w reached m
             values_there n s.node s.stands some s.down)),
       ))
-      (λ none. (None, tt, subst (λ u. Matches u reached) (sym s.leaves)
-      (no_units w reached n (restarted_node s.node.notes) none m)))
+      (λ none. (
+        None,
+        tt,
+        subst (λ u. Matches u reached) (sym s.leaves)
+            (no_units w reached n (restarted_node s.node.notes) none m),
+      ))
       (some_or_none (length w.division.units))

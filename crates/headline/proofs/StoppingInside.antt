@@ -34,8 +34,8 @@ module _ (enough : Quorums) (quorums : AreQuorums enough) (may : Needs Value) (w
   stops : outcome enough (c.at u) (StopIn k input) ≡ Some (cut o)
   stops =
       ap (λ (z : Member Value). when z.up
-          (option_map cut (theory.answer enough k z (c.at u).sent input)))
-          (m.members k u x stands within)
+      (option_map cut (theory.answer enough k z (c.at u).sent input)))
+      (m.members k u x stands within)
       ∙ ap (λ b. when b
       (option_map cut (theory.answer enough k (nodes.view (node_of w k x) u) (c.at u).sent input)))
       up
@@ -44,23 +44,37 @@ module _ (enough : Quorums) (quorums : AreQuorums enough) (may : Needs Value) (w
   here : (cut o).member ≡ nodes.view (node_of w k y) u
   here =
       let g : facts_of o.member ≡ facts_at (member_at w k y) u =
-          sym (facts_here w k x y u o a is refl) in
-      λ i. record { opened = (g i).opened; promised = (g i).promised; voted = (g i).voted; held =
-          (g i).held; up = false; stage = Closed }
+      sym (facts_here w k x y u o a is refl) in
+      λ i. record {
+        opened = (g i).opened;
+        promised = (g i).promised;
+        voted = (g i).voted;
+        held =
+            (g i).held;
+        up = false;
+        stage = Closed;
+      }
 
   there : (q : ℕ) → (q ≡ u → ⊥) → down (nodes.view (node_of w k x) q) ≡ nodes.view (node_of w k y) q
   there q ne =
       let g : facts_at (member_at w k x) q ≡ facts_at (member_at w k y) q =
-          sym (facts_there w k x y u o a is refl q ne) in
-      λ i. record { opened = (g i).opened; promised = (g i).promised; voted = (g i).voted; held =
-          (g i).held; up = false; stage = Closed }
+      sym (facts_there w k x y u o a is refl q ne) in
+      λ i. record {
+        opened = (g i).opened;
+        promised = (g i).promised;
+        voted = (g i).voted;
+        held =
+            (g i).held;
+        up = false;
+        stage = Closed;
+      }
 
   left_so : IsLeftAs w enough c u (StopIn k input) (cut o) x y
   left_so = record {
     here = here;
     there = λ q ne lt.
         stop_here Value enough (c.at q) k (ap (λ (z : Member Value). z.up)
-            (m.members k q x stands lt) ∙ up)
+        (m.members k q x stands lt) ∙ up)
         ∙ ap down (m.members k q x stands lt) ∙ there q ne;
     noted = log_then w made u x y a.note o.note refl is.note is.noted;
     kept = λ q ne lt. log_stays w made q u x y a.note refl is.noted within lt ne;

@@ -1,9 +1,8 @@
 -- A claim that waits for a build after an input that is no message waited before it.
-use Rattle.std.proofs.Common.{◌≡◌, ◌==◌, ℕ, Bool, true, false, List, [], Option, Some, None, Ok, Err, IfSome, eqb-true, refl, sym, subst, ap, ◌∙◌, if◌then◌else◌, length, option_map}
+use Rattle.std.proofs.Common.{◌≡◌, ◌==◌, ℕ, Bool, true, false, List, [], Option, Some, None, Ok, Err, IfSome, refl, sym, ap, ◌∙◌, if◌then◌else◌, length}
 use Rattle.std.specs.Prelude.{unwrap_or}
 use Rattle.agreement.specs.declared.claim.Claim.{Claim}
 use Rattle.agreement.specs.Member as members
-use Rattle.agreement.specs.Nodes as nodes
 use Rattle.agreement.specs.Step.{Outcome, on_built, on_failed, on_inquire, on_nudge, on_start}
 use Rattle.engine.specs.declared.Letter.{Letter}
 use Rattle.protocol.specs.Answers.{Answer, claim_then, dropped, everyone, others}
@@ -51,7 +50,7 @@ stood_before s u host o waits (members.Building d) at p c e is =
     let before = waits d at in
     let its = open_waits s u d before.0 in
     its.is ∙ ap (λ h. Some (record { unit = u; host = h; progress = Building d }))
-        (sym its.host_is ∙ sym before.1) ∙ e
+    (sym its.host_is ∙ sym before.1) ∙ e
 
 -- ---- whatever is asked
 
@@ -62,7 +61,7 @@ asked_stood f s u host to o a waits e p c left is =
     let made = by_outcome f s u host to o a e in
     let this = of_this (Waits s u host) o made.0 waits made.1 in
     stood_before s u host made.0 this made.0.member.stage refl p c
-        (ap (λ (a : Answer). a.claim) made.2 ∙ left) is
+    (ap (λ (a : Answer). a.claim) made.2 ∙ left) is
 
 start_waits : (s : State) (u host : ℕ) (h : Option Value) (above : ℕ)
     → IfSome (on_start s.me (view s u) h above) (Waits s u host)
@@ -99,7 +98,7 @@ built_stood s u given (members.Voting b S) a e =
 built_stood s u given (members.Building d) a e =
     let build = build_by s u (job_of s u (host_in s.claim) d) given in
     asked_stood refusals.NoClaim s u (host_in s.claim) (everyone s)
-        (on_built (view s u) (view s u).stage build) a
+    (on_built (view s u) (view s u).stage build) a
     (built_waits s u (host_in s.claim) (view s u).stage build)
     (not_refused (files_refusal s u given build) _ a e).1
 
@@ -118,7 +117,7 @@ nudged_stood s None a at e p c left waits = absurd (let no : Err refusals.NoClai
 nudged_stood s (Some o) a at e p c left waits =
     let given = without_job (job_again s o o.progress) _ a e in
     let made = by_outcome refusals.NoClaim s o.unit o.host (silent s o.progress)
-        (on_nudge (view s o.unit) (view s o.unit).stage) given.0 given.1 in
+    (on_nudge (view s o.unit) (view s o.unit).stage) given.0 given.1 in
     let stage = nudge_stage (view s o.unit) (view s o.unit).stage made.0 made.1 in
     let claim : given.0.claim ≡ a.claim = ap (λ (a : Answer). a.claim) given.2 in
     by_progress o.progress refl
@@ -144,20 +143,20 @@ waited_before s letter (inputs.Claim path host above) a none e =
     let found = has_unit (stranger s path) (claims s letter host above) (unit_in s path) a e in
     let u = found.0 in
     asked_stood refusals.Held s u host (everyone s) (on_start s.me (view s u) (view s u).held above)
-        a (start_waits s u host (view s u).held above)
+    a (start_waits s u host (view s u).held above)
     (not_refused (claim_refusal s letter above u) _ a found.2).1
 waited_before s letter (inputs.Built path given) a none e =
     let found = has_unit refusals.NoClaim (builds s given) (unit_in s path) a e in built_stood s
-        found.0 given (view s found.0).stage a found.2
+    found.0 given (view s found.0).stage a found.2
 waited_before s letter (inputs.Failed path) a none e =
     let found = has_unit refusals.NoClaim (fails s) (unit_in s path) a e in
     asked_stood refusals.NoClaim s found.0 (host_in s.claim) []
-        (on_failed (view s found.0) (view s found.0).stage) a
+    (on_failed (view s found.0) (view s found.0).stage) a
     (failed_waits s found.0 (host_in s.claim) (view s found.0).stage) found.2
 waited_before s letter inputs.Nudge a none e = nudged_stood s s.claim a refl e
 waited_before s letter (inputs.Ask path) a none e =
     let found = has_unit (stranger s path) (member_asks s) (unit_in s path) a e in
     asked_stood refusals.Held s found.0 (host_in s.claim) (others s)
-        (on_inquire (view s found.0) (view s found.0).held) a
+    (on_inquire (view s found.0) (view s found.0).held) a
     (inquiry_waits s found.0 (view s found.0).held) found.2
 waited_before s letter (inputs.Message m) a none e = absurd none

@@ -1,5 +1,5 @@
 -- What an act of a run built, an event of the run made.
-use Rattle.std.proofs.Common.{◌≡◌, ◌⊎◌, ℕ, true, List, [], ◌∷◌, ◌++◌, Option, None, Some, append_assoc, refl, sym, ap, subst, ◌∙◌, ⊎_elim, inl, inr}
+use Rattle.std.proofs.Common.{◌≡◌, ◌⊎◌, ℕ, true, List, [], ◌∷◌, ◌++◌, None, Some, append_assoc, refl, ap, subst, ◌∙◌, ⊎_elim, inl, inr}
 use Rattle.agreement.specs.Agreed.{Builds}
 use Rattle.agreement.specs.AgreedList.{Act, BuildsNow, Cluster, Needs, WasBuilt, after_act, after_acts, beginning, lookup}
 use Rattle.agreement.specs.Quorums.{Quorums, is_majority}
@@ -9,11 +9,11 @@ use Rattle.agreement.specs.World.{Restart, Stop, StopIn, Take}
 use Rattle.node.specs.Events.{Event}
 use Rattle.protocol.specs.State.{Value}
 use Rattle.units.specs.Division.{Division}
-use Rattle.world.specs.Happening.{Happens, Leads}
+use Rattle.world.specs.Happening.{Leads}
 use Rattle.world.specs.World.{World, start}
 use Rattle.world.proofs.Leading.{leads_together}
 use Rattle.headline.specs.Matches.{Matches}
-use Rattle.headline.specs.Mirrored.{IsActOf, MakesBuild, Mirrors, after_all_acts, and_then, at_start, with_act}
+use Rattle.headline.specs.Mirrored.{IsActOf, MakesBuild, Mirrors, after_all_acts, and_then, at_start}
 use Rattle.headline.specs.Needs.{may_build}
 
 -- ---- acts
@@ -68,7 +68,7 @@ module _ (division : Division) (weights : List ℕ) where
   mirrors_lead events w acts at_start = refl
   mirrors_lead events last acts (and_then before w v others e o mirrors m h is) =
       leads_together (start division weights) w v before (e ∷ [])
-          (mirrors_lead before w others mirrors) (v, h, refl)
+      (mirrors_lead before w others mirrors) (v, h, refl)
 
   -- what was made so far was made
   one_later : (events : List Event) (e : Event) (u : ℕ) (build : Value)
@@ -96,7 +96,7 @@ module _ (division : Division) (weights : List ℕ) where
       → WasMade division weights (events ++ e ∷ []) u build
   made_now events w acts e a u build mirrors m is now =
       let b = builds_event ((after_all_acts division weights acts).at a.path) a.event build
-          now.builds in record {
+      now.builds in record {
         before = events;
         event = e;
         behind = [];

@@ -1,28 +1,22 @@
 -- What the world's runs are in the agreement theory, and what follows for the list.
-use Rattle.units.specs.Division.{Division, number_named}
+use Rattle.units.specs.Division.{Division}
 use Rattle.std.specs.Prelude.{◌≡◌, ℕ, List}
 use Rattle.agreement.specs.AgreedList.{Act, IsMonotone}
-use Rattle.std.specs.Prelude.{None, Ok, Option, Some}
+use Rattle.std.specs.Prelude.{Option}
 use Rattle.protocol.specs.State.{Value}
-use Rattle.protocol.specs.Step.{heard, outcome_of}
 use Rattle.ballots.specs.declared.message.Message.{Message}
-use Rattle.faults.specs.Bytes.{Text}
-use Rattle.node.specs.Events.{Deliver, Event, Failed, Restart, Stop, StopIn}
-use Rattle.node.specs.Step.{nothing}
+use Rattle.node.specs.Events.{Event}
 use Rattle.node.specs.declared.fault.Foreign.{Foreign}
 use Rattle.node.specs.declared.fault.NodeFault.TheVariants as faults
-use Rattle.node.specs.declared.event.Left.{Left}
-use Rattle.node.specs.declared.event.Left.TheVariants.{Whole}
 use Rattle.headline.specs.Local.{AreLocal}
 use Rattle.headline.specs.Matches.{Matches, WasSaid}
 use Rattle.headline.specs.Mirrored.{IsActOf, Mirrors, after_all_acts, with_act}
 use Rattle.headline.specs.Needs.{may_build}
-use Rattle.world.specs.Happening.{Happens, IsRefused, Leads, Restarts, Steps, Stops, StopsIn}
-use Rattle.world.specs.Headline.{AtEachMoment, HasOneList, HeldIsListed, HoldAlike}
-use Rattle.world.specs.Laws.{NothingSentIsForeign}
+use Rattle.world.specs.Happening.{Happens, IsRefused, Leads}
+use Rattle.world.specs.Headline.{AtEachMoment, HasOneList, HeldIsListed}
 use Rattle.world.specs.Sent.{WasSent}
 use Rattle.world.specs.Safety.{EachIsOfAMessage, EqualHeaders, JobsStood, LaterRepeats, OneProposal, PromisesBound}
-use Rattle.world.specs.World.{IsMade, World, member_at, start}
+use Rattle.world.specs.World.{IsMade, World, start}
 use Rattle.world.specs.declared.fault.WorldFault.TheVariants as worlds
 
 -- What may be built on some builds may be built on these and more.

@@ -12,7 +12,6 @@ ghost use Rattle.headline.specs.Laws.{
   NeedsAreMonotone,
   SentWasSaid,
 };
-
 ghost use Rattle.world.specs.Laws.{NothingSentIsForeign, OneAnswer, OneWorldFollows};
 
 /// What a build needs is spoiled by nothing that is held besides.

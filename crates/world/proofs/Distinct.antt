@@ -1,6 +1,6 @@
 -- At most one package a path, and no datagram sent twice.
-use Rattle.std.proofs.Common.{◌≡◌, ◌≢◌, ◌<◌, ◌⊎◌, ℕ, zero, suc, Bool, true, false, cond, List, [], ◌∷◌, ◌++◌, length, get_or, refl, sym, ap, subst, ◌∙◌, arith, inl, inr, ⊎_elim, true≢false}
-use Rattle.std.specs.Prelude.{All, AllPairs, Contains, map}
+use Rattle.std.proofs.Common.{◌≡◌, ◌≢◌, ℕ, zero, suc, true, false, List, [], ◌∷◌, ◌++◌, refl, sym, ap, subst, ◌∙◌, arith, inl, inr, true≢false}
+use Rattle.std.specs.Prelude.{All, AllPairs, Contains}
 use Rattle.std.specs.List.{list_any}
 use Rattle.std.proofs.lemmas.Bool.{cond_both, or_left, or_parts, or_right}
 use Rattle.std.proofs.lemmas.Cmp.{nat_list_cmp_total}
@@ -19,9 +19,9 @@ use Rattle.units.proofs.Ascending.{differ}
 use Rattle.units.proofs.Places.{equal_bytes}
 use Rattle.units.specs.Division.{Division}
 use Rattle.wire.specs.Messages.{IsBuildOf}
-use Rattle.world.specs.Happening.{Happens, Leads, Steps}
+use Rattle.world.specs.Happening.{Happens, Leads}
 use Rattle.world.specs.Headline.{AtEachMoment, HasOneAPath}
-use Rattle.world.specs.Lists.{IsDecidedFor, IsListAfter, has_path, with_build}
+use Rattle.world.specs.Lists.{IsListAfter, has_path}
 use Rattle.world.specs.Sent.{WasProposed}
 use Rattle.world.specs.World.{World, start}
 use Rattle.world.proofs.Growing.{by_kind, each_moment, kept_on}
@@ -101,7 +101,7 @@ pub one_there : (division : Division) (weights : List ℕ) (events : List Event)
     → Leads (start division weights) events w → HasOneAPath w
 one_there division weights events w led =
     kept_on HasOneAPath one_kept (start division weights) w events led
-        (λ i j d lt within. absurd (omega arith))
+    (λ i j d lt within. absurd (omega arith))
 
 pub one_a_path : (division : Division) (weights : List ℕ) (events : List Event) (last : World)
     → Leads (start division weights) events last
@@ -125,4 +125,4 @@ pub nothing_sent_twice : (division : Division) (weights : List ℕ) (events : Li
     → Leads (start division weights) events w → AllPairs ◌≢◌ w.sent
 nothing_sent_twice division weights events w led =
     kept_on (λ w. AllPairs ◌≢◌ w.sent) sent_once_kept (start division weights) w events led
-        (λ i j d lt within. absurd (omega arith))
+    (λ i j d lt within. absurd (omega arith))

@@ -1,5 +1,5 @@
 -- What stays as it was whatever happens, and what is only added to.
-use Rattle.std.proofs.Common.{◌≡◌, ◌⊎◌, ℕ, Bool, true, false, cond, List, [], ◌∷◌, ◌++◌, length, refl, sym, ap, subst, ◌∙◌, append_assoc, append-nil, inl, inr, ⊎_elim}
+use Rattle.std.proofs.Common.{◌≡◌, ℕ, Bool, true, false, cond, List, [], ◌∷◌, ◌++◌, length, refl, sym, ap, subst, ◌∙◌, append_assoc, append-nil, inl, inr}
 use Rattle.std.specs.List.{list_any}
 use Rattle.std.proofs.lemmas.List.{length-set}
 use Rattle.faults.specs.Bytes.{Text}
@@ -123,7 +123,7 @@ pub each_moment : (division : Division) (weights : List ℕ) (P : List Event →
     → AtEachMoment division weights events last P
 each_moment division weights P each events last led early late e =
     let parts = leads_in_parts (start division weights) last early late
-        (subst (λ es. Leads (start division weights) es last) e led) in
+    (subst (λ es. Leads (start division weights) es last) e led) in
     (parts.0, parts.1, parts.2, each early parts.0 parts.1)
 
 -- what is kept by each event is kept by events in turn
@@ -138,5 +138,5 @@ pub list_grows : (division : Division) (weights : List ℕ) (events : List Event
     → AtEachMoment division weights events last (λ early w. IsBeginningOf w.agreed last.agreed)
 list_grows division weights events last led early late e =
     let parts = leads_in_parts (start division weights) last early late
-        (subst (λ es. Leads (start division weights) es last) e led) in
+    (subst (λ es. Leads (start division weights) es last) e led) in
     (parts.0, parts.1, parts.2, (leads_later parts.0 last late parts.2).agreed)

@@ -1,8 +1,8 @@
 -- Worlds of three, computed: which fault is named first, and how datagrams and packages are added.
-use Rattle.std.proofs.Common.{◌≡◌, ◌==◌, ℕ, true, false, List, [], ◌∷◌, Option, Some, None, refl}
+use Rattle.std.proofs.Common.{◌≡◌, ◌==◌, true, false, [], ◌∷◌, Some, None, refl}
 use Rattle.faults.specs.Bytes.{Text}
 use Rattle.agreement.specs.Quorums.{is_majority}
-use Rattle.node.specs.Events.{Event, Claim, Nudge, Deliver, Stop, StopIn, Restart}
+use Rattle.node.specs.Events.{Claim, Nudge, Deliver, Stop, StopIn, Restart}
 use Rattle.node.specs.declared.event.Left.TheVariants as left
 use Rattle.units.specs.Division.{Division}
 use Rattle.world.specs.Happening.{fault_before}

@@ -35,14 +35,14 @@ datagram_behind sent t = by_case (is_among sent t)
 datagram_there : (sent : List Text) (t : Text) → Contains (with_datagram sent t) t
 datagram_there sent t =
     cond_both (is_among sent t) sent (sent ++ t ∷ []) (λ l. Contains l t) (λ e. among_is sent t e)
-        (λ e. Contains-push sent t)
+    (λ e. Contains-push sent t)
 
 datagram_comes : (sent : List Text) (t u : Text) → Contains (with_datagram sent t) u
     → Contains sent u ⊎ (t ≡ u)
 datagram_comes sent t u =
     cond_both (is_among sent t) sent (sent ++ t ∷ [])
-        (λ l. Contains l u → Contains sent u ⊎ (t ≡ u)) (λ e h. inl h)
-        (λ e h. Contains-push_cases sent t u h)
+    (λ l. Contains l u → Contains sent u ⊎ (t ≡ u)) (λ e h. inl h)
+    (λ e h. Contains-push_cases sent t u h)
 
 -- what was sent stays where it stood, and these come behind it
 pub texts_behind : (sent texts : List Text) → (more : List Text)
@@ -57,7 +57,7 @@ pub texts_stay : (sent texts : List Text) (t : Text) → Contains sent t
     → Contains (fold with_datagram sent texts) t
 texts_stay sent texts t h =
     let g = texts_behind sent texts in subst (λ l. Contains l t) (sym g.1)
-        (Contains-append_left sent g.0 t h)
+    (Contains-append_left sent g.0 t h)
 
 -- each of them was sent then
 pub texts_there : (sent texts : List Text) (t : Text) → Contains texts t
