@@ -249,7 +249,3 @@ module _ (division : Division) (weights : List ℕ) (acts : List (Act Value)) (w
         ∙ pieces_join_in_any_order again origin.message origin_carries.carrier origin_carries.build
         pieces origin.is_sent.is_message origin_carries.carried
         (subst (λ (x : Header). AreAllThere x text pieces) (sym origin_carries.header) all_there)
-
-    pub joined_came : (n : Message Value) → joined h (bytes_of h pieces) ≡ ok n → WasSent w.sent n
-    joined_came n e =
-        subst (WasSent w.sent) (ok_same origin.message n (sym joins_to ∙ e)) origin.is_sent

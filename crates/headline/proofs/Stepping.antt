@@ -106,28 +106,7 @@ module _ (enough : Quorums) (w : World) (made : IsMade w.division w.weights) (c 
     kept = λ q ne lt. log_stays w made q u x then t.answer.note refl is.noted within lt ne;
   }
 
-  -- A step that says nothing leaves a match, where the node alone changed.
-  pub quiet_step : AreQuorums enough → (may : Needs Value)
-      → ((p : ℕ) → IsValue enough (c.at p) (lookup c.list p))
-      → may_happen may c u (Take k input) ≡ true → o.send ≡ None
-      → IsLeftAs w enough c u (Take k input) o x then
-      → Matches (with_node w k then) (after_act enough may c
-      (record { path = u; event = Take k input }))
-  quiet_step quorums may values allowed none left =
-      subst (Matches (with_node w k then)) (sym
-      (act_is Value enough may c u (Take k input) o allowed takes))
-      (quiet_matches w enough c m u within (Take k input) o takes x then stands left quorums
-      (values u) none)
-
 -- ---- the world after a step that sends nothing
-
--- what says nothing sends nothing
-pub nothing_sent : (s : State) (u : ℕ) (what : Option (messages.Message Value)) (sends : List Send)
-    → what ≡ None → All (λ z. Says s u what z.message) sends → sends ≡ []
-nothing_sent s u what [] none are = refl
-nothing_sent s u what (z ∷ zs) none are =
-    absurd (let one : Says s u what z.message = are 0 z (omega arith) in let wrong : None ≡ Some _ =
-    sym none ∙ one.body in cc)
 
 -- where the same was sent, nothing is decided
 pub list_same : (w : World) (after : List Text) (list : _) → after ≡ w.sent

@@ -13,7 +13,7 @@ use Rattle.headline.specs.Matches.{Matches, WasSaid}
 use Rattle.headline.specs.Mirrored.{IsActOf, Mirrors, after_all_acts, with_act}
 use Rattle.headline.specs.Needs.{may_build}
 use Rattle.world.specs.Happening.{Happens, IsRefused, Leads}
-use Rattle.world.specs.Headline.{AtEachMoment, HasOneList, HeldIsListed}
+use Rattle.world.specs.Headline.{AtEachMoment, HasOneList, HeldIsListed, HoldAlike}
 use Rattle.world.specs.Sent.{WasSent}
 use Rattle.world.specs.Safety.{EachIsOfAMessage, EqualHeaders, JobsStood, LaterRepeats, OneProposal, PromisesBound}
 use Rattle.world.specs.World.{IsMade, World, start}
@@ -114,6 +114,13 @@ pub record IsSafe (division : Division) (weights : List ℕ) (events : List Even
   -- equal headers of sent pieces belong to equal messages
   pub equal_headers : AtEachMoment division weights events last
       (λ early w. EqualHeaders w × EachIsOfAMessage w)
+
+-- Two nodes of a run never hold different packages for one path.
+abbrev pub NodesNeverDiffer : Type 0
+NodesNeverDiffer =
+    (division : Division) (weights : List ℕ) (events : List Event) (w : World)
+    → IsMade division weights → Leads (start division weights) events w
+    → AtEachMoment division weights events w (λ early w. HoldAlike w)
 
 -- Each run has one list, and is safe.
 abbrev pub EachRunHasOneList : Type 0
