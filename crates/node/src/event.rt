@@ -46,7 +46,8 @@ pub enum Left {
     Whole,
 }
 
-/// What may happen to a node. A path names a unit: it is the unit's name, or the path of any of its packages.
+/// What may happen to a node. A path names a unit: it is the unit's name, or the path of any of its
+/// packages.
 #[derive(Drop)]
 pub enum Event {
     /// The node opens a claim for the unit, in a round above this one.
@@ -85,7 +86,8 @@ pub enum Event {
     Stop {
         node: u8,
     },
-    /// The node stops inside a step, which is one of the first six: nothing is sent, and no job is given.
+    /// The node stops inside a step, which is one of the first six: nothing is sent, and no job is
+    /// given.
     StopIn {
         input: Box<Event>,
         left: Left,

@@ -19,7 +19,8 @@ pub enum Foreign {
     Message(Refusal),
 }
 
-/// Why a node does not take a step, or is not opened. Of several reasons the first that is tested is the one.
+/// Why a node does not take a step, or is not opened. Of several reasons the first that is tested
+/// is the one.
 #[derive(Clone, Copy, Debug, PartialEq, Eq, Error)]
 pub enum NodeFault {
     #[error("out of memory")]
@@ -59,7 +60,8 @@ impl Fault for NodeFault {
 }
 
 impl NodeFault {
-    /// The number of the refusal that led to it: of files that make no build, or of what makes a datagram foreign.
+    /// The number of the refusal that led to it: of files that make no build, or of what makes a
+    /// datagram foreign.
     pub fn cause(&self) -> Option<u32>
         ensures { result ≡ cause_of self.now }
     {
