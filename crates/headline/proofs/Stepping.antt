@@ -1,12 +1,9 @@
 -- A step of a node is its member's: the node and its log are what the member's are then.
-use Rattle.std.proofs.Common.{◌≡◌, ◌<◌, ℕ, true, List, [], ◌∷◌, length, Option, Some, None, option_map, slice_get, refl, sym, ap, ap₂, subst, ◌∙◌, inl, inr, arith, true≢false}
-use Rattle.std.specs.Prelude.{All}
-use Rattle.agreement.specs.Agreed.{IsValue}
-use Rattle.agreement.specs.AgreedList.{Cluster, Needs, after_act, elsewhere, lookup, may_happen}
+use Rattle.std.proofs.Common.{◌≡◌, ◌<◌, ℕ, true, List, [], length, Some, option_map, slice_get, refl, sym, ap, ap₂, ◌∙◌, inl, inr, true≢false}
+use Rattle.agreement.specs.AgreedList.{Cluster, elsewhere}
 use Rattle.agreement.specs.Member.{Closed, Member, facts_of}
-use Rattle.agreement.specs.Messages as messages
 use Rattle.agreement.specs.Nodes as nodes
-use Rattle.agreement.specs.Quorums.{AreQuorums, Quorums, is_majority}
+use Rattle.agreement.specs.Quorums.{Quorums, is_majority}
 use Rattle.agreement.specs.Step as theory
 use Rattle.agreement.specs.Step.{Outcome}
 use Rattle.agreement.specs.World.{Take, outcome, run, when}
@@ -15,17 +12,15 @@ use Rattle.faults.specs.Bytes.{Text}
 use Rattle.node.specs.Events.{Event, node_of as whose}
 use Rattle.node.specs.Step.{Taken, after}
 use Rattle.protocol.specs.InTheAgreement.{claim_of}
-use Rattle.protocol.specs.Laws.{IsOutcome, Says}
-use Rattle.protocol.specs.State.{State, Value, facts_at}
-use Rattle.protocol.specs.declared.sends.Send.{Send}
+use Rattle.protocol.specs.Laws.{IsOutcome}
+use Rattle.protocol.specs.State.{Value, facts_at}
 use Rattle.world.specs.Happening.{Steps}
 use Rattle.world.specs.Lists.{IsListAfter}
 use Rattle.world.specs.Sent.{voters, with_sends}
 use Rattle.world.specs.World.{IsMade, World, WorldNode, member_at, node_at, up_node, with_node}
 use Rattle.headline.specs.Matches.{Matches, node_of}
-use Rattle.headline.proofs.Acting.{act_is}
 use Rattle.headline.proofs.Members.{facts_here, facts_there, log_stays, log_then}
-use Rattle.headline.proofs.Standing.{IsLeftAs, quiet_matches}
+use Rattle.headline.proofs.Standing.{IsLeftAs}
 
 module _ (enough : Quorums) (w : World) (made : IsMade w.division w.weights) (c : Cluster Value)
     (m : Matches w c)

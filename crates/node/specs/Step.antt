@@ -1,11 +1,10 @@
 -- A node's step: its member's step on an input, or on the message that became whole.
-use Rattle.std.specs.Prelude.{◌≡◌, ℕ, List, [], Option, None, Some, Result, Ok, Err, if◌then◌else◌}
+use Rattle.std.specs.Prelude.{◌≡◌, ℕ, List, [], Option, None, Result, Ok, Err, if◌then◌else◌}
 use Rattle.faults.specs.Bytes.{Text}
 use Rattle.engine.specs.declared.Letter.{Letter}
-use Rattle.ballots.specs.declared.message.Note.{Note}
 use Rattle.protocol.specs.Answers.{Answer}
 use Rattle.protocol.specs.Member.{IsInput}
-use Rattle.protocol.specs.State.{State, Value}
+use Rattle.protocol.specs.State.{State}
 use Rattle.protocol.specs.Step as members
 use Rattle.protocol.specs.Step.{IsLetterOf, answer, unit_claimed}
 use Rattle.protocol.specs.declared.refusal.Refusal.{Refusal}
