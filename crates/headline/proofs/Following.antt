@@ -6,7 +6,6 @@ use Rattle.engine.specs.declared.Letter.{Letter}
 use Rattle.node.specs.Events as events
 use Rattle.node.specs.Events.{Event, is_step}
 use Rattle.node.specs.OnLog.{IsFull}
-use Rattle.node.specs.State.{NodeState}
 use Rattle.node.specs.Step as steps
 use Rattle.node.specs.Step.{Asked, Comes, Does, Taken, Takes, after, step, unit_asked}
 use Rattle.node.specs.declared.event.Left.{Left}
@@ -19,7 +18,7 @@ use Rattle.protocol.proofs.OneAnswer.{one_answer}
 use Rattle.world.specs.Happening.{Acts, Asks, Happens, HasRoomFor, IsRefused, IsRefusedByNode, IsUp, NodeRefuses, Restarts, Steps, Stops, StopsIn, fault_before, is_bad_stop, is_restart, is_up, lacks_datagram, leaves_note, left_node, up_of}
 use Rattle.world.specs.Lists.{IsListAfter}
 use Rattle.world.specs.Sent.{with_sends}
-use Rattle.world.specs.World.{World, WorldNode, down_node, node_at, restarted_node, up_node, with_node}
+use Rattle.world.specs.World.{World, WorldNode, down_node, member_at, node_at, restarted_node, up_node, with_node}
 use Rattle.world.specs.declared.fault.WorldFault.{WorldFault}
 use Rattle.world.specs.declared.fault.WorldFault.TheVariants as fault
 use Rattle.headline.proofs.Members.{get_within}
@@ -50,21 +49,24 @@ one_asked w (events.StopIn e l) a b x y = one_asked w e a b x y
 one_asked w (events.Restart n) a b x y = absurd x
 
 -- so a node takes one step, or refuses with one fault
-steps_alike : (n : NodeState) (asked : Asked) (k l : Letter)
-    → IsLetterOf n.member (unit_asked n.member asked) k
-    → IsLetterOf n.member (unit_asked n.member asked) l
-    → step n k asked ≡ step n l asked
-steps_alike n (Comes text) k l first second = refl
-steps_alike n (Does input) k l first second =
-    ap (λ r. if n.stopped then Err node_fault.Stopped else steps.taken n.pieces r)
-    (one_answer n.member input (answer n.member k input) (answer n.member l input)
-    (record { letter = k; shown = first; right = refl })
-    (record { letter = l; shown = second; right = refl }))
+steps_alike : (w : World) (k : ℕ) (x : WorldNode) (asked : Asked) (l m : Letter)
+    → IsLetterOf (member_at w k x) (unit_asked (node_at w k x) asked) l
+    → IsLetterOf (member_at w k x) (unit_asked (node_at w k x) asked) m
+    → step (node_at w k x) l asked ≡ step (node_at w k x) m asked
+steps_alike w k x (Comes text) l m first second = refl
+steps_alike w k x (Does input) l m first second =
+    ap (steps.taken x.pieces)
+    (one_answer (member_at w k x) input (answer (member_at w k x) l input)
+    (answer (member_at w k x) m input)
+    (record { letter = l; shown = first; right = refl })
+    (record { letter = m; shown = second; right = refl }))
 
-one_right : (n : NodeState) (asked : Asked) (a b : Result Taken NodeFault) → Takes n asked a
-    → Takes n asked b → a ≡ b
-one_right n asked a b x y = x.right_is ∙ steps_alike n asked x.letter y.letter x.shown y.shown
-    ∙ sym y.right_is
+one_right : (w : World) (k : ℕ) (x : WorldNode) (asked : Asked) (a b : Result Taken NodeFault)
+    → Takes (node_at w k x) asked a → Takes (node_at w k x) asked b → a ≡ b
+one_right w k x asked a b first second =
+    first.right_is
+    ∙ steps_alike w k x asked first.letter second.letter first.shown second.shown
+    ∙ sym second.right_is
 
 -- ---- the node, and its step
 
@@ -92,7 +94,7 @@ one_answered w e x y r q a b =
     let same = one_asked w e a.asked b.asked a.asks b.asks in
     let there = subst (λ z. Takes (node_at w (events.node_of e) z) b.asked r) node
     (subst (λ z. Takes (node_at w (events.node_of e) x) z r) same a.takes) in
-    (node, one_right (node_at w (events.node_of e) y) b.asked r q there b.takes)
+    (node, one_right w (events.node_of e) y b.asked r q there b.takes)
 
 took_same : (a b : Taken) → steps_ok a ≡ steps_ok b → a ≡ b
 took_same a b e = cc

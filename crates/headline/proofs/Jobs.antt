@@ -178,7 +178,7 @@ module _ (division : Division) (weights : List ℕ) (acts : List (Act Value)) (w
             (record {
               letter = did.takes.letter;
               shown = subst
-                  (λ a. members.IsLetterOf s (steps.unit_asked s a) did.takes.letter) same
+                  (λ a. members.IsLetterOf s (steps.unit_asked (node_at w k x) a) did.takes.letter) same
                   did.takes.shown;
               right = sym given;
             }),

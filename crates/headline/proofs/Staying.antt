@@ -196,7 +196,7 @@ module _ (w : World) (made : IsMade w.division w.weights) (local : AreLocal w)
       → slice_get w.nodes k ≡ Some x → Takes (node_at w k x) asked (Ok t) → IsSoundStep w k x t
   input_acts k x t input asked is none can stands takes =
       does_sound k x stands t takes.letter input none (subst IsAsked is can)
-      (subst (λ a. members.IsLetterOf (member_at w k x) (steps.unit_asked (member_at w k x) a)
+      (subst (λ a. members.IsLetterOf (member_at w k x) (steps.unit_asked (node_at w k x) a)
       takes.letter) is takes.shown)
       (takes.right_is ∙ ap (running_step (member_at w k x) x.pieces takes.letter) is)
 

@@ -62,15 +62,15 @@ abbrev pub step : NodeState → Letter → Asked → Result Taken NodeFault
 step n letter asked =
     if n.stopped then Err fault.Stopped else running_step n.member n.pieces letter asked
 
--- the unit that the node is asked to claim
-abbrev pub unit_asked : State → Asked → Option ℕ
-unit_asked s (Does input) = unit_claimed s input
-unit_asked s (Comes text) = None
+-- the unit that the node is asked to claim, unless it is stopped
+abbrev pub unit_asked : NodeState → Asked → Option ℕ
+unit_asked n (Does input) = if n.stopped then None else unit_claimed n.member input
+unit_asked n (Comes text) = None
 
 -- This is the node's step, or why it takes none.
 pub record Takes (n : NodeState) (asked : Asked) (right : Result Taken NodeFault) : Type 0 where
   pub letter : Letter
-  pub shown : IsLetterOf n.member (unit_asked n.member asked) letter
+  pub shown : IsLetterOf n.member (unit_asked n asked) letter
   pub right_is : right ≡ step n letter asked
 
 -- the pieces that are kept where bytes are refused: those of a message whose pieces don't join to
