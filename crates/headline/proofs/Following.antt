@@ -11,7 +11,6 @@ use Rattle.node.specs.Step.{Asked, Comes, Does, Taken, Takes, after, step, unit_
 use Rattle.node.specs.declared.event.Left.{Left}
 use Rattle.node.specs.declared.event.Left.TheVariants as left
 use Rattle.node.specs.declared.fault.NodeFault.{NodeFault}
-use Rattle.node.specs.declared.fault.NodeFault.TheVariants as node_fault
 use Rattle.package_record.specs.Content.{Content}
 use Rattle.protocol.specs.Step.{IsLetterOf, answer}
 use Rattle.protocol.proofs.OneAnswer.{one_answer}
