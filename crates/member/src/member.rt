@@ -212,7 +212,8 @@ impl<'a> Member<'a> {
 
     /// The units of the tree, which facts are kept by.
     pub fn units(&self) -> &Units<'a>
-        ensures { result.now ≡ self.now.division }
+        ensures division { result.now ≡ self.now.division }
+        ensures member { IsMember self.now }
     {
         &self.units
     }
@@ -246,7 +247,8 @@ impl<'a> Member<'a> {
 
     /// The claim that is open.
     pub fn open_claim(&self) -> Option<&OpenClaim>
-        ensures { option_map open_of (option_copied result) ≡ self.now.claim }
+        ensures claim { option_map open_of (option_copied result) ≡ self.now.claim }
+        ensures member { IsMember self.now }
     {
         self.claim.as_ref()
     }
