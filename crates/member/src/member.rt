@@ -225,7 +225,7 @@ impl<'a> Member<'a> {
         let position = self.tree.position(path)?;
         let unit = self.units.unit_of(position)?;
         let build = self.known[unit as usize].held.as_ref()?;
-        record_of(build.packages(), path)
+        record_of(build, path)
     }
 
     /// The letter of the package at the position.
@@ -308,14 +308,15 @@ fn are_below(members: &[u8], number: usize) -> bool
     true
 }
 
-/// The record of the path, if it is among these.
-fn record_of<'b>(records: &'b [Record], path: &PkgPath) -> Option<&'b Record>
-    ensures { option_copied result ≡ record_in path.now records.entry.now }
+/// The record of the path in the build, whose records ascend by path.
+fn record_of<'b>(build: &'b Build, path: &PkgPath) -> Option<&'b Record>
+    ensures { option_copied result ≡ record_in path.now build.entry.now }
 {
-    for record in records {
-        if record.path() == path {
-            return Some(record);
-        }
+    // The contract of this call says that the records ascend.
+    let _unit = build.unit_path();
+    let records = build.packages();
+    match records.binary_search_by(|record| record.path().cmp(path)) {
+        Ok(place) => Some(&records[place]),
+        Err(_) => None,
     }
-    None
 }

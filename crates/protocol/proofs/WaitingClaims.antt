@@ -19,7 +19,6 @@ use Rattle.ballots.specs.InTheAgreement.{is_building, said}
 use Rattle.ballots.specs.declared.message.Body.{Body}
 use Rattle.ballots.specs.declared.message.Body.TheVariants as bodies
 use Rattle.ballots.specs.declared.message.Message.{Message}
-use Rattle.claims.specs.Job.{Task}
 use Rattle.engine.specs.declared.Letter.{Letter}
 use Rattle.units.specs.Division.{number_named}
 use Rattle.protocol.specs.Given.{Given}
