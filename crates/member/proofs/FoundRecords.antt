@@ -1,6 +1,6 @@
 -- The record of a path among those of a build, which ascend by path.
 use Rattle.std.proofs.Common.{◌≡◌, ◌<◌, ◌≤◌, ◌∙◌, ℕ, zero, suc, Bool, true, false, List, [], ◌∷◌}
-use Rattle.std.proofs.Common.{Option, None, Some, Ok, Err, Less, Equal, Greater, arith}
+use Rattle.std.proofs.Common.{None, Some, Ok, Err, Less, Equal, Greater, arith}
 use Rattle.std.proofs.Common.{length, refl, sym, ap, inl, inr}
 use Rattle.std.specs.Prelude.{cond, find}
 use Rattle.std.specs.Cmp.Lexicographic.{nat_list_cmp_total, texts_ties}

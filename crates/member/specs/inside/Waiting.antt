@@ -1,5 +1,5 @@
 -- The claim that waits for a build.
-use Rattle.std.specs.Prelude.{◌==◌, ℕ, Option, None, Some, Result, option_and_then, option_map}
+use Rattle.std.specs.Prelude.{◌==◌, ℕ, Option, None, Result, option_and_then, option_map}
 use Rattle.std.specs.Prelude.{if◌then◌else◌}
 use Rattle.faults.specs.Answers.{unless_fault}
 use Rattle.faults.specs.Bytes.{Text}
