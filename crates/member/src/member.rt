@@ -15,8 +15,9 @@ ghost use Rattle.protocol.specs.Restoring.{AreOnUnits, restored};
 ghost use Rattle.protocol.specs.State.{engine_of, fresh, held_record, record_in};
 ghost use Rattle.protocol.specs.Step.{HasAnswered, HasHandled, facts_named, header_refusal};
 ghost use Rattle.member.specs.OpenClaims.{open_of};
+ghost use Rattle.member.specs.Outcomes.{told};
 ghost use Rattle.member.specs.Prepared.{MayBeTaken, answer_by};
-ghost use Rattle.member.specs.inside.Fields.{facts_of_known, told};
+ghost use Rattle.member.specs.inside.Fields.{facts_of_known};
 ghost use Rattle.member.specs.inside.Steps.{IsPrepared};
 
 use crate::change::{changed, job_of};
