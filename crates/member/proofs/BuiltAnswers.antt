@@ -1,6 +1,6 @@
 -- A build goes to all as the proposal of the claim that waits for it.
-use Rattle.std.proofs.Common.{◌≡◌, ◌==◌, ℕ, Bool, true, false, List, [], Option, Some, None, Result}
-use Rattle.std.proofs.Common.{Ok, Err, eqb-true, inl, inr, length, option_map, refl, sym, subst, ap}
+use Rattle.std.proofs.Common.{◌≡◌, ◌==◌, ℕ, Bool, true, false, Option, Some, None, Result}
+use Rattle.std.proofs.Common.{Ok, Err, eqb-true, inl, inr, option_map, refl, sym, subst, ap}
 use Rattle.std.proofs.Common.{◌∙◌, if◌then◌else◌}
 use Rattle.std.specs.Prelude.{◌⊎◌, option_and_then, unwrap_or}
 use Rattle.std.proofs.lemmas.Bool.{false≢true}
@@ -19,7 +19,7 @@ use Rattle.ballots.specs.declared.claimer.Claimer.TheVariants as claimers
 use Rattle.ballots.specs.declared.message.Body.TheVariants as bodies
 use Rattle.protocol.specs.Given.{Given}
 use Rattle.protocol.specs.State.{OpenClaim, Progress, Gathering, Building, Voting, State, Value}
-use Rattle.protocol.specs.InTheAgreement.{members_in, stage_of, view}
+use Rattle.protocol.specs.InTheAgreement.{stage_of, view}
 use Rattle.protocol.specs.Sends.{sent_to}
 use Rattle.protocol.specs.Answers.{Answer, answered, everyone, message_of}
 use Rattle.protocol.specs.Jobs.{build_by, job_of}

@@ -1,9 +1,8 @@
 -- A member that knows nothing.
-use Rattle.std.proofs.Common.{◌≡◌, ◌<◌, ℕ, Bool, true, false, All, List, [], ◌∷◌, Option, Some}
-use Rattle.std.proofs.Common.{None, refl, sym, ap, ◌∙◌, filter, length, map, replicate}
+use Rattle.std.proofs.Common.{◌≡◌, ◌<◌, ℕ, Bool, false, List, [], ◌∷◌, Option, Some}
+use Rattle.std.proofs.Common.{None, refl, ap, ◌∙◌, filter, length, map, replicate}
 use Rattle.std.specs.Prelude.{cond, is_some}
 use Rattle.std.specs.FinSet as set
-use Rattle.std.specs.List.{slice_index_or}
 use Rattle.std.proofs.lemmas.List.Elements.{All-map, All-nil}
 use Rattle.agreement.specs.Member.{Facts, no_facts}
 use Rattle.ballots.specs.Weights.{AreWeights}

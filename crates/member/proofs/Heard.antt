@@ -22,7 +22,7 @@ use Rattle.protocol.specs.Member.{IsMember}
 use Rattle.protocol.specs.Sends.{sent_to}
 use Rattle.protocol.specs.State.{OpenClaim, State, Value, facts_at}
 use Rattle.protocol.specs.Step.{hears, host_in}
-use Rattle.member.specs.OpenClaims.{is_for}
+use Rattle.member.specs.inside.Waiting.{is_for}
 use Rattle.member.specs.Prepared.{IsChangeWeighedBy, Prepared, changed}
 use Rattle.member.specs.declared.step.ClaimChange.{ClaimChange}
 use Rattle.member.specs.declared.step.ClaimChange.TheVariants.{Stays, Ends}

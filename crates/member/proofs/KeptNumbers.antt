@@ -1,6 +1,6 @@
 -- Those of the first numbers that pass a test.
 use Rattle.std.proofs.Common.{◌≡◌, ◌≤◌, ◌+◌, ◌++◌, ℕ, Bool, true, false, List, [], ◌∷◌, arith}
-use Rattle.std.proofs.Common.{filter, length, refl, sym, ap, ◌∙◌}
+use Rattle.std.proofs.Common.{filter, length, sym, ap, ◌∙◌}
 use Rattle.std.specs.Prelude.{cond}
 use Rattle.std.specs.List.{range_with_len}
 use Rattle.std.proofs.lemmas.List.{append-nil}

@@ -14,7 +14,6 @@ pub mod MadeBuild
 pub mod MadePackages
 pub mod Named
 pub mod NewClaims
-pub mod PathOrder
 pub mod Preparing
 pub mod Restoring
 pub mod SaidAgain

@@ -28,7 +28,7 @@ use Rattle.protocol.specs.declared.refusal.Refusal.TheVariants.{BadFiles, OtherP
 use Rattle.member.specs.inside.Packages.{FilesByPath, Made, files_at, made_at, made_of}
 use Rattle.member.specs.inside.Waiting.{job_at, made_by}
 use Rattle.member.proofs.GivenFiles.{files_are_found}
-use Rattle.member.proofs.PathOrder.{in_order_ascends}
+use Rattle.protocol.proofs.PackageOrder.{in_order_ascends}
 
 -- ---- the claim of a job
 

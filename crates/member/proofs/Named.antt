@@ -1,6 +1,6 @@
 -- Which unit has the name that a path is.
 use Rattle.std.proofs.Common.{◌≡◌, ◌<◌, ℕ, Bool, true, false, List, [], Option, Some, None, arith}
-use Rattle.std.proofs.Common.{length, position, refl, sym, ap, subst, ◌∙◌}
+use Rattle.std.proofs.Common.{length, position, refl, sym, ap, ◌∙◌}
 use Rattle.std.specs.Prelude.{cond, nat_lt, option_and_then, unwrap_or}
 use Rattle.std.specs.List.{position_or_len, slice_index_or}
 use Rattle.std.specs.Str.{bytes_eq}

@@ -1,7 +1,7 @@
 -- Claims and questions, by what their unit is.
-use Rattle.std.proofs.Common.{◌≡◌, ℕ, suc, max, Bool, true, false, List, [], ◌∷◌, Option, Some}
-use Rattle.std.proofs.Common.{None, Result, Ok, Err, refl, sym, subst, ap, ◌∙◌, inl, inr, nat_le}
-use Rattle.std.specs.Prelude.{is_some, option_map}
+use Rattle.std.proofs.Common.{◌≡◌, ℕ, suc, max, Bool, true, false, [], ◌∷◌, Option, Some}
+use Rattle.std.proofs.Common.{None, Result, Ok, Err, refl, sym, subst, ap, ◌∙◌, inr, nat_le}
+use Rattle.std.specs.Prelude.{is_some}
 use Rattle.std.proofs.lemmas.Bool.{false≢true}
 use Rattle.faults.specs.Answers.{first_that_applies}
 use Rattle.faults.specs.Bytes.{Text}
@@ -21,7 +21,7 @@ use Rattle.protocol.specs.declared.input.Input.TheVariants as inputs
 use Rattle.protocol.specs.declared.refusal.Refusal.{Refusal}
 use Rattle.protocol.specs.declared.refusal.Refusal.TheVariants as refusals
 use Rattle.member.specs.Prepared.{Prepared}
-use Rattle.member.specs.inside.Steps.{IsPrepared, Makes, Prepares, opened_in}
+use Rattle.member.specs.inside.Steps.{IsPrepared, Prepares, opened_in}
 use Rattle.member.proofs.SameStep.{claim_kept, job_kept}
 
 -- what is not there is nothing

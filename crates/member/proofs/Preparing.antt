@@ -1,5 +1,5 @@
 -- Steps and refusals that are right.
-use Rattle.std.proofs.Common.{◌≡◌, ℕ, List, Option, Some, None, Result, Ok, Err, refl, sym, ap, ◌∙◌}
+use Rattle.std.proofs.Common.{◌≡◌, List, None, Result, Ok, Err, refl, sym, ap, ◌∙◌}
 use Rattle.std.proofs.Common.{inl, inr, subst}
 use Rattle.protocol.specs.State.{State}
 use Rattle.protocol.specs.Answers.{Answer}

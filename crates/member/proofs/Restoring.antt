@@ -1,5 +1,5 @@
 -- A member that takes the notes of a log, one after the other.
-use Rattle.std.proofs.Common.{◌≡◌, ◌++◌, ℕ, All, List, [], ◌∷◌, Option, Some, None, length, refl}
+use Rattle.std.proofs.Common.{◌≡◌, ◌++◌, All, List, [], ◌∷◌, Some, None, length, refl}
 use Rattle.std.proofs.Common.{sym, ap, subst, ◌∙◌, map}
 use Rattle.std.specs.Prelude.{fold, option_and_then, option_map}
 use Rattle.std.proofs.lemmas.List.{length-map}

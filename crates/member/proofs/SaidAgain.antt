@@ -1,5 +1,5 @@
 -- What the open claim says again.
-use Rattle.std.proofs.Common.{◌≡◌, ◌<◌, ℕ, Bool, true, false, not, List, [], Option, Some, None}
+use Rattle.std.proofs.Common.{◌≡◌, ◌<◌, ℕ, true, not, List, [], Option, Some, None}
 use Rattle.std.proofs.Common.{Result, Ok, Err, refl, sym, subst, ap, ◌∙◌, filter, length}
 use Rattle.agreement.specs.Step.{on_nudge}
 use Rattle.agreement.specs.Votes.{Ballot}
@@ -8,7 +8,7 @@ use Rattle.agreement.specs.declared.claim.Claim.{Claim}
 use Rattle.ballots.specs.Support.{Support, set_of}
 use Rattle.ballots.specs.declared.message.Body.TheVariants as bodies
 use Rattle.protocol.specs.State.{OpenClaim, Progress, Gathering, Building, Voting, State, Value}
-use Rattle.protocol.specs.InTheAgreement.{members_in, progress_of, stage_of, view}
+use Rattle.protocol.specs.InTheAgreement.{progress_of, stage_of, view}
 use Rattle.protocol.specs.Member.{IsMember}
 use Rattle.protocol.specs.Sends.{sent_to}
 use Rattle.protocol.specs.Answers.{Answer, claim_then, everyone, message_of, missing}

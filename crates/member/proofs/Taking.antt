@@ -17,7 +17,8 @@ use Rattle.protocol.proofs.GivenJobs.{jobs_are_of_claims}
 use Rattle.protocol.proofs.HeldRecords.{deps_stay}
 use Rattle.protocol.proofs.MembersStay.{claims_were_ready, members_stay}
 use Rattle.protocol.proofs.WaitingClaims.{waiting_claims}
-use Rattle.member.specs.OpenClaims.{IsWeighedBy, is_building_at, open_of, waits}
+use Rattle.member.specs.OpenClaims.{IsWeighedBy, open_of}
+use Rattle.member.specs.inside.Waiting.{is_building_at, waits}
 use Rattle.member.specs.Prepared.{IsChangeWeighedBy, MayBeTaken, Prepared, answer_by, changed}
 use Rattle.member.specs.declared.member.Member.TheInside.{Inside}
 use Rattle.member.specs.inside.Fields.{IsKept, engine_with, facts_of_known, job_in, state_of}

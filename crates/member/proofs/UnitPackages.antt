@@ -1,6 +1,6 @@
 -- The packages of a unit are agreed, one after the other.
 use Rattle.std.proofs.Common.{◌≡◌, ◌<◌, ◌+◌, ◌++◌, ℕ, true, List, [], ◌∷◌, length, get_or, take}
-use Rattle.std.proofs.Common.{refl, sym, subst, ap, ◌∙◌}
+use Rattle.std.proofs.Common.{sym, subst, ap, ◌∙◌}
 use Rattle.std.specs.FinSet as set
 use Rattle.std.specs.Ordering.{nat_cmp}
 use Rattle.std.proofs.lemmas.Bool.{false≢true}
@@ -12,7 +12,7 @@ use Rattle.units.specs.Ignored.{IsIgnored}
 use Rattle.units.specs.Units.{is_in}
 use Rattle.units.proofs.Lists.{in_at, in_contains}
 use Rattle.units.proofs.WellMade.{one_unit_has}
-use Rattle.member.specs.inside.Units.{agreed_too, with_all}
+use Rattle.member.specs.inside.Units.{agreed_too}
 
 -- none of them is ignored
 pub not_ignored : (d : Division) (u k : ℕ) (ps : List ℕ) → IsDivision d → u < length d.units

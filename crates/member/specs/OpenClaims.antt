@@ -1,5 +1,5 @@
 -- What a contract sees of an open claim.
-use Rattle.std.specs.Prelude.{◌≡◌, ◌==◌, ◌<◌, ℕ, Bool, true, false, List, length, Option, None, Some}
+use Rattle.std.specs.Prelude.{◌≡◌, ◌<◌, ℕ, true, List, length}
 use Rattle.agreement.specs.Quorums.{Members, nobody}
 use Rattle.agreement.specs.Votes.{ballot, report_of}
 use Rattle.ballots.specs.InTheAgreement.{weights_of}
@@ -39,19 +39,3 @@ pub record IsTallyOf (weights : List ℕ) (t : Support) : Type 0 where
 pub record IsWeighedBy (weights : List ℕ) (o : Claimer Value) : Type 0 where
   pub same : weights_of o ≡ weights
   pub within : (k : ℕ) → supporters_of o k ≡ true → k < length weights
-
--- Whether the claim waits for a build.
-abbrev pub is_building_at : Progress → Bool
-is_building_at (Gathering c joined k) = false
-is_building_at (Building c) = true
-is_building_at (Voting b joined) = false
-
--- Whether a claim is open that does.
-abbrev pub waits : Option OpenClaim → Bool
-waits None = false
-waits (Some o) = is_building_at o.progress
-
--- Whether a claim is open for the unit.
-abbrev pub is_for : Option OpenClaim → ℕ → Bool
-is_for None u = false
-is_for (Some o) u = u == o.unit

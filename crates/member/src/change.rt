@@ -2,9 +2,10 @@
 ghost use Rattle.std.specs.Prelude.{◌≡◌, List, ℕ, None, if◌then◌else◌, option_map};
 ghost use Rattle.std.specs.Option.{ForSome, option_copied};
 ghost use Rattle.faults.specs.Answers.{option_or};
-ghost use Rattle.member.specs.OpenClaims.{IsWeighedBy, open_of, waits};
+ghost use Rattle.member.specs.OpenClaims.{IsWeighedBy, open_of};
 ghost use Rattle.member.specs.Prepared.{IsChangeWeighedBy, IsCountWeighedBy};
 ghost use Rattle.member.specs.Prepared.{changed, counted, moved};
+ghost use Rattle.member.specs.inside.Waiting.{waits};
 
 use crate::{ClaimChange, OpenClaim};
 use ballots::{Claimer, ClaimerChange};

@@ -2,10 +2,11 @@
 ghost use Rattle.std.specs.Prelude.{◌≡◌, ◌<◌, [], ◌∷◌, IfOk, MatchOption, Some, false, length};
 ghost use Rattle.protocol.specs.Member.{IsMember};
 ghost use Rattle.protocol.specs.Step.{hears, members_of};
-ghost use Rattle.member.specs.OpenClaims.{IsWeighedBy, is_for, open_of};
+ghost use Rattle.member.specs.OpenClaims.{IsWeighedBy, open_of};
 ghost use Rattle.member.specs.inside.Steps.{IsPrepared, Makes};
 ghost use Rattle.member.specs.inside.Counting.{counter_prepared, held_prepared, quiet_prepared};
 ghost use Rattle.member.specs.inside.Counting.{voter_prepared};
+ghost use Rattle.member.specs.inside.Waiting.{is_for};
 
 use crate::naming::unit_named;
 use crate::receivers::{everyone, one, others};

@@ -15,8 +15,9 @@ ghost use Rattle.protocol.specs.Restoring.{AreOnUnits, restored};
 ghost use Rattle.protocol.specs.State.{engine_of, fresh, held_record, record_in};
 ghost use Rattle.protocol.specs.Step.{HasAnswered, HasHandled, facts_named, header_refusal};
 ghost use Rattle.member.specs.OpenClaims.{open_of};
+ghost use Rattle.member.specs.Outcomes.{told};
 ghost use Rattle.member.specs.Prepared.{MayBeTaken, answer_by};
-ghost use Rattle.member.specs.inside.Fields.{facts_of_known, told};
+ghost use Rattle.member.specs.inside.Fields.{facts_of_known};
 ghost use Rattle.member.specs.inside.Steps.{IsPrepared};
 
 use crate::change::{changed, job_of};
@@ -212,7 +213,8 @@ impl<'a> Member<'a> {
 
     /// The units of the tree, which facts are kept by.
     pub fn units(&self) -> &Units<'a>
-        ensures { result.now ≡ self.now.division }
+        ensures division { result.now ≡ self.now.division }
+        ensures member { IsMember self.now }
     {
         &self.units
     }
@@ -224,7 +226,7 @@ impl<'a> Member<'a> {
         let position = self.tree.position(path)?;
         let unit = self.units.unit_of(position)?;
         let build = self.known[unit as usize].held.as_ref()?;
-        record_of(build.packages(), path)
+        record_of(build, path)
     }
 
     /// The letter of the package at the position.
@@ -246,7 +248,8 @@ impl<'a> Member<'a> {
 
     /// The claim that is open.
     pub fn open_claim(&self) -> Option<&OpenClaim>
-        ensures { option_map open_of (option_copied result) ≡ self.now.claim }
+        ensures claim { option_map open_of (option_copied result) ≡ self.now.claim }
+        ensures member { IsMember self.now }
     {
         self.claim.as_ref()
     }
@@ -306,14 +309,15 @@ fn are_below(members: &[u8], number: usize) -> bool
     true
 }
 
-/// The record of the path, if it is among these.
-fn record_of<'b>(records: &'b [Record], path: &PkgPath) -> Option<&'b Record>
-    ensures { option_copied result ≡ record_in path.now records.entry.now }
+/// The record of the path in the build, whose records ascend by path.
+fn record_of<'b>(build: &'b Build, path: &PkgPath) -> Option<&'b Record>
+    ensures { option_copied result ≡ record_in path.now build.entry.now }
 {
-    for record in records {
-        if record.path() == path {
-            return Some(record);
-        }
+    // The contract of this call says that the records ascend.
+    let _unit = build.unit_path();
+    let records = build.packages();
+    match records.binary_search_by(|record| record.path().cmp(path)) {
+        Ok(place) => Some(&records[place]),
+        Err(_) => None,
     }
-    None
 }

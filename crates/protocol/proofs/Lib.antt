@@ -8,6 +8,7 @@ pub mod Heard
 pub mod Known
 pub mod MembersStay
 pub mod OneAnswer
+pub mod PackageOrder
 pub mod Ready
 pub mod Receivers
 pub mod Restored

@@ -1,32 +1,29 @@
 -- What is made by a job is a build of its unit.
-use Rattle.std.proofs.Common.{◌≡◌, ◌<◌, ◌≤◌, ◌&&◌, ℕ, suc, Bool, true, false, cond, All, List, []}
-use Rattle.std.proofs.Common.{◌∷◌, length, map, Option, None, Some, Less, Equal, Greater, arith}
-use Rattle.std.proofs.Common.{refl, sym, ap, subst, ◌∙◌, inl, inr, option_map}
-use Rattle.std.specs.Prelude.{Contains, filter_map, find, not, option_and_then, unwrap_or}
+use Rattle.std.proofs.Common.{◌≡◌, ◌<◌, ◌≤◌, ℕ, Bool, true, false, cond, All, List, []}
+use Rattle.std.proofs.Common.{◌∷◌, length, map, Option, None, Some, Less, Greater, arith}
+use Rattle.std.proofs.Common.{refl, sym, ap, subst, ◌∙◌, option_map}
+use Rattle.std.specs.Prelude.{Contains, filter_map, find, option_and_then, unwrap_or}
 use Rattle.std.specs.Option.{ForSome}
 use Rattle.std.specs.List.{cons_option, list_all, slice_index_or}
 use Rattle.std.specs.Ordering.{is_lt, ordering_reverse}
 use Rattle.std.specs.Str.{bytes_eq}
-use Rattle.std.specs.declared.cmp.Ordering.{Ordering}
 use Rattle.std.specs.Cmp.Lexicographic.{nat_list_cmp_total}
-use Rattle.std.proofs.lemmas.Bool.{and_from, and_parts, cases_eq}
+use Rattle.std.proofs.lemmas.Bool.{and_from, and_parts}
 use Rattle.std.proofs.lemmas.List.{length-map}
-use Rattle.std.proofs.lemmas.List.FromFn.{length-range_with_len}
 use Rattle.std.proofs.lemmas.List.Elements.{All-contains, All-get_or, All-map, All-weaker}
 use Rattle.std.proofs.lemmas.List.Elements.{Contains-get_or}
-use Rattle.std.proofs.lemmas.List.Sums.{count_by-le-length, length-filter}
 use Rattle.sha2.proofs.Facts256.{length-sha256}
 use Rattle.faults.specs.Bytes.{Text}
-use Rattle.faults.specs.Pieces.{by_order, set_of, text_cmp, with_member}
+use Rattle.faults.specs.Pieces.{text_cmp}
 use Rattle.agreement.specs.Member.{Facts, no_facts}
 use Rattle.agreement.specs.declared.claim.Claim.{Claim}
 use Rattle.claims.specs.Claim.{IsClaim}
 use Rattle.claims.specs.Deps.{AreInOrder, is_ascending}
 use Rattle.claims.specs.declared.deps.Dep.{Dep}
-use Rattle.listing.specs.Tree.{ArePositions, Tree, group_at, no_package, path_at, position_of}
+use Rattle.listing.specs.Tree.{ArePositions, Tree, no_package, path_at}
 use Rattle.listing.specs.Tree.{run_at}
 use Rattle.pkgname.specs.PkgName.{IsName}
-use Rattle.pkgpath.specs.PkgPath.{IsPath, without_subpackage}
+use Rattle.pkgpath.specs.PkgPath.{IsPath}
 use Rattle.package_record.specs.Build.{AreAlike, IsAlike, IsBuild, paths_of, unit_path}
 use Rattle.package_record.specs.Content.{Content, IsDep, IsRecord}
 use Rattle.package_record.specs.Laws.{CanBeMade}
@@ -35,13 +32,10 @@ use Rattle.package_record.proofs.BuildsMade.{made_is_build}
 use Rattle.package_record.proofs.Digests.{sha256_bytes}
 use Rattle.units.specs.Division.{unit_at}
 use Rattle.units.specs.Laws.{IsWellMade}
-use Rattle.units.specs.Units.{is_in, made_with, positions}
-use Rattle.units.specs.Units as units
 use Rattle.units.proofs.Ascending.{Rising}
 use Rattle.units.proofs.Kept.{all_listed, unit_good, unit_some}
 use Rattle.units.proofs.Members.{contains_first, contains_later, has_preimage}
 use Rattle.units.proofs.Sets.{from_set, set_rises}
-use Rattle.units.proofs.WellMade.{one_unit_has}
 use Rattle.protocol.specs.Given.{Given}
 use Rattle.protocol.specs.State.{State, Value, facts_at, held_record, name_at, record_in, unit_with}
 use Rattle.protocol.specs.Member.{IsMember}
@@ -49,6 +43,7 @@ use Rattle.protocol.specs.Jobs.{deps_of, in_order_of_path, job_of, record_by, si
 use Rattle.protocol.specs.Laws.{BuildsAreOfTheirUnit}
 use Rattle.protocol.proofs.HeldRecords.{IsSignedBy, builds_stand, record_has_path}
 use Rattle.protocol.proofs.Known.{at_any}
+use Rattle.protocol.proofs.PackageOrder.{few_packages, grouped, paths_ascend, set_ascends}
 
 -- ---- lists
 
@@ -56,13 +51,6 @@ use Rattle.protocol.proofs.Known.{at_any}
 all_members : {X : Type 0} (P : X → Type 0) (xs : List X) → ((x : X) → Contains xs x → P x)
     → All P xs
 all_members P xs each k d lt = each (slice_index_or xs k d) (Contains-get_or xs k d lt)
-
-all_pass : {X : Type 0} (test : X → Bool) (xs : List X) → ((x : X) → Contains xs x → test x ≡ true)
-    → list_all test xs ≡ true
-all_pass test [] each = refl
-all_pass test (x ∷ xs) each =
-    and_from (test x) (list_all test xs) (each x (contains_first x xs))
-    (all_pass test xs (λ y later. each y (contains_later x y xs later)))
 
 -- what is found is a member
 found_member : {X : Type 0} (test : X → Bool) (xs : List X) (x : X) → find test xs ≡ Some x
@@ -75,17 +63,6 @@ found_member {X} test (y ∷ ys) x e = by_test (test y) e (λ later. found_membe
     by_test true e behind = let same : y ≡ x = ap (λ o. unwrap_or o y) e in
         subst (Contains (y ∷ ys)) same (contains_first y ys)
     by_test false e behind = contains_later y x ys (behind e)
-
--- texts that rise ascend
-rising_ascends : (ts : List Text) → Rising text_cmp ts → is_ascending ts ≡ true
-rising_ascends [] rising = refl
-rising_ascends (t ∷ ts) rising =
-    and_from _ _ (all_pass (λ u. is_lt (text_cmp t u)) ts
-    (λ u member. ap is_lt (rising.0 u member))) (rising_ascends ts rising.1)
-
--- a set ascends
-set_ascends : (ts : List Text) → is_ascending (set_of ts) ≡ true
-set_ascends ts = rising_ascends (set_of ts) (set_rises ts)
 
 -- no text is below itself
 not_below_itself : (t : Text) → text_cmp t t ≡ Less → ⊥
@@ -179,72 +156,6 @@ pub deps_in_order : (s : State) (u : ℕ) → AreInOrder (deps_of s u)
 deps_in_order s u = signed_ascend s (in_order_of_path s.division.tree (unit_at s.division u).build)
     (set_ascends (map (path_at s.division.tree) (unit_at s.division u).build))
 
--- ---- few packages
-
-one_longer : (t : Text) (us : List Text) → length (with_member t us) ≤ suc (length us)
-one_longer t [] = omega arith
-one_longer t (u ∷ us) = by (text_cmp t u) (one_longer t us)
-  where
-    by : (o : Ordering) → length (with_member t us) ≤ suc (length us)
-        → length (by_order o (t ∷ u ∷ us) (u ∷ us) (u ∷ with_member t us)) ≤ suc (length (u ∷ us))
-    by Less rest = omega arith
-    by Equal rest = omega arith
-    by Greater rest = omega (arith, rest)
-
-length-set_of : (ts : List Text) → length (set_of ts) ≤ length ts
-length-set_of [] = omega arith
-length-set_of (t ∷ ts) = omega (arith, one_longer t (set_of ts), length-set_of ts)
-
-length-filter_map : {X Y : Type 0} (f : X → Option Y) (xs : List X)
-    → length (filter_map f xs) ≤ length xs
-length-filter_map f [] = omega arith
-length-filter_map {X} {Y} f (x ∷ xs) = by (f x) (length-filter_map f xs)
-  where
-    by : (o : Option Y) → length (filter_map f xs) ≤ length xs
-        → length (cons_option o (filter_map f xs)) ≤ length (x ∷ xs)
-    by None rest = omega (arith, rest)
-    by (Some y) rest = omega (arith, rest)
-
--- a unit has no more packages than the tree
-few_made : (tree : Tree) (ps : List ℕ) → length (units.in_order_of_path tree ps) ≤ length ps
-few_made tree ps =
-    omega (
-      arith,
-      length-filter_map (position_of tree) (set_of (map (path_at tree) ps)),
-      length-set_of (map (path_at tree) ps),
-      length-map ps (path_at tree),
-    )
-
-few_packages : (s : State) (u : ℕ) → IsMember s → u < length s.division.units
-    → length (unit_at s.division u).packages ≤ length s.division.tree
-few_packages s u is lt =
-    let tree = s.division.tree in
-    let packages = (unit_at s.division u).packages in
-    let first = slice_index_or packages 0 0 in
-    let of = (one_unit_has s.division u first is.division lt
-    (Contains-get_or packages 0 0 (unit_some s.division u is.division lt))).1 in
-    let same : packages ≡ units.in_order_of_path tree (made_with tree of.ignored first) =
-    ap (λ v. v.packages) of.is in
-    omega (
-      arith,
-      ap length same,
-      few_made tree (made_with tree of.ignored first),
-      made_few tree
-          of.ignored first,
-    )
-  where
-    made_few : (tree : Tree) (ignored : ℕ → Bool) (p : ℕ)
-        → length (made_with tree ignored p) ≤ length tree
-    made_few tree ignored p =
-        omega (
-          arith,
-          length-filter (λ q. bytes_eq (group_at tree q) (group_at tree p) && not (ignored q))
-              (positions tree),
-          count_by-le-length (λ q. bytes_eq (group_at tree q) (group_at tree p) && not (ignored q))
-              (positions tree),
-          length-range_with_len 0 (length tree),
-        )
-
 -- ---- the build
 
 module _ (s : State) (u host : ℕ) (c : Claim) (given : Given) (is : IsMember s)
@@ -294,23 +205,13 @@ module _ (s : State) (u host : ℕ) (c : Claim) (given : Given) (is : IsMember s
   paths_made [] = refl
   paths_made (p ∷ ps) = ap (λ ts. path_at tree p ∷ ts) (paths_made ps)
 
-  -- the packages of two or more are of one group
-  grouped : (p q : ℕ) → Contains packages p → Contains packages q
-      → without_subpackage (path_at tree q) ≡ without_subpackage (path_at tree p)
-  grouped p q has_p has_q =
-      elim (cases_eq p q) [
-        | inl same ↦ ap (λ k. without_subpackage (path_at tree k)) (sym same)
-        | inr other ↦ sym (good.named.alike q p has_q has_p (λ e. other (sym e)))
-            ∙ good.named.alike p q has_p has_q other
-      ]
-
   all_alike : (ps : List ℕ) → packages ≡ ps → 0 < length ps → AreAlike (map made ps)
   all_alike [] e some = absurd (omega (arith, some))
   all_alike (p ∷ ps) e some =
       All-map (IsAlike (made p)) made ps
       (all_members (λ q. IsAlike (made p) (made q)) ps
       (λ q later. record {
-        group = grouped p q (subst (λ ks. Contains ks p) (sym e) (contains_first p ps))
+        group = grouped s.division u is.division lt p q (subst (λ ks. Contains ks p) (sym e) (contains_first p ps))
             (subst (λ ks. Contains ks q) (sym e) (contains_later p q ps later));
         host = refl;
         claim = refl;
@@ -343,9 +244,9 @@ module _ (s : State) (u host : ℕ) (c : Claim) (given : Given) (is : IsMember s
         (All-map CanBeMade made packages
         (All-weaker (λ p. p < length tree) (λ p. CanBeMade (made p)) can_be_made packages
         (all_listed s.division u is.division lt)))
-        (omega (arith, length-map packages made, few_packages s u is lt, is.division.tree.few))
+        (omega (arith, length-map packages made, few_packages s.division u is.division lt, is.division.tree.few))
         (ap is_ascending (paths_made packages)
-        ∙ rising_ascends (map (path_at tree) packages) rising_paths)
+        ∙ paths_ascend s.division u is.division lt)
         (all_alike packages refl (unit_some s.division u is.division lt))
         no_fault,
     named_so packages refl (unit_some s.division u is.division lt) rising_paths,

@@ -22,7 +22,7 @@ use Rattle.protocol.specs.Given.{Given}
 use Rattle.protocol.specs.State.{OpenClaim, State, Value, facts_at, holds_package, is_held}
 use Rattle.protocol.specs.InTheAgreement.{view}
 use Rattle.protocol.specs.Member.{IsInput, IsMember}
-use Rattle.protocol.specs.Answers.{Answer, after, everyone, others}
+use Rattle.protocol.specs.Answers.{Answer, everyone, others}
 use Rattle.protocol.specs.Jobs.{build_by, job_of}
 use Rattle.protocol.specs.Laws.{ClaimsWereReady, MembersStayMembers}
 use Rattle.protocol.specs.Step.{IsLetterOf, answer, answered_or, builds, builds_under}

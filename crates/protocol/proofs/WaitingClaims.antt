@@ -1,33 +1,38 @@
--- A claim that waits for a build came to wait in a step that gives its job, or waited before.
+-- A claim that waits for a build came to wait by a promise, in a step that gives its job, or waited
+-- before.
 use Rattle.std.proofs.Common.{◌≡◌, ◌==◌, ◌&&◌, ◌⊎◌, not, ℕ, Bool, true, false, List, [], ◌∷◌}
 use Rattle.std.proofs.Common.{Option, Some, None, Ok, Err, IfSome, eqb-true, refl, sym, subst, ap}
 use Rattle.std.proofs.Common.{◌∙◌, inl, inr, if◌then◌else◌, length, option_map}
 use Rattle.std.specs.Prelude.{unwrap_or}
-use Rattle.std.proofs.lemmas.Bool.{cond_both, true≢false}
+use Rattle.std.proofs.lemmas.Bool.{cond_both}
 use Rattle.agreement.specs.declared.claim.Claim.{Claim}
 use Rattle.agreement.specs.Claims.{claim_same, is_above, is_below, is_promised}
 use Rattle.agreement.specs.Quorums.{Quorums, is_majority, with_member}
-use Rattle.agreement.specs.Votes.{Ballot, PromiseOf, is_voted}
+use Rattle.agreement.specs.Votes.{Ballot, is_voted, kept_report, report_of}
 use Rattle.agreement.specs.Member as members
-use Rattle.agreement.specs.Messages as messages
 use Rattle.agreement.specs.Nodes as nodes
 use Rattle.agreement.specs.Step.{Outcome, on_agreed, on_ask, on_built, on_failed, on_inquire}
-use Rattle.agreement.specs.Step.{on_message, on_nudge, on_offer, on_promise, on_propose, on_start}
-use Rattle.agreement.specs.Step.{on_vote}
+use Rattle.agreement.specs.Step.{on_message, on_nudge, on_offer, on_promise, on_propose, on_quorum}
+use Rattle.agreement.specs.Step.{on_start, on_vote}
+use Rattle.agreement.proofs.Order.{claim_same_true}
 use Rattle.ballots.specs.InTheAgreement.{is_building, said}
+use Rattle.ballots.specs.declared.message.Body.{Body}
+use Rattle.ballots.specs.declared.message.Body.TheVariants as bodies
+use Rattle.ballots.specs.declared.message.Message.{Message}
 use Rattle.engine.specs.declared.Letter.{Letter}
 use Rattle.units.specs.Division.{number_named}
 use Rattle.protocol.specs.Given.{Given}
 use Rattle.protocol.specs.State.{OpenClaim, Progress, Gathering, Building, Voting, State, Value}
 use Rattle.protocol.specs.InTheAgreement.{claim_of, progress_of, stage_of, view}
 use Rattle.protocol.specs.Member.{claim_in}
-use Rattle.protocol.specs.Answers.{Answer, answered, claim_then, dropped, everyone, job_then}
+use Rattle.protocol.specs.Answers.{Answer, claim_then, dropped, everyone, job_then}
 use Rattle.protocol.specs.Answers.{others}
 use Rattle.protocol.specs.Jobs.{build_by, job_of}
-use Rattle.protocol.specs.Laws.{WaitingClaimsHaveJobs}
-use Rattle.protocol.specs.Step.{answer, answered_or, builds, builds_under, claim_refusal, claims}
-use Rattle.protocol.specs.Step.{fails, files_refusal, header_refusal, heard, hears, host_in}
-use Rattle.protocol.specs.Step.{job_again, members_of, nudges, outcome_of, receivers, silent}
+use Rattle.protocol.specs.Laws.{ClaimsWaitOncePromised, IsPromiseOf, WaitingClaimsHaveJobs}
+use Rattle.protocol.specs.Step.{Answers, answer, answered_or, builds, builds_under, claim_refusal}
+use Rattle.protocol.specs.Step.{claims}
+use Rattle.protocol.specs.Step.{fails, files_refusal, header_refusal, hears, host_in}
+use Rattle.protocol.specs.Step.{job_again, members_of, nudges, outcome_of, silent}
 use Rattle.protocol.specs.Step.{stranger, unit_in}
 use Rattle.protocol.specs.Step.{asks as member_asks}
 use Rattle.protocol.specs.declared.input.Input.{Input}
@@ -37,16 +42,12 @@ use Rattle.protocol.specs.declared.refusal.Refusal.TheVariants as refusals
 use Rattle.protocol.proofs.Answering.{answer_in, has_unit, not_refused}
 use Rattle.protocol.proofs.Asked.{by_outcome, of_this, stage_is, without_job}
 
--- ---- in the theory: who waits on waited before
+-- ---- in the theory: who waits on a message waited before, or is promised the claim
 
-module _ (x : members.Member Value) (waits : is_building x.stage ≡ true) (c : Claim) where
-  -- if the outcome waits for a build under c, so did the member
+module _ (x : members.Member Value) (c : Claim) where
+  -- if the outcome waits for a build under the claim, so did the member
   abbrev Waited : Outcome Value → Type 0
   Waited o = o.member.stage ≡ members.Building c → x.stage ≡ members.Building c
-
-  -- the member does not gather, and no votes come in
-  not_at : (s : members.Stage Value) → x.stage ≡ s → is_building s ≡ false → ⊥
-  not_at s at none = true≢false (sym waits ∙ (ap is_building at ∙ none))
 
   offer_waited : (me : ℕ) (d : Claim) → Waited (on_offer me x d)
   offer_waited me d =
@@ -61,19 +62,15 @@ module _ (x : members.Member Value) (waits : is_building x.stage ≡ true) (c : 
       (λ f. cond_both (is_voted b.claim x.voted && is_promised b.claim x.promised) _ _ Waited
       (λ t e. e) (λ g e. e))
 
-  promise_waited : (enough : Quorums) (s : members.Stage Value) (p : PromiseOf Value)
-      → x.stage ≡ s → Waited (on_promise enough x s p)
-  promise_waited enough members.Closed p at = λ e. e
-  promise_waited enough (members.Gathering d S k) p at = absurd (not_at _ at refl)
-  promise_waited enough (members.Building d) p at = λ e. e
-  promise_waited enough (members.Voting b S) p at = λ e. e
-
-  vote_waited : (enough : Quorums) (s : members.Stage Value) (m : ℕ) (d : Claim) → x.stage ≡ s
+  vote_waited : (enough : Quorums) (s : members.Stage Value) (m : ℕ) (d : Claim)
       → Waited (on_vote enough x s m d)
-  vote_waited enough members.Closed m d at = λ e. e
-  vote_waited enough (members.Gathering b S k) m d at = λ e. e
-  vote_waited enough (members.Building b) m d at = λ e. e
-  vote_waited enough (members.Voting b S) m d at = absurd (not_at _ at refl)
+  vote_waited enough members.Closed m d = λ e. e
+  vote_waited enough (members.Gathering b S k) m d = λ e. e
+  vote_waited enough (members.Building b) m d = λ e. e
+  vote_waited enough (members.Voting b S) m d =
+      cond_both (claim_same d b.claim) _ _ Waited
+      (λ t. cond_both (enough (with_member S m)) _ _ Waited (λ u e. absurd cc) (λ u e. absurd cc))
+      (λ t e. e)
 
   agreed_waited : (h : Option Value) (v : Value) → Waited (on_agreed x h v)
   agreed_waited None v e = absurd (let no : members.Closed ≡ members.Building c = e in cc)
@@ -83,40 +80,53 @@ module _ (x : members.Member Value) (waits : is_building x.stage ≡ true) (c : 
   ask_waited None e = e
   ask_waited (Some v) e = e
 
+  -- the member didn't wait, and the body promises the claim
+  abbrev Promised : Body Value → Type 0
+  Promised body =
+      (is_building x.stage ≡ false) × (report : Option (Claim × Value))
+      × (body ≡ bodies.Promise c report)
+
+  -- if the outcome waits under the claim, so did the member, or this is a promise of it
+  abbrev WaitedOrPromised : Body Value → Outcome Value → Type 0
+  WaitedOrPromised body o =
+      o.member.stage ≡ members.Building c → (x.stage ≡ members.Building c) ⊎ Promised body
+
+  -- a majority that reported nothing
+  quorum_promised : (d : Claim) (r : Option (Ballot Value)) (report : Option (Claim × Value))
+      → is_building x.stage ≡ false
+      → WaitedOrPromised (bodies.Promise d report) (on_quorum x d r)
+  quorum_promised d None report none e =
+      let same : d ≡ c = cc in inr (none, report, ap (λ c. bodies.Promise c report) same)
+  quorum_promised d (Some b) report none e = absurd cc
+
+  promise_waited : (enough : Quorums) (s : members.Stage Value) (from : ℕ) (d : Claim)
+      (report : Option (Claim × Value)) → x.stage ≡ s
+      → WaitedOrPromised (bodies.Promise d report) (on_promise enough x s
+      (record { member = from; claim = d; report = report_of report }))
+  promise_waited enough members.Closed from d report at = λ e. inl e
+  promise_waited enough (members.Building b) from d report at = λ e. inl e
+  promise_waited enough (members.Voting b S) from d report at = λ e. inl e
+  promise_waited enough (members.Gathering b S k) from d report at =
+      cond_both (claim_same d b) _ _ (WaitedOrPromised (bodies.Promise d report))
+      (λ t. cond_both (enough (with_member S from)) _ _ (WaitedOrPromised (bodies.Promise d report))
+      (λ u. subst (λ b. WaitedOrPromised (bodies.Promise d report) (on_quorum x b r))
+      (claim_same_true d b t) (quorum_promised d r report (ap is_building at))) (λ u e. absurd cc))
+      (λ t e. inl e)
+    where
+      r : Option (Ballot Value)
+      r = kept_report k (report_of report)
+
   -- whatever comes
-  message_waited : (enough : Quorums) (me : ℕ) (m : messages.Message Value)
-      → Waited (on_message enough me x m)
-  message_waited enough me (messages.Offer d) = offer_waited me d
-  message_waited enough me (messages.Promise p) = promise_waited enough x.stage p refl
-  message_waited enough me (messages.Propose b) = proposal_waited me b
-  message_waited enough me (messages.Vote m d) = vote_waited enough x.stage m d refl
-  message_waited enough me (messages.Nay m d p) = λ e. e
-  message_waited enough me (messages.Agreed v) = agreed_waited x.held v
-  message_waited enough me messages.Ask = ask_waited x.held
-
-  inquire_waited : (h : Option Value) → IfSome (on_inquire x h) Waited
-  inquire_waited (Some v) = tt
-  inquire_waited None = λ e. e
-
--- a claim that is opened, built or dropped does not wait
-start_waits_not : (me : ℕ) (x : members.Member Value) (h : Option Value) (above : ℕ) (c : Claim)
-    → IfSome (on_start me x h above) (λ o. o.member.stage ≡ members.Building c → ⊥)
-start_waits_not me x (Some v) above c = tt
-start_waits_not me x None above c = λ e. cc
-
-built_waits_not : (x : members.Member Value) (s : members.Stage Value) (v : Value) (c : Claim)
-    → IfSome (on_built x s v) (λ o. o.member.stage ≡ members.Building c → ⊥)
-built_waits_not x members.Closed v c = tt
-built_waits_not x (members.Gathering d S k) v c = tt
-built_waits_not x (members.Building d) v c = λ e. cc
-built_waits_not x (members.Voting b S) v c = tt
-
-failed_waits_not : (x : members.Member Value) (s : members.Stage Value) (c : Claim)
-    → IfSome (on_failed x s) (λ o. o.member.stage ≡ members.Building c → ⊥)
-failed_waits_not x members.Closed c = tt
-failed_waits_not x (members.Gathering d S k) c = tt
-failed_waits_not x (members.Building d) c = λ e. cc
-failed_waits_not x (members.Voting b S) c = tt
+  message_waited : (enough : Quorums) (me from : ℕ) (body : Body Value)
+      → WaitedOrPromised body (on_message enough me x (said from body))
+  message_waited enough me from (bodies.Offer d) e = inl (offer_waited me d e)
+  message_waited enough me from (bodies.Promise d report) e =
+      promise_waited enough x.stage from d report refl e
+  message_waited enough me from (bodies.Propose d v) e = inl (proposal_waited me _ e)
+  message_waited enough me from (bodies.Vote d) e = inl (vote_waited enough x.stage from d e)
+  message_waited enough me from (bodies.Nay d p) e = inl e
+  message_waited enough me from (bodies.Agreed v) e = inl (agreed_waited x.held v e)
+  message_waited enough me from bodies.Ask e = inl (ask_waited x.held e)
 
 -- ---- the claim that a member's answer leaves
 
@@ -160,79 +170,73 @@ dropped_was (Some q) u p e = by_test (u == q.unit) e
 -- Who waits after the step waited before it under that claim, on that host.
 abbrev Waits : State → ℕ → ℕ → Outcome Value → Type 0
 Waits s u host o =
-    (c : Claim) → is_building (view s u).stage ≡ true → o.member.stage ≡ members.Building c
+    (c : Claim) → o.member.stage ≡ members.Building c
     → ((view s u).stage ≡ members.Building c) × (host ≡ host_in s.claim)
 
--- the job is given, or the claim was there
-abbrev HasJob : State → Answer → OpenClaim → Claim → Type 0
-HasJob s a p c = (a.job ≡ Some (job_of s p.unit p.host c)) ⊎ (s.claim ≡ Some p)
-
-has_job : (s : State) (u host : ℕ) (a : Answer) (o : Outcome Value) → Waits s u host o
-    → (stage : members.Stage Value) → o.member.stage ≡ stage → a.job ≡ job_then s u host stage
-    → (p : OpenClaim) (c : Claim)
+-- so the claim that is left stood there
+stood_before : (s : State) (u host : ℕ) (o : Outcome Value) → Waits s u host o
+    → (stage : members.Stage Value) → o.member.stage ≡ stage → (p : OpenClaim) (c : Claim)
     → claim_then s.claim u host (progress_of (length s.weights) stage) ≡ Some p
-    → p.progress ≡ Building c → HasJob s a p c
-has_job s u host a o waits members.Closed at job p c e is = inr (dropped_was s.claim u p e)
-has_job s u host a o waits (members.Gathering d S k) at job p c e is =
+    → p.progress ≡ Building c → s.claim ≡ Some p
+stood_before s u host o waits members.Closed at p c e is = dropped_was s.claim u p e
+stood_before s u host o waits (members.Gathering d S k) at p c e is =
     let no = ap (λ q. (unwrap_or q p).progress) e ∙ is in absurd cc
-has_job s u host a o waits (members.Voting b S) at job p c e is =
+stood_before s u host o waits (members.Voting b S) at p c e is =
     let no = ap (λ q. (unwrap_or q p).progress) e ∙ is in absurd cc
-has_job s u host a o waits (members.Building d) at job p c e is =
-    by_test (is_building (view s u).stage) refl job
-  where
-    same : waiting u host d ≡ p
-    same = ap (λ q. unwrap_or q p) e
-
-    claim : d ≡ c
-    claim = ap claim_in (ap (λ (q : OpenClaim). q.progress) same ∙ is)
-
-    by_test : (b : Bool) → is_building (view s u).stage ≡ b
-        → a.job ≡ (if b then None else Some (job_of s u host d)) → HasJob s a p c
-    by_test false t job =
-        inl (job ∙ λ i. Some (job_of s ((same i).unit) ((same i).host) (claim i)))
-    by_test true t job =
-        let before = waits d t at in
-        inr (is_waiting_claim u s.claim d before.0
-        ∙ (ap (λ h. Some (waiting u h d)) (sym before.1) ∙ ap (λ q. Some q) same))
+stood_before s u host o waits (members.Building d) at p c e is =
+    let before = waits d at in
+    is_waiting_claim u s.claim d before.0
+    ∙ (ap (λ h. Some (waiting u h d)) (sym before.1) ∙ e)
 
 -- ---- whatever is asked
 
-asked_has_job : (f : Refusal) (s : State) (u host : ℕ) (to : List ℕ) (o : Option (Outcome Value))
+asked_stood : (f : Refusal) (s : State) (u host : ℕ) (to : List ℕ) (o : Option (Outcome Value))
     (a : Answer) → IfSome o (Waits s u host) → answered_or f s u host to o ≡ Ok a
-    → (p : OpenClaim) (c : Claim) → a.claim ≡ Some p → p.progress ≡ Building c → HasJob s a p c
-asked_has_job f s u host to o a waits e p c open_is is =
+    → (p : OpenClaim) (c : Claim) → a.claim ≡ Some p → p.progress ≡ Building c → s.claim ≡ Some p
+asked_stood f s u host to o a waits e p c left is =
     let made = by_outcome f s u host to o a e in
     let this = of_this (Waits s u host) o made.0 waits made.1 in
-    has_job s u host a made.0 this made.0.member.stage refl
-    (ap (λ (a : Answer). a.job) (sym made.2)) p c
-    (ap (λ (a : Answer). a.claim) made.2 ∙ open_is) is
+    stood_before s u host made.0 this made.0.member.stage refl p c
+    (ap (λ (a : Answer). a.claim) made.2 ∙ left) is
 
--- an outcome that does not wait
-quiet_waits : (s : State) (u host : ℕ) (o : Option (Outcome Value))
-    → ((c : Claim) → IfSome o (λ o. o.member.stage ≡ members.Building c → ⊥))
-    → IfSome o (Waits s u host)
-quiet_waits s u host None not = tt
-quiet_waits s u host (Some o) not = λ c waits e. absurd (not c e)
+-- a claim that is opened, built or dropped does not wait
+start_waits : (s : State) (u host : ℕ) (h : Option Value) (above : ℕ)
+    → IfSome (on_start s.me (view s u) h above) (Waits s u host)
+start_waits s u host (Some v) above = tt
+start_waits s u host None above = λ c e. absurd cc
+
+built_waits : (s : State) (u host : ℕ) (stage : members.Stage Value) (v : Value)
+    → IfSome (on_built (view s u) stage v) (Waits s u host)
+built_waits s u host members.Closed v = tt
+built_waits s u host (members.Gathering d S k) v = tt
+built_waits s u host (members.Building d) v = λ c e. absurd cc
+built_waits s u host (members.Voting b S) v = tt
+
+failed_waits : (s : State) (u host : ℕ) (stage : members.Stage Value)
+    → IfSome (on_failed (view s u) stage) (Waits s u host)
+failed_waits s u host members.Closed = tt
+failed_waits s u host (members.Gathering d S k) = tt
+failed_waits s u host (members.Building d) = λ c e. absurd cc
+failed_waits s u host (members.Voting b S) = tt
 
 inquiry_waits : (s : State) (u : ℕ) (h : Option Value)
     → IfSome (on_inquire (view s u) h) (Waits s u (host_in s.claim))
 inquiry_waits s u (Some v) = tt
-inquiry_waits s u None = λ c waits e. (e, refl)
+inquiry_waits s u None = λ c e. (e, refl)
 
-built_has_job : (s : State) (u : ℕ) (given : Given) (stage : members.Stage Value) (a : Answer)
+built_stood : (s : State) (u : ℕ) (given : Given) (stage : members.Stage Value) (a : Answer)
     → builds_under s u (host_in s.claim) given stage ≡ Ok a
-    → (p : OpenClaim) (c : Claim) → a.claim ≡ Some p → p.progress ≡ Building c → HasJob s a p c
-built_has_job s u given members.Closed a e =
+    → (p : OpenClaim) (c : Claim) → a.claim ≡ Some p → p.progress ≡ Building c → s.claim ≡ Some p
+built_stood s u given members.Closed a e = absurd (let no : Err refusals.NoClaim ≡ Ok a = e in cc)
+built_stood s u given (members.Gathering d S k) a e =
     absurd (let no : Err refusals.NoClaim ≡ Ok a = e in cc)
-built_has_job s u given (members.Gathering d S k) a e =
+built_stood s u given (members.Voting b S) a e =
     absurd (let no : Err refusals.NoClaim ≡ Ok a = e in cc)
-built_has_job s u given (members.Voting b S) a e =
-    absurd (let no : Err refusals.NoClaim ≡ Ok a = e in cc)
-built_has_job s u given (members.Building d) a e =
+built_stood s u given (members.Building d) a e =
     let build = build_by s u (job_of s u (host_in s.claim) d) given in
-    let outcome = on_built (view s u) (view s u).stage build in
-    asked_has_job refusals.NoClaim s u (host_in s.claim) (everyone s) outcome a
-    (quiet_waits s u (host_in s.claim) outcome (built_waits_not (view s u) (view s u).stage build))
+    asked_stood refusals.NoClaim s u (host_in s.claim) (everyone s)
+    (on_built (view s u) (view s u).stage build) a
+    (built_waits s u (host_in s.claim) (view s u).stage build)
     (not_refused (files_refusal s u given build) _ a e).1
 
 -- a nudge leaves the claim as it is
@@ -243,22 +247,22 @@ nudge_stage x (members.Gathering c S k) o e = ap (λ q. (unwrap_or q o).member.s
 nudge_stage x (members.Building c) o e = ap (λ q. (unwrap_or q o).member.stage) (sym e)
 nudge_stage x (members.Voting b S) o e = ap (λ q. (unwrap_or q o).member.stage) (sym e)
 
-nudged_has_job : (s : State) (claim : Option OpenClaim) (a : Answer) → s.claim ≡ claim
+nudged_stood : (s : State) (claim : Option OpenClaim) (a : Answer) → s.claim ≡ claim
     → nudges s claim ≡ Ok a
-    → (p : OpenClaim) (c : Claim) → a.claim ≡ Some p → p.progress ≡ Building c → HasJob s a p c
-nudged_has_job s None a at e p c open_is waits =
+    → (p : OpenClaim) (c : Claim) → a.claim ≡ Some p → p.progress ≡ Building c → s.claim ≡ Some p
+nudged_stood s None a at e p c open_is waits =
     absurd (let no : Err refusals.NoClaim ≡ Ok a = e in cc)
-nudged_has_job s (Some o) a at e p c open_is waits =
+nudged_stood s (Some o) a at e p c open_is waits =
     let given = without_job (job_again s o o.progress) _ a e in
     let outcome = on_nudge (view s o.unit) (view s o.unit).stage in
     let made = by_outcome refusals.NoClaim s o.unit o.host (silent s o.progress) outcome given.0
     given.1 in
     let stage = nudge_stage (view s o.unit) (view s o.unit).stage made.0 made.1 in
     let claim : given.0.claim ≡ a.claim = ap (λ (a : Answer). a.claim) given.2 in
-    inr (by_progress o.progress refl
+    by_progress o.progress refl
     (ap (λ stage. claim_then s.claim o.unit o.host (progress_of (length s.weights) stage))
     (sym (stage ∙ stage_is s o at))
-    ∙ (ap (λ (a : Answer). a.claim) made.2 ∙ (claim ∙ open_is))))
+    ∙ (ap (λ (a : Answer). a.claim) made.2 ∙ (claim ∙ open_is)))
   where
     by_progress : (q : Progress) → o.progress ≡ q
         → claim_then s.claim o.unit o.host (progress_of (length s.weights) (stage_of q)) ≡ Some p
@@ -270,32 +274,74 @@ nudged_has_job s (Some o) a at e p c open_is waits =
     by_progress (Building d) is e =
         at ∙ ((λ i. Some (record { unit = o.unit; host = o.host; progress = is i })) ∙ e)
 
+-- The claim waited before, or came to wait by a promise, and its job is given.
+abbrev Comes : State → Input → Answer → OpenClaim → Claim → Type 0
+Comes s input a p c =
+    (s.claim ≡ Some p)
+    ⊎ ((a.job ≡ Some (job_of s p.unit p.host c)) × IsPromiseOf s p.unit c input)
+
+-- a message for the unit, on which the theory's member does this
+heard_comes : (s : State) (m : Message Value) (a : Answer) (u : ℕ)
+    → number_named s.division m.path ≡ Some u → (o : Outcome Value)
+    → ((c : Claim) → WaitedOrPromised (view s u) c m.body o)
+    → (stage : members.Stage Value) → o.member.stage ≡ stage
+    → a.job ≡ job_then s u (host_in s.claim) stage → (p : OpenClaim) (c : Claim)
+    → claim_then s.claim u (host_in s.claim) (progress_of (length s.weights) stage) ≡ Some p
+    → p.progress ≡ Building c → Comes s (inputs.Message m) a p c
+heard_comes s m a u named o waits members.Closed at job p c e is =
+    inl (dropped_was s.claim u p e)
+heard_comes s m a u named o waits (members.Gathering d S k) at job p c e is =
+    let no = ap (λ q. (unwrap_or q p).progress) e ∙ is in absurd cc
+heard_comes s m a u named o waits (members.Voting b S) at job p c e is =
+    let no = ap (λ q. (unwrap_or q p).progress) e ∙ is in absurd cc
+heard_comes s m a u named o waits (members.Building d) at job p c e is =
+    elim (waits d at) [
+      | inl before ↦ inl (is_waiting_claim u s.claim d before ∙ ap (λ q. Some q) same)
+      | inr promised ↦ inr (
+          job ∙ (ap (λ b. if b then None else Some (job_of s u (host_in s.claim) d)) promised.0
+          ∙ λ i. Some (job_of s ((same i).unit) ((same i).host) (claim i))),
+          record {
+            message = m;
+            report = promised.1;
+            is = refl;
+            named = named ∙ ap (λ (q : OpenClaim). Some q.unit) same;
+            body = promised.2 ∙ ap (λ c. bodies.Promise c promised.1) claim;
+          },
+        )
+    ]
+  where
+    same : waiting u (host_in s.claim) d ≡ p
+    same = ap (λ q. unwrap_or q p) e
+
+    claim : d ≡ c
+    claim = ap claim_in (ap (λ (q : OpenClaim). q.progress) same ∙ is)
+
 by_input : (s : State) (letter : Letter) (input : Input) (a : Answer)
     → answer s letter input ≡ Ok a
-    → (p : OpenClaim) (c : Claim) → a.claim ≡ Some p → p.progress ≡ Building c → HasJob s a p c
-by_input s letter (inputs.Claim path host above) a e =
+    → (p : OpenClaim) (c : Claim) → a.claim ≡ Some p → p.progress ≡ Building c → Comes s input a p c
+by_input s letter (inputs.Claim path host above) a e p c left is =
     let found = has_unit (stranger s path) (claims s letter host above) (unit_in s path) a e in
     let u = found.0 in
-    let outcome = on_start s.me (view s u) (view s u).held above in
-    asked_has_job refusals.Held s u host (everyone s) outcome a
-    (quiet_waits s u host outcome (start_waits_not s.me (view s u) (view s u).held above))
-    (not_refused (claim_refusal s letter above u) _ a found.2).1
-by_input s letter (inputs.Built path given) a e =
+    inl (asked_stood refusals.Held s u host (everyone s)
+    (on_start s.me (view s u) (view s u).held above) a
+    (start_waits s u host (view s u).held above)
+    (not_refused (claim_refusal s letter above u) _ a found.2).1 p c left is)
+by_input s letter (inputs.Built path given) a e p c left is =
     let found = has_unit refusals.NoClaim (builds s given) (unit_in s path) a e in
-    built_has_job s found.0 given (view s found.0).stage a found.2
-by_input s letter (inputs.Failed path) a e =
+    inl (built_stood s found.0 given (view s found.0).stage a found.2 p c left is)
+by_input s letter (inputs.Failed path) a e p c left is =
     let found = has_unit refusals.NoClaim (fails s) (unit_in s path) a e in
-    let outcome = on_failed (view s found.0) (view s found.0).stage in
-    asked_has_job refusals.NoClaim s found.0 (host_in s.claim) [] outcome a
-    (quiet_waits s found.0 (host_in s.claim) outcome
-    (failed_waits_not (view s found.0) (view s found.0).stage)) found.2
-by_input s letter inputs.Nudge a e = nudged_has_job s s.claim a refl e
-by_input s letter (inputs.Ask path) a e =
+    inl (asked_stood refusals.NoClaim s found.0 (host_in s.claim) []
+    (on_failed (view s found.0) (view s found.0).stage) a
+    (failed_waits s found.0 (host_in s.claim) (view s found.0).stage) found.2 p c left is)
+by_input s letter inputs.Nudge a e p c left is =
+    inl (nudged_stood s s.claim a refl e p c left is)
+by_input s letter (inputs.Ask path) a e p c left is =
     let found = has_unit (stranger s path) (member_asks s) (unit_in s path) a e in
-    asked_has_job refusals.Held s found.0 (host_in s.claim) (others s)
+    inl (asked_stood refusals.Held s found.0 (host_in s.claim) (others s)
     (on_inquire (view s found.0) (view s found.0).held) a
-    (inquiry_waits s found.0 (view s found.0).held) found.2
-by_input s letter (inputs.Message m) a e =
+    (inquiry_waits s found.0 (view s found.0).held) found.2 p c left is)
+by_input s letter (inputs.Message m) a e p c left is =
     let members = m.sender ∷ members_of m.body in
     let tested = not_refused (header_refusal s m.tree members m.path) _ a e in
     let found = has_unit refusals.Unlisted (λ u. Ok (hears s u m.sender m.body))
@@ -303,16 +349,26 @@ by_input s letter (inputs.Message m) a e =
     let u = found.0 in
     let same : hears s u m.sender m.body ≡ a = ap (answer_in a) found.2 in
     let outcome = outcome_of s u m.sender m.body in
-    λ p c open_is is.
-    has_job s u (host_in s.claim) a outcome
-    (λ d waits e. (
-      message_waited (view s u) waits d (is_majority s.weights) s.me
-          (said m.sender m.body) e,
-      refl,
-    ))
+    heard_comes s m a u found.1 outcome
+    (λ d. message_waited (view s u) d (is_majority s.weights) s.me m.sender m.body)
     outcome.member.stage refl (ap (λ (a : Answer). a.job) (sym same)) p c
-    (ap (λ (a : Answer). a.claim) same ∙ open_is) is
+    (ap (λ (a : Answer). a.claim) same ∙ left) is
+
+comes : (s : State) (input : Input) (a : Answer) (o : OpenClaim) (c : Claim)
+    → Answers s input (Ok a) → a.claim ≡ Some o → o.progress ≡ Building c → Comes s input a o c
+comes s input a o c answers left waits =
+    by_input s answers.letter input a (sym answers.right) o c left waits
 
 pub waiting_claims : WaitingClaimsHaveJobs
-waiting_claims s input a o c is answers open_is waits =
-    by_input s answers.letter input a (sym answers.right) o c open_is waits
+waiting_claims s input a o c is answers left waits =
+    elim (comes s input a o c answers left waits) [
+      | inl before ↦ inr before
+      | inr now ↦ inl now.0
+    ]
+
+pub waits_once_promised : ClaimsWaitOncePromised
+waits_once_promised s input a o c is answers left waits =
+    elim (comes s input a o c answers left waits) [
+      | inl before ↦ inr before
+      | inr now ↦ inl now.1
+    ]

@@ -21,6 +21,7 @@ use Rattle.package_record.specs.Making.{build_fault}
 use Rattle.units.specs.Division.{Division, IsDivision, number_named, unit_at}
 use Rattle.ballots.specs.InTheAgreement.{note_of, said}
 use Rattle.ballots.specs.Weights.{AreWeights}
+use Rattle.ballots.specs.declared.message.Body.TheVariants.{Promise}
 use Rattle.ballots.specs.declared.message.Message.{Message}
 use Rattle.ballots.specs.declared.message.Note.{Note}
 use Rattle.engine.specs.declared.Letter.{Letter}
@@ -209,6 +210,22 @@ WaitingClaimsHaveJobs =
     (s : State) (input : Input) (a : Answer) (o : OpenClaim) (c : Claim)
     → IsMember s → Answers s input (Ok a) → a.claim ≡ Some o → o.progress ≡ Building c
     → (a.job ≡ Some (job_of s o.unit o.host c)) ⊎ (s.claim ≡ Some o)
+
+-- The input is a promise of the claim for the unit.
+pub record IsPromiseOf (s : State) (u : ℕ) (c : Claim) (input : Input) : Type 0 where
+  pub message : Message Value
+  pub report : Option (Claim × Value)
+  pub is : input ≡ inputs.Message message
+  pub named : number_named s.division message.path ≡ Some u
+  pub body : message.body ≡ Promise c report
+
+-- A claim that waits for a build came to wait by a promise of it, or waited before. So it is a
+-- promise that comes, and nothing else, for which a job is given the first time.
+abbrev pub ClaimsWaitOncePromised : Type 0
+ClaimsWaitOncePromised =
+    (s : State) (input : Input) (a : Answer) (o : OpenClaim) (c : Claim)
+    → IsMember s → Answers s input (Ok a) → a.claim ≡ Some o → o.progress ≡ Building c
+    → IsPromiseOf s o.unit c input ⊎ (s.claim ≡ Some o)
 
 -- A job is given for a claim that comes to wait for a build, and again when it is nudged; it is the
 -- claim's.

@@ -2,6 +2,7 @@
 ghost use Rattle.protocol.specs.Laws.{
   BuildsAreOfTheirUnit,
   BuildsStandOnWhatIsHeld,
+  ClaimsWaitOncePromised,
   ClaimsWereReady,
   HeldRecordsStay,
   InputsAreAnsweredAsInTheTheory,
@@ -33,12 +34,14 @@ pub fn notes_restore_members()
     ensures held { HeldRecordsStay }
 {}
 
-/// A job is that of an open claim, stands on what is held, on all that its build needs, and stays
-/// while the claim waits for a build. What is built so is a build of the claim's unit.
+/// A job is that of an open claim, given first when a promise of it comes. It stands on what is
+/// held, on all that its build needs, and stays while the claim waits for a build. What is built so
+/// is a build of the claim's unit.
 pub fn jobs_stay()
     ensures given { JobsAreOfOpenClaims }
     ensures stay { JobsStay }
     ensures waiting { WaitingClaimsHaveJobs }
+    ensures promised { ClaimsWaitOncePromised }
     ensures ready { ClaimsWereReady }
     ensures signed { BuildsStandOnWhatIsHeld }
     ensures needed { JobsHaveAllTheyNeed }

@@ -1,5 +1,5 @@
 //! What goes out, and to whom.
-ghost use Rattle.std.specs.Prelude.{◌≡◌, [], IfOk, Some};
+ghost use Rattle.std.specs.Prelude.{◌≡◌, ◌↔◌, [], IfOk, None, Some};
 ghost use Rattle.std.specs.Option.{option_copied};
 ghost use Rattle.protocol.specs.Sends.{receivers_of, sent_to};
 
@@ -29,8 +29,8 @@ impl Send {
     }
 }
 
-/// What a step sends: one message, which all its receivers share, or nothing. Contracts see the
-/// list of what is sent, in order of receiver.
+/// What a step sends: one message, which all its receivers share, or nothing. A message that nobody
+/// gets is not sent. Contracts see the list of what is sent, in order of receiver.
 #[derive(Drop)]
 pub struct Sends {
     message: Option<Message>,
@@ -38,7 +38,7 @@ pub struct Sends {
 }
 
 impl Model for Sends {
-    ghost use Rattle.std.specs.Prelude.{◌≡◌, [], List, None};
+    ghost use Rattle.std.specs.Prelude.{◌≡◌, ◌↔◌, [], List, None};
     ghost use Rattle.protocol.specs.Sends.{sent_to};
     ghost use Rattle.protocol.specs.declared.sends.Send.{Send};
 
@@ -46,7 +46,7 @@ impl Model for Sends {
 
     ghost view = { λ s. sent_to s.message s.receivers.items };
 
-    ghost invariant = { λ s. s.message ≡ None → s.receivers.items ≡ [] };
+    ghost invariant = { λ s. (s.message ≡ None) ↔ (s.receivers.items ≡ []) };
 }
 
 impl Sends {
@@ -60,10 +60,13 @@ impl Sends {
         }
     }
 
-    /// The message goes to these members.
+    /// The message goes to these members. With no members nothing is sent.
     pub fn new(message: Message, receivers: ArrayVec<u8, 9>) -> Sends
         ensures { result ≡ sent_to (Some message) receivers.items }
     {
+        if receivers.is_empty() {
+            return Sends::nothing();
+        }
         Sends {
             message: Some(message),
             receivers,
@@ -79,7 +82,8 @@ impl Sends {
 
     /// The message, if one is sent.
     pub fn message(&self) -> Option<&Message>
-        ensures { self.now ≡ sent_to (option_copied result) (receivers_of self.now) }
+        ensures sent { self.now ≡ sent_to (option_copied result) (receivers_of self.now) }
+        ensures nobody { (result ≡ None) ↔ (self.now ≡ []) }
     {
         self.message.as_ref()
     }

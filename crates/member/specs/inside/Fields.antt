@@ -6,13 +6,10 @@ use Rattle.agreement.specs.Votes.{report_of}
 use Rattle.claims.specs.Job.{Task}
 use Rattle.engine.specs.State as engine
 use Rattle.units.specs.Division.{Division}
-use Rattle.ballots.specs.declared.message.Note.{Note}
 use Rattle.protocol.specs.State.{State, Value, engine_of}
 use Rattle.protocol.specs.Answers.{tree_digest}
 use Rattle.protocol.specs.Member.{IsMember}
 use Rattle.protocol.specs.Step.{job_again}
-use Rattle.protocol.specs.declared.outcome.Outcome.{Outcome}
-use Rattle.protocol.specs.declared.sends.Send.{Send}
 use Rattle.member.specs.OpenClaims.{IsWeighedBy, open_of}
 use Rattle.member.specs.declared.known.Known.{Known}
 use Rattle.member.specs.declared.member.Member.TheInside.{Inside}
@@ -49,10 +46,6 @@ pub record IsKept (m : Inside) : Type 0 where
   pub engine : m.engine ≡ engine_of (state_of m)
   pub weighed : ForSome m.claim (λ o. IsWeighedBy m.weights o.claimer)
   pub job : m.job ≡ job_in (state_of m)
-
--- what an outcome tells
-abbrev pub told : Outcome → Option (Note Value) × List Send × Option Task
-told o = (o.note, o.sends, o.job)
 
 -- the engine of what is held, by these facts
 abbrev pub engine_with : Division → List (Facts Value) → engine.State

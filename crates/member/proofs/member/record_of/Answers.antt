@@ -1,23 +1,32 @@
-use Rattle.std.proofs.Common.{◌≡◌, ap, false, sym, true, ◌∙◌}
-use Rattle.std.specs.Str.{bytes_eq}
+use Rattle.std.proofs.Common.{◌≡◌, true, ap, sym, rules, ◌∙◌}
+use Rattle.std.proofs.lemmas.Fn.{always_returns_same}
+use Rattle.faults.specs.Pieces.{text_cmp}
+use Rattle.claims.specs.Deps.{is_ascending}
+use Rattle.package_record.specs.Build.{paths_of}
 use Rattle.package_record.specs.Content.{Content}
-use Rattle.member.proofs.FoundRecords.{first_here, not_yet}
+use Rattle.protocol.specs.State.{record_in}
+use Rattle.member.proofs.FoundRecords.{found_by, none_by}
 use Rattle.member.proofs.member.record_of.Goals as goal
 
-pub returns-then-eq : goal.returns-then-eq
-returns-then-eq c =
+pub returns-in-Ok : goal.returns-in-Ok
+returns-in-Ok c =
     let path = c.args.path.now in
-    let passes : bytes_eq c.record-item.result.path path ≡ true =
-    ap (λ t. bytes_eq t path) (sym c.path.ensures.path) ∙ (sym c.eq.ensures ∙ c.if-eq.true) in
-    sym (first_here (λ (r : Content). bytes_eq r.path path) c.args.records.now
-    c.loop-record.record-index c.record-item.result c.loop-record-test.true (sym c.record-item.is)
-    c.loop-record.invariant passes)
+    let up : is_ascending (paths_of c.packages-records.result.now) ≡ true =
+    ap (λ rs. is_ascending (paths_of rs)) c.packages-records.ensures
+    ∙ c.unit_path-unit.ensures.build.ascending in
+    sym (ap (record_in path) (sym c.packages-records.ensures)
+    ∙ found_by path c.packages-records.result.now c.in-Ok.place c.index-records-place.result up
+    c.in-Ok.ensures.bound c.index-records-place.is
+    (c.in-Ok.ensures.position (λ (r : Content). text_cmp r.path path)
+    (always_returns_same _ _ _ (λ a r f called. search rules))))
 
-pub loop-record-preserved : goal.loop-record-preserved
-loop-record-preserved c =
+pub returns-in-Err : goal.returns-in-Err
+returns-in-Err c =
     let path = c.args.path.now in
-    let fails : bytes_eq c.record-item.result.path path ≡ false =
-    ap (λ t. bytes_eq t path) (sym c.path.ensures.path) ∙ (sym c.eq.ensures ∙ c.if-eq.false) in
-    not_yet (λ (r : Content). bytes_eq r.path path) c.args.records.now
-    c.loop-record.record-index c.record-item.result c.loop-record-test.true (sym c.record-item.is)
-    c.loop-record.invariant fails
+    let up : is_ascending (paths_of c.packages-records.result.now) ≡ true =
+    ap (λ rs. is_ascending (paths_of rs)) c.packages-records.ensures
+    ∙ c.unit_path-unit.ensures.build.ascending in
+    sym (ap (record_in path) (sym c.packages-records.ensures)
+    ∙ none_by path c.packages-records.result.now c.in-Err.field-0 up
+    (c.in-Err.ensures.position (λ (r : Content). text_cmp r.path path)
+    (always_returns_same _ _ _ (λ a r f called. search rules))))

@@ -4,12 +4,12 @@ use Rattle.claims.specs.Deps.{is_ascending}
 use Rattle.claims.specs.Job.{Task}
 use Rattle.package_record.specs.Packages.{contents_of}
 use Rattle.units.specs.Division.{unit_at}
-use Rattle.units.proofs.Kept.{all_listed, unit_some}
+use Rattle.units.proofs.Kept.{unit_some}
 use Rattle.protocol.specs.Jobs.{build_by}
+use Rattle.protocol.proofs.PackageOrder.{few_packages, grouped, paths_ascend}
 use Rattle.member.specs.inside.Packages.{files_at}
 use Rattle.member.proofs.MadeBuild.{as_many, build_made, build_refused, job_is_claimed, one_group}
 use Rattle.member.proofs.MadeBuild.{paths_made, records_made, runs_ascend}
-use Rattle.member.proofs.PathOrder.{grouped, no_more, paths_ascend}
 use Rattle.member.proofs.member.Member.build_of.Goals as goal
 
 pub make-requires-clause-claim : goal.make-requires-clause-claim
@@ -42,8 +42,7 @@ make-requires-clause-few c =
       arith,
       as_many d.tree (files_at c.args.packages) c.in_ok-packages.packages.items
           (unit_at d c.args.unit).packages c.in_ok-packages.ensures.made.1,
-      no_more d.tree (unit_at d c.args.unit).packages (paths_ascend d c.args.unit is
-          c.requires.unit) (all_listed d c.args.unit is c.requires.unit),
+      few_packages d c.args.unit is c.requires.unit,
       is.tree.few,
     )
 

@@ -9,7 +9,8 @@ use Rattle.ballots.specs.declared.message.Fact.{Fact}
 use Rattle.ballots.specs.declared.message.Note.{Note}
 use Rattle.protocol.specs.State.{State, Value, facts_then, noted_at}
 use Rattle.units.specs.Division.{number_named}
-use Rattle.member.specs.OpenClaims.{IsWeighedBy, open_of, waits}
+use Rattle.member.specs.OpenClaims.{IsWeighedBy, open_of}
+use Rattle.member.specs.inside.Waiting.{waits}
 use Rattle.member.specs.Prepared.{IsChangeWeighedBy, MayBeTaken, Prepared, changed}
 use Rattle.member.specs.declared.open_claim.OpenClaim.{OpenClaim}
 use Rattle.member.specs.inside.Fields.{engine_with, facts_of_known, state_of}

@@ -3,7 +3,7 @@ use Rattle.claims.specs.Deps.{AreInOrder, is_ascending}
 use Rattle.listing.specs.Tree.{path_at}
 use Rattle.protocol.specs.State.{State}
 use Rattle.protocol.proofs.MadeBuilds.{deps_in_order}
-use Rattle.member.proofs.PathOrder.{paths_ascend}
+use Rattle.protocol.proofs.PackageOrder.{paths_ascend}
 use Rattle.member.proofs.member.Member.job_for.Goals as goal
 
 pub invariant_of-result : goal.invariant_of-result

@@ -11,7 +11,7 @@ use Rattle.protocol.specs.State.{State}
 use Rattle.protocol.specs.declared.refusal.Refusal.TheVariants.{Memory, OtherPackages}
 use Rattle.member.specs.inside.Packages.{FilesByPath, files_at, have_files, made_at, made_of}
 use Rattle.member.proofs.GivenFiles.{given_for_just}
-use Rattle.member.proofs.PathOrder.{paths_ascend}
+use Rattle.protocol.proofs.PackageOrder.{paths_ascend}
 use Rattle.member.proofs.member.Member.packages_of.Goals as goal
 
 pub made-requires-clause-order : goal.made-requires-clause-order
