@@ -9,8 +9,9 @@ use Rattle.ballots.specs.declared.message.Note.{Note}
 use Rattle.member.specs.Prepared.{Prepared, answer_by}
 use Rattle.protocol.specs.Answers.{after as member_after}
 use Rattle.protocol.specs.State.{State, Value}
-use Rattle.stable_record.proofs.Steps.{before_along}
+use Rattle.stable_record.specs.Crash.{AllAlong, Leaves, at_first}
 use Rattle.stable_record.specs.History.{History}
+use Rattle.stable_record.specs.Log.{HasBeforeOrAfter}
 use Rattle.stable_record.specs.declared.log.Log.{Log}
 use Rattle.stable_record.specs.declared.log_fault.LogFault.TheVariants as log
 use Rattle.wire.specs.Messages.{IsNote}
@@ -126,7 +127,19 @@ module _ {D : Type 0} (history : D → History) (s : State) (texts : List Text) 
   abbrev pub before : LoggedNode D
   before = record { node = node_with s texts pieces stopped; log = l }
 
-  -- a crash leaves the notes with this one or without
+  -- where the log had no call, a crash leaves the notes as it did
+  pub no_moments : IsOnLog history before → LeavesOneMoreAtMost before.node (note_in r.step) (history l.disk) (history l.disk)
+  no_moments on = by (note_in r.step)
+    where
+      files : (note : Text) → Leaves (HasBeforeOrAfter l.identity (texts_of before.node.notes) note) (history l.disk)
+      files note c left =
+          let settled = on.holds.settled in
+          inl (record { gate = settled.gate; behind = []; parts = settled.on_disk c left ∙ settled.file; closed = settled.closed; lengths = settled.lengths })
+      by : (note : Option (Note Value)) → LeavesOneMoreAtMost before.node note (history l.disk) (history l.disk)
+      by None = refl
+      by (Some n) = subst (λ i. AllAlong (HasBeforeOrAfter i (texts_of before.node.notes) (note_text n)) (history l.disk) (history l.disk)) on.owner (at_first (files (note_text n)))
+
+  -- where it had one, it leaves the notes with this one or without
   pub note_moments : (old new : History) → text ≡ option_map note_text (note_in r.step) → ((ts : List Text) → Holds history l ts → GoesOnWith l.identity ts text old new) → IsOnLog history before
       → LeavesOneMoreAtMost before.node (note_in r.step) old new
   note_moments old new e goes on = by (note_in r.step) e
@@ -134,16 +147,6 @@ module _ {D : Type 0} (history : D → History) (s : State) (texts : List Text) 
       by : (note : Option (Note Value)) → text ≡ option_map note_text note → LeavesOneMoreAtMost before.node note old new
       by None e = rw e at (goes (texts_of before.node.notes) on.holds)
       by (Some n) e = rw (e, on.owner) at (goes (texts_of before.node.notes) on.holds)
-
-  -- where the log had no call, they stand as they did
-  pub no_moments : IsOnLog history before → LeavesOneMoreAtMost before.node (note_in r.step) (history l.disk) (history l.disk)
-  no_moments on = by (note_in r.step)
-    where
-      by : (note : Option (Note Value)) → LeavesOneMoreAtMost before.node note (history l.disk) (history l.disk)
-      by None = refl
-      by (Some n) =
-          let along = before_along l.identity (texts_of before.node.notes) (note_text n) l.end (history l.disk) on.holds.settled in
-          rw on.owner at along
 
   -- the step was taken: these are the member, the texts, the pieces and the log then
   module _ (is : IsLogged before) (ready : IsReadyFor before.node r) (e : text ≡ option_map note_text (note_in r.step))
@@ -193,3 +196,30 @@ cause_told l note text (fault.Log log.NotALog) e cause = cause
 cause_told l note text (fault.Log log.OtherCluster) e cause = cause
 cause_told l note text fault.Stopped e cause = cause
 cause_told l note text (fault.Foreign f) e cause = cause
+
+-- the node once the note was not taken
+module _ {D : Type 0} (history : D → History) (s : State) (texts : List Text) (pieces : List Piece) (stopped : Bool) (l : Log D) (stops : Bool) (now : Log D) (f : NodeFault) where
+  pub still_logged : IsLogged (record { node = node_with s texts pieces stopped; log = l }) → now.stopped ≡ stops → IsLogged (record { node = node_with s texts pieces stops; log = now })
+  still_logged is together = record {
+    node = record {
+      member = is.node.member;
+      restored = is.node.restored;
+      notes = is.node.notes;
+      on_units = is.node.on_units;
+      claim = is.node.claim;
+      pieces = is.node.pieces;
+      once = is.node.once;
+    };
+    together = together;
+  }
+
+  -- it stays, unless the device failed
+  pub still_node : stopped ≡ false → (f ≡ fault.Log log.Device) ⊎ (stops ≡ false) → (f ≡ fault.Log log.Device) ⊎ (node_with s texts pieces stops ≡ node_with s texts pieces stopped)
+  still_node running stays = ⊎_elim (λ e. inl e) (λ e. inr (ap (λ (b : Bool). node_with s texts pieces b) (e ∙ sym running))) stays
+
+  -- and so do its notes on the log
+  pub still_noted : now.identity ≡ l.identity → IsOnLog history (record { node = node_with s texts pieces stopped; log = l })
+      → ((ts : List Text) → Holds history l ts → (f ≡ fault.Log log.Device) ⊎ (Holds history now ts × (history now.disk ≡ history l.disk)))
+      → (f ≡ fault.Log log.Device) ⊎ (IsOnLog history (record { node = node_with s texts pieces stops; log = now }) × (history now.disk ≡ history l.disk))
+  still_noted owner on refused =
+      ⊎_elim (λ e. inl e) (λ h. inr (record { owner = owner ∙ on.owner; holds = h.0 }, h.1)) (refused (texts_of (notes_in texts)) on.holds)
