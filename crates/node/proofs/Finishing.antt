@@ -135,6 +135,7 @@ module _ {D : Type 0} (history : D → History) (s : State) (texts : List Text) 
       files note c left =
           let settled = on.holds.settled in
           inl (record { gate = settled.gate; behind = []; parts = settled.on_disk c left ∙ settled.file; closed = settled.closed; lengths = settled.lengths })
+
       by : (note : Option (Note Value)) → LeavesOneMoreAtMost before.node note (history l.disk) (history l.disk)
       by None = refl
       by (Some n) = subst (λ i. AllAlong (HasBeforeOrAfter i (texts_of before.node.notes) (note_text n)) (history l.disk) (history l.disk)) on.owner (at_first (files (note_text n)))
@@ -174,7 +175,7 @@ module _ {D : Type 0} (history : D → History) (s : State) (texts : List Text) 
         → IsOnLog history (record { node = node_with new more left stops; log = now })
     done_on_log owner acknowledged on =
         let notes : notes_in more ≡ with_note (notes_in texts) (note_in r.step) =
-            rw (noted, e) (notes_with texts (note_in r.step) (noted_good before.node r ready.leaves)) in
+        rw (noted, e) (notes_with texts (note_in r.step) (noted_good before.node r ready.leaves)) in
         let has : texts_of (notes_in more) ≡ with_text (texts_of (notes_in texts)) text = ap texts_of notes ∙ texts_with (notes_in texts) (note_in r.step) ∙ ap (with_text (texts_of (notes_in texts))) (sym e) in
         record { owner = owner ∙ on.owner ∙ sym (ap identity_of member ∙ same r.step); holds = subst (Holds history now) (sym has) (acknowledged (texts_of (notes_in texts)) on.holds) }
       where

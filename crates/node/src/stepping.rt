@@ -1,5 +1,21 @@
 //! The steps of a node.
-ghost use Rattle.std.specs.Prelude.{◌≡◌, ◌≤◌, ◌<◌, ◌⊎◌, IfErr, IfOk, IsErrOf, List, OnErr, OnOk, ℕ, false, true, vec_capacity, vec_len};
+ghost use Rattle.std.specs.Prelude.{
+  ◌≡◌,
+  ◌≤◌,
+  ◌<◌,
+  ◌⊎◌,
+  IfErr,
+  IfOk,
+  IsErrOf,
+  List,
+  OnErr,
+  OnOk,
+  ℕ,
+  false,
+  true,
+  vec_capacity,
+  vec_len,
+};
 ghost use Rattle.std.specs.Option.{ForSome, option_copied};
 ghost use Rattle.faults.specs.Answers.{map_ok};
 ghost use Rattle.member.specs.Prepared.{MayBeTaken};
@@ -358,11 +374,7 @@ fn write_note<D: Disk>(
 }
 
 /// Adds the note to the log, if there is one. At `Ok` it is on the disk.
-fn write<D: Disk>(
-    log: &mut Log<D>,
-    noted: &mut Noted,
-    note: Option<&[u8]>,
-) -> Result<(), LogFault>
+fn write<D: Disk>(log: &mut Log<D>, noted: &mut Noted, note: Option<&[u8]>) -> Result<(), LogFault>
     ensures noted { OnOk result (noted.new.texts ≡ with_text noted.old.texts (option_copied note.entry)) }
     ensures not_noted { OnErr result (noted.new.texts ≡ noted.old.texts) }
     ensures acknowledged { D.is_kept log.new.disk → (texts : List (List ℕ))
