@@ -84,10 +84,6 @@ pub lacks : {D : Type 0} (l : Log D) (note : Option (Note Value)) → LacksRoomF
 lacks l None over = over
 lacks l (Some n) over = over
 
-pub lacks_back : {D : Type 0} (l : Log D) (note : Option (Note Value)) → LacksRoom l note → LacksRoomFor l (option_map note_text note)
-lacks_back l None over = over
-lacks_back l (Some n) over = over
-
 -- ---- the step
 
 -- what a step sends, notes and gives to be built
@@ -186,17 +182,17 @@ module _ {D : Type 0} (history : D → History) (s : State) (texts : List Text) 
 -- ---- a refusal of the log
 
 -- why the note was not taken
-pub cause_told : {D : Type 0} (l : Log D) (note : Option (Note Value)) (text : Option Text) (f : NodeFault) → text ≡ option_map note_text note → IsNoteCause l text f → IsLogCause l note f
-cause_told l note text fault.Memory e cause = tt
-cause_told l note text (fault.Refused r) e cause = cause
-cause_told l note text (fault.Log log.Full) e cause = lacks l note (rw e at cause)
-cause_told l note text (fault.Log log.Device) e cause = tt
-cause_told l note text (fault.Log log.Memory) e cause = cause
-cause_told l note text (fault.Log log.MustReopen) e cause = cause
-cause_told l note text (fault.Log log.NotALog) e cause = cause
-cause_told l note text (fault.Log log.OtherCluster) e cause = cause
-cause_told l note text fault.Stopped e cause = cause
-cause_told l note text (fault.Foreign f) e cause = cause
+pub cause_told : {D : Type 0} (l : Log D) (noted : Option (Note Value)) (text : Option Text) (f : NodeFault) → text ≡ option_map note_text noted → IsNoteCause l text f → IsLogCause l noted f
+cause_told l noted text fault.Memory e cause = tt
+cause_told l noted text (fault.Refused r) e cause = cause
+cause_told l noted text (fault.Log log.Full) e cause = lacks l noted (rw e at cause)
+cause_told l noted text (fault.Log log.Device) e cause = tt
+cause_told l noted text (fault.Log log.Memory) e cause = cause
+cause_told l noted text (fault.Log log.MustReopen) e cause = cause
+cause_told l noted text (fault.Log log.NotALog) e cause = cause
+cause_told l noted text (fault.Log log.OtherCluster) e cause = cause
+cause_told l noted text fault.Stopped e cause = cause
+cause_told l noted text (fault.Foreign f) e cause = cause
 
 -- the node once the note was not taken
 module _ {D : Type 0} (history : D → History) (s : State) (texts : List Text) (pieces : List Piece) (stopped : Bool) (l : Log D) (stops : Bool) (now : Log D) (f : NodeFault) where

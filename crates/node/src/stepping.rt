@@ -270,6 +270,10 @@ impl<'a, D: Disk> Node<'a, D> {
             → LeavesItsNoteAtMost self.old.node (Does input) (D.history self.old.log.disk)
             (D.history self.new.log.disk) }
 
+        // What was said of the disk before still stands, so that calls can follow one another.
+        ensures kept { D.is_kept self.new.log.disk → D.is_kept self.old.log.disk }
+        ensures later { D.failures_of self.old.log.disk ≤ D.failures_of self.new.log.disk }
+
         // Each refusal has its cause, and says what it leaves of the node, and of the log: all,
         // unless the device failed.
         ensures causes { IfErr result (IsCause self.old (Does input)) }
@@ -302,6 +306,10 @@ impl<'a, D: Disk> Node<'a, D> {
         ensures any_moment { D.is_kept self.new.log.disk → IsOnLog D.history self.old
             → LeavesItsNoteAtMost self.old.node (Comes bytes.now) (D.history self.old.log.disk)
             (D.history self.new.log.disk) }
+
+        // What was said of the disk before still stands, so that calls can follow one another.
+        ensures kept { D.is_kept self.new.log.disk → D.is_kept self.old.log.disk }
+        ensures later { D.failures_of self.old.log.disk ≤ D.failures_of self.new.log.disk }
 
         // Each refusal has its cause, and says what it leaves of the node, and of the log: all,
         // unless the device failed.
@@ -337,7 +345,8 @@ fn write_note<D: Disk>(
 ) -> Result<(), NodeFault>
     requires node_runs { stopped.old ≡ false }
     requires log_runs { log.old.stopped ≡ false }
-    ensures noted { OnOk result (noted.new.texts ≡ with_text noted.old.texts (option_copied note.entry)) }
+    ensures noted { OnOk result
+        (noted.new.texts ≡ with_text noted.old.texts (option_copied note.entry)) }
     ensures not_noted { OnErr result (noted.new.texts ≡ noted.old.texts) }
     ensures acknowledged { D.is_kept log.new.disk → (texts : List (List ℕ))
         → Holds D.history log.old texts
@@ -375,7 +384,8 @@ fn write_note<D: Disk>(
 
 /// Adds the note to the log, if there is one. At `Ok` it is on the disk.
 fn write<D: Disk>(log: &mut Log<D>, noted: &mut Noted, note: Option<&[u8]>) -> Result<(), LogFault>
-    ensures noted { OnOk result (noted.new.texts ≡ with_text noted.old.texts (option_copied note.entry)) }
+    ensures noted { OnOk result
+        (noted.new.texts ≡ with_text noted.old.texts (option_copied note.entry)) }
     ensures not_noted { OnErr result (noted.new.texts ≡ noted.old.texts) }
     ensures acknowledged { D.is_kept log.new.disk → (texts : List (List ℕ))
         → Holds D.history log.old texts
