@@ -75,12 +75,12 @@ module _ (tree : Tree) (weights : List ℕ) (me : ℕ) (i : Identity) (owner : i
   -- what the log refuses
   pub log_refused : (old new : History) (f : LogFault) → ((f ≡ log.NotALog) ⊎ (f ≡ log.OtherCluster) → Opens i (seen old) (Err f) × OnlySyncs old new)
       → (f ≢ log.Full) × (f ≢ log.MustReopen) → IsOpenFault tree weights me (seen old) (told_by f)
-  log_refused old new log.Memory refused no = tt
-  log_refused old new log.Device refused no = tt
-  log_refused old new log.Full refused no = no.0 refl
-  log_refused old new log.MustReopen refused no = no.1 refl
-  log_refused old new log.NotALog refused no = inl (subst (λ (j : Identity). Opens j (seen old) (Err log.NotALog)) owner (refused (inl refl)).0)
-  log_refused old new log.OtherCluster refused no = subst (λ (j : Identity). Opens j (seen old) (Err log.OtherCluster)) owner (refused (inr refl)).0
+  log_refused old new log.Memory refused neither = tt
+  log_refused old new log.Device refused neither = tt
+  log_refused old new log.Full refused neither = neither.0 refl
+  log_refused old new log.MustReopen refused neither = neither.1 refl
+  log_refused old new log.NotALog refused neither = inl (subst (λ (j : Identity). Opens j (seen old) (Err log.NotALog)) owner (refused (inl refl)).0)
+  log_refused old new log.OtherCluster refused neither = subst (λ (j : Identity). Opens j (seen old) (Err log.OtherCluster)) owner (refused (inr refl)).0
 
   -- what the log refuses as no log of the member stays
   pub log_untouched : (old new : History) (f : LogFault) → ((f ≡ log.NotALog) ⊎ (f ≡ log.OtherCluster) → Opens i (seen old) (Err f) × OnlySyncs old new)

@@ -1,28 +1,31 @@
-use Rattle.std.proofs.Common.{rules, ◌≡◌, ◌<◌, ◌≤◌, IfErr, IfOk, MatchResult, Ok, false, is_some, length, map, ℕ, ◌+◌, ◌-◌, ◌*◌, ◌/◌, ◌%◌, Bool, true, nat_eq, nat_lt, List, [], ◌∷◌, ◌++◌, slice_index_or, slice_set, bit_and, bit_or, Fits, w8, w32, w64, Bor, MutBor}
-use Rattle.ballots.specs.Weights.{AreWeights}
-use Rattle.stable_record.specs.Crash.{AllAlong}
-use Rattle.stable_record.specs.Faults.{HasRisen}
-use Rattle.stable_record.specs.History.{seen}
+use Rattle.std.proofs.Common.{refl, map, subst, sym}
 use Rattle.stable_record.specs.Log.{note_of}
-use Rattle.stable_record.specs.Opening.{Opens, OpensAsLeft}
-use Rattle.node.specs.Calls.{AreNotes, IsOpenFault, IsOpened, IsUntouched}
-use Rattle.node.specs.OnLog.{IsOnLog, identity, identity_of, texts_of}
-use Rattle.units.specs.Division.{number_named}
-use Rattle.node.specs.inside.Opening.{IsNew, IsNoteFault, IsOver, IsReadBy, told_by, unread_by}
+use Rattle.protocol.specs.Restoring.{AreOnUnits}
+use Rattle.node.specs.Calls.{AreNotes}
+use Rattle.node.specs.inside.Opening.{IsNoteFault, IsOver}
+use Rattle.node.proofs.Opened.{opened, opened_invariant}
 use Rattle.node.proofs.opening.over.Goals as goal
 
--- src/opening.rt:101:13
 pub restore-requires : goal.restore-requires
-restore-requires g c = ?
+restore-requires g c = subst (λ d. AreOnUnits d c.in-Ok.notes.items) c.units.ensures c.in-Ok.ensures.notes.on_units
 
--- src/opening.rt:102:13
 pub invariant_of-result : goal.invariant_of-result
-invariant_of-result g c = ?
+invariant_of-result g c =
+    let s = c.args.member in
+    let texts = map note_of c.args.texts.now in
+    let are = subst (λ d. AreNotes d texts c.in-Ok.notes.items) c.units.ensures c.in-Ok.ensures.notes in
+    let is = opened s c.requires.member texts c.in-Ok.notes.items are c.restore.new.self c.in-Ok.noted.texts c.new.result.items
+        c.restore.ensures c.in-Ok.ensures.texts c.new.ensures.items in
+    record { node = opened_invariant s c.requires.member texts c.in-Ok.notes.items are _ is; together = c.requires.log }
 
--- src/opening.rt:97:1
 pub returns-in-Ok-clause-node : goal.returns-in-Ok-clause-node
-returns-in-Ok-clause-node g c = ?
+returns-in-Ok-clause-node g c =
+    let s = c.args.member in
+    let texts = map note_of c.args.texts.now in
+    let are = subst (λ d. AreNotes d texts c.in-Ok.notes.items) c.units.ensures c.in-Ok.ensures.notes in
+    let is = opened s c.requires.member texts c.in-Ok.notes.items are c.restore.new.self c.in-Ok.noted.texts c.new.result.items
+        c.restore.ensures c.in-Ok.ensures.texts c.new.ensures.items in
+    subst (IsOver s texts) (sym is) (record { notes = are; node = refl })
 
--- src/opening.rt:84:1
 pub returns-clause-refused : goal.returns-clause-refused
-returns-clause-refused g c = ?
+returns-clause-refused g c = subst (λ d. IsNoteFault d (map note_of c.args.texts.now) c.in-Err.fault) c.units.ensures c.in-Err.ensures.bad
