@@ -1,5 +1,5 @@
 -- A node that is opened.
-use Rattle.std.proofs.Common.{◌≡◌, ◌⊎◌, inl, inr, ◌<◌, ℕ, All, Bool, false, List, [], Option, None, Some, Ok, Err, arith, length, map, refl, sym, subst, ap, ◌∙◌}
+use Rattle.std.proofs.Common.{◌≡◌, ◌⊎◌, inl, inr, ◌<◌, ℕ, All, false, List, [], IfErr, IfOk, Ok, Err, Result, arith, length, map, refl, sym, subst, ap, ◌∙◌}
 use Rattle.std.specs.Prelude.{◌≢◌}
 use Rattle.std.proofs.lemmas.List.Elements.{All-nil}
 use Rattle.faults.specs.Bytes.{Text}
@@ -23,14 +23,14 @@ use Rattle.wire.specs.Pieces.{IsPiece}
 use Rattle.wire.specs.declared.datagram.Piece.{Piece}
 use Rattle.node.proofs.Sent.{notes_again}
 use Rattle.node.proofs.ranges.Outcomes.{for_none}
-use Rattle.node.specs.Calls.{AreNotes, HasBadNotes, IsOpenFault, IsOpened, IsUntouched}
+use Rattle.node.specs.Calls.{AreNotes, HasBadNotes, IsOpenFault, IsUntouched}
 use Rattle.node.specs.OnLog.{identity, identity_of, texts_of}
 use Rattle.node.specs.Ranges.{IsProgressOf}
 use Rattle.node.specs.State.{IsNode, NodeState, opened_node}
 use Rattle.node.specs.declared.fault.NodeFault.{NodeFault}
 use Rattle.node.specs.declared.fault.NodeFault.TheVariants as fault
 use Rattle.node.specs.inside.Noted.{notes_in}
-use Rattle.node.specs.inside.Opening.{IsNew, IsNoteFault, told_by}
+use Rattle.node.specs.inside.Opening.{IsNew, IsNoteFault, IsOver, told_by}
 
 module _ (s : State) (new : IsNew s) (texts : List Text) (notes : List (Note Value)) (are : AreNotes s.division texts notes) where
   -- what its notes restore is a node
@@ -56,6 +56,27 @@ module _ (s : State) (new : IsNew s) (texts : List Text) (notes : List (Note Val
   pub opened_invariant : (n : NodeState) → n ≡ opened_node s.division s.weights s.me notes → IsNode n
   opened_invariant n is = subst IsNode (sym is) opened_is_node
 
+-- ---- what both answers of a call say
+
+pub both_ok : {T E : Type 0} (r : Result T E) (P Q R : T → Type 0) → ((x : T) → P x → Q x → R x) → IfOk r P → IfOk r Q → IfOk r R
+both_ok (Ok x) P Q R f p q = f x p q
+both_ok (Err e) P Q R f p q = tt
+
+pub both_err : {T E : Type 0} (r : Result T E) (P Q R : E → Type 0) → ((x : E) → P x → Q x → R x) → IfErr r P → IfErr r Q → IfErr r R
+both_err (Ok x) P Q R f p q = tt
+both_err (Err e) P Q R f p q = f e p q
+
+-- ---- the file's notes
+
+-- what the file opens as are the node's notes
+pub opens_as : (s : State) (tree : Tree) (weights : List ℕ) (me : ℕ) → s ≡ fresh s.division weights me → s.division.tree ≡ tree → (texts : List Text) (n : NodeState) → IsOver s texts n
+    → (i : Identity) → i ≡ identity tree weights me → (file : List ℕ) → Opens i file (Ok texts) → Opens (identity_of n.member) file (Ok (texts_of n.notes))
+opens_as s tree weights me new of_tree texts n over i owner file opens =
+    let weigh : s.weights ≡ weights = ap (λ (x : State). x.weights) new in
+    let own : s.me ≡ me = ap (λ (x : State). x.me) new in
+    let whose : identity_of n.member ≡ i = ap (λ (x : NodeState). identity_of x.member) over.node ∙ (λ j. identity (of_tree j) (weigh j) (own j)) ∙ sym owner in
+    subst (λ (j : Identity). Opens j file (Ok (texts_of n.notes))) (sym whose) (subst (λ (ts : List Text). Opens i file (Ok ts)) over.notes.read opens)
+
 -- ---- the tree's division
 
 -- a tree is divided in one way
@@ -70,6 +91,15 @@ bad_notes d tree texts of_tree is bad e notes same other are =
     bad notes (subst (λ (x : Division). AreNotes x texts notes) (one_way e d (same ∙ sym of_tree) other is) are)
 
 -- ---- refusals
+
+-- what is told of the device is its failure
+pub told_device : (f : LogFault) → told_by f ≡ fault.Log log.Device → f ≡ log.Device
+told_device log.Memory e = absurd (let no : fault.Memory ≡ fault.Log log.Device = e in cc)
+told_device log.Device e = refl
+told_device log.Full e = absurd (let no : fault.Log log.Full ≡ fault.Log log.Device = e in cc)
+told_device log.MustReopen e = absurd (let no : fault.Log log.MustReopen ≡ fault.Log log.Device = e in cc)
+told_device log.NotALog e = absurd (let no : fault.Log log.NotALog ≡ fault.Log log.Device = e in cc)
+told_device log.OtherCluster e = absurd (let no : fault.Log log.OtherCluster ≡ fault.Log log.Device = e in cc)
 
 module _ (tree : Tree) (weights : List ℕ) (me : ℕ) (i : Identity) (owner : i ≡ identity tree weights me) where
   -- what the log refuses

@@ -1,11 +1,11 @@
 //! A node of what a file holds.
-ghost use Rattle.std.specs.Prelude.{◌≡◌, ◌<◌, ◌≤◌, IfErr, IfOk, MatchResult, Ok, false, is_some, length, map};
+ghost use Rattle.std.specs.Prelude.{◌≡◌, ◌<◌, ◌≤◌, IfErr, IfOk, MatchResult, Ok, OnOk, false, is_some, length, map};
 ghost use Rattle.ballots.specs.Weights.{AreWeights};
 ghost use Rattle.stable_record.specs.Crash.{AllAlong};
 ghost use Rattle.stable_record.specs.Faults.{HasRisen};
 ghost use Rattle.stable_record.specs.History.{seen};
 ghost use Rattle.stable_record.specs.Log.{note_of};
-ghost use Rattle.stable_record.specs.Opening.{Opens, OpensAsLeft};
+ghost use Rattle.stable_record.specs.Opening.{HasOneAnswer, Opens, OpensAsLeft};
 ghost use Rattle.node.specs.Calls.{AreNotes, IsOpenFault, IsOpened, IsUntouched};
 ghost use Rattle.node.specs.OnLog.{IsOnLog, identity, identity_of, texts_of};
 ghost use Rattle.units.specs.Division.{number_named};
@@ -45,6 +45,9 @@ impl<'a, D: Disk> Node<'a, D> {
             → Opens (identity_of n.node.member) (seen (D.history disk))
             (Ok (texts_of n.node.notes))) }
         ensures on_log { IfOk result (λ n. D.is_kept n.log.disk → IsOnLog D.history n) }
+
+        // A file of bytes has one answer, so these notes are all that it opens as.
+        ensures one_answer { OnOk result (HasOneAnswer (identity tree.entry.now weights.now me)) }
 
         // A crash at any moment leaves notes that a crash at the start could leave, whatever the
         // call answers.

@@ -1,40 +1,60 @@
-use Rattle.std.proofs.Common.{rules, ◌≡◌, ◌<◌, ◌≤◌, IfErr, IfOk, MatchResult, Ok, false, is_some, length, map, ℕ, ◌+◌, ◌-◌, ◌*◌, ◌/◌, ◌%◌, Bool, true, nat_eq, nat_lt, List, [], ◌∷◌, ◌++◌, slice_index_or, slice_set, bit_and, bit_or, Fits, w8, w32, w64, Bor, MutBor}
-use Rattle.ballots.specs.Weights.{AreWeights}
-use Rattle.stable_record.specs.Crash.{AllAlong}
-use Rattle.stable_record.specs.Faults.{HasRisen}
+use Rattle.std.proofs.Common.{Ok, map, subst, sym}
 use Rattle.stable_record.specs.History.{seen}
 use Rattle.stable_record.specs.Log.{note_of}
-use Rattle.stable_record.specs.Opening.{Opens, OpensAsLeft}
-use Rattle.node.specs.Calls.{AreNotes, IsOpenFault, IsOpened, IsUntouched}
-use Rattle.node.specs.OnLog.{IsOnLog, identity, identity_of, texts_of}
-use Rattle.units.specs.Division.{number_named}
-use Rattle.node.specs.inside.Opening.{IsNew, IsNoteFault, IsOver, IsReadBy, told_by, unread_by}
+use Rattle.stable_record.specs.Opening.{OpensAsLeft, Opens}
+use Rattle.stable_record.specs.Crash.{AllAlong}
+use Rattle.node.proofs.AtFirst.{not_begun}
+use Rattle.node.proofs.Opened.{both_err, both_ok, log_refused, log_untouched, notes_refused, notes_untouched, opens_as, told_device}
+use Rattle.node.specs.OnLog.{identity}
 use Rattle.node.proofs.node.Node.open.Goals as goal
 
--- src/opening.rt:74:13
 pub returns-in_default-clause-any_moment_err : goal.returns-in_default-clause-any_moment_err
-returns-in_default-clause-any_moment_err g c = ?
+returns-in_default-clause-any_moment_err g c = λ kept. not_begun (identity c.args.tree.now c.args.weights.now c.args.me) (g.D.Disk.history c.args.disk)
 
--- src/opening.rt:71:5
 pub returns-in-Ok-open-clause-notes : goal.returns-in-Ok-open-clause-notes
-returns-in-Ok-open-clause-notes g c = ?
+returns-in-Ok-open-clause-notes g c =
+    let m = c.in-Ok.member in
+    let texts = map note_of c.as_slice.result.now in
+    let file = seen (g.D.Disk.history c.args.disk) in
+    both_ok c.over.result _ _ _ (λ n is same kept.
+        let opens = subst (λ ts. Opens c.owner-owner.result file (Ok (map note_of ts))) (sym c.as_slice.ensures.value)
+            (c.in-Ok-open.ensures.notes (subst (λ l. g.D.Disk.is_kept l.disk) same kept)) in
+        opens_as m c.args.tree.now c.args.weights.now c.args.me c.in-Ok.ensures.fresh c.in-Ok.ensures.tree texts n.node is c.owner-owner.result c.owner-owner.ensures.identity file opens)
+    c.over.ensures.node c.over.ensures.log
 
--- src/opening.rt:71:5
 pub returns-in-Ok-open-clause-refused : goal.returns-in-Ok-open-clause-refused
-returns-in-Ok-open-clause-refused g c = ?
+returns-in-Ok-open-clause-refused g c =
+    let texts = map note_of c.as_slice.result.now in
+    let old = g.D.Disk.history c.args.disk in
+    both_err c.over.result _ _ _ (λ e bad same kept.
+        let opens = subst (λ ts. Opens c.owner-owner.result (seen old) (Ok (map note_of ts))) (sym c.as_slice.ensures.value)
+            (c.in-Ok-open.ensures.notes (subst g.D.Disk.is_kept same kept)) in
+        notes_refused c.args.tree.now c.args.weights.now c.args.me c.owner-owner.result c.owner-owner.ensures.identity c.in-Ok.member.division c.in-Ok.ensures.tree c.in-Ok.ensures.division texts old
+        (g.D.Disk.history e.1) opens e.0 bad)
+    c.over.ensures.refused c.over.ensures.disk
 
--- src/opening.rt:71:5
 pub returns-in-Ok-open-clause-untouched : goal.returns-in-Ok-open-clause-untouched
-returns-in-Ok-open-clause-untouched g c = ?
+returns-in-Ok-open-clause-untouched g c =
+    let texts = map note_of c.as_slice.result.now in
+    let old = g.D.Disk.history c.args.disk in
+    both_err c.over.result _ _ _ (λ e bad same kept.
+        let opens = subst (λ ts. Opens c.owner-owner.result (seen old) (Ok (map note_of ts))) (sym c.as_slice.ensures.value)
+            (c.in-Ok-open.ensures.notes (subst g.D.Disk.is_kept same kept)) in
+        notes_untouched c.args.tree.now c.args.weights.now c.args.me c.owner-owner.result c.owner-owner.ensures.identity c.in-Ok.member.division c.in-Ok.ensures.tree c.in-Ok.ensures.division texts old
+        (g.D.Disk.history e.1) opens c.in-Ok-open.ensures.one_answer e.0 bad)
+    c.over.ensures.refused c.over.ensures.disk
 
--- src/opening.rt:34:5
 pub returns-clause-refused : goal.returns-clause-refused
-returns-clause-refused g c = ?
+returns-clause-refused g c = λ kept.
+    rw c.told.ensures
+    (log_refused c.args.tree.now c.args.weights.now c.args.me c.owner-owner.result c.owner-owner.ensures.identity (g.D.Disk.history c.args.disk) (g.D.Disk.history c.in-Err.disk) c.in-Err.fault
+    (c.in-Err.ensures.refused kept) c.in-Err.ensures.no_append)
 
--- src/opening.rt:34:5
 pub returns-clause-untouched : goal.returns-clause-untouched
-returns-clause-untouched g c = ?
+returns-clause-untouched g c = λ kept.
+    rw c.told.ensures
+    (log_untouched c.args.tree.now c.args.weights.now c.args.me c.owner-owner.result c.owner-owner.ensures.identity (g.D.Disk.history c.args.disk) (g.D.Disk.history c.in-Err.disk) c.in-Err.fault
+    (c.in-Err.ensures.refused kept))
 
--- src/opening.rt:34:5
 pub returns-clause-device : goal.returns-clause-device
-returns-clause-device g c = ?
+returns-clause-device g c = λ told. c.in-Err.ensures.device (told_device c.in-Err.fault (rw c.told.ensures at told))
