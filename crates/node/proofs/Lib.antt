@@ -7,3 +7,4 @@ pub mod Finishing
 pub mod Reading
 pub mod Places
 pub mod Coming
+pub mod Handling
