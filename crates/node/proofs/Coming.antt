@@ -35,7 +35,7 @@ use Rattle.node.specs.inside.Stepping.{AreKept, ComesAs, IsSafe, MakesReady, dro
 -- ---- what is refused
 
 -- a step on bytes is refused only where they are foreign
-refused_as_foreign : (s : State) (a : Arrival) (f : NodeFault) → step_on s a ≡ Err f → (x : Foreign) × (f ≡ fault.Foreign x)
+pub refused_as_foreign : (s : State) (a : Arrival) (f : NodeFault) → step_on s a ≡ Err f → (x : Foreign) × (f ≡ fault.Foreign x)
 refused_as_foreign s (Strange x pieces) f e = (x, (let same : Err (fault.Foreign x) ≡ Err f = e in cc))
 refused_as_foreign s (Waits pieces) f e = absurd (let no : Ok (record { answer = nothing s; pieces = pieces }) ≡ Err f = e in cc)
 refused_as_foreign s (Whole m pieces) f e = by (members.heard s m) e
@@ -95,8 +95,10 @@ module _ (n : NodeState) (text : Text) (running : n.stopped ≡ false) where
     where
       told : datagram_of text ≡ Err f → strange_by f ≡ fault.Foreign (foreign.Bytes f) → step_on n.member a ≡ Err (strange_by f)
       told e is = rw e (ap Err (sym is))
+
       given : (strange_by f ≡ fault.Memory) ⊎ (step_on n.member a ≡ Err (strange_by f))
       given = ⊎_elim (λ e. inl (ap strange_by e)) (λ e. ⊎_elim (λ is. inl is) (λ is. inr (told e is)) (told_strange f)) read
+
       stays : (strange_by f ≡ fault.Memory) ⊎ (step_on n.member a ≡ Err (strange_by f)) → n ≡ left_at n a (Err (strange_by f))
       stays g = ⊎_elim
           (λ e. subst (λ (f : NodeFault). n ≡ left_at n a (Err f)) (sym e) refl)
@@ -177,8 +179,10 @@ module _ (n : NodeState) (p : Piece) where
       one : (f : WireFault) → r ≡ Err f → strange_by f ≡ fault.Foreign (foreign.Bytes f) → new ≡ record n { pieces = without h n.pieces }
           → ComesAs n new (arrival_of_all (without h n.pieces) r) (Err (strange_by f))
       one f e is state = rw (e, is) (record { ready = record { given = inr refl; safe = tt }; state = state })
+
       not_memory : (f : WireFault) → (f ≡ wire.Memory → ⊥) → (f ≡ wire.Memory) ⊎ (r ≡ Err f) → r ≡ Err f
       not_memory f never read = ⊎_elim (λ e. absurd (never e)) (λ e. e) read
+
       by : (f : WireFault) → (f ≡ wire.Memory) ⊎ (r ≡ Err f) → new ≡ dropped_by n h f → ComesAs n new (arrival_of_all (without h n.pieces) r) (Err (strange_by f))
       by wire.Memory read state = record { ready = record { given = inl refl; safe = tt }; state = state }
       by wire.TooLong read state = one wire.TooLong (not_memory wire.TooLong (λ e. cc) read) refl state

@@ -9,3 +9,4 @@ pub mod Places
 pub mod AtFirst
 pub mod Opened
 pub mod Coming
+pub mod Handling
