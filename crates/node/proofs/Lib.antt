@@ -6,4 +6,7 @@ pub mod Readying
 pub mod Finishing
 pub mod Reading
 pub mod Places
+pub mod AtFirst
+pub mod Opened
 pub mod Coming
+pub mod Handling
