@@ -32,7 +32,7 @@ use Rattle.node.specs.inside.Stepping.{AreKept, ComesAs, MakesReady, dropped_by,
 -- ---- what is refused
 
 -- a step on bytes is refused only where they are foreign
-pub refused_as_foreign : (s : State) (a : Arrival) (f : NodeFault) → step_on s a ≡ Err f → (x : Foreign) × (f ≡ fault.Foreign x)
+refused_as_foreign : (s : State) (a : Arrival) (f : NodeFault) → step_on s a ≡ Err f → (x : Foreign) × (f ≡ fault.Foreign x)
 refused_as_foreign s (Strange x pieces) f e = (x, (let same : Err (fault.Foreign x) ≡ Err f = e in cc))
 refused_as_foreign s (Waits pieces) f e = absurd (let no : Ok (record { answer = nothing s; pieces = pieces }) ≡ Err f = e in cc)
 refused_as_foreign s (Whole m pieces) f e = by (members.heard s m) e
