@@ -1,0 +1,11 @@
+pub mod ranges
+pub mod Pieces
+pub mod Found
+pub mod Sent
+pub mod Readying
+pub mod Finishing
+pub mod Reading
+pub mod Places
+pub mod AtFirst
+pub mod Opened
+pub mod Coming

@@ -1,0 +1,10 @@
+pub mod Refusals
+pub mod Kept
+pub mod Ranges
+pub mod State
+pub mod Arrival
+pub mod Parcels
+pub mod Step
+pub mod OnLog
+pub mod Calls
+pub mod inside

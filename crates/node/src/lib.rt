@@ -1,0 +1,20 @@
+//! A member over its log: its note is on the disk before any bytes of its step exist.
+#![tactic(auto)]
+
+mod fault;
+mod kept;
+mod laws;
+mod node;
+mod noted;
+mod opening;
+mod parcels;
+mod ready;
+mod stepping;
+mod written;
+
+pub use crate::fault::{Foreign, NodeFault};
+pub use crate::laws::what_is_said_can_be_written;
+pub use crate::node::Node;
+pub use crate::parcels::Parcels;
+pub use crate::ready::{Change, Out, Ready};
+pub use events::{Event, Left, Torn};

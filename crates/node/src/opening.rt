@@ -1,0 +1,193 @@
+//! A node of what a file holds.
+ghost use Rattle.std.specs.Prelude.{◌≡◌, ◌<◌, ◌≤◌, IfErr, IfOk, MatchResult, Ok, OnOk, false, is_some, length, map};
+ghost use Rattle.ballots.specs.Weights.{AreWeights};
+ghost use Rattle.stable_record.specs.Crash.{AllAlong};
+ghost use Rattle.stable_record.specs.Faults.{HasRisen};
+ghost use Rattle.stable_record.specs.History.{seen};
+ghost use Rattle.stable_record.specs.Log.{note_of};
+ghost use Rattle.stable_record.specs.Opening.{HasOneAnswer, Opens, OpensAsLeft};
+ghost use Rattle.node.specs.Calls.{AreNotes, IsOpenFault, IsOpened, IsUntouched};
+ghost use Rattle.node.specs.OnLog.{IsOnLog, identity, identity_of, texts_of};
+ghost use Rattle.units.specs.Division.{number_named};
+ghost use Rattle.node.specs.inside.Opening.{IsNew, IsNoteFault, IsOver, IsReadBy, told_by, unread_by};
+
+use crate::noted::Noted;
+use crate::{Node, NodeFault};
+use arrayvec::ArrayVec;
+use ballots::{Note, Weights};
+use listing::Tree;
+use member::Member;
+use stable_record::{Disk, Identity, Log, LogFault};
+use std::alloc::Global;
+use units::Units;
+use wire::{WireFault, decode_note};
+
+impl<'a, D: Disk> Node<'a, D> {
+    /// The node that the file's notes restore; of a file that has none it is one that knows
+    /// nothing. It has no open claim, and no pieces. `weights` has one for each member, and `me` is
+    /// the number of one.
+    ///
+    /// # Errors
+    ///
+    /// `Memory`; and those of `Log::open`, of which `NotALog` comes also where a note of the file
+    /// is none, or is of no unit. The disk comes back.
+    pub fn open(
+        alloc: Global,
+        disk: D,
+        tree: &'a Tree,
+        weights: &Weights,
+        me: u8,
+    ) -> Result<Node<'a, D>, (NodeFault, D)>
+        requires { me < length weights.now }
+        // It is the node that the file's notes restore.
+        ensures node { IfOk result (λ n. IsOpened tree.entry.now weights.now me n.node) }
+        ensures notes { IfOk result (λ n. D.is_kept n.log.disk
+            → Opens (identity_of n.node.member) (seen (D.history disk))
+            (Ok (texts_of n.node.notes))) }
+        ensures on_log { IfOk result (λ n. D.is_kept n.log.disk → IsOnLog D.history n) }
+
+        // A file of bytes has one answer, so these notes are all that it opens as.
+        ensures one_answer { OnOk result (HasOneAnswer (identity tree.entry.now weights.now me)) }
+
+        // A crash at any moment leaves notes that a crash at the start could leave, whatever the
+        // call answers.
+        ensures any_moment { IfOk result (λ n. D.is_kept n.log.disk
+            → AllAlong (OpensAsLeft (identity_of n.node.member) (D.history disk))
+            (D.history disk) (D.history n.log.disk)) }
+        ensures any_moment_err { IfErr result (λ e. D.is_kept e.1
+            → AllAlong (OpensAsLeft (identity tree.entry.now weights.now me) (D.history disk))
+            (D.history disk) (D.history e.1)) }
+
+        // Each refusal has its cause, and what is no log of this member stays as it is.
+        ensures refused { IfErr result (λ e. D.is_kept e.1
+            → IsOpenFault tree.entry.now weights.now me (seen (D.history disk)) e.0) }
+        ensures untouched { IfErr result (λ e. D.is_kept e.1
+            → IsUntouched tree.entry.now weights.now me e.0 (D.history disk) (D.history e.1)) }
+        ensures device { IfErr result (λ e. e.0 ≡ NodeFault.Log LogFault.Device
+            → HasRisen (D.failures_of disk) (D.failures_of e.1)) }
+
+        // What was said of the disk before still stands.
+        ensures kept { MatchResult result (λ n. D.is_kept n.log.disk → D.is_kept disk)
+            (λ e. D.is_kept e.1 → D.is_kept disk) }
+        ensures later { MatchResult result (λ n. D.failures_of disk ≤ D.failures_of n.log.disk)
+            (λ e. D.failures_of disk ≤ D.failures_of e.1) }
+    {
+        let owner = owner(tree, weights, me);
+        let Ok(member) = Member::new(alloc, tree, weights, me) else {
+            return Err((NodeFault::Memory, disk));
+        };
+        match Log::open(alloc, disk, &owner) {
+            Ok((log, texts)) => over(alloc, member, log, texts.as_slice()),
+            Err((fault, disk)) => Err((told(fault), disk)),
+        }
+    }
+}
+
+/// The node over a log whose notes have these texts. Its member knows nothing yet.
+fn over<'a, D: Disk>(
+    alloc: Global,
+    member: Member<'a>,
+    log: Log<D>,
+    texts: &[Vec<u8>],
+) -> Result<Node<'a, D>, (NodeFault, D)>
+    requires member { IsNew member }
+    requires log { log.stopped ≡ false }
+    ensures node { IfOk result (λ n. IsOver member.entry (map note_of texts.now) n.node) }
+    ensures log { IfOk result (λ n. n.log ≡ log) }
+    ensures refused { IfErr result
+        (λ e. IsNoteFault member.entry.division (map note_of texts.now) e.0) }
+    ensures disk { IfErr result (λ e. e.1 ≡ log.disk) }
+{
+    match all_notes(alloc, member.units(), texts) {
+        Ok((notes, noted)) => {
+            let mut member = member;
+            member.restore(notes);
+            Ok(Node {
+                member,
+                log,
+                noted,
+                pieces: Vec::new(alloc),
+                stopped: false,
+            })
+        }
+        Err(fault) => Err((fault, log.into_disk())),
+    }
+}
+
+/// Whose log it is: that of this member, of members that weigh so, over the tree.
+fn owner(tree: &Tree, weights: &Weights, me: u8) -> Identity
+    ensures identity { result ≡ identity tree.now weights.now me }
+    ensures weights { AreWeights weights.now }
+{
+    let mut table = ArrayVec::new();
+    table.try_extend_from_slice(weights.as_slice()).unwrap();
+    Identity {
+        tree: tree.digest(),
+        weights: table,
+        me,
+    }
+}
+
+/// What a node answers where its log answers this.
+pub(crate) fn told(fault: LogFault) -> NodeFault
+    ensures { result ≡ told_by fault }
+{
+    match fault {
+        LogFault::Memory => NodeFault::Memory,
+        other => NodeFault::Log(other),
+    }
+}
+
+/// The notes with these texts, each of a unit.
+fn all_notes(
+    alloc: Global,
+    units: &Units<'_>,
+    texts: &[Vec<u8>],
+) -> Result<(Vec<Note>, Noted), NodeFault>
+    ensures notes { IfOk result (λ r. AreNotes units.now (map note_of texts.now) r.0.items) }
+    ensures texts { IfOk result (λ r. r.1.texts ≡ map note_of texts.now) }
+    ensures bad { IfErr result (IsNoteFault units.now (map note_of texts.now)) }
+{
+    let mut notes = Vec::with_capacity(alloc, texts.len())?;
+    let mut noted = Noted::new();
+    for text in texts {
+        notes.push(note(alloc, units, text.as_slice())?)?;
+        noted.note(text.as_slice());
+    }
+    Ok((notes, noted))
+}
+
+/// The note with this text, of a unit.
+fn note(alloc: Global, units: &Units<'_>, text: &[u8]) -> Result<Note, NodeFault>
+    ensures { IsReadBy units.now text.now result }
+{
+    let note = match decode_note(alloc, text) {
+        Ok(note) => note,
+        Err(fault) => return Err(unread(fault)),
+    };
+    if is_unit(units, &note) {
+        Ok(note)
+    } else {
+        Err(NodeFault::Log(LogFault::NotALog))
+    }
+}
+
+/// What a node answers where a text of its log is no note's.
+fn unread(fault: WireFault) -> NodeFault
+    ensures { result ≡ unread_by fault }
+{
+    match fault {
+        WireFault::Memory => NodeFault::Memory,
+        _ => NodeFault::Log(LogFault::NotALog),
+    }
+}
+
+/// Whether the note is of a unit, by its name.
+fn is_unit(units: &Units<'_>, note: &Note) -> bool
+    ensures { result ≡ is_some (number_named units.now note.now.path) }
+{
+    match units.find(&note.path) {
+        Some(unit) => units.name(unit) == &note.path,
+        None => false,
+    }
+}

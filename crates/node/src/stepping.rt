@@ -1,0 +1,487 @@
+//! The steps of a node.
+ghost use Rattle.std.specs.Prelude.{
+  ◌≡◌,
+  ◌≤◌,
+  ◌<◌,
+  ◌⊎◌,
+  IfErr,
+  IfOk,
+  IsErrOf,
+  List,
+  OnErr,
+  OnOk,
+  ℕ,
+  false,
+  true,
+  vec_capacity,
+  vec_len,
+};
+ghost use Rattle.std.specs.Option.{ForSome, option_copied};
+ghost use Rattle.faults.specs.Answers.{map_ok};
+ghost use Rattle.member.specs.Prepared.{MayBeTaken};
+ghost use Rattle.protocol.specs.Step as members;
+ghost use Rattle.stable_record.specs.Faults.{HasRisen};
+ghost use Rattle.stable_record.specs.OpenLog.{Holds};
+ghost use Rattle.wire.specs.Joining.{bytes_of};
+ghost use Rattle.wire.specs.Messages.{IsGoodBody};
+ghost use Rattle.wire.specs.Pieces.{IsPiece};
+ghost use Rattle.wire.specs.Reading.{joined as message_of};
+ghost use Rattle.node.specs.Arrival.{arrival_of_all, arrival_of_piece, refusal_of};
+ghost use Rattle.node.specs.Calls.{
+  HasHandled,
+  HasPrepared,
+  HasTaken,
+  IsCause,
+  IsLogCause,
+  LeavesItsNoteAtMost,
+  left_by,
+};
+ghost use Rattle.node.specs.Kept.{with_piece, without};
+ghost use Rattle.node.specs.OnLog.{IsOnLog, LacksRoom, LeavesOneMoreAtMost};
+ghost use Rattle.node.specs.Parcels.{datagrams_to};
+ghost use Rattle.node.specs.Ranges.{IsGoodInput};
+ghost use Rattle.node.specs.Step.{
+  Comes,
+  Does,
+  IsReadyFor,
+  answer_then,
+  changed,
+  heard,
+  note_in,
+  sends_in,
+  taken_by,
+};
+ghost use Rattle.node.specs.inside.Stepping.{
+  AreKept,
+  ComesAs,
+  GoesOnWith,
+  IsNoteCause,
+  IsPrepared,
+  LacksRoomFor,
+  MakesReady,
+  committed,
+  dropped_by,
+  foreign_by,
+  is_device,
+  refused_by,
+  strange_by,
+  with_text,
+};
+
+use crate::kept::{change_kept, drop_pieces, has_number, is_last, joined, make_room, test_header};
+use crate::noted::Noted;
+use crate::opening::told;
+use crate::{Change, Foreign, Node, NodeFault, Out, Ready};
+use ballots::Message;
+use claims::Job;
+use member::{Input, Member, Step};
+use protocol::Refusal;
+use stable_record::{Disk, Log, LogFault};
+use std::alloc::Global;
+use wire::{Datagram, Header, Piece, WireFault, decode};
+
+impl<'a, D: Disk> Node<'a, D> {
+    /// Makes the step on an input ready: all that it needs is grown, and nothing has changed.
+    ///
+    /// # Errors
+    ///
+    /// `Stopped`; else `Memory`, or the member's refusal.
+    pub fn prepare(&mut self, input: Input) -> Result<Ready, NodeFault>
+        requires message { IsGoodInput input }
+        ensures step { HasPrepared self.old.node self.new.node (Does input)
+            (map_ok (taken_by self.old.node) result) }
+        ensures ready { IfOk result (IsReadyFor self.new.node) }
+        ensures same { self.new ≡ self.old }
+    {
+        if self.stopped {
+            return Err(NodeFault::Stopped);
+        }
+        match self.prepare_input(input, Change::Stays) {
+            Ok(ready) => Ok(ready),
+            Err(refusal) => Err(refused(refusal)),
+        }
+    }
+
+    /// Makes the step on bytes that came ready. Nothing has changed, except that pieces which join
+    /// to no message are dropped.
+    ///
+    /// # Errors
+    ///
+    /// `Stopped`; else `Memory`, or what makes the bytes `Foreign`.
+    pub fn prepare_datagram(&mut self, bytes: &[u8]) -> Result<Ready, NodeFault>
+        ensures step { HasPrepared self.old.node self.new.node (Comes bytes.now)
+            (map_ok (taken_by self.old.node) result) }
+        ensures ready { IfOk result (IsReadyFor self.new.node) }
+        ensures log { self.new.log ≡ self.old.log }
+        ensures same { OnOk result (self.new ≡ self.old) }
+    {
+        if self.stopped {
+            return Err(NodeFault::Stopped);
+        }
+        match decode(self.allocator(), bytes) {
+            Ok(Datagram::Whole(message)) => self.prepare_message(message, Change::Stays),
+            Ok(Datagram::Piece(piece)) => self.prepare_piece(piece),
+            Err(fault) => Err(strange(fault)),
+        }
+    }
+
+    /// Makes the step on an input ready, which changes the pieces so.
+    fn prepare_input(&mut self, input: Input, change: Change) -> Result<Ready, Refusal>
+        requires message { IsGoodInput input }
+        requires pieces { AreKept (changed change self.old.node.pieces) }
+        ensures step { IsPrepared self.old.node input change result }
+        ensures same { self.new ≡ self.old }
+    {
+        let alloc = self.allocator();
+        let step = self.member.prepare(input)?;
+        Ok(Ready::of(alloc, step, change)?)
+    }
+
+    /// Makes the step on a message that came ready, which changes the pieces so.
+    fn prepare_message(&mut self, message: Message, change: Change) -> Result<Ready, NodeFault>
+        requires message { IsGoodBody message.path message.body }
+        requires pieces { AreKept (changed change self.old.node.pieces) }
+        ensures step { MakesReady self.old.node
+            (heard (changed change self.old.node.pieces)
+            (members.heard self.old.node.member message)) result }
+        ensures same { self.new ≡ self.old }
+    {
+        match self.prepare_input(Input::Message(message), change) {
+            Ok(ready) => Ok(ready),
+            Err(refusal) => Err(foreign(refusal)),
+        }
+    }
+
+    /// Makes the step on a piece that came ready. Its header is tested first.
+    fn prepare_piece(&mut self, piece: Piece) -> Result<Ready, NodeFault>
+        requires { IsPiece piece }
+        ensures step { ComesAs self.old.node self.new.node
+            (arrival_of_piece self.old.node.pieces piece
+            (refusal_of self.old.node.member piece.header)) result }
+        ensures log { self.new.log ≡ self.old.log }
+    {
+        if let Err(refusal) = test_header(&self.member, &piece.header) {
+            return Err(foreign(refusal));
+        }
+        if has_number(self.pieces.as_slice(), &piece.header, piece.number) {
+            Ok(Ready::waiting(self.allocator(), Change::Stays))
+        } else if is_last(self.pieces.as_slice(), &piece) {
+            self.prepare_joined(piece)
+        } else {
+            Ok(Ready::waiting(self.allocator(), Change::Keeps(piece)))
+        }
+    }
+
+    /// Makes the step on the message ready whose last missing piece came.
+    fn prepare_joined(&mut self, piece: Piece) -> Result<Ready, NodeFault>
+        requires { IsPiece piece }
+        ensures step { ComesAs self.old.node self.new.node
+            (arrival_of_all (without piece.header self.old.node.pieces)
+            (message_of piece.header (bytes_of piece.header
+            (with_piece self.old.node.pieces piece)))) result }
+        ensures log { self.new.log ≡ self.old.log }
+    {
+        let header = piece.header.copy()?;
+        match joined(&mut self.pieces, piece) {
+            Ok(message) => self.prepare_message(message, Change::Drops(header)),
+            Err(fault) => Err(self.drop_strange(&header, fault)),
+        }
+    }
+
+    /// What is answered where the pieces of a message make none. They are dropped, unless it was
+    /// memory that was wanting.
+    fn drop_strange(&mut self, header: &Header, fault: WireFault) -> NodeFault
+        ensures fault { result ≡ strange_by fault }
+        ensures node { self.new.node ≡ dropped_by self.old.node header.now fault }
+        ensures log { self.new.log ≡ self.old.log }
+    {
+        match fault {
+            WireFault::Memory => NodeFault::Memory,
+            other => {
+                drop_pieces(&mut self.pieces, header);
+                NodeFault::Foreign(Foreign::Bytes(other))
+            }
+        }
+    }
+
+    /// Takes a step that was made ready from the present facts. First its note goes to the log;
+    /// once that is on the disk, its datagrams and its job come out. After `Device` nothing has
+    /// come out, and the node is `Stopped` until it is opened again; after every other refusal
+    /// nothing has changed.
+    ///
+    /// # Errors
+    ///
+    /// `Memory`, and those of `Log::append`.
+    pub fn finish(&mut self, ready: Ready) -> Result<Out, NodeFault>
+        requires present { IsReadyFor self.old.node ready }
+        ensures taken { IfOk result
+            (HasTaken self.old.node self.new.node (taken_by self.old.node ready)) }
+        ensures on_log { D.is_kept self.new.log.disk → IsOnLog D.history self.old
+            → OnOk result (IsOnLog D.history self.new) }
+
+        // A crash at any moment of the call, and after it, leaves the notes from before it, with
+        // the step's note or without.
+        ensures any_moment { D.is_kept self.new.log.disk → IsOnLog D.history self.old
+            → LeavesOneMoreAtMost self.old.node (note_in ready.step)
+            (D.history self.old.log.disk) (D.history self.new.log.disk) }
+
+        // What was said of the disk before still stands, so that calls can follow one another.
+        ensures kept { D.is_kept self.new.log.disk → D.is_kept self.old.log.disk }
+        ensures later { D.failures_of self.old.log.disk ≤ D.failures_of self.new.log.disk }
+
+        // Each refusal has its cause, and says what it leaves of the node, and of the log.
+        ensures causes { IfErr result (IsLogCause self.old.log (note_in ready.step)) }
+        ensures within { OnOk result (¬ (LacksRoom self.old.log (note_in ready.step))) }
+        ensures device { IsErrOf result (NodeFault.Log LogFault.Device)
+            → HasRisen (D.failures_of self.old.log.disk) (D.failures_of self.new.log.disk) }
+        ensures stops { IsErrOf result (NodeFault.Log LogFault.Device)
+            → self.new.node ≡ record self.old.node { stopped = true } }
+        ensures refused { IfErr result (λ f. (f ≡ NodeFault.Log LogFault.Device)
+            ⊎ (self.new.node ≡ self.old.node)) }
+        ensures still_on_log { D.is_kept self.new.log.disk → IsOnLog D.history self.old
+            → IfErr result (λ f. (f ≡ NodeFault.Log LogFault.Device)
+            ⊎ (IsOnLog D.history self.new
+            × (D.history self.new.log.disk ≡ D.history self.old.log.disk))) }
+    {
+        make_room(&mut self.pieces)?;
+        write_note(
+            &mut self.log,
+            &mut self.noted,
+            &mut self.stopped,
+            ready.note(),
+        )?;
+        Ok(take(&mut self.member, &mut self.pieces, ready))
+    }
+
+    /// Takes the step on an input: `prepare`, and then `finish`.
+    ///
+    /// # Errors
+    ///
+    /// Those of the two.
+    pub fn handle(&mut self, input: Input) -> Result<Out, NodeFault>
+        requires message { IsGoodInput input }
+        ensures taken { IfOk result (HasHandled self.old.node self.new.node (Does input)) }
+        ensures on_log { D.is_kept self.new.log.disk → IsOnLog D.history self.old
+            → OnOk result (IsOnLog D.history self.new) }
+
+        // A crash at any moment of the call, and after it, leaves the notes from before it, with
+        // the step's note or without.
+        ensures any_moment { D.is_kept self.new.log.disk → IsOnLog D.history self.old
+            → LeavesItsNoteAtMost self.old.node (Does input) (D.history self.old.log.disk)
+            (D.history self.new.log.disk) }
+
+        // What was said of the disk before still stands, so that calls can follow one another.
+        ensures kept { D.is_kept self.new.log.disk → D.is_kept self.old.log.disk }
+        ensures later { D.failures_of self.old.log.disk ≤ D.failures_of self.new.log.disk }
+
+        // Each refusal has its cause, and says what it leaves of the node, and of the log: all,
+        // unless the device failed.
+        ensures causes { IfErr result (IsCause self.old (Does input)) }
+        ensures left { IfErr result (λ f. self.new.node ≡ left_by self.old.node (Does input) f) }
+        ensures still_on_log { D.is_kept self.new.log.disk → IsOnLog D.history self.old
+            → IfErr result (λ f. (f ≡ NodeFault.Log LogFault.Device)
+            ⊎ (IsOnLog D.history self.new
+            × (D.history self.new.log.disk ≡ D.history self.old.log.disk))) }
+        ensures device { IsErrOf result (NodeFault.Log LogFault.Device)
+            → HasRisen (D.failures_of self.old.log.disk) (D.failures_of self.new.log.disk) }
+        ensures stopped { self.old.node.stopped ≡ true
+            → (self.new.log ≡ self.old.log) × OnOk result ⊥ }
+    {
+        let ready = self.prepare(input)?;
+        self.finish(ready)
+    }
+
+    /// Takes the step on bytes that came: `prepare_datagram`, and then `finish`.
+    ///
+    /// # Errors
+    ///
+    /// Those of the two.
+    pub fn handle_datagram(&mut self, bytes: &[u8]) -> Result<Out, NodeFault>
+        ensures taken { IfOk result (HasHandled self.old.node self.new.node (Comes bytes.now)) }
+        ensures on_log { D.is_kept self.new.log.disk → IsOnLog D.history self.old
+            → OnOk result (IsOnLog D.history self.new) }
+
+        // A crash at any moment of the call, and after it, leaves the notes from before it, with
+        // the step's note or without.
+        ensures any_moment { D.is_kept self.new.log.disk → IsOnLog D.history self.old
+            → LeavesItsNoteAtMost self.old.node (Comes bytes.now) (D.history self.old.log.disk)
+            (D.history self.new.log.disk) }
+
+        // What was said of the disk before still stands, so that calls can follow one another.
+        ensures kept { D.is_kept self.new.log.disk → D.is_kept self.old.log.disk }
+        ensures later { D.failures_of self.old.log.disk ≤ D.failures_of self.new.log.disk }
+
+        // Each refusal has its cause, and says what it leaves of the node, and of the log: all,
+        // unless the device failed.
+        ensures causes { IfErr result (IsCause self.old (Comes bytes.now)) }
+        ensures left { IfErr result
+            (λ f. self.new.node ≡ left_by self.old.node (Comes bytes.now) f) }
+        ensures still_on_log { D.is_kept self.new.log.disk → IsOnLog D.history self.old
+            → IfErr result (λ f. (f ≡ NodeFault.Log LogFault.Device)
+            ⊎ (IsOnLog D.history self.new
+            × (D.history self.new.log.disk ≡ D.history self.old.log.disk))) }
+        ensures device { IsErrOf result (NodeFault.Log LogFault.Device)
+            → HasRisen (D.failures_of self.old.log.disk) (D.failures_of self.new.log.disk) }
+        ensures stopped { self.old.node.stopped ≡ true
+            → (self.new.log ≡ self.old.log) × OnOk result ⊥ }
+    {
+        let ready = self.prepare_datagram(bytes)?;
+        self.finish(ready)
+    }
+
+    /// What its collections are kept by.
+    fn allocator(&self) -> Global {
+        *self.pieces.allocator()
+    }
+}
+
+/// Writes the note of a step to the log of a node that is not stopped, if there is a note. Where
+/// the device fails, the node stops.
+fn write_note<D: Disk>(
+    log: &mut Log<D>,
+    noted: &mut Noted,
+    stopped: &mut bool,
+    note: Option<&[u8]>,
+) -> Result<(), NodeFault>
+    requires node_runs { stopped.old ≡ false }
+    requires log_runs { log.old.stopped ≡ false }
+    ensures noted { OnOk result
+        (noted.new.texts ≡ with_text noted.old.texts (option_copied note.entry)) }
+    ensures not_noted { OnErr result (noted.new.texts ≡ noted.old.texts) }
+    ensures acknowledged { D.is_kept log.new.disk → (texts : List (List ℕ))
+        → Holds D.history log.old texts
+        → OnOk result (Holds D.history log.new (with_text texts (option_copied note.entry))) }
+    ensures any_moment { D.is_kept log.new.disk → (texts : List (List ℕ))
+        → Holds D.history log.old texts
+        → GoesOnWith log.old.identity texts (option_copied note.entry) (D.history log.old.disk)
+        (D.history log.new.disk) }
+    ensures kept { D.is_kept log.new.disk → D.is_kept log.old.disk }
+    ensures later { D.failures_of log.old.disk ≤ D.failures_of log.new.disk }
+    ensures owner { log.new.identity ≡ log.old.identity }
+    ensures causes { IfErr result (IsNoteCause log.old (option_copied note.entry)) }
+    ensures within { OnOk result (¬ (LacksRoomFor log.old (option_copied note.entry))) }
+    ensures device { IsErrOf result (NodeFault.Log LogFault.Device)
+        → HasRisen (D.failures_of log.old.disk) (D.failures_of log.new.disk) }
+    ensures together { log.new.stopped ≡ stopped.new }
+    ensures goes_on { OnOk result (stopped.new ≡ false) }
+    ensures stops { IsErrOf result (NodeFault.Log LogFault.Device) → stopped.new ≡ true }
+    ensures stays { IfErr result (λ f. (f ≡ NodeFault.Log LogFault.Device)
+        ⊎ (stopped.new ≡ false)) }
+    ensures refused { D.is_kept log.new.disk → (texts : List (List ℕ))
+        → Holds D.history log.old texts
+        → IfErr result (λ f. (f ≡ NodeFault.Log LogFault.Device)
+        ⊎ (Holds D.history log.new texts
+        × (D.history log.new.disk ≡ D.history log.old.disk))) }
+{
+    match write(log, noted, note) {
+        Ok(()) => Ok(()),
+        Err(fault) => {
+            *stopped = is_device(fault);
+            Err(told(fault))
+        }
+    }
+}
+
+/// Adds the note to the log, if there is one. At `Ok` it is on the disk.
+fn write<D: Disk>(log: &mut Log<D>, noted: &mut Noted, note: Option<&[u8]>) -> Result<(), LogFault>
+    ensures noted { OnOk result
+        (noted.new.texts ≡ with_text noted.old.texts (option_copied note.entry)) }
+    ensures not_noted { OnErr result (noted.new.texts ≡ noted.old.texts) }
+    ensures acknowledged { D.is_kept log.new.disk → (texts : List (List ℕ))
+        → Holds D.history log.old texts
+        → OnOk result (Holds D.history log.new (with_text texts (option_copied note.entry))) }
+    ensures any_moment { D.is_kept log.new.disk → (texts : List (List ℕ))
+        → Holds D.history log.old texts
+        → GoesOnWith log.old.identity texts (option_copied note.entry) (D.history log.old.disk)
+        (D.history log.new.disk) }
+    ensures kept { D.is_kept log.new.disk → D.is_kept log.old.disk }
+    ensures later { D.failures_of log.old.disk ≤ D.failures_of log.new.disk }
+    ensures owner { log.new.identity ≡ log.old.identity }
+    ensures full { IsErrOf result LogFault.Full → LacksRoomFor log.old (option_copied note.entry) }
+    ensures within { OnOk result (¬ (LacksRoomFor log.old (option_copied note.entry))) }
+    ensures device { IsErrOf result LogFault.Device
+        → HasRisen (D.failures_of log.old.disk) (D.failures_of log.new.disk) }
+    ensures stopped { IsErrOf result LogFault.MustReopen → log.old.stopped ≡ true }
+    ensures no_opening { IsErrOf result LogFault.NotALog ⊎ IsErrOf result LogFault.OtherCluster
+        → ⊥ }
+    ensures stops { IsErrOf result LogFault.Device → log.new.stopped ≡ true }
+    ensures goes_on { log.new.stopped ≡ true
+        → log.old.stopped ≡ true ⊎ IsErrOf result LogFault.Device }
+    ensures refused { D.is_kept log.new.disk → (texts : List (List ℕ))
+        → Holds D.history log.old texts
+        → IsErrOf result LogFault.Memory ⊎ IsErrOf result LogFault.Full
+        → Holds D.history log.new texts × (D.history log.new.disk ≡ D.history log.old.disk) }
+{
+    if let Some(text) = note {
+        log.append(text)?;
+        noted.note(text);
+    }
+    Ok(())
+}
+
+/// Takes a step whose note is on the disk. It takes no memory.
+fn take(member: &mut Member<'_>, pieces: &mut Vec<Piece>, ready: Ready) -> Out
+    requires room { vec_len pieces.old < vec_capacity pieces.old }
+    requires step { ForSome ready.step (MayBeTaken member.old) }
+    ensures member { member.new ≡ committed member.old ready.step }
+    ensures pieces { pieces.new.items ≡ changed ready.change pieces.old.items }
+    ensures sends { result.sends ≡ datagrams_to (sends_in ready.step) }
+    ensures job { result.job ≡ (answer_then member.old ready.step).job }
+{
+    let (step, sends, change) = ready.apart();
+    change_kept(pieces, change);
+    let job = commit(member, step);
+    Out { sends, job }
+}
+
+/// Takes the member's part of a step, if it has one. It takes no memory.
+fn commit(member: &mut Member<'_>, step: Option<Step>) -> Option<Job>
+    requires { ForSome step (MayBeTaken member.old) }
+    ensures member { member.new ≡ committed member.old step }
+    ensures job { result ≡ (answer_then member.old step).job }
+{
+    match step {
+        Some(step) => member.commit(step).job,
+        None => None,
+    }
+}
+
+/// Whether the fault is one of the device, which stops a node.
+fn is_device(fault: LogFault) -> bool
+    ensures { result ≡ is_device fault }
+{
+    match fault {
+        LogFault::Device => true,
+        _ => false,
+    }
+}
+
+/// What is answered to an input that the member refuses.
+fn refused(refusal: Refusal) -> NodeFault
+    ensures { result ≡ refused_by refusal }
+{
+    match refusal {
+        Refusal::Memory => NodeFault::Memory,
+        other => NodeFault::Refused(other),
+    }
+}
+
+/// What is answered to a message that the member refuses.
+fn foreign(refusal: Refusal) -> NodeFault
+    ensures { result ≡ foreign_by refusal }
+{
+    match refusal {
+        Refusal::Memory => NodeFault::Memory,
+        other => NodeFault::Foreign(Foreign::Message(other)),
+    }
+}
+
+/// What is answered to bytes, or pieces, that mean nothing.
+fn strange(fault: WireFault) -> NodeFault
+    ensures { result ≡ strange_by fault }
+{
+    match fault {
+        WireFault::Memory => NodeFault::Memory,
+        other => NodeFault::Foreign(Foreign::Bytes(other)),
+    }
+}
