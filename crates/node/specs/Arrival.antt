@@ -1,0 +1,55 @@
+-- What bytes are to a node.
+use Rattle.std.specs.Prelude.{List, [], ◌∷◌, Option, None, Some, Result, Ok, Err, if◌then◌else◌}
+use Rattle.ballots.specs.declared.message.Message.{Message}
+use Rattle.protocol.specs.State.{State, Value}
+use Rattle.protocol.specs.Step.{header_refusal}
+use Rattle.protocol.specs.declared.refusal.Refusal.{Refusal}
+use Rattle.node.specs.Kept.{are_all, has_number, members_in, with_piece, without}
+use Rattle.node.specs.declared.fault.Foreign.{Foreign}
+use Rattle.node.specs.declared.fault.Foreign.TheVariants as foreign
+use Rattle.wire.specs.Joining.{bytes_of}
+use Rattle.wire.specs.Reading.{joined}
+use Rattle.wire.specs.declared.WireFault.{WireFault}
+use Rattle.wire.specs.declared.datagram.Datagram.{Datagram}
+use Rattle.wire.specs.declared.datagram.Datagram.TheVariants as datagram
+use Rattle.wire.specs.declared.datagram.Header.{Header}
+use Rattle.wire.specs.declared.datagram.Piece.{Piece}
+
+-- what bytes are to a node, and the pieces that it keeps then
+pub data Arrival : Type 0 where
+  -- They mean nothing to it.
+  Strange : Foreign → List Piece → Arrival
+  -- A piece came, and its message isn't whole yet.
+  Waits : List Piece → Arrival
+  -- A message is whole, and the node handles it.
+  Whole : Message Value → List Piece → Arrival
+
+-- Once the last missing piece came the pieces of the message are dropped, whether or not they join
+-- to one.
+abbrev pub arrival_of_all : List Piece → Result (Message Value) WireFault → Arrival
+arrival_of_all rest (Ok m) = Whole m rest
+arrival_of_all rest (Err f) = Strange (foreign.Bytes f) rest
+
+-- a piece that is not among these, which it joins
+abbrev pub arrival_of_new : List Piece → Piece → Arrival
+arrival_of_new pieces p =
+    let all = with_piece pieces p in
+    if are_all p.header all
+    then arrival_of_all (without p.header pieces) (joined p.header (bytes_of p.header all))
+    else Waits all
+
+-- A piece whose header the member refuses means nothing; one that the node has changes nothing.
+abbrev pub arrival_of_piece : List Piece → Piece → Option Refusal → Arrival
+arrival_of_piece pieces p (Some r) = Strange (foreign.Message r) pieces
+arrival_of_piece pieces p None =
+    if has_number p.header pieces p.number then Waits pieces else arrival_of_new pieces p
+
+-- why the member refuses the fields before the build
+abbrev pub refusal_of : State → Header → Option Refusal
+refusal_of s h = header_refusal s h.tree (h.sender ∷ members_in h.carrier) h.path
+
+-- a datagram, or bytes that are none
+abbrev pub arrival_of : State → List Piece → Result Datagram WireFault → Arrival
+arrival_of s pieces (Err f) = Strange (foreign.Bytes f) pieces
+arrival_of s pieces (Ok (datagram.Whole m)) = Whole m pieces
+arrival_of s pieces (Ok (datagram.Piece p)) = arrival_of_piece pieces p (refusal_of s p.header)

@@ -1,0 +1,65 @@
+-- What a contract sees of a node: its member, the notes on its log, and the pieces that it keeps.
+use Rattle.std.specs.Prelude.{◌≡◌, ◌++◌, ℕ, All, AllPairs, Bool, false, List, [], ◌∷◌, Option, None, Some}
+use Rattle.ballots.specs.declared.message.Note.{Note}
+use Rattle.protocol.specs.Member.{IsMember}
+use Rattle.protocol.specs.Restoring.{AreOnUnits, restored}
+use Rattle.protocol.specs.State.{State, Value, fresh}
+use Rattle.node.specs.Ranges.{IsClaimOf}
+use Rattle.stable_record.specs.declared.log.Log.{Log}
+use Rattle.units.specs.Division.{Division}
+use Rattle.wire.specs.Joining.{is_numbered}
+use Rattle.wire.specs.Messages.{IsNote}
+use Rattle.wire.specs.Pieces.{IsPiece}
+use Rattle.wire.specs.declared.datagram.Piece.{Piece}
+
+-- a node
+pub record NodeState : Type 0 where
+  -- what it knows by unit, and its open claim
+  pub member : State
+  -- the notes that its log has, in the order in which they were written
+  pub notes : List (Note Value)
+  -- the pieces of messages that are not whole yet, in the order in which they came
+  pub pieces : List Piece
+  -- its device failed, so that it has to be opened again
+  pub stopped : Bool
+
+-- a node, and the log that it stands on
+pub record LoggedNode (D : Type 0) : Type 0 where
+  pub node : NodeState
+  pub log : Log D
+
+-- the member of the same tree and number with what the notes restore, and no open claim
+abbrev pub restored_member : State → List (Note Value) → State
+restored_member s notes = restored (fresh s.division s.weights s.me) notes
+
+-- What holds of each node. What it knows for good is what its notes restore; and what it noted, and
+-- keeps, can be written down.
+pub record IsNode (n : NodeState) : Type 0 where
+  pub member : IsMember n.member
+  pub restored : n.member.facts ≡ (restored_member n.member n.notes).facts
+  pub notes : All IsNote n.notes
+  pub on_units : AreOnUnits n.member.division n.notes
+  pub claim : IsClaimOf n.member n.member.claim
+  pub pieces : All IsPiece n.pieces
+  -- no piece is kept twice
+  pub once : AllPairs (λ p q. is_numbered q.header q.number p ≡ false) n.pieces
+
+-- A node over its log: they stop together.
+pub record IsLogged {D : Type 0} (n : LoggedNode D) : Type 0 where
+  pub node : IsNode n.node
+  pub together : n.log.stopped ≡ n.node.stopped
+
+-- the node as it is opened: it has what the notes restore, no open claim, and no pieces
+abbrev pub opened_node : Division → List ℕ → ℕ → List (Note Value) → NodeState
+opened_node division weights me notes =
+    record {
+      member = restored (fresh division weights me) notes;
+      notes = notes;
+      pieces = [];
+      stopped = false;
+    }
+
+-- the notes with one more, if there is one
+abbrev pub with_note : List (Note Value) → Option (Note Value) → List (Note Value)
+with_note notes None = notes
+with_note notes (Some n) = notes ++ n ∷ []
