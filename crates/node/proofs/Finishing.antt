@@ -1,5 +1,5 @@
 -- A step that is taken, and what a log's refusal leaves.
-use Rattle.std.proofs.Common.{◌≡◌, ◌⊎◌, ⊎_elim, inl, inr, ◌++◌, ◌<◌, ℕ, All, Bool, true, false, List, [], ◌∷◌, Option, None, Some, Result, Ok, Err, arith, length, map, option_map, refl, sym, subst, ap, ◌∙◌, if◌then◌else◌}
+use Rattle.std.proofs.Common.{◌≡◌, ◌⊎◌, ⊎_elim, inl, inr, ◌++◌, All, Bool, true, false, List, [], ◌∷◌, Option, None, Some, Ok, Err, option_map, refl, sym, subst, ap, ◌∙◌, if◌then◌else◌}
 use Rattle.std.specs.Option.{ForSome}
 use Rattle.std.proofs.lemmas.List.{map-append}
 use Rattle.std.proofs.lemmas.List.Elements.{All-head, All-tail}
@@ -28,7 +28,6 @@ use Rattle.node.specs.declared.fault.NodeFault.{NodeFault}
 use Rattle.node.specs.declared.ready.Out.{Out}
 use Rattle.node.specs.declared.fault.NodeFault.TheVariants as fault
 use Rattle.node.specs.inside.Noted.{notes_in}
-use Rattle.node.specs.declared.ready.Change.{Change}
 use Rattle.node.specs.inside.Stepping.{GoesOnWith, IsNoteCause, LacksRoomFor, committed, with_text}
 use Rattle.wire.specs.declared.datagram.Piece.{Piece}
 

@@ -1,8 +1,8 @@
-use Rattle.std.proofs.Common.{◌≡◌, None, ap, inr, refl, sym, ◌∙◌}
+use Rattle.std.proofs.Common.{None, inr, refl}
 use Rattle.std.proofs.lemmas.Result.{err_from_is_err_and}
 use Rattle.std.specs.Option.{option_copied}
 use Rattle.node.proofs.Finishing.{cause_told, done_invariant, done_on_log, done_taken, no_moments, note_moments, runs, still_logged, still_node, still_noted}
-use Rattle.node.specs.Step.{changed, note_in}
+use Rattle.node.specs.Step.{note_in}
 use Rattle.node.proofs.node.Node.finish.Goals as goal
 
 pub returns-in_err-make_room-clause-any_moment : goal.returns-in_err-make_room-clause-any_moment

@@ -1,8 +1,7 @@
 use Rattle.std.proofs.Common.{Ok, map, subst, sym}
 use Rattle.stable_record.specs.History.{seen}
 use Rattle.stable_record.specs.Log.{note_of}
-use Rattle.stable_record.specs.Opening.{OpensAsLeft, Opens}
-use Rattle.stable_record.specs.Crash.{AllAlong}
+use Rattle.stable_record.specs.Opening.{Opens}
 use Rattle.node.proofs.AtFirst.{not_begun}
 use Rattle.node.proofs.Opened.{both_err, both_ok, log_refused, log_untouched, notes_refused, notes_untouched, opens_as, told_device}
 use Rattle.node.specs.OnLog.{identity}
