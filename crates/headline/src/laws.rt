@@ -13,7 +13,12 @@ ghost use Rattle.headline.specs.Laws.{
   NodesNeverDiffer,
   SentWasSaid,
 };
-ghost use Rattle.world.specs.Laws.{NothingSentIsForeign, OneAnswer, OneWorldFollows};
+ghost use Rattle.world.specs.Laws.{
+  EachStepHasAList,
+  NothingSentIsForeign,
+  OneAnswer,
+  OneWorldFollows,
+};
 
 /// What a build needs is spoiled by nothing that is held besides.
 pub fn needs_are_monotone()
@@ -43,9 +48,11 @@ pub fn matched_worlds_are_safe()
 {}
 
 /// In a world that is reached an event leaves one world at most; one that happens is not refused,
-/// and none is refused with two faults, nor as foreign.
+/// and none is refused with two faults, nor as foreign. Some list stands after each step that a
+/// node takes, so that none is missing for want of one.
 pub fn events_have_one_answer()
     ensures world { OneWorldFollows }
+    ensures list { EachStepHasAList }
     ensures answer { OneAnswer }
     ensures foreign { NothingSentIsForeign }
 {}
