@@ -61,7 +61,7 @@ pub fn events_have_one_answer()
 /// most one package a path; each was built by a host under a claim for its unit, after every
 /// dependency in its signature stood in the list with that very signature; every package a node
 /// holds is in it, and a path a node shows installable has its run closure held there.
-/// So two nodes never hold different packages for one path.
+/// So two nodes never hold different packages for one path, at one moment or at two.
 pub fn worlds_have_one_list()
     ensures one { EachRunHasOneList }
     ensures alike { NodesNeverDiffer }

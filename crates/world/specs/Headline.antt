@@ -112,12 +112,12 @@ pub record HeldIsListed (w : World) : Type 0 where
   pub paths : (k : ℕ) (x : WorldNode) (path : Text) (r : Content) → slice_get w.nodes k ≡ Some x
       → holds w k x path ≡ Some r → (r.path ≡ path) × Contains w.agreed r
 
--- Two nodes never hold different packages for one path.
-abbrev pub HoldAlike : World → Type 0
-HoldAlike w =
-    (j k : ℕ) (x y : WorldNode) (path : Text) (r q : Content) → slice_get w.nodes j ≡ Some x
+-- A node of the one world and one of the other never hold different packages for one path.
+abbrev pub HoldAlike : World → World → Type 0
+HoldAlike v w =
+    (j k : ℕ) (x y : WorldNode) (path : Text) (r q : Content) → slice_get v.nodes j ≡ Some x
     → slice_get w.nodes k ≡ Some y
-    → holds w j x path ≡ Some r → holds w k y path ≡ Some q → r ≡ q
+    → holds v j x path ≡ Some r → holds w k y path ≡ Some q → r ≡ q
 
 -- A node that is up and shows a path as installable holds all of the path's run closure.
 abbrev pub InstallableIsHeld : World → Type 0
