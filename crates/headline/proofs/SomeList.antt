@@ -34,9 +34,14 @@ use Rattle.headline.proofs.VoteTexts.{is_that_vote}
 -- where the same was sent, the list stays
 pub nothing_new : (w : World) (after : List Text) → after ≡ w.sent → (list : List Content)
     × IsListAfter w after list
-nothing_new w after same = (w.agreed, inr (λ name c d. true≢false
-    (sym d.now ∙ ap (λ sent. is_majority w.weights (voters w sent name c)) same ∙ d.not_before),
-    refl))
+nothing_new w after same = (
+  w.agreed,
+  inr (
+    λ name c d. true≢false
+        (sym d.now ∙ ap (λ sent. is_majority w.weights (voters w sent name c)) same ∙ d.not_before),
+    refl,
+  ),
+)
 
 -- a vote as a message of the agreement
 abbrev vote_there : ℕ → Claim → messages.Message Value
@@ -132,8 +137,7 @@ module _ (division : Division) (weights : List ℕ) (acts more : List (Act Value
     proposal : (a : Value) × Has (new.at u).sent (messages.Propose (ballot c a))
     proposal =
         let sound = (in_order division weights more v made of after).sound u in
-        let cast = sound.said (messages.Vote j c) vote_is_there in
-        (
+        let cast = sound.said (messages.Vote j c) vote_is_there in (
           cast.0,
           (sound.noted (record { member = j; ballot = ballot c cast.0 }) cast.1).proposed,
         )
