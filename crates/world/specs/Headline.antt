@@ -17,7 +17,7 @@ use Rattle.protocol.specs.Given.{Given}
 use Rattle.protocol.specs.Jobs.{job_of, record_by, signature}
 use Rattle.protocol.specs.State.{Building, Value, engine_of, facts_at, held_record}
 use Rattle.events.specs.Events.{Event, Built}
-use Rattle.world.specs.Happening.{Leads}
+use Rattle.world.specs.Happening.{Happens, Leads}
 use Rattle.world.specs.World.{World, WorldNode, member_at, start}
 
 -- ---- built by a host under a claim
@@ -63,9 +63,11 @@ pub record WasBuilt (division : Division) (weights : List ℕ) (events : List Ev
   pub event : Event
   pub behind : List Event
   pub among : events ≡ before ++ event ∷ behind
-  -- the world in which the event happened
+  -- the worlds in which the event happened, and which it left
   pub world : World
   pub led : Leads (start division weights) before world
+  pub then : World
+  pub happened : Happens world event then
   pub builds : Builds world event r
 
 -- ---- what a node holds
