@@ -12,7 +12,7 @@ use Rattle.units.specs.Division.{Division}
 use Rattle.auditing.specs.Fits.{Fits}
 use Rattle.world.specs.Happening.{Leads}
 use Rattle.world.specs.Headline.{AllFit, AtEachMoment, AuditSaysYes, HasOneList, InstallableIsHeld, WasBuilt, entry_of}
-use Rattle.world.specs.Laws.{EachStepHasAList, OneAnswer, OneWorldFollows}
+use Rattle.world.specs.Laws.{EachHappensOrIsRefused, EachStepHasAList, OneAnswer, OneWorldFollows}
 use Rattle.world.specs.Safety.{JobsStood}
 use Rattle.world.specs.World.{IsMade, World, start}
 use Rattle.world.proofs.Distinct.{one_a_path, one_there}
@@ -22,6 +22,7 @@ use Rattle.headline.specs.Matches.{Matches, packages_of}
 use Rattle.headline.specs.Mirrored.{after_all_acts}
 use Rattle.headline.proofs.Auditing.{audit_says_yes}
 use Rattle.headline.proofs.Built.{list_was_built}
+use Rattle.headline.proofs.EitherWay.{either_way}
 use Rattle.headline.proofs.Following.{happens_not_refused, one_follows, one_refusal}
 use Rattle.headline.proofs.Headers.{in_order}
 use Rattle.headline.proofs.Installed.{installable_is_held}
@@ -142,6 +143,13 @@ each_has_list runs again division weights events w e x t made led step acts =
     let later = leads_later (start division weights) w events led in
     step_has_list division weights r.0 w made (later.division, later.weights) r.3 r.2 again e step
     (record { node = x; taken = t; acts = acts })
+
+-- So each event happens, or is refused.
+pub each_happens_or_not : EachRunIsActs → BuildTextIsReadAgain → EachHappensOrIsRefused
+each_happens_or_not runs again division weights events w e made led letters can =
+    either_way w letters
+    (λ e step x t acts. each_has_list runs again division weights events w e x t made led step acts)
+    e can
 
 pub one_answer : OneAnswer
 one_answer division weights events w e made led =

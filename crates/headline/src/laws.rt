@@ -14,6 +14,7 @@ ghost use Rattle.headline.specs.Laws.{
   SentWasSaid,
 };
 ghost use Rattle.world.specs.Laws.{
+  EachHappensOrIsRefused,
   EachStepHasAList,
   NothingSentIsForeign,
   OneAnswer,
@@ -47,12 +48,13 @@ pub fn matched_worlds_are_safe()
     ensures held { MatchedHeldIsListed }
 {}
 
-/// In a world that is reached an event leaves one world at most; one that happens is not refused,
-/// and none is refused with two faults, nor as foreign. Some list stands after each step that a
-/// node takes, so that none is missing for want of one.
+/// In a world that is reached each event happens or is refused: it leaves one world at most, one
+/// that happens is not refused, and none is refused with two faults, nor as foreign. Some list
+/// stands after each step that a node takes.
 pub fn events_have_one_answer()
     ensures world { OneWorldFollows }
     ensures list { EachStepHasAList }
+    ensures either { EachHappensOrIsRefused }
     ensures answer { OneAnswer }
     ensures foreign { NothingSentIsForeign }
 {}
