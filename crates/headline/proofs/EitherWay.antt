@@ -2,9 +2,7 @@
 use Rattle.std.proofs.Common.{◌≡◌, ◌⊎◌, ◌<◌, ℕ, zero, suc, Bool, true, false, not, ◌&&◌, nat_le, List, [], ◌∷◌, length, Option, None, Some, Result, Ok, Err, slice_get, refl, sym, ap, subst, ◌∙◌, arith, inl, inr, ⊎_elim}
 use Rattle.std.proofs.lemmas.Bool.{cases_lt, leb-false, true≢false}
 use Rattle.faults.specs.Answers.{first_that_applies}
-use Rattle.faults.specs.Bytes.{Text}
 use Rattle.ballots.specs.declared.message.Note.{Note}
-use Rattle.engine.specs.declared.Letter.{Letter}
 use Rattle.engine.specs.declared.Letter.TheVariants.{Q}
 use Rattle.events.specs.Events as events
 use Rattle.events.specs.Events.{Event, is_step}
@@ -12,7 +10,7 @@ use Rattle.events.specs.declared.event.Left.{Left}
 use Rattle.events.specs.declared.event.Left.TheVariants as left
 use Rattle.node.specs.OnLog.{IsFull}
 use Rattle.node.specs.State.{NodeState}
-use Rattle.node.specs.Step.{Asked, Comes, Does, IsAsked, Taken, Takes, step, unit_asked}
+use Rattle.node.specs.Step.{Asked, Comes, Does, IsAsked, Taken, Takes}
 use Rattle.node.specs.declared.fault.NodeFault.{NodeFault}
 use Rattle.node.specs.declared.fault.NodeFault.TheVariants as node_fault
 use Rattle.package_record.specs.Content.{Content}
@@ -21,7 +19,7 @@ use Rattle.protocol.specs.Step.{IsLetterOf}
 use Rattle.protocol.specs.declared.input.Input.TheVariants as inputs
 use Rattle.stable_record.specs.declared.log_fault.LogFault.TheVariants.{Full}
 use Rattle.units.specs.Division.{number_found}
-use Rattle.world.specs.Happening.{Acts, Asks, Happens, HasRoomFor, IsRefused, IsUp, LogIsFull, NodeRefuses, Steps, StopsIn, fault_before, is_bad_stop, is_restart, is_up, lacks_datagram, left_node, leaves_note, stepped, up_of}
+use Rattle.world.specs.Happening.{Acts, Asks, Happens, HasRoomFor, IsRefused, IsUp, Steps, fault_before, is_bad_stop, is_restart, is_up, lacks_datagram, left_node, leaves_note, stepped, up_of}
 use Rattle.world.specs.Laws.{HaveLetters}
 use Rattle.world.specs.Lists.{IsListAfter}
 use Rattle.world.specs.Sent.{with_sends}
@@ -96,17 +94,23 @@ module _ (w : World) (letters : HaveLetters w) where
     where
       by : (o : Option ℕ) → number_found w.division path ≡ o → (r : Result Taken NodeFault)
           × Takes (node_at w k x) (Does (inputs.Claim path host above)) r
-      by None e = (_, record {
-        letter = Q;
-        shown = subst (λ o. IsLetterOf (member_at w k x) o Q) (sym e) tt;
-        right_is = refl;
-      })
+      by None e = (
+        _,
+        record {
+          letter = Q;
+          shown = subst (λ o. IsLetterOf (member_at w k x) o Q) (sym e) tt;
+          right_is = refl;
+        },
+      )
       by (Some u) e =
-          let l = letters k u x path stands e in (_, record {
-            letter = l.0;
-            shown = subst (λ o. IsLetterOf (member_at w k x) o l.0) (sym e) l.1;
-            right_is = refl;
-          })
+          let l = letters k u x path stands e in (
+            _,
+            record {
+              letter = l.0;
+              shown = subst (λ o. IsLetterOf (member_at w k x) o l.0) (sym e) l.1;
+              right_is = refl;
+            },
+          )
   some_answer k x stands (Does (inputs.Built path files)) =
       (_, record { letter = Q; shown = tt; right_is = refl })
   some_answer k x stands (Does (inputs.Failed path)) =
@@ -136,13 +140,22 @@ module _ (w : World) (letters : HaveLetters w) where
         taken : (t : Taken) → Acts w e x t → ((v : World) × Steps w e v)
             ⊎ ((f : WorldFault) × IsRefused w e f)
         taken t acts = ⊎_elim
-            (λ full. inr (fault.Node (node_fault.Log Full), inr (none, inr (record {
-              node = x;
-              taken = t;
-              acts = acts;
-              noted = noted;
-              full = full;
-            }, refl))))
+            (λ full. inr (
+              fault.Node (node_fault.Log Full),
+              inr (
+                none,
+                inr (
+                  record {
+                    node = x;
+                    taken = t;
+                    acts = acts;
+                    noted = noted;
+                    full = full;
+                  },
+                  refl,
+                ),
+              ),
+            ))
             (λ room. let l = lists x t acts in inl (
               stepped w (events.node_of e) x t l.0,
               record {
@@ -165,13 +178,23 @@ module _ (w : World) (letters : HaveLetters w) where
           can_be = can asked asks;
           takes = takes;
         })
-        by (Err f, takes) = inr (fault.Node f, inr (none, inl (f, record {
-          node = x;
-          is_up = up;
-          asked = asked;
-          asks = asks;
-          refuses = takes;
-        }, refl)))
+        by (Err f, takes) = inr (
+          fault.Node f,
+          inr (
+            none,
+            inl (
+              f,
+              record {
+                node = x;
+                is_up = up;
+                asked = asked;
+                asks = asks;
+                refuses = takes;
+              },
+              refl,
+            ),
+          ),
+        )
 
   -- ---- a stop inside a step
 
@@ -183,27 +206,39 @@ module _ (w : World) (letters : HaveLetters w) where
 
     stop_taken : (x : WorldNode) (t : Taken) → Acts w e x t → Goes (events.StopIn e l)
     stop_taken x t acts = ⊎_elim
-        (λ full. inr (fault.Node (node_fault.Log Full), inr (none, inr (record {
-          node = x;
-          taken = t;
-          acts = record {
-            is_up = record { stands = acts.is_up.stands; up = acts.is_up.up };
-            asked = acts.asked;
-            asks = acts.asks;
-            can_be = acts.can_be;
-            takes = acts.takes;
-          };
-          noted = full.0;
-          full = full.1;
-        }, refl))))
-        (λ room. inl (with_node w k (left_node l x.notes t.answer.note), record {
-          node = x;
-          taken = t;
-          step = is;
-          acts = acts;
-          room = room;
-          leaves = refl;
-        }))
+        (λ full. inr (
+          fault.Node (node_fault.Log Full),
+          inr (
+            none,
+            inr (
+              record {
+                node = x;
+                taken = t;
+                acts = record {
+                  is_up = record { stands = acts.is_up.stands; up = acts.is_up.up };
+                  asked = acts.asked;
+                  asks = acts.asks;
+                  can_be = acts.can_be;
+                  takes = acts.takes;
+                };
+                noted = full.0;
+                full = full.1;
+              },
+              refl,
+            ),
+          ),
+        ))
+        (λ room. inl (
+          with_node w k (left_node l x.notes t.answer.note),
+          record {
+            node = x;
+            taken = t;
+            step = is;
+            acts = acts;
+            room = room;
+            leaves = refl;
+          },
+        ))
         (room_or_not l)
       where
         room_or_not : (l : Left) → ((leaves_note (events.StopIn e l) ≡ true)
@@ -226,13 +261,23 @@ module _ (w : World) (letters : HaveLetters w) where
           can_be = can asked asks;
           takes = takes;
         })
-        by (Err f, takes) = inr (fault.Node f, inr (none, inl (f, record {
-          node = x;
-          is_up = record { stands = up.stands; up = up.up };
-          asked = asked;
-          asks = asks;
-          refuses = takes;
-        }, refl)))
+        by (Err f, takes) = inr (
+          fault.Node f,
+          inr (
+            none,
+            inl (
+              f,
+              record {
+                node = x;
+                is_up = record { stands = up.stands; up = up.up };
+                asked = asked;
+                asks = asks;
+                refuses = takes;
+              },
+              refl,
+            ),
+          ),
+        )
 
   -- ---- any event
 
@@ -293,11 +338,14 @@ module _ (w : World) (letters : HaveLetters w) where
         step_either lists (events.Deliver d n) can refl refl refl none
     goes_on (events.Stop n) can none =
         let x = its_node (events.Stop n) none in
-        inl (with_node w n (down_node (x.0).notes []), record {
-          node = x.0;
-          is_up = is_on (events.Stop n) refl none;
-          leaves = refl;
-        })
+        inl (
+          with_node w n (down_node (x.0).notes []),
+          record {
+            node = x.0;
+            is_up = is_on (events.Stop n) refl none;
+            leaves = refl;
+          },
+        )
     goes_on (events.StopIn e l) can none =
         let there = passed (events.StopIn e l) none in
         let is = not_false (is_step e) there.first in
@@ -307,12 +355,15 @@ module _ (w : World) (letters : HaveLetters w) where
         (record { stands = up.stands; up = up.up }) a.0 a.1
     goes_on (events.Restart n) can none =
         let x = its_node (events.Restart n) none in
-        inl (with_node w n (restarted_node (x.0).notes), record {
-          node = x.0;
-          stands = x.1;
-          down = sym (ap up_of x.1) ∙ (passed (events.Restart n) none).fourth;
-          leaves = refl;
-        })
+        inl (
+          with_node w n (restarted_node (x.0).notes),
+          record {
+            node = x.0;
+            stands = x.1;
+            down = sym (ap up_of x.1) ∙ (passed (events.Restart n) none).fourth;
+            leaves = refl;
+          },
+        )
 
     -- Each event happens, or is refused.
     pub either_way : (e : Event) → ((asked : Asked) → Asks w e asked → IsAsked asked) → Goes e
