@@ -1,5 +1,5 @@
 -- What a crash leaves where nothing was done yet.
-use Rattle.std.proofs.Common.{◌≡◌, ⊎_elim, inl, inr, ℕ, ◌<◌, List, [], ◌∷◌, arith, length-take, refl, subst, sym, take}
+use Rattle.std.proofs.Common.{⊎_elim, ℕ, List, [], ◌∷◌, arith, length-take, subst, sym, take}
 use Rattle.std.proofs.lemmas.Bool.{cases_lt}
 use Rattle.std.proofs.lemmas.List.{get_or-take, get_or_past}
 use Rattle.stable_record.specs.Crash.{AllAlong, MayLeave, at_first}

@@ -1,5 +1,5 @@
 -- Bytes that come to a node.
-use Rattle.std.proofs.Common.{◌≡◌, ◌⊎◌, ⊎_elim, inl, inr, ℕ, All, Bool, true, false, List, Option, None, Some, Result, Ok, Err, IfOk, OnOk, refl, sym, subst, ap, ◌∙◌}
+use Rattle.std.proofs.Common.{◌≡◌, ◌⊎◌, ⊎_elim, inl, inr, true, false, List, Option, None, Some, Result, Ok, Err, IfOk, OnOk, refl, sym, subst, ap, ◌∙◌}
 use Rattle.faults.specs.Answers.{map_ok}
 use Rattle.faults.specs.Bytes.{Text}
 use Rattle.ballots.specs.declared.message.Message.{Message}
@@ -8,18 +8,15 @@ use Rattle.protocol.specs.Answers.{Answer}
 use Rattle.protocol.specs.State.{State, Value}
 use Rattle.protocol.specs.Step as members
 use Rattle.protocol.specs.declared.refusal.Refusal.{Refusal}
-use Rattle.protocol.specs.declared.refusal.Refusal.TheVariants as refusals
 use Rattle.wire.specs.Joining.{bytes_of}
-use Rattle.wire.specs.Pieces.{IsPiece}
 use Rattle.wire.specs.Reading.{datagram_of, joined}
 use Rattle.wire.specs.declared.WireFault.{WireFault}
 use Rattle.wire.specs.declared.WireFault.TheVariants as wire
-use Rattle.wire.specs.declared.datagram.Datagram.TheVariants as datagrams
 use Rattle.wire.specs.declared.datagram.Header.{Header}
 use Rattle.wire.specs.declared.datagram.Piece.{Piece}
 use Rattle.node.proofs.Finishing.{member_stays}
 use Rattle.node.proofs.Readying.{told_foreign}
-use Rattle.node.specs.Arrival.{Arrival, Strange, Waits, Whole, arrival_of, arrival_of_all, arrival_of_new, arrival_of_piece}
+use Rattle.node.specs.Arrival.{Arrival, Strange, Waits, Whole, arrival_of, arrival_of_all, arrival_of_piece}
 use Rattle.node.specs.Calls.{HasPrepared, left_by}
 use Rattle.node.specs.Kept.{are_all, has_number, with_piece, without}
 use Rattle.node.specs.State.{IsNode, LoggedNode, NodeState}
@@ -30,12 +27,12 @@ use Rattle.node.specs.declared.fault.NodeFault.{NodeFault}
 use Rattle.node.specs.declared.fault.NodeFault.TheVariants as fault
 use Rattle.node.specs.declared.ready.Change.{Change}
 use Rattle.node.specs.declared.ready.Change.TheVariants as change
-use Rattle.node.specs.inside.Stepping.{AreKept, ComesAs, IsSafe, MakesReady, dropped_by, foreign_by, left_at, strange_by}
+use Rattle.node.specs.inside.Stepping.{AreKept, ComesAs, MakesReady, dropped_by, foreign_by, left_at, strange_by}
 
 -- ---- what is refused
 
 -- a step on bytes is refused only where they are foreign
-pub refused_as_foreign : (s : State) (a : Arrival) (f : NodeFault) → step_on s a ≡ Err f → (x : Foreign) × (f ≡ fault.Foreign x)
+refused_as_foreign : (s : State) (a : Arrival) (f : NodeFault) → step_on s a ≡ Err f → (x : Foreign) × (f ≡ fault.Foreign x)
 refused_as_foreign s (Strange x pieces) f e = (x, (let same : Err (fault.Foreign x) ≡ Err f = e in cc))
 refused_as_foreign s (Waits pieces) f e = absurd (let no : Ok (record { answer = nothing s; pieces = pieces }) ≡ Err f = e in cc)
 refused_as_foreign s (Whole m pieces) f e = by (members.heard s m) e

@@ -1,5 +1,5 @@
 -- A step that is taken, and what a log's refusal leaves.
-use Rattle.std.proofs.Common.{◌≡◌, ◌⊎◌, ⊎_elim, inl, inr, ◌++◌, ◌<◌, ℕ, All, Bool, true, false, List, [], ◌∷◌, Option, None, Some, Result, Ok, Err, arith, length, map, option_map, refl, sym, subst, ap, ◌∙◌, if◌then◌else◌}
+use Rattle.std.proofs.Common.{◌≡◌, ◌⊎◌, ⊎_elim, inl, inr, ◌++◌, All, Bool, true, false, List, [], ◌∷◌, Option, None, Some, Ok, Err, option_map, refl, sym, subst, ap, ◌∙◌, if◌then◌else◌}
 use Rattle.std.specs.Option.{ForSome}
 use Rattle.std.proofs.lemmas.List.{map-append}
 use Rattle.std.proofs.lemmas.List.Elements.{All-head, All-tail}
@@ -28,7 +28,6 @@ use Rattle.node.specs.declared.fault.NodeFault.{NodeFault}
 use Rattle.node.specs.declared.ready.Out.{Out}
 use Rattle.node.specs.declared.fault.NodeFault.TheVariants as fault
 use Rattle.node.specs.inside.Noted.{notes_in}
-use Rattle.node.specs.declared.ready.Change.{Change}
 use Rattle.node.specs.inside.Stepping.{GoesOnWith, IsNoteCause, LacksRoomFor, committed, with_text}
 use Rattle.wire.specs.declared.datagram.Piece.{Piece}
 
@@ -147,13 +146,13 @@ module _ {D : Type 0} (history : D → History) (s : State) (texts : List Text) 
 
   -- the step was taken: these are the member, the texts, the pieces and the log then
   module _ (is : IsLogged before) (ready : IsReadyFor before.node r) (e : text ≡ option_map note_text (note_in r.step))
-      (new : State) (more : List Text) (left : List Piece) (stops : Bool) (now : Log D)
-      (member : new ≡ committed s r.step) (noted : more ≡ with_text texts text) (kept : left ≡ changed r.change pieces) (running : stops ≡ false) where
+      (new : State) (more : List Text) (had left : List Piece) (stops : Bool) (now : Log D)
+      (member : new ≡ committed s r.step) (noted : more ≡ with_text texts text) (had_them : had ≡ pieces) (kept : left ≡ changed r.change had) (running : stops ≡ false) where
     -- the node is as the step says
     pub done_state : node_with new more left stops ≡ after before.node (taken_by before.node r)
     done_state =
         let same : stops ≡ stopped = running ∙ sym (runs before.node r ready) in
-        rw (member, noted, kept, same) (finished s texts pieces stopped is.node r (noted_good before.node r ready.leaves) text e)
+        rw (member, noted, kept, had_them, same) (finished s texts pieces stopped is.node r (noted_good before.node r ready.leaves) text e)
 
     pub done_invariant : now.stopped ≡ stops → IsLogged (record { node = node_with new more left stops; log = now })
     done_invariant together = record { node = subst IsNode (sym done_state) ready.leaves; together = together }

@@ -9,4 +9,3 @@ pub mod Places
 pub mod AtFirst
 pub mod Opened
 pub mod Coming
-pub mod Handling

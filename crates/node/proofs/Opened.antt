@@ -1,9 +1,8 @@
 -- A node that is opened.
-use Rattle.std.proofs.Common.{◌≡◌, ◌⊎◌, inl, inr, ◌<◌, ℕ, All, false, List, [], IfErr, IfOk, Ok, Err, Result, arith, length, map, refl, sym, subst, ap, ◌∙◌}
+use Rattle.std.proofs.Common.{◌≡◌, ◌⊎◌, inl, inr, ℕ, false, List, [], IfErr, IfOk, Ok, Err, Result, arith, refl, sym, subst, ap, ◌∙◌}
 use Rattle.std.specs.Prelude.{◌≢◌}
 use Rattle.std.proofs.lemmas.List.Elements.{All-nil}
 use Rattle.faults.specs.Bytes.{Text}
-use Rattle.ballots.specs.Weights.{AreWeights}
 use Rattle.ballots.specs.declared.message.Note.{Note}
 use Rattle.listing.specs.Tree.{Tree}
 use Rattle.protocol.proofs.Restored.{notes_restore}
@@ -18,7 +17,6 @@ use Rattle.stable_record.specs.declared.log_fault.LogFault.TheVariants as log
 use Rattle.units.proofs.Once.{one_division}
 use Rattle.units.specs.Division.{Division, IsDivision}
 use Rattle.units.specs.Units.{AreUnits}
-use Rattle.wire.specs.Messages.{IsNote}
 use Rattle.wire.specs.Pieces.{IsPiece}
 use Rattle.wire.specs.declared.datagram.Piece.{Piece}
 use Rattle.node.proofs.Sent.{notes_again}

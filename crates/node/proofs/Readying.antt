@@ -1,7 +1,5 @@
 -- Steps that are made ready.
-use Rattle.std.proofs.Common.{◌≡◌, ◌⊎◌, ⊎_elim, inl, inr, ℕ, true, false, Option, None, Some, Result, Ok, Err, IfOk, refl, sym, subst, ap, ◌∙◌}
-use Rattle.std.specs.Option.{ForSome}
-use Rattle.faults.specs.Answers.{IsRightUnless, map_ok}
+use Rattle.std.proofs.Common.{◌≡◌, ◌⊎◌, ⊎_elim, inl, inr, true, false, Some, Result, Ok, Err, refl, sym, subst, ap, ◌∙◌}
 use Rattle.ballots.specs.declared.message.Message.{Message}
 use Rattle.engine.specs.declared.Letter.TheVariants.{T}
 use Rattle.member.specs.Prepared.{MayBeTaken, Prepared, answer_by}

@@ -1,5 +1,5 @@
 -- What the functions have done that make a node's step ready, and that write its note.
-use Rattle.std.specs.Prelude.{◌≡◌, ◌++◌, ℕ, All, AllPairs, false, List, [], ◌∷◌, Option, None, Some, Result, Ok, Err, IfOk, Bool, true}
+use Rattle.std.specs.Prelude.{◌≡◌, ◌++◌, All, AllPairs, false, List, [], ◌∷◌, Option, None, Some, Result, Ok, Err, IfOk, Bool, true}
 use Rattle.std.specs.Option.{ForSome}
 use Rattle.engine.specs.declared.Letter.{Letter}
 use Rattle.faults.specs.Answers.{IsRightUnless, map_ok}

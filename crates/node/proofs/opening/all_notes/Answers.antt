@@ -1,6 +1,5 @@
-use Rattle.std.proofs.Common.{◌≡◌, ◌++◌, ◌∷◌, [], Err, sym, subst, ◌∙◌}
+use Rattle.std.proofs.Common.{◌++◌, ◌∷◌, [], Err, sym, subst, ◌∙◌}
 use Rattle.std.proofs.lemmas.Result.{err_from_is_err_and}
-use Rattle.node.specs.Calls.{AreNotes}
 use Rattle.node.specs.inside.Opening.{IsNoteOf, IsReadBy}
 use Rattle.node.proofs.Reading.{not_notes, notes_more, texts_so_far}
 use Rattle.node.proofs.opening.all_notes.Goals as goal

@@ -15,7 +15,7 @@ invariant_of-result g c =
     let texts = map note_of c.args.texts.now in
     let are = subst (λ d. AreNotes d texts c.in-Ok.notes.items) c.units.ensures c.in-Ok.ensures.notes in
     let is = opened s c.requires.member texts c.in-Ok.notes.items are c.restore.new.self c.in-Ok.noted.texts c.new.result.items
-        c.restore.ensures c.in-Ok.ensures.texts c.new.ensures.items in
+    c.restore.ensures c.in-Ok.ensures.texts c.new.ensures.items in
     record { node = opened_invariant s c.requires.member texts c.in-Ok.notes.items are _ is; together = c.requires.log }
 
 pub returns-in-Ok-clause-node : goal.returns-in-Ok-clause-node
@@ -24,7 +24,7 @@ returns-in-Ok-clause-node g c =
     let texts = map note_of c.args.texts.now in
     let are = subst (λ d. AreNotes d texts c.in-Ok.notes.items) c.units.ensures c.in-Ok.ensures.notes in
     let is = opened s c.requires.member texts c.in-Ok.notes.items are c.restore.new.self c.in-Ok.noted.texts c.new.result.items
-        c.restore.ensures c.in-Ok.ensures.texts c.new.ensures.items in
+    c.restore.ensures c.in-Ok.ensures.texts c.new.ensures.items in
     subst (IsOver s texts) (sym is) (record { notes = are; node = refl })
 
 pub returns-clause-refused : goal.returns-clause-refused

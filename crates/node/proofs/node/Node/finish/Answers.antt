@@ -1,8 +1,8 @@
-use Rattle.std.proofs.Common.{◌≡◌, None, ap, inr, refl, sym, ◌∙◌}
+use Rattle.std.proofs.Common.{None, inr, refl}
 use Rattle.std.proofs.lemmas.Result.{err_from_is_err_and}
 use Rattle.std.specs.Option.{option_copied}
 use Rattle.node.proofs.Finishing.{cause_told, done_invariant, done_on_log, done_taken, no_moments, note_moments, runs, still_logged, still_node, still_noted}
-use Rattle.node.specs.Step.{changed, note_in}
+use Rattle.node.specs.Step.{note_in}
 use Rattle.node.proofs.node.Node.finish.Goals as goal
 
 pub returns-in_err-make_room-clause-any_moment : goal.returns-in_err-make_room-clause-any_moment
@@ -62,8 +62,8 @@ invariant_of-self-2 g c =
     let i = c.self.inside in
     let ready = rw (← c.self.view_is) at c.requires.present in
     done_invariant g.D.Disk.history i.member i.noted.texts i.pieces.items i.stopped i.log c.args.ready (option_copied c.note.result)
-    c.self.invariant ready c.note.ensures c.take.new.member c.write_note.new.noted.texts c.take.new.pieces.items c.write_note.new.stopped c.write_note.new.log
-    c.take.ensures.member c.in_ok-write_note.ensures.noted (c.take.ensures.pieces ∙ ap (changed c.args.ready.change) c.make_room.ensures.same) c.in_ok-write_note.ensures.goes_on
+    c.self.invariant ready c.note.ensures c.take.new.member c.write_note.new.noted.texts c.make_room.new.pieces.items c.take.new.pieces.items c.write_note.new.stopped c.write_note.new.log
+    c.take.ensures.member c.in_ok-write_note.ensures.noted c.make_room.ensures.same c.take.ensures.pieces c.in_ok-write_note.ensures.goes_on
     c.in_ok-write_note.ensures.together
 
 pub returns-clause-taken : goal.returns-clause-taken
@@ -72,8 +72,8 @@ returns-clause-taken g c =
     let ready = rw (← c.self.view_is) at c.requires.present in
     rw (← c.self.view_is)
     (done_taken g.D.Disk.history i.member i.noted.texts i.pieces.items i.stopped i.log c.args.ready (option_copied c.note.result)
-    c.self.invariant ready c.note.ensures c.take.new.member c.write_note.new.noted.texts c.take.new.pieces.items c.write_note.new.stopped c.write_note.new.log
-    c.take.ensures.member c.in_ok-write_note.ensures.noted (c.take.ensures.pieces ∙ ap (changed c.args.ready.change) c.make_room.ensures.same) c.in_ok-write_note.ensures.goes_on
+    c.self.invariant ready c.note.ensures c.take.new.member c.write_note.new.noted.texts c.make_room.new.pieces.items c.take.new.pieces.items c.write_note.new.stopped c.write_note.new.log
+    c.take.ensures.member c.in_ok-write_note.ensures.noted c.make_room.ensures.same c.take.ensures.pieces c.in_ok-write_note.ensures.goes_on
     c.take.result c.take.ensures.sends c.take.ensures.job)
 
 pub returns-clause-on_log : goal.returns-clause-on_log
@@ -82,8 +82,8 @@ returns-clause-on_log g c =
     let ready = rw (← c.self.view_is) at c.requires.present in
     rw (← c.self.view_is)
     (λ kept on. done_on_log g.D.Disk.history i.member i.noted.texts i.pieces.items i.stopped i.log c.args.ready (option_copied c.note.result)
-    c.self.invariant ready c.note.ensures c.take.new.member c.write_note.new.noted.texts c.take.new.pieces.items c.write_note.new.stopped c.write_note.new.log
-    c.take.ensures.member c.in_ok-write_note.ensures.noted (c.take.ensures.pieces ∙ ap (changed c.args.ready.change) c.make_room.ensures.same) c.in_ok-write_note.ensures.goes_on
+    c.self.invariant ready c.note.ensures c.take.new.member c.write_note.new.noted.texts c.make_room.new.pieces.items c.take.new.pieces.items c.write_note.new.stopped c.write_note.new.log
+    c.take.ensures.member c.in_ok-write_note.ensures.noted c.make_room.ensures.same c.take.ensures.pieces c.in_ok-write_note.ensures.goes_on
     c.in_ok-write_note.ensures.owner (c.in_ok-write_note.ensures.acknowledged kept) on)
 
 pub returns-clause-any_moment : goal.returns-clause-any_moment

@@ -1,8 +1,7 @@
 use Rattle.std.proofs.Common.{Ok, map, subst, sym}
 use Rattle.stable_record.specs.History.{seen}
 use Rattle.stable_record.specs.Log.{note_of}
-use Rattle.stable_record.specs.Opening.{OpensAsLeft, Opens}
-use Rattle.stable_record.specs.Crash.{AllAlong}
+use Rattle.stable_record.specs.Opening.{Opens}
 use Rattle.node.proofs.AtFirst.{not_begun}
 use Rattle.node.proofs.Opened.{both_err, both_ok, log_refused, log_untouched, notes_refused, notes_untouched, opens_as, told_device}
 use Rattle.node.specs.OnLog.{identity}
@@ -17,9 +16,9 @@ returns-in-Ok-open-clause-notes g c =
     let texts = map note_of c.as_slice.result.now in
     let file = seen (g.D.Disk.history c.args.disk) in
     both_ok c.over.result _ _ _ (λ n is same kept.
-        let opens = subst (λ ts. Opens c.owner-owner.result file (Ok (map note_of ts))) (sym c.as_slice.ensures.value)
-            (c.in-Ok-open.ensures.notes (subst (λ l. g.D.Disk.is_kept l.disk) same kept)) in
-        opens_as m c.args.tree.now c.args.weights.now c.args.me c.in-Ok.ensures.fresh c.in-Ok.ensures.tree texts n.node is c.owner-owner.result c.owner-owner.ensures.identity file opens)
+    let opens = subst (λ ts. Opens c.owner-owner.result file (Ok (map note_of ts))) (sym c.as_slice.ensures.value)
+    (c.in-Ok-open.ensures.notes (subst (λ l. g.D.Disk.is_kept l.disk) same kept)) in
+    opens_as m c.args.tree.now c.args.weights.now c.args.me c.in-Ok.ensures.fresh c.in-Ok.ensures.tree texts n.node is c.owner-owner.result c.owner-owner.ensures.identity file opens)
     c.over.ensures.node c.over.ensures.log
 
 pub returns-in-Ok-open-clause-refused : goal.returns-in-Ok-open-clause-refused
@@ -27,10 +26,10 @@ returns-in-Ok-open-clause-refused g c =
     let texts = map note_of c.as_slice.result.now in
     let old = g.D.Disk.history c.args.disk in
     both_err c.over.result _ _ _ (λ e bad same kept.
-        let opens = subst (λ ts. Opens c.owner-owner.result (seen old) (Ok (map note_of ts))) (sym c.as_slice.ensures.value)
-            (c.in-Ok-open.ensures.notes (subst g.D.Disk.is_kept same kept)) in
-        notes_refused c.args.tree.now c.args.weights.now c.args.me c.owner-owner.result c.owner-owner.ensures.identity c.in-Ok.member.division c.in-Ok.ensures.tree c.in-Ok.ensures.division texts old
-        (g.D.Disk.history e.1) opens e.0 bad)
+    let opens = subst (λ ts. Opens c.owner-owner.result (seen old) (Ok (map note_of ts))) (sym c.as_slice.ensures.value)
+    (c.in-Ok-open.ensures.notes (subst g.D.Disk.is_kept same kept)) in
+    notes_refused c.args.tree.now c.args.weights.now c.args.me c.owner-owner.result c.owner-owner.ensures.identity c.in-Ok.member.division c.in-Ok.ensures.tree c.in-Ok.ensures.division texts old
+    (g.D.Disk.history e.1) opens e.0 bad)
     c.over.ensures.refused c.over.ensures.disk
 
 pub returns-in-Ok-open-clause-untouched : goal.returns-in-Ok-open-clause-untouched
@@ -38,10 +37,10 @@ returns-in-Ok-open-clause-untouched g c =
     let texts = map note_of c.as_slice.result.now in
     let old = g.D.Disk.history c.args.disk in
     both_err c.over.result _ _ _ (λ e bad same kept.
-        let opens = subst (λ ts. Opens c.owner-owner.result (seen old) (Ok (map note_of ts))) (sym c.as_slice.ensures.value)
-            (c.in-Ok-open.ensures.notes (subst g.D.Disk.is_kept same kept)) in
-        notes_untouched c.args.tree.now c.args.weights.now c.args.me c.owner-owner.result c.owner-owner.ensures.identity c.in-Ok.member.division c.in-Ok.ensures.tree c.in-Ok.ensures.division texts old
-        (g.D.Disk.history e.1) opens c.in-Ok-open.ensures.one_answer e.0 bad)
+    let opens = subst (λ ts. Opens c.owner-owner.result (seen old) (Ok (map note_of ts))) (sym c.as_slice.ensures.value)
+    (c.in-Ok-open.ensures.notes (subst g.D.Disk.is_kept same kept)) in
+    notes_untouched c.args.tree.now c.args.weights.now c.args.me c.owner-owner.result c.owner-owner.ensures.identity c.in-Ok.member.division c.in-Ok.ensures.tree c.in-Ok.ensures.division texts old
+    (g.D.Disk.history e.1) opens c.in-Ok-open.ensures.one_answer e.0 bad)
     c.over.ensures.refused c.over.ensures.disk
 
 pub returns-clause-refused : goal.returns-clause-refused

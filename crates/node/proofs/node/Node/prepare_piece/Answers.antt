@@ -1,4 +1,4 @@
-use Rattle.std.proofs.Common.{◌≡◌, Err, None, Ok, Result, Some, false, subst, sym, true}
+use Rattle.std.proofs.Common.{◌≡◌, Err, None, Ok, Result, false, subst, sym, true}
 use Rattle.node.proofs.Coming.{comes_again, comes_foreign, comes_kept, comes_last}
 use Rattle.node.proofs.Pieces.{new_kept}
 use Rattle.node.specs.Arrival.{arrival_of_piece, refusal_of}
