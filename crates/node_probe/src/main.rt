@@ -12,8 +12,8 @@
 //! - `deliver N K`: datagram N comes to the node. `changed N K PLACE BYTE`: it comes with this byte
 //!   at the place. `bytes K HEX`: these bytes come.
 //! - `knows K PATH`: what the node knows of the path, and how many packages have each letter.
-//! - `stop K`: the node is opened again, and the letters are told. `crash K LEFT`: likewise, after a
-//!   crash of which LEFT is `before`, `written`, or the byte that fills what was not synced.
+//! - `stop K`: the node is opened again, and the letters are told. `crash K LEFT`: so it is after a
+//!   crash, of which LEFT is `before`, `written`, or the byte that fills what was not synced.
 //! - `opens K HEX`: what a file with these bytes opens to as the node's log: the length of the log,
 //!   or the number of the refusal.
 //! - `cuts K`: what the node's log opens to where it is cut to each length. `zeros K`: where the
