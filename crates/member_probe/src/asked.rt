@@ -1,8 +1,8 @@
 // The answer to a line.
-use input_words::{first_path, first_place, first_word, input};
 use crate::known::{claim_of, counts, facts, held, restarted};
 use crate::post::Post;
 use faults::Memory;
+use input_words::{first_path, first_place, first_word, input};
 use member::Input;
 
 pub fn answer(post: &mut Post<'_>, line: &str) -> Result<String, Memory> {

@@ -1,8 +1,8 @@
 // A row: some members, and what they are asked.
 use crate::asked::answer;
-use input_words::{first_word, listing, weights};
 use crate::post::Post;
 use faults::Memory;
+use input_words::{first_word, listing, weights};
 use listing::Tree;
 use std::alloc::Global;
 

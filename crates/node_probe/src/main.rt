@@ -11,13 +11,14 @@
 //!   its cause.
 //! - `deliver N K`: datagram N comes to the node. `changed N K PLACE BYTE`: it comes with this byte
 //!   at the place. `bytes K HEX`: these bytes come.
-//! - `knows K PATH`: what the node knows, and the letters of the row's packages.
-//! - `stop K`: the node is opened again. `crash K LEFT`: it is opened again after a crash, of which
-//!   LEFT is `before`, `written`, or the byte that fills what was not synced.
+//! - `knows K PATH`: what the node knows of the path, and how many packages have each letter.
+//! - `stop K`: the node is opened again, and the letters are told. `crash K LEFT`: so it is after a
+//!   crash, of which LEFT is `before`, `written`, or the byte that fills what was not synced.
 //! - `opens K HEX`: what a file with these bytes opens to as the node's log: the length of the log,
 //!   or the number of the refusal.
-//! - `cuts K`: what the node's log opens to where it is cut to each length, and `zeros K`: where
-//!   the byte at each place is 0, behind the first place that answers so. The node is opened again.
+//! - `cuts K`: what the node's log opens to where it is cut to each length. `zeros K`: where the
+//!   byte at each place is 0. An answer stands behind the first place that has it. The node is
+//!   opened again.
 //! - `failures K STEP`: the node's steps are taken again on disks whose calls fail, each in turn,
 //!   alone and with all later ones, and each of the five crashes follows. Its answer is how many
 //!   calls there are, if the node answers 1001 and then 1201, and is opened with the notes from
