@@ -25,7 +25,14 @@ pub(crate) fn first_parts(
     alloc: Global,
     tree: &Tree,
     units: &Units<'_>,
-) -> Result<((Vec<usize>, Letters), (Reversed, Reversed), (Vec<u32>, Walk)), Memory>
+) -> Result<
+    (
+        (Vec<usize>, Letters),
+        (Reversed, Reversed),
+        (Vec<u32>, Walk),
+    ),
+    Memory,
+>
     requires { units.now.tree ≡ tree.now }
     ensures kept { IfOk result (λ parts.
         AreKept units.now parts.0.1 parts.2.0.items parts.0.0.items parts.1.1 parts.1.0
@@ -69,11 +76,7 @@ fn turned_runs(alloc: Global, tree: &Tree) -> Result<Reversed, Memory>
 }
 
 /// At each package the units whose build needs it.
-fn turned_needs(
-    alloc: Global,
-    tree: &Tree,
-    units: &Units<'_>,
-) -> Result<Reversed, Memory>
+fn turned_needs(alloc: Global, tree: &Tree, units: &Units<'_>) -> Result<Reversed, Memory>
     requires { units.now.tree ≡ tree.now }
     ensures { IfOk result (λ needs.
         AreReversed (length tree.now) (length units.now.units) (needs_of units.now)
@@ -88,11 +91,7 @@ fn turned_needs(
 
 /// For each package how many it needs to run, through others too, itself included, and the walk
 /// that counted them.
-fn walked_lacks(
-    alloc: Global,
-    tree: &Tree,
-    runs: &Reversed,
-) -> Result<(Vec<u32>, Walk), Memory>
+fn walked_lacks(alloc: Global, tree: &Tree, runs: &Reversed) -> Result<(Vec<u32>, Walk), Memory>
     requires { AreReversed (length tree.now) (length tree.now) (run_at tree.now)
         (lists_of runs.now) }
     ensures lacks { IfOk result (λ counted. (length counted.0.items ≡ length tree.now)

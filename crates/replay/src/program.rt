@@ -175,11 +175,7 @@ fn audit_of_files<R: Files + AllocGlobal>(
 }
 
 /// The verdict on the list of packages in a file, by the tree that a listing describes.
-fn audit_in_file<R: Files + AllocGlobal>(
-    rt: &R,
-    tree: &Tree,
-    list: &str,
-) -> Result<Answer, Refusal>
+fn audit_in_file<R: Files + AllocGlobal>(rt: &R, tree: &Tree, list: &str) -> Result<Answer, Refusal>
     ensures ok { (is_single : Bool) → IsDescribed is_single tree.now
         → IfOk result (λ answer. IsAudit is_single answer.status answer.text.items) }
     ensures status { IfOk result (λ answer. (answer.status ≡ 0) ⊎ (answer.status ≡ 3)) }
