@@ -1,5 +1,6 @@
 //! The audit of a list of packages against a tree.
-ghost use Rattle.std.specs.Prelude.{IfOk};
+ghost use Rattle.std.specs.Prelude.{IfOk, []};
+ghost use Rattle.auditing.specs.Standing.{HasRead};
 ghost use Rattle.auditing.specs.Verdicts.{IsVerdict};
 
 use crate::standing::Standing;
@@ -13,6 +14,18 @@ pub fn audit(alloc: Global, tree: &Tree, list: &[Entry]) -> Result<Verdict, Memo
     ensures { IfOk result (IsVerdict tree.now list.now) }
 {
     let mut standing = Standing::new(alloc, tree)?;
+    audit_entries(alloc, &mut standing, list)
+}
+
+/// The same, where nothing of the list is read yet.
+fn audit_entries(
+    alloc: Global,
+    standing: &mut Standing<'_>,
+    list: &[Entry],
+) -> Result<Verdict, Memory>
+    requires { HasRead standing.old [] }
+    ensures { IfOk result (IsVerdict standing.old.tree.now list.now) }
+{
     for (index, entry) in list.iter().enumerate() {
         let earlier = &list[..index];
         if let Some(reason) = standing.first_reason(alloc, earlier, entry)? {

@@ -3,7 +3,7 @@ ghost use Rattle.std.specs.Prelude.{◌≡◌, ◌<◌, length, IfOk};
 ghost use Rattle.std.specs.FinSet as set;
 ghost use Rattle.engine.specs.State.{AreCounts, HasLetter, IsEngine, IsNextQueued};
 
-use crate::first::{first_lacks, first_letters, first_waits, turned_needs, turned_runs};
+use crate::first::first_parts;
 use crate::lacks::lower;
 use crate::letters::Letters;
 use crate::queueing::install_all;
@@ -59,12 +59,8 @@ impl<'a> Engine<'a> {
             (λ engine. engine ≡ record { tree = tree.entry.now; agreed = set.empty }) }
     {
         let units = Units::new(alloc, tree)?;
-        let waits = first_waits(alloc, &units)?;
-        let letters = first_letters(alloc, tree, &units, waits.as_slice())?;
-        let needs = turned_needs(alloc, tree, &units)?;
-        let runs = turned_runs(alloc, tree)?;
-        let mut walk = Walk::new(alloc, tree.len())?;
-        let lacks = first_lacks(alloc, tree, &runs, &mut walk)?;
+        let parts = first_parts(alloc, tree, &units)?;
+        let ((waits, letters), (needs, runs), (lacks, walk)) = parts;
         Ok(Engine {
             units,
             letters,

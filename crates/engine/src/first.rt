@@ -6,7 +6,7 @@ ghost use Rattle.engine.specs.inside.Lacking.{AreLacks};
 ghost use Rattle.engine.specs.inside.Lists.{AreReversed, lists_of};
 ghost use Rattle.engine.specs.inside.Queueing.{AreFitting, FitsUnit, needs_of};
 ghost use Rattle.engine.specs.inside.Shown.{is_held};
-ghost use Rattle.engine.specs.inside.Keeping.{holds};
+ghost use Rattle.engine.specs.inside.Keeping.{AreKept, holds};
 ghost use Rattle.engine.specs.inside.Walks.{IsIdle};
 
 use crate::Letter;
@@ -19,8 +19,52 @@ use listing::Tree;
 use std::alloc::Global;
 use units::Units;
 
+/// What an engine keeps beside the units where nothing is held: their waits and the letters, the
+/// turned lists of what builds and packages need, and the lacks with the walk that counted them.
+pub(crate) fn first_parts(
+    alloc: Global,
+    tree: &Tree,
+    units: &Units<'_>,
+) -> Result<
+    (
+        (Vec<usize>, Letters),
+        (Reversed, Reversed),
+        (Vec<u32>, Walk),
+    ),
+    Memory,
+>
+    requires { units.now.tree ≡ tree.now }
+    ensures kept { IfOk result (λ parts.
+        AreKept units.now parts.0.1 parts.2.0.items parts.0.0.items parts.1.1 parts.1.0
+        parts.2.1) }
+    ensures none_held { IfOk result (λ parts. (p : ℕ) → holds parts.0.1 p ≡ false) }
+{
+    let first = waits_and_letters(alloc, tree, units)?;
+    let turned = turned_lists(alloc, tree, units)?;
+    let counted = walked_lacks(alloc, tree, &turned.1)?;
+    Ok((first, turned, counted))
+}
+
+/// At each package the units whose build needs it, and the packages that need it to run.
+fn turned_lists(
+    alloc: Global,
+    tree: &Tree,
+    units: &Units<'_>,
+) -> Result<(Reversed, Reversed), Memory>
+    requires { units.now.tree ≡ tree.now }
+    ensures needs { IfOk result (λ lists.
+        AreReversed (length tree.now) (length units.now.units) (needs_of units.now)
+        (lists_of lists.0)) }
+    ensures runs { IfOk result (λ lists.
+        AreReversed (length tree.now) (length tree.now) (run_at tree.now) (lists_of lists.1)) }
+{
+    let needs = turned_needs(alloc, tree, units)?;
+    let runs = turned_runs(alloc, tree)?;
+    Ok((needs, runs))
+}
+
 /// At each package those that need it to run.
-pub(crate) fn turned_runs(alloc: Global, tree: &Tree) -> Result<Reversed, Memory>
+fn turned_runs(alloc: Global, tree: &Tree) -> Result<Reversed, Memory>
     ensures { IfOk result (λ runs.
         AreReversed (length tree.now) (length tree.now) (run_at tree.now) (lists_of runs)) }
 {
@@ -32,11 +76,7 @@ pub(crate) fn turned_runs(alloc: Global, tree: &Tree) -> Result<Reversed, Memory
 }
 
 /// At each package the units whose build needs it.
-pub(crate) fn turned_needs(
-    alloc: Global,
-    tree: &Tree,
-    units: &Units<'_>,
-) -> Result<Reversed, Memory>
+fn turned_needs(alloc: Global, tree: &Tree, units: &Units<'_>) -> Result<Reversed, Memory>
     requires { units.now.tree ≡ tree.now }
     ensures { IfOk result (λ needs.
         AreReversed (length tree.now) (length units.now.units) (needs_of units.now)
@@ -49,8 +89,22 @@ pub(crate) fn turned_needs(
     Ok(needs)
 }
 
+/// For each package how many it needs to run, through others too, itself included, and the walk
+/// that counted them.
+fn walked_lacks(alloc: Global, tree: &Tree, runs: &Reversed) -> Result<(Vec<u32>, Walk), Memory>
+    requires { AreReversed (length tree.now) (length tree.now) (run_at tree.now)
+        (lists_of runs.now) }
+    ensures lacks { IfOk result (λ counted. (length counted.0.items ≡ length tree.now)
+        × AreLacks (run_at tree.now) (λ p. false) (length tree.now) counted.0.items) }
+    ensures idle { IfOk result (λ counted. IsIdle (length tree.now) counted.1) }
+{
+    let mut walk = Walk::new(alloc, tree.len())?;
+    let lacks = first_lacks(alloc, tree, runs, &mut walk)?;
+    Ok((lacks, walk))
+}
+
 /// For each package how many it needs to run, through others too, itself included.
-pub(crate) fn first_lacks(
+fn first_lacks(
     alloc: Global,
     tree: &Tree,
     runs: &Reversed,
@@ -71,8 +125,26 @@ pub(crate) fn first_lacks(
     Ok(lacks)
 }
 
+/// For each unit how many packages its build needs, and the letters that follow where nothing is
+/// held.
+fn waits_and_letters(
+    alloc: Global,
+    tree: &Tree,
+    units: &Units<'_>,
+) -> Result<(Vec<usize>, Letters), Memory>
+    requires { units.now.tree ≡ tree.now }
+    ensures waits { IfOk result (λ first. (u : ℕ) → u < length units.now.units
+        → slice_index first.0.items u ≡ length (needs_of units.now u)) }
+    ensures fitting { IfOk result (λ first. AreFitting units.now first.1 first.0.items) }
+    ensures none_held { IfOk result (λ first. (p : ℕ) → holds first.1 p ≡ false) }
+{
+    let waits = first_waits(alloc, units)?;
+    let letters = first_letters(alloc, tree, units, waits.as_slice())?;
+    Ok((waits, letters))
+}
+
 /// For each unit how many packages its build needs.
-pub(crate) fn first_waits(alloc: Global, units: &Units<'_>) -> Result<Vec<usize>, Memory>
+fn first_waits(alloc: Global, units: &Units<'_>) -> Result<Vec<usize>, Memory>
     ensures waits { IfOk result (λ waits. (length waits.items ≡ length units.now.units)
         × ((u : ℕ) → u < length units.now.units
         → slice_index waits.items u ≡ length (needs_of units.now u))) }
@@ -86,7 +158,7 @@ pub(crate) fn first_waits(alloc: Global, units: &Units<'_>) -> Result<Vec<usize>
 }
 
 /// The letters where nothing is held: a unit that waits for nothing is queued.
-pub(crate) fn first_letters(
+fn first_letters(
     alloc: Global,
     tree: &Tree,
     units: &Units<'_>,

@@ -75,6 +75,21 @@ impl<'a> Row<'a> {
         }
     }
 
+    /// A row in which one variable is set.
+    fn with(line: u64, spelled: &'a [u8], variable: Variable, value: Value<'a>) -> Row<'a>
+        ensures { result ≡ with_value (new_row line spelled.entry) variable value.entry }
+    {
+        let mut row = Row::new(line, spelled);
+        match variable {
+            Variable::FullName => row.name = Some(value),
+            Variable::BuildDepends => row.build = Some(value),
+            Variable::LibDepends => row.lib = Some(value),
+            Variable::RunDepends => row.run = Some(value),
+            Variable::Ignore => row.ignore = Some(value),
+        }
+        row
+    }
+
     /// The name, if it is set.
     pub fn name(&self) -> Option<&PkgName>
         ensures { option_map (λ n. n.now) result ≡ name_in self.now }
@@ -288,11 +303,8 @@ impl<'a> Table<'a> {
             × (self.new.dependencies ≡ self.old.dependencies))
             (λ e. e ≡ ListingFault.Memory) }
     {
-        let mut row = Row::new(line, spelled);
-        // In a new row nothing is set, so that the value is no second one.
-        row.set(line, variable, value)?;
         self.paths.insert(path)?;
-        self.rows.push(row)?;
+        self.rows.push(Row::with(line, spelled, variable, value))?;
         Ok(())
     }
 

@@ -1,5 +1,5 @@
 //! The program `dpbr`.
-ghost use Rattle.std.specs.Prelude.{◌≡◌, ◌≤◌, ◌⊎◌, IfErr, IfOk, map, string_bytes};
+ghost use Rattle.std.specs.Prelude.{◌≡◌, ◌≤◌, ◌⊎◌, Bool, IfErr, IfOk, map, string_bytes};
 ghost use Rattle.std.specs.Io.KnownBytes.{Keeps};
 ghost use Rattle.replay.specs.Printed.{HasCarriedOut, HasPrinted, IsAudit, IsDescribed, IsOutputOf, IsStatus};
 ghost use Rattle.replay.specs.Stopped.{CannotCarryOut, HasFailed, HasStopped, RefusesAuditFiles, RefusesCall, RefusesListingFile, RefusesStatusFiles};
@@ -141,8 +141,22 @@ fn status_of_files<R: Files + AllocGlobal>(
     ensures refused { IfErr result (RefusesStatusFiles is_single) }
 {
     let tree = tree_of_file(rt, listing, is_single)?;
+    status_in_file(rt, &tree, held)
+}
+
+/// What is printed of the tree that a listing describes and the held package paths in a file.
+fn status_in_file<R: Files + AllocGlobal>(
+    rt: &R,
+    tree: &Tree,
+    held: &str,
+) -> Result<Answer, Refusal>
+    ensures ok { (is_single : Bool) → IsDescribed is_single tree.now
+        → IfOk result (λ answer. (answer.status ≡ 0) × IsStatus is_single answer.text.items) }
+    ensures refused { (is_single : Bool) → IsDescribed is_single tree.now
+        → IfErr result (RefusesStatusFiles is_single) }
+{
     let held = fs::read(rt, held)?;
-    let text = status(rt.alloc(), &tree, held.as_slice())?;
+    let text = status(rt.alloc(), tree, held.as_slice())?;
     Ok(Answer { text, status: 0 })
 }
 
@@ -157,8 +171,19 @@ fn audit_of_files<R: Files + AllocGlobal>(
     ensures refused { IfErr result (RefusesAuditFiles is_single) }
 {
     let tree = tree_of_file(rt, listing, is_single)?;
+    audit_in_file(rt, &tree, list)
+}
+
+/// The verdict on the list of packages in a file, by the tree that a listing describes.
+fn audit_in_file<R: Files + AllocGlobal>(rt: &R, tree: &Tree, list: &str) -> Result<Answer, Refusal>
+    ensures ok { (is_single : Bool) → IsDescribed is_single tree.now
+        → IfOk result (λ answer. IsAudit is_single answer.status answer.text.items) }
+    ensures status { IfOk result (λ answer. (answer.status ≡ 0) ⊎ (answer.status ≡ 3)) }
+    ensures refused { (is_single : Bool) → IsDescribed is_single tree.now
+        → IfErr result (RefusesAuditFiles is_single) }
+{
     let list = fs::read(rt, list)?;
-    let verdict = audit_list(rt.alloc(), &tree, list.as_slice())?;
+    let verdict = audit_list(rt.alloc(), tree, list.as_slice())?;
     let text = verdict_text(rt.alloc(), verdict)?;
     Ok(Answer {
         text: text.into_bytes(),
