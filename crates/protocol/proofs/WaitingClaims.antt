@@ -298,16 +298,16 @@ heard_comes s m a u named o waits (members.Building d) at job p c e is =
     elim (waits d at) [
       | inl before ↦ inl (is_waiting_claim u s.claim d before ∙ ap (λ q. Some q) same)
       | inr promised ↦ inr (
-          job ∙ (ap (λ b. if b then None else Some (job_of s u (host_in s.claim) d)) promised.0
-          ∙ λ i. Some (job_of s ((same i).unit) ((same i).host) (claim i))),
-          record {
-            message = m;
-            report = promised.1;
-            is = refl;
-            named = named ∙ ap (λ (q : OpenClaim). Some q.unit) same;
-            body = promised.2 ∙ ap (λ c. bodies.Promise c promised.1) claim;
-          },
-        )
+        job ∙ (ap (λ b. if b then None else Some (job_of s u (host_in s.claim) d)) promised.0
+            ∙ λ i. Some (job_of s ((same i).unit) ((same i).host) (claim i))),
+        record {
+          message = m;
+          report = promised.1;
+          is = refl;
+          named = named ∙ ap (λ (q : OpenClaim). Some q.unit) same;
+          body = promised.2 ∙ ap (λ c. bodies.Promise c promised.1) claim;
+        },
+      )
     ]
   where
     same : waiting u (host_in s.claim) d ≡ p
