@@ -1,4 +1,6 @@
 //! Nodes, what each was asked, and all datagrams that they ever sent.
+ghost use Rattle.std.specs.Prelude.{◌<◌, length};
+
 use crate::opening::{new_disk, opened};
 use crate::sending::{entered, sends_text};
 use crate::stepping::{Asked, taken};
@@ -120,7 +122,9 @@ fn new_node<'a>(
     tree: &'a Tree,
     weights: &Weights,
     me: u8,
-) -> Result<Option<Node<'a, FaultDisk>>, Memory> {
+) -> Result<Option<Node<'a, FaultDisk>>, Memory>
+    requires { me < length weights.now }
+{
     match opened(alloc, tree, weights, me, new_disk(alloc, &[])?) {
         Ok(node) => Ok(Some(node)),
         Err(NodeFault::Memory) => Err(Memory),
