@@ -48,9 +48,9 @@ pub fn matched_worlds_are_safe()
     ensures held { MatchedHeldIsListed }
 {}
 
-/// In a world that is reached each event happens or is refused: it leaves one world at most, one
-/// that happens is not refused, and none is refused with two faults, nor as foreign. Some list
-/// stands after each step that a node takes.
+/// In a world that is reached, where units show letters, each event happens or is refused. It
+/// leaves one world at most, one that happens is not refused, and none is refused with two faults,
+/// nor as foreign. Some list stands after each step that a node takes.
 pub fn events_have_one_answer()
     ensures world { OneWorldFollows }
     ensures list { EachStepHasAList }
