@@ -1,4 +1,4 @@
-//! A member over its log: its note is on the disk before any bytes of its step exist.
+//! A member over its log: its note is on the disk before it gives out any bytes of its step.
 #![tactic(auto)]
 
 mod fault;
