@@ -1,0 +1,38 @@
+-- What BUILDS gives: paths, each once, with their files.
+use Rattle.std.specs.Prelude.{List, [], ◌∷◌, ◌++◌, Option, None, Some, map, if◌then◌else◌}
+use Rattle.faults.specs.Bytes.{Text, is_among}
+use Rattle.package_record.specs.Content.{NamedFile}
+use Rattle.protocol.specs.Given.{Given}
+use Rattle.pkgpath.specs.PkgPath.{path_of}
+use Rattle.serde_json.specs.Data.{Data, Members, no_members, member}
+use Rattle.serde_json.specs.Find.{as_object}
+use Rattle.traces.specs.Fields.{◌>>=◌, answer_in, files_in}
+use Rattle.traces.specs.Trace.{value_of}
+
+-- the package of a key and its value
+unfoldable pub keyed : Text → Data → Option (Text × List NamedFile)
+keyed key d = do
+  path ← answer_in (path_of key)
+  files ← files_in d
+  Some (path, files)
+
+-- these packages and one more, unless its path stands among them
+abbrev pub with_package : Given → Text × List NamedFile → Option Given
+with_package packages p =
+    if is_among (map (λ q. q.0) packages) p.0 then None
+    else Some (packages ++ p ∷ [])
+
+-- the packages of the members behind these, in their order, each path once; two keys that spell one
+-- path are a fault
+abbrev pub packages_behind : Given → Members → Option Given
+packages_behind packages no_members = Some packages
+packages_behind packages (member key d ms) =
+    keyed key d >>= with_package packages >>= (λ more. packages_behind more ms)
+
+-- the packages of an object's members
+abbrev pub packages_of : Data → Option Given
+packages_of d = as_object d >>= packages_behind []
+
+-- what a text gives as BUILDS, if it is one
+abbrev pub builds_of : Text → Option Given
+builds_of text = value_of text >>= packages_of

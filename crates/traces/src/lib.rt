@@ -1,0 +1,134 @@
+//! Traces of runs and BUILDS, as JSON.
+#![tactic(auto)]
+
+ghost use Rattle.std.specs.Prelude.{◌≡◌, ◌++◌, ◌⊎◌, None, Some, Ok, IfErr, IfOk, OnErr, OnOk};
+ghost use Rattle.traces.specs.Again.{IsTextTrace};
+ghost use Rattle.traces.specs.Builds.{builds_of};
+ghost use Rattle.traces.specs.Faults.{IsTraceFault, fault_number, fault_place, trace_view};
+ghost use Rattle.traces.specs.Trace.{trace_of};
+ghost use Rattle.traces.specs.declared.TraceFault.TheVariants.{Memory as out_of_memory};
+ghost use Rattle.traces.specs.Written.{trace_text};
+
+use ballots::Weights;
+use events::Event;
+use faults::{Fault, Memory};
+use protocol::Packages;
+use std::alloc::{AllocError, AllocFailed, Global};
+use thiserror::Error;
+
+mod builds;
+mod event;
+mod fields;
+mod files;
+mod read_error;
+mod reading;
+mod writing;
+
+/// What each member weighs, and the events of a run, in turn.
+#[derive(Drop)]
+pub struct Trace {
+    pub weights: Weights,
+    pub events: Vec<Event>,
+}
+
+/// Why a text is no trace, or no BUILDS. The number is that of an event, counted from 1, or 0
+/// outside the events.
+#[derive(Clone, Copy, Debug, PartialEq, Eq, Error)]
+pub enum TraceFault {
+    #[error("out of memory")]
+    Memory,
+    #[error("the trace is bad at event {0}")]
+    BadTrace(u64),
+}
+
+impl From<Memory> for TraceFault {
+    ghost from_gives = { λ _ e. e ≡ out_of_memory };
+
+    fn from(_e: Memory) -> TraceFault {
+        TraceFault::Memory
+    }
+}
+
+impl From<AllocError> for TraceFault {
+    ghost from_gives = { λ _ e. e ≡ out_of_memory };
+
+    fn from(_e: AllocError) -> TraceFault {
+        TraceFault::Memory
+    }
+}
+
+impl<T: Drop> From<AllocFailed<T>> for TraceFault {
+    ghost from_gives = { λ _ e. e ≡ out_of_memory };
+
+    fn from(_e: AllocFailed<T>) -> TraceFault {
+        TraceFault::Memory
+    }
+}
+
+impl Fault for TraceFault {
+    ghost number_of = { fault_number };
+
+    ghost place_of = { fault_place };
+
+    fn number(&self) -> u32 {
+        match self {
+            TraceFault::Memory => 1,
+            TraceFault::BadTrace(_) => 1305,
+        }
+    }
+
+    fn place(&self) -> Option<u64> {
+        match self {
+            TraceFault::Memory => None,
+            TraceFault::BadTrace(place) => Some(*place),
+        }
+    }
+}
+
+/// The trace that the text is. What stands outside the events is tested first, and then the events
+/// in turn.
+///
+/// # Errors
+///
+/// `BadTrace` with 0, where the text is no JSON value of the right members; with the number of an
+/// event, where that is the first that is none.
+pub fn read_trace(alloc: Global, text: &[u8]) -> Result<Trace, TraceFault>
+    ensures ok { IfOk result (λ trace. trace_of text.now ≡ Ok (trace_view trace)) }
+    ensures err { IfErr result (IsTraceFault text.now) }
+{
+    let value = reading::value(alloc, text)?;
+    let (weights, items) = reading::outer(alloc, &value)?;
+    let events = reading::events(alloc, items.as_slice())?;
+    Ok(Trace { weights, events })
+}
+
+/// Appends the trace's text, which has no blanks, or nothing. Bytes of a file's name that are no
+/// UTF-8 give way to the replacement character.
+pub fn write_trace(trace: &Trace, out: &mut Vec<u8>) -> Result<(), Memory>
+    ensures ok { OnOk result
+        (out.new.items ≡ out.old.items ++ trace_text (trace_view trace.now)) }
+    ensures again { OnOk result (IsTextTrace (trace_view trace.now)
+        → trace_of (trace_text (trace_view trace.now)) ≡ Ok (trace_view trace.now)) }
+    ensures err { OnErr result (out.new.items ≡ out.old.items) }
+{
+    let alloc: Global = *out.allocator();
+    let value = writing::value(alloc, trace)?;
+    let text = value.to_string(alloc)?;
+    out.extend_from_slice(text.as_str().as_bytes())?;
+    Ok(())
+}
+
+/// Paths, each once, with their files: an object whose keys are package paths.
+///
+/// # Errors
+///
+/// `BadTrace` with 0, where the text is none, or two of its keys spell one path.
+pub fn read_builds(alloc: Global, text: &[u8]) -> Result<Packages, TraceFault>
+    ensures ok { IfOk result (λ builds. builds_of text.now ≡ Some builds) }
+    ensures err { IfErr result (λ e. (e ≡ TraceFault.Memory)
+        ⊎ ((e ≡ TraceFault.BadTrace 0) × (builds_of text.now ≡ None))) }
+{
+    let value = reading::value(alloc, text)?;
+    let packages = builds::packages(alloc, &value)?;
+    Ok(packages)
+}

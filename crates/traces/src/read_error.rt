@@ -1,0 +1,50 @@
+//! Why a value is not what is to be read.
+ghost use Rattle.std.specs.Prelude.{◌≡◌};
+ghost use Rattle.traces.specs.declared.read_error.ReadError.TheVariants.{Memory as out_of_memory};
+ghost use Rattle.traces.specs.inside.Given.{outer_fault};
+
+use crate::TraceFault;
+use faults::Memory;
+use std::alloc::{AllocError, AllocFailed};
+
+/// Memory ran out, or the value is none.
+#[derive(Debug, Drop)]
+pub enum ReadError {
+    Memory,
+    Bad,
+}
+
+impl From<Memory> for ReadError {
+    ghost from_gives = { λ _ e. e ≡ out_of_memory };
+
+    fn from(_e: Memory) -> ReadError {
+        ReadError::Memory
+    }
+}
+
+impl From<AllocError> for ReadError {
+    ghost from_gives = { λ _ e. e ≡ out_of_memory };
+
+    fn from(_e: AllocError) -> ReadError {
+        ReadError::Memory
+    }
+}
+
+impl<T: Drop> From<AllocFailed<T>> for ReadError {
+    ghost from_gives = { λ _ e. e ≡ out_of_memory };
+
+    fn from(_e: AllocFailed<T>) -> ReadError {
+        ReadError::Memory
+    }
+}
+
+impl From<ReadError> for TraceFault {
+    ghost from_gives = { λ e f. f ≡ outer_fault e };
+
+    fn from(e: ReadError) -> TraceFault {
+        match e {
+            ReadError::Memory => TraceFault::Memory,
+            ReadError::Bad => TraceFault::BadTrace(0),
+        }
+    }
+}

@@ -1,0 +1,9 @@
+use Rattle.world.proofs.Distinct.{one_a_path}
+use Rattle.world.proofs.Growing.{list_grows}
+use Rattle.world.proofs.laws.lists_grow.Goals as goal
+
+pub returns-clause-grows : goal.returns-clause-grows
+returns-clause-grows c = list_grows
+
+pub returns-clause-one : goal.returns-clause-one
+returns-clause-one c = one_a_path
