@@ -15,6 +15,7 @@ mod written;
 pub use crate::fault::{Foreign, NodeFault};
 pub use crate::laws::what_is_said_can_be_written;
 pub use crate::node::Node;
+pub use crate::noted::Noted;
 pub use crate::parcels::Parcels;
 pub use crate::ready::{Change, Out, Ready};
 pub use events::{Event, Left, Torn};

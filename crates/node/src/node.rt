@@ -7,6 +7,7 @@ ghost use Rattle.member.specs.OpenClaims.{open_of};
 ghost use Rattle.protocol.specs.State.{engine_of, held_record};
 ghost use Rattle.protocol.specs.Step.{facts_named};
 ghost use Rattle.stable_record.specs.OpenLog.{file_len};
+ghost use Rattle.node.specs.inside.Noted.{notes_in};
 
 use crate::noted::Noted;
 use ballots::Weights;
@@ -126,6 +127,15 @@ impl<'a, D: Disk> Node<'a, D> {
         ensures { result.now ≡ self.now.log.disk }
     {
         self.log.disk()
+    }
+
+    /// The disk that the node stands on, as it is, and the texts of the notes on it.
+    pub fn into_parts(self) -> (D, Noted)
+        ensures disk { result.0 ≡ self.entry.log.disk }
+        ensures notes { notes_in result.1.texts ≡ self.entry.node.notes }
+    {
+        let Node { log, noted, .. } = self;
+        (log.into_disk(), noted)
     }
 
     /// The disk that the node stands on, as it is.

@@ -102,6 +102,13 @@ impl Ready {
         (step, sends, change)
     }
 
+    /// The step that the member takes, if it takes one.
+    pub fn step(&self) -> Option<&Step>
+        ensures { option_copied result ≡ self.now.step }
+    {
+        self.step.as_ref()
+    }
+
     /// What goes out once the step is taken: datagrams with the member that each goes to, in order
     /// of receiver, and the pieces of a message in order.
     pub fn sends(&self) -> &Parcels

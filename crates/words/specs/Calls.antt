@@ -3,7 +3,7 @@ use Rattle.std.specs.Prelude.{◌≡◌, ◌⊎◌, ◌↔◌, codes, fold, List
 use Rattle.clap.specs.Words.{App, Kinds, Row, Rule, Shape, Text, fault_of, first_of, new_app, new_rule, subcommand_of, with_rule, with_subcommand}
 use Rattle.clap.specs.declared.builder.action.ArgAction.TheVariants.{SetTrue}
 use Rattle.words.specs.declared.Call.{Call}
-use Rattle.words.specs.declared.Call.TheVariants.{Audit, Status}
+use Rattle.words.specs.declared.Call.TheVariants.{Audit, Run, Status}
 
 -- ---- what clap is told
 
@@ -32,13 +32,17 @@ status_command =
 abbrev pub audit_command : Shape
 audit_command = command (codes "audit") (word (codes "LISTING") ∷ word (codes "LIST") ∷ single ∷ [])
 
+-- `dpbr run`, which takes a listing and a trace
+abbrev pub run_command : Shape
+run_command = command (codes "run") (word (codes "LISTING") ∷ word (codes "TRACE") ∷ single ∷ [])
+
 -- the program, which has to be given one of its subcommands
 unfoldable pub dpbr_app : App
 dpbr_app =
     let program = new_app (codes "dpbr") in
     fold with_subcommand
     (record program { top = record program.top { subcommand_required = true } })
-    (status_command ∷ audit_command ∷ [])
+    (status_command ∷ audit_command ∷ run_command ∷ [])
 
 -- the kinds of fault of which clap names one, where it finds any in the words
 unfoldable pub faults_of : List Text → Kinds
@@ -73,6 +77,10 @@ IsCallOf (Some (name, rows)) (Audit listing list is_single) =
     (name ≡ codes "audit") × IsWord rows (codes "LISTING") listing.now
     × IsWord rows (codes "LIST") list.now
     × IsFlag rows (codes "single") is_single
+IsCallOf (Some (name, rows)) (Run listing trace is_single) =
+    (name ≡ codes "run") × IsWord rows (codes "LISTING") listing.now
+    × IsWord rows (codes "TRACE") trace.now
+    × IsFlag rows (codes "single") is_single
 
 -- a word was matched under each of two names
 abbrev pub HasBoth : List Row → Text → Text → Type 0
@@ -84,3 +92,4 @@ NamesCall None = ⊥
 NamesCall (Some (name, rows)) =
     ((name ≡ codes "status") × HasBoth rows (codes "LISTING") (codes "HELD"))
     ⊎ ((name ≡ codes "audit") × HasBoth rows (codes "LISTING") (codes "LIST"))
+    ⊎ ((name ≡ codes "run") × HasBoth rows (codes "LISTING") (codes "TRACE"))
