@@ -7,8 +7,8 @@ use Rattle.agreement.specs.Quorums.{Quorums}
 use Rattle.agreement.specs.Step as theory
 use Rattle.agreement.specs.Step.{Outcome}
 use Rattle.engine.specs.declared.Letter.{Letter}
-use Rattle.node.specs.Events as events
-use Rattle.node.specs.Events.{Event, is_step}
+use Rattle.events.specs.Events as events
+use Rattle.events.specs.Events.{Event, is_step}
 use Rattle.node.specs.Step.{Asked, Does, Taken, running_step, taken}
 use Rattle.node.specs.declared.fault.NodeFault.{NodeFault}
 use Rattle.protocol.specs.Answers.{Answer}

@@ -8,7 +8,7 @@ use Rattle.agreement.specs.AgreedList.{Act, Cluster, Entry, WasBuilt as WasBuilt
 use Rattle.agreement.specs.Quorums.{is_majority}
 use Rattle.agreement.proofs.AgreedList.{listed_fine}
 use Rattle.agreement.proofs.Majorities.{majorities}
-use Rattle.node.specs.Events.{Event}
+use Rattle.events.specs.Events.{Event}
 use Rattle.package_record.specs.Content.{Content}
 use Rattle.protocol.specs.Jobs.{job_of, record_by}
 use Rattle.protocol.specs.State.{Value}

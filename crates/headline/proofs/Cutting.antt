@@ -8,10 +8,10 @@ use Rattle.agreement.specs.Step as theory
 use Rattle.agreement.specs.Step.{Outcome, on_failed}
 use Rattle.agreement.specs.World.{StopIn}
 use Rattle.agreement.proofs.Majorities.{majorities}
-use Rattle.node.specs.Events as events
-use Rattle.node.specs.Events.{Event}
+use Rattle.events.specs.Events as events
+use Rattle.events.specs.Events.{Event}
 use Rattle.node.specs.Step.{Asked, Does}
-use Rattle.node.specs.declared.event.Left.TheVariants as left
+use Rattle.events.specs.declared.event.Left.TheVariants as left
 use Rattle.protocol.specs.InTheAgreement.{view}
 use Rattle.protocol.specs.Laws.{IsNoMessage, for_unit}
 use Rattle.protocol.specs.State.{Value}

@@ -12,12 +12,12 @@ use Rattle.agreement.proofs.Majorities.{majorities}
 use Rattle.ballots.specs.InTheAgreement.{said}
 use Rattle.ballots.specs.declared.message.Message.{Message}
 use Rattle.node.specs.Arrival.{Arrival, Strange, Waits, Whole, arrival_of}
-use Rattle.node.specs.Events as events
-use Rattle.node.specs.Events.{Event, is_step}
+use Rattle.events.specs.Events as events
+use Rattle.events.specs.Events.{Event, is_step}
 use Rattle.node.specs.State.{with_note}
 use Rattle.node.specs.Step.{Taken, heard, nothing, running_step, step_on}
-use Rattle.node.specs.declared.event.Left.{Left}
-use Rattle.node.specs.declared.event.Left.TheVariants as left
+use Rattle.events.specs.declared.event.Left.{Left}
+use Rattle.events.specs.declared.event.Left.TheVariants as left
 use Rattle.package_record.specs.Laws.{BuildTextIsReadAgain}
 use Rattle.protocol.specs.Answers.{Answer}
 use Rattle.protocol.specs.InTheAgreement.{view}

@@ -13,7 +13,7 @@ use Rattle.agreement.specs.Step as theory
 use Rattle.agreement.specs.Step.{Outcome}
 use Rattle.agreement.specs.Votes.{Ballot}
 use Rattle.agreement.specs.World.{Take, after_any, after_event, outcome, run}
-use Rattle.node.specs.Events.{Event, node_of as whose}
+use Rattle.events.specs.Events.{Event, node_of as whose}
 use Rattle.node.specs.Step.{after}
 use Rattle.package_record.specs.Content.{Content}
 use Rattle.package_record.specs.Laws.{BuildTextIsReadAgain}

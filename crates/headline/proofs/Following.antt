@@ -3,13 +3,13 @@ use Rattle.std.proofs.Common.{◌≡◌, ◌&&◌, ℕ, Bool, true, false, not, 
 use Rattle.std.proofs.lemmas.Bool.{lt-leb}
 use Rattle.faults.specs.Answers.{first_that_applies}
 use Rattle.engine.specs.declared.Letter.{Letter}
-use Rattle.node.specs.Events as events
-use Rattle.node.specs.Events.{Event, is_step}
+use Rattle.events.specs.Events as events
+use Rattle.events.specs.Events.{Event, is_step}
 use Rattle.node.specs.OnLog.{IsFull}
 use Rattle.node.specs.Step as steps
 use Rattle.node.specs.Step.{Asked, Comes, Does, Taken, Takes, after, step, unit_asked}
-use Rattle.node.specs.declared.event.Left.{Left}
-use Rattle.node.specs.declared.event.Left.TheVariants as left
+use Rattle.events.specs.declared.event.Left.{Left}
+use Rattle.events.specs.declared.event.Left.TheVariants as left
 use Rattle.node.specs.declared.fault.NodeFault.{NodeFault}
 use Rattle.package_record.specs.Content.{Content}
 use Rattle.protocol.specs.Step.{IsLetterOf, answer}

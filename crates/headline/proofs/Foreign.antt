@@ -12,8 +12,8 @@ use Rattle.ballots.specs.declared.message.Body.{Body}
 use Rattle.ballots.specs.declared.message.Message.{Message}
 use Rattle.node.specs.Arrival.{Arrival, Strange, Waits, Whole, arrival_of, arrival_of_all, arrival_of_new, arrival_of_piece, refusal_of}
 use Rattle.node.specs.Kept.{are_all, has_number, members_in, with_piece, without}
-use Rattle.node.specs.Events as events
-use Rattle.node.specs.Events.{Event}
+use Rattle.events.specs.Events as events
+use Rattle.events.specs.Events.{Event}
 use Rattle.node.specs.Step.{Asked, Comes, Does, Taken, heard, nothing, running_step, step_on, taken}
 use Rattle.node.specs.declared.fault.Foreign.{Foreign}
 use Rattle.node.specs.declared.fault.NodeFault.{NodeFault}

@@ -6,7 +6,7 @@ use Rattle.agreement.specs.Step as theory
 use Rattle.ballots.specs.InTheAgreement.{said}
 use Rattle.ballots.specs.declared.message.Message.{Message}
 use Rattle.node.specs.Arrival.{arrival_of}
-use Rattle.node.specs.Events as events
+use Rattle.events.specs.Events as events
 use Rattle.node.specs.Ranges.{CanBeWritten}
 use Rattle.node.specs.Step.{nothing, running_step}
 use Rattle.node.proofs.Pieces.{message_good}

@@ -10,8 +10,8 @@ use Rattle.agreement.specs.Step.{Outcome, on_start}
 use Rattle.agreement.specs.World as theory_world
 use Rattle.agreement.specs.World.{Take, run}
 use Rattle.faults.specs.Bytes.{Text}
-use Rattle.node.specs.Events as events
-use Rattle.node.specs.Events.{Event}
+use Rattle.events.specs.Events as events
+use Rattle.events.specs.Events.{Event}
 use Rattle.node.specs.Ranges.{CanBeWritten, IsGoodInput}
 use Rattle.node.specs.Step.{Asked, Does, after}
 use Rattle.node.proofs.ranges.Written.{answers_written}

@@ -11,12 +11,12 @@ use Rattle.ballots.specs.declared.message.Message.{Message}
 use Rattle.claims.specs.Job.{Task}
 use Rattle.claims.specs.declared.deps.Dep.{Dep}
 use Rattle.node.specs.Arrival.{arrival_of}
-use Rattle.node.specs.Events as kinds
-use Rattle.node.specs.Events.{Event, is_step}
+use Rattle.events.specs.Events as kinds
+use Rattle.events.specs.Events.{Event, is_step}
 use Rattle.node.specs.Step as steps
 use Rattle.node.specs.Step.{Asked, Does, Taken, nothing, running_step}
-use Rattle.node.specs.declared.event.Left.{Left}
-use Rattle.node.specs.declared.event.Left.TheVariants as left
+use Rattle.events.specs.declared.event.Left.{Left}
+use Rattle.events.specs.declared.event.Left.TheVariants as left
 use Rattle.package_record.specs.Content.{Content}
 use Rattle.package_record.specs.Laws.{BuildTextIsReadAgain}
 use Rattle.protocol.specs.Answers.{Answer, after}

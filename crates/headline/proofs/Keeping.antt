@@ -8,10 +8,10 @@ use Rattle.agreement.proofs.Nodes.{get_set}
 use Rattle.ballots.specs.declared.message.Message.{Message}
 use Rattle.ballots.specs.declared.message.Note.{Note}
 use Rattle.faults.specs.Bytes.{Text}
-use Rattle.node.specs.Events as events
-use Rattle.node.specs.Events.{Event}
-use Rattle.node.specs.declared.event.Left.{Left}
-use Rattle.node.specs.declared.event.Left.TheVariants as left
+use Rattle.events.specs.Events as events
+use Rattle.events.specs.Events.{Event}
+use Rattle.events.specs.declared.event.Left.{Left}
+use Rattle.events.specs.declared.event.Left.TheVariants as left
 use Rattle.protocol.specs.State.{Value}
 use Rattle.world.specs.Happening.{Restarts, Stops, StopsIn}
 use Rattle.world.specs.Safety.{WasSentOf}

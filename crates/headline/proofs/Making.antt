@@ -12,7 +12,7 @@ use Rattle.agreement.specs.World as theory_world
 use Rattle.agreement.specs.World.{Take}
 use Rattle.agreement.specs.declared.claim.Claim.{Claim}
 use Rattle.faults.specs.Bytes.{Text}
-use Rattle.node.specs.Events as events
+use Rattle.events.specs.Events as events
 use Rattle.package_record.specs.Laws.{BuildTextIsReadAgain}
 use Rattle.protocol.specs.Given.{Given}
 use Rattle.protocol.specs.InTheAgreement.{claim_of, stage_of, view}

@@ -1,8 +1,8 @@
 -- Each event is an act, or none; and so each run is acts.
 use Rattle.std.proofs.Common.{◌≡◌, ℕ, List, true, ap, ⊎_elim, ◌∙◌, sym, true≢false}
 use Rattle.agreement.specs.AgreedList.{Act}
-use Rattle.node.specs.Events as events
-use Rattle.node.specs.Events.{Event, is_step}
+use Rattle.events.specs.Events as events
+use Rattle.events.specs.Events.{Event, is_step}
 use Rattle.node.specs.Step.{nothing}
 use Rattle.package_record.specs.Content.{Content}
 use Rattle.package_record.specs.Laws.{BuildTextIsReadAgain}

@@ -2,7 +2,7 @@
 use Rattle.std.proofs.Common.{◌≡◌, ◌<◌, ℕ, List, length, sym, subst}
 use Rattle.agreement.specs.AgreedList.{Act}
 use Rattle.auditing.specs.Allowed as audit
-use Rattle.node.specs.Events.{Event}
+use Rattle.events.specs.Events.{Event}
 use Rattle.package_record.specs.Build.{paths_of}
 use Rattle.package_record.specs.Laws.{BuildTextIsReadAgain}
 use Rattle.protocol.specs.State.{Value}

@@ -5,7 +5,7 @@ use Rattle.agreement.specs.Member as theory_members
 use Rattle.agreement.specs.Nodes as nodes
 use Rattle.agreement.proofs.Nodes.{get_set}
 use Rattle.ballots.specs.declared.message.Note.{Note}
-use Rattle.node.specs.Events as events
+use Rattle.events.specs.Events as events
 use Rattle.node.specs.State.{with_note}
 use Rattle.node.specs.Step.{after, nothing}
 use Rattle.package_record.specs.Laws.{BuildTextIsReadAgain}

@@ -8,7 +8,7 @@ use Rattle.agreement.specs.Member.{Closed, Member, no_facts}
 use Rattle.agreement.specs.Nodes as nodes
 use Rattle.agreement.specs.World as theory
 use Rattle.ballots.specs.declared.message.Message.{Message}
-use Rattle.node.specs.Events.{Event}
+use Rattle.events.specs.Events.{Event}
 use Rattle.package_record.specs.Laws.{BuildTextIsReadAgain}
 use Rattle.protocol.specs.State.{Value, facts_at}
 use Rattle.units.specs.Division.{Division, no_unit}

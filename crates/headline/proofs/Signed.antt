@@ -9,7 +9,7 @@ use Rattle.agreement.specs.declared.claim.Claim.{Claim}
 use Rattle.ballots.specs.declared.message.Body.TheVariants.{Propose}
 use Rattle.claims.specs.Job.{Task}
 use Rattle.faults.specs.Bytes.{Text}
-use Rattle.node.specs.Events.{Event}
+use Rattle.events.specs.Events.{Event}
 use Rattle.package_record.specs.Laws.{BuildTextIsReadAgain}
 use Rattle.protocol.specs.Jobs.{job_of, record_by}
 use Rattle.protocol.specs.State.{Building, State, Value}

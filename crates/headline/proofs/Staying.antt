@@ -11,12 +11,12 @@ use Rattle.ballots.specs.declared.message.Note.{Note}
 use Rattle.engine.specs.declared.Letter.{Letter}
 use Rattle.faults.specs.Bytes.{Text}
 use Rattle.node.specs.Arrival.{Arrival, Strange, Waits, Whole, arrival_of, arrival_of_all, arrival_of_new, arrival_of_piece, refusal_of}
-use Rattle.node.specs.Events as events
-use Rattle.node.specs.Events.{Event, is_step}
+use Rattle.events.specs.Events as events
+use Rattle.events.specs.Events.{Event, is_step}
 use Rattle.node.specs.Kept.{are_all, has_number, with_piece, without}
 use Rattle.node.specs.State.{with_note}
 use Rattle.node.specs.Step.{Asked, Does, IsAsked, Taken, Takes, heard, nothing, running_step, step_on, taken}
-use Rattle.node.specs.declared.event.Left.TheVariants as left
+use Rattle.events.specs.declared.event.Left.TheVariants as left
 use Rattle.node.proofs.Pieces.{joined_good, message_good, with_once, without_once}
 use Rattle.protocol.specs.Answers.{Answer, after}
 use Rattle.protocol.specs.Laws.{IsNoMessage}

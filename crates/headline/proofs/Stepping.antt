@@ -9,7 +9,7 @@ use Rattle.agreement.specs.Step.{Outcome}
 use Rattle.agreement.specs.World.{Take, outcome, run, when}
 use Rattle.agreement.proofs.Nodes.{stage_here, stage_there}
 use Rattle.faults.specs.Bytes.{Text}
-use Rattle.node.specs.Events.{Event, node_of as whose}
+use Rattle.events.specs.Events.{Event, node_of as whose}
 use Rattle.node.specs.Step.{Taken, after}
 use Rattle.protocol.specs.InTheAgreement.{claim_of}
 use Rattle.protocol.specs.Laws.{IsOutcome}

@@ -10,10 +10,10 @@ use Rattle.agreement.specs.Step.{Outcome, still}
 use Rattle.agreement.specs.World.{Restart, Stop, down, outcome, when}
 use Rattle.agreement.proofs.AgreedList.{after_acts-append, ordered}
 use Rattle.agreement.proofs.Majorities.{majorities}
-use Rattle.node.specs.Events as events
-use Rattle.node.specs.Events.{Event}
-use Rattle.node.specs.declared.event.Left.{Left}
-use Rattle.node.specs.declared.event.Left.TheVariants as left
+use Rattle.events.specs.Events as events
+use Rattle.events.specs.Events.{Event}
+use Rattle.events.specs.declared.event.Left.{Left}
+use Rattle.events.specs.declared.event.Left.TheVariants as left
 use Rattle.protocol.specs.State.{Value}
 use Rattle.units.specs.Division.{Division}
 use Rattle.world.specs.Happening.{Restarts, Stops, StopsIn}

@@ -6,7 +6,7 @@ use Rattle.agreement.specs.Quorums.{Quorums, is_majority}
 use Rattle.agreement.specs.Step as theory
 use Rattle.agreement.specs.World as theory_world
 use Rattle.agreement.specs.World.{Restart, Stop, StopIn, Take}
-use Rattle.node.specs.Events.{Event}
+use Rattle.events.specs.Events.{Event}
 use Rattle.protocol.specs.State.{Value}
 use Rattle.units.specs.Division.{Division}
 use Rattle.world.specs.Happening.{Leads}

@@ -5,7 +5,7 @@ use Rattle.agreement.specs.AgreedList.{Act, IsMonotone}
 use Rattle.std.specs.Prelude.{Option}
 use Rattle.protocol.specs.State.{Value}
 use Rattle.ballots.specs.declared.message.Message.{Message}
-use Rattle.node.specs.Events.{Event}
+use Rattle.events.specs.Events.{Event}
 use Rattle.node.specs.declared.fault.Foreign.{Foreign}
 use Rattle.node.specs.declared.fault.NodeFault.TheVariants as faults
 use Rattle.headline.specs.Local.{AreLocal}

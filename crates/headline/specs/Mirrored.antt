@@ -10,7 +10,7 @@ use Rattle.agreement.specs.World as theory_of_one
 use Rattle.protocol.specs.Given.{Given}
 use Rattle.protocol.specs.Jobs.{build_by, job_of}
 use Rattle.protocol.specs.State.{Building, State, Value}
-use Rattle.node.specs.Events.{Event, Built}
+use Rattle.events.specs.Events.{Event, Built}
 use Rattle.headline.specs.Matches.{Matches}
 use Rattle.headline.specs.Needs.{may_build}
 use Rattle.world.specs.Happening.{Happens}

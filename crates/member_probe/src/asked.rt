@@ -1,5 +1,5 @@
 // The answer to a line.
-use crate::inputs::{first_path, first_place, first_word, input};
+use input_words::{first_path, first_place, first_word, input};
 use crate::known::{claim_of, counts, facts, held, restarted};
 use crate::post::Post;
 use faults::Memory;

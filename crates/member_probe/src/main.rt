@@ -21,7 +21,6 @@
 #![tactic(auto)]
 
 mod asked;
-mod inputs;
 mod known;
 mod post;
 mod rows;

@@ -1,5 +1,5 @@
 //! The steps of a node.
-ghost use Rattle.std.specs.Prelude.{◌≡◌, ◌⊎◌, IfErr, IfOk, IsErrOf, List, OnErr, OnOk, ℕ, true};
+ghost use Rattle.std.specs.Prelude.{◌≡◌, ◌≤◌, ◌⊎◌, IfErr, IfOk, IsErrOf, List, OnErr, OnOk, ℕ, true};
 ghost use Rattle.std.specs.Option.{ForSome, option_copied};
 ghost use Rattle.faults.specs.Answers.{map_ok};
 ghost use Rattle.member.specs.Prepared.{MayBeTaken};
@@ -195,6 +195,8 @@ impl<'a, D: Disk> Node<'a, D> {
     /// `Memory`, and those of `Log::append`.
     pub fn finish(&mut self, ready: Ready) -> Result<Out, NodeFault>
         requires present { IsReadyFor self.old.node ready }
+        ensures kept { D.is_kept self.new.log.disk → D.is_kept self.old.log.disk }
+        ensures later { D.failures_of self.old.log.disk ≤ D.failures_of self.new.log.disk }
         ensures taken { IfOk result
             (HasTaken self.old.node self.new.node (taken_by self.old.node ready)) }
         ensures on_log { D.is_kept self.new.log.disk → IsOnLog D.history self.old
@@ -238,6 +240,8 @@ impl<'a, D: Disk> Node<'a, D> {
     /// Those of the two.
     pub fn handle(&mut self, input: Input) -> Result<Out, NodeFault>
         requires message { IsGoodInput input }
+        ensures kept { D.is_kept self.new.log.disk → D.is_kept self.old.log.disk }
+        ensures later { D.failures_of self.old.log.disk ≤ D.failures_of self.new.log.disk }
         ensures taken { IfOk result (HasHandled self.old.node self.new.node (Does input)) }
         ensures on_log { D.is_kept self.new.log.disk → IsOnLog D.history self.old
             → OnOk result (IsOnLog D.history self.new) }
@@ -271,6 +275,8 @@ impl<'a, D: Disk> Node<'a, D> {
     ///
     /// Those of the two.
     pub fn handle_datagram(&mut self, bytes: &[u8]) -> Result<Out, NodeFault>
+        ensures kept { D.is_kept self.new.log.disk → D.is_kept self.old.log.disk }
+        ensures later { D.failures_of self.old.log.disk ≤ D.failures_of self.new.log.disk }
         ensures taken { IfOk result (HasHandled self.old.node self.new.node (Comes bytes.now)) }
         ensures on_log { D.is_kept self.new.log.disk → IsOnLog D.history self.old
             → OnOk result (IsOnLog D.history self.new) }
@@ -313,6 +319,8 @@ fn write<D: Disk>(
 ) -> Result<(), LogFault>
     ensures noted { OnOk result (noted.new.texts ≡ with_text noted.old.texts (option_copied note.entry)) }
     ensures not_noted { OnErr result (noted.new.texts ≡ noted.old.texts) }
+    ensures kept { D.is_kept log.new.disk → D.is_kept log.old.disk }
+    ensures later { D.failures_of log.old.disk ≤ D.failures_of log.new.disk }
     ensures acknowledged { D.is_kept log.new.disk → (texts : List (List ℕ))
         → Holds D.history log.old texts
         → OnOk result (Holds D.history log.new (with_text texts (option_copied note.entry))) }

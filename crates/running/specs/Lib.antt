@@ -1,3 +1,3 @@
-pub mod History
 pub mod Faults
+pub mod History
 pub mod inside

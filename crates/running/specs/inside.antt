@@ -1,1 +1,5 @@
+-- What only bodies and proofs need.
+pub mod Asking
+pub mod Deciding
+pub mod Posting
 pub mod Placing

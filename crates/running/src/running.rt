@@ -1,5 +1,14 @@
 //! A world, which contracts see as its nodes, its datagrams, its list, and the events that led to
 //! it.
+ghost use Rattle.std.specs.Prelude.{◌≡◌, ◌<◌, [], IfOk, Some, length, map, slice_get, true};
+ghost use Rattle.std.specs.Option.{option_copied};
+ghost use Rattle.engine.specs.State as engines;
+ghost use Rattle.node.specs.State.{LoggedNode};
+ghost use Rattle.protocol.specs.State.{engine_of};
+ghost use Rattle.running.specs.History.{IsHistory, file_length};
+ghost use Rattle.world.specs.Happening.{is_up};
+ghost use Rattle.world.specs.Headline.{holds};
+ghost use Rattle.world.specs.World.{member_at, node_at, start, up_node};
 
 use crate::placed::Placed;
 use crate::posted::Posted;
@@ -14,6 +23,7 @@ use package_record::Record;
 use pkgpath::PkgPath;
 use stable_record::MemDisk;
 use std::alloc::Global;
+use std::marker::Model;
 use units::Units;
 
 /// Nodes on disks in memory, the datagrams that they sent, and the list of what is agreed.
@@ -27,10 +37,32 @@ pub struct World<'a> {
     pub(crate) events: Vec<Event>,
 }
 
+impl<'a> Model for World<'a> {
+    ghost use Rattle.running.specs.History.{History};
+
+    ghost Value = { History };
+
+    ghost use Rattle.events.specs.contracts.event.Event as event;
+    ghost use Rattle.std.specs.Coded.{codes};
+
+    ghost coded = { Prim.hlevel (codes, event.the_row.coded) };
+
+    ghost use Rattle.running.specs.inside.Placing.{IsReached, history_of};
+
+    ghost view = { history_of };
+
+    ghost invariant = { IsReached };
+}
+
 impl<'a> World<'a> {
     /// The world at its start: all nodes are up, nothing is noted, and nothing was sent. `weights`
     /// has one for each member.
-    pub fn new(alloc: Global, tree: &'a Tree, weights: &Weights) -> Result<World<'a>, Memory> {
+    pub fn new(alloc: Global, tree: &'a Tree, weights: &Weights) -> Result<World<'a>, Memory>
+        ensures world { IfOk result (λ w. w.world ≡ start w.world.division weights.now) }
+        ensures tree { IfOk result (λ w. w.world.division.tree ≡ tree.entry.now) }
+        ensures events { IfOk result (λ w. w.events ≡ []) }
+        ensures history { IfOk result IsHistory }
+    {
         let units = Units::new(alloc, tree)?;
         let mut nodes = Vec::with_capacity(alloc, weights.len())?;
         for me in 0..weights.len() as u8 {
@@ -47,27 +79,37 @@ impl<'a> World<'a> {
     }
 
     /// The agreed list, in the order in which it grew.
-    pub fn agreed(&self) -> &[Record] {
+    pub fn agreed(&self) -> &[Record]
+        ensures { result.now ≡ self.now.world.agreed }
+    {
         self.posted.agreed.as_slice()
     }
 
     /// The events that were taken, in turn.
-    pub fn events(&self) -> &[Event] {
+    pub fn events(&self) -> &[Event]
+        ensures { result.now ≡ self.now.events }
+    {
         self.events.as_slice()
     }
 
     /// The different datagrams that were sent, in order of first sending.
-    pub fn datagrams(&self) -> &IndexSet<Vec<u8>> {
+    pub fn datagrams(&self) -> &IndexSet<Vec<u8>>
+        ensures { map (λ d. d.items) result.now.keys ≡ self.now.world.sent }
+    {
         &self.posted.sent
     }
 
     /// How many nodes there are, one for each member.
-    pub fn len(&self) -> u8 {
+    pub fn len(&self) -> u8
+        ensures { result ≡ length self.now.world.nodes }
+    {
         self.nodes.len() as u8
     }
 
     /// Whether the node is up. A number that is none of a node is not.
-    pub fn is_up(&self, node: u8) -> bool {
+    pub fn is_up(&self, node: u8) -> bool
+        ensures { result ≡ is_up self.now.world node }
+    {
         match self.nodes.get(node as usize) {
             Some(placed) => placed.is_up(),
             None => false,
@@ -75,30 +117,51 @@ impl<'a> World<'a> {
     }
 
     /// The record that a node which is up holds for the path.
-    pub fn held(&self, node: u8, path: &PkgPath) -> Option<&Record> {
+    pub fn held(&self, node: u8, path: &PkgPath) -> Option<&Record>
+        requires { is_up self.now.world node ≡ true }
+        ensures { (x : _) → slice_get self.now.world.nodes node ≡ Some x
+            → option_copied result ≡ holds self.now.world node x path.now }
+    {
         self.up(node).held(path)
     }
 
     /// The letter of the package at the position, as a node that is up shows it.
-    pub fn letter(&self, node: u8, position: u32) -> Letter {
+    pub fn letter(&self, node: u8, position: u32) -> Letter
+        requires up { is_up self.now.world node ≡ true }
+        requires listed { position < length self.now.world.division.tree }
+        ensures { (x : _) → slice_get self.now.world.nodes node ≡ Some x
+            → engines.HasLetter (engine_of (member_at self.now.world node x)) position result }
+    {
         self.up(node).letter(position)
     }
 
     /// How many packages have each letter, as a node that is up shows them.
-    pub fn counts(&self, node: u8) -> Counts {
+    pub fn counts(&self, node: u8) -> Counts
+        requires { is_up self.now.world node ≡ true }
+        ensures { (x : _) → slice_get self.now.world.nodes node ≡ Some x
+            → engines.AreCounts (engine_of (member_at self.now.world node x)) result }
+    {
         self.up(node).counts()
     }
 
     /// The number of bytes of a member's log, whether it is up or down.
-    pub fn log_len(&self, node: u8) -> u64 {
+    pub fn log_len(&self, node: u8) -> u64
+        requires { node < length self.now.world.nodes }
+        ensures { (x : _) → slice_get self.now.world.nodes node ≡ Some x
+            → result ≡ file_length self.now.world node x }
+    {
         self.nodes[node as usize].file().len() as u64
     }
 
     /// The node, which is up.
-    fn up(&self, node: u8) -> &Node<'a, MemDisk> {
+    fn up(&self, node: u8) -> &Node<'a, MemDisk>
+        requires { is_up self.now.world node ≡ true }
+        ensures { (x : _) → slice_get self.now.world.nodes node ≡ Some x
+            → result.now.node ≡ node_at self.now.world node x }
+    {
         match &self.nodes[node as usize] {
             Placed::Up(node) => node,
-            Placed::Down(..) => unreachable!(),
+            Placed::Down(_) => unreachable!(),
         }
     }
 }
@@ -109,7 +172,10 @@ fn fresh<'a>(
     tree: &'a Tree,
     weights: &Weights,
     me: u8,
-) -> Result<Node<'a, MemDisk>, Memory> {
+) -> Result<Node<'a, MemDisk>, Memory>
+    requires { me < length weights.now }
+    ensures { IfOk result (IsFresh tree.entry.now weights.now me) }
+{
     let disk = MemDisk::new(alloc, &[])?;
     match Node::open(alloc, disk, tree, weights, me) {
         Ok(node) => Ok(node),

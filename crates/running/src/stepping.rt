@@ -4,6 +4,7 @@ use crate::World;
 use crate::asked::{is_bad_stop, is_restart, lacks_datagram, node_of, ready, refused};
 use crate::placed::Placed;
 use crate::posted::Posted;
+use crate::stopping::stop;
 use crate::votes::decided;
 use ballots::Weights;
 use events::Event;
@@ -25,12 +26,10 @@ impl<'a> World<'a> {
         if let Some(fault) = self.fault_before(event) {
             return Err(fault);
         }
-        let Ok(taken) = self.kept(event) else {
-            return Err(WorldFault::Memory);
-        };
-        self.happen(event)?;
-        self.events.push_reserved(taken);
-        Ok(())
+        match self.keep(event) {
+            Ok(()) => Ok(()),
+            Err(fault) => Err(refused(fault)),
+        }
     }
 
     /// Why the event is refused before its node is asked.
@@ -51,21 +50,24 @@ impl<'a> World<'a> {
         }
     }
 
-    /// An equal event, and room to keep it.
-    fn kept(&mut self, event: &Event) -> Result<Event, Memory> {
+    /// Takes the event, which nothing but its node may refuse, and keeps it.
+    fn keep(&mut self, event: &Event) -> Result<(), NodeFault> {
         self.events.reserve(1)?;
-        event.copy(self.allocator())
+        let taken = event.copy(self.allocator())?;
+        self.happen(event)?;
+        self.events.push_reserved(taken);
+        Ok(())
     }
 
     pub(crate) fn allocator(&self) -> Global {
         *self.events.allocator()
     }
 
-    /// Takes the event, which has a node that can take it, or refuses it.
-    fn happen(&mut self, event: &Event) -> Result<(), WorldFault> {
+    /// Takes the event, or refuses it.
+    fn happen(&mut self, event: &Event) -> Result<(), NodeFault> {
         match event {
             Event::Stop { node } => {
-                self.stop(*node);
+                stop(&mut self.nodes, *node as usize);
                 Ok(())
             }
             Event::StopIn { input, left } => self.stop_in(input, left),
@@ -75,14 +77,11 @@ impl<'a> World<'a> {
     }
 
     /// The node takes its step, and what it sends is entered.
-    fn take(&mut self, event: &Event) -> Result<(), WorldFault> {
+    fn take(&mut self, event: &Event) -> Result<(), NodeFault> {
         let alloc = self.allocator();
-        let Placed::Up(node) = &mut self.nodes[node_of(event) as usize] else {
-            return Err(WorldFault::NodeDown);
-        };
-        match take(alloc, &self.weights, &mut self.posted, node, event) {
-            Ok(()) => Ok(()),
-            Err(fault) => Err(refused(fault)),
+        match &mut self.nodes[node_of(event) as usize] {
+            Placed::Up(node) => take(alloc, &self.weights, &mut self.posted, node, event),
+            Placed::Down(_) => Err(NodeFault::Stopped),
         }
     }
 }

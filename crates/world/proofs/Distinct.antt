@@ -11,7 +11,7 @@ use Rattle.std.specs.Str.{bytes_eq}
 use Rattle.auditing.proofs.Sets.{rises}
 use Rattle.faults.specs.Bytes.{Text}
 use Rattle.faults.specs.Pieces.{text_cmp}
-use Rattle.node.specs.Events.{Event}
+use Rattle.events.specs.Events.{Event}
 use Rattle.package_record.specs.Build.{paths_of}
 use Rattle.package_record.specs.Content.{Content}
 use Rattle.protocol.specs.State.{Value}

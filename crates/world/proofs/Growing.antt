@@ -3,8 +3,8 @@ use Rattle.std.proofs.Common.{◌≡◌, ℕ, Bool, true, false, cond, List, [],
 use Rattle.std.specs.List.{list_any}
 use Rattle.std.proofs.lemmas.List.{length-set}
 use Rattle.faults.specs.Bytes.{Text}
-use Rattle.node.specs.Events.{Event, Claim, Built, Failed, Nudge, Ask, Deliver, Stop, StopIn, Restart}
-use Rattle.node.specs.declared.event.Left.{Left}
+use Rattle.events.specs.Events.{Event, Claim, Built, Failed, Nudge, Ask, Deliver, Stop, StopIn, Restart}
+use Rattle.events.specs.declared.event.Left.{Left}
 use Rattle.package_record.specs.Content.{Content}
 use Rattle.protocol.specs.State.{Value}
 use Rattle.units.specs.Division.{Division}

@@ -2,8 +2,8 @@
 use Rattle.std.proofs.Common.{◌≡◌, ◌==◌, true, false, [], ◌∷◌, Some, None, refl}
 use Rattle.faults.specs.Bytes.{Text}
 use Rattle.agreement.specs.Quorums.{is_majority}
-use Rattle.node.specs.Events.{Claim, Nudge, Deliver, Stop, StopIn, Restart}
-use Rattle.node.specs.declared.event.Left.TheVariants as left
+use Rattle.events.specs.Events.{Claim, Nudge, Deliver, Stop, StopIn, Restart}
+use Rattle.events.specs.declared.event.Left.TheVariants as left
 use Rattle.units.specs.Division.{Division}
 use Rattle.world.specs.Happening.{fault_before}
 use Rattle.world.specs.Sent.{with_datagram}

@@ -16,7 +16,7 @@ use Rattle.package_record.specs.Content.{Content, record_text}
 use Rattle.protocol.specs.Given.{Given}
 use Rattle.protocol.specs.Jobs.{job_of, record_by, signature}
 use Rattle.protocol.specs.State.{Building, Value, engine_of, facts_at, held_record}
-use Rattle.node.specs.Events.{Event, Built}
+use Rattle.events.specs.Events.{Event, Built}
 use Rattle.world.specs.Happening.{Leads}
 use Rattle.world.specs.World.{World, WorldNode, member_at, start}
 

@@ -12,7 +12,7 @@ use Rattle.ballots.specs.declared.message.Message.{Message}
 use Rattle.package_record.specs.Content.{Content}
 use Rattle.protocol.specs.State.{Value}
 use Rattle.node.specs.Step.{Taken}
-use Rattle.node.specs.Events.{Event, Deliver}
+use Rattle.events.specs.Events.{Event, Deliver}
 use Rattle.wire.specs.Pieces.{split_of}
 use Rattle.wire.specs.Spelling.{datagram_text}
 use Rattle.wire.specs.declared.datagram.Datagram.TheVariants as datagram

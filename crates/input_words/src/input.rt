@@ -1,13 +1,13 @@
-// The input that a line says.
+//! The input that a line says.
 use ballots::{Body, Message};
 use claims::Claim;
 use faults::Memory;
-use member::{Input, Packages};
+use protocol::{Input, Packages};
 use package_record::{File, Files};
 use pkgpath::{PathFault, PkgPath};
 use std::alloc::Global;
 
-// The word in front, and what stands behind the blank after it.
+/// The word in front, and what stands behind the blank after it.
 pub fn first_word(text: &str) -> (&str, &str) {
     match text.split_once(' ') {
         Some(cut) => cut,
@@ -15,7 +15,7 @@ pub fn first_word(text: &str) -> (&str, &str) {
     }
 }
 
-// The path in front, if there is one, and what stands behind it.
+/// The path in front, if there is one, and what stands behind it.
 pub fn first_path(alloc: Global, text: &str) -> Result<Option<(PkgPath, &str)>, Memory> {
     let (word, rest) = first_word(text);
     match PkgPath::parse(alloc, word.as_bytes()) {
@@ -25,19 +25,19 @@ pub fn first_path(alloc: Global, text: &str) -> Result<Option<(PkgPath, &str)>, 
     }
 }
 
-// The number in front, and what stands behind it.
+/// The number in front, and what stands behind it.
 pub fn first_number(text: &str) -> Option<(u64, &str)> {
     let (word, rest) = first_word(text);
     Some((word.parse().ok()?, rest))
 }
 
-// The place or the member's number in front, and what stands behind it.
+/// The place or the member's number in front, and what stands behind it.
 pub fn first_place(text: &str) -> Option<(usize, &str)> {
     let (number, rest) = first_number(text)?;
     Some((usize::try_from(number).ok()?, rest))
 }
 
-// The input with this word in front, of what stands behind the member's number.
+/// The input with this word in front, of what stands behind the member's number.
 pub fn input(
     alloc: Global,
     word: &str,
@@ -72,7 +72,7 @@ fn claimed(alloc: Global, rest: &str) -> Result<Option<Input>, Memory> {
     }
 }
 
-// The claim of the path, for the host and above the round that stand in front.
+/// The claim of the path, for the host and above the round that stand in front.
 fn claim_of(path: PkgPath, rest: &str) -> Option<Input> {
     let (host, rest) = first_number(rest)?;
     let (above, _) = first_number(rest)?;
@@ -88,7 +88,7 @@ fn built(alloc: Global, rest: &str) -> Result<Option<Input>, Memory> {
     Ok(Some(Input::Built { path, packages }))
 }
 
-// The packages with their files, nine at most.
+/// The packages with their files, nine at most.
 fn packages(alloc: Global, text: &str) -> Result<Packages, Memory> {
     let mut items = Vec::new(alloc);
     let mut rest = text;
@@ -98,7 +98,7 @@ fn packages(alloc: Global, text: &str) -> Result<Packages, Memory> {
     Ok(Packages::new(items))
 }
 
-// Adds the package in front, if there is one, and gives what stands behind it.
+/// Adds the package in front, if there is one, and gives what stands behind it.
 fn add_package<'a>(
     alloc: Global,
     items: &mut Vec<(PkgPath, Files)>,
@@ -114,7 +114,7 @@ fn add_package<'a>(
     }
 }
 
-// The package in front: its path, the file and how many bytes it has, and what stands behind.
+/// The package in front: its path, the file and how many bytes it has, and what stands behind.
 fn package(alloc: Global, text: &str) -> Result<Option<(PkgPath, &str, usize, &str)>, Memory> {
     let Some((path, rest)) = first_path(alloc, text)? else {
         return Ok(None);
@@ -126,7 +126,7 @@ fn package(alloc: Global, text: &str) -> Result<Option<(PkgPath, &str, usize, &s
     }
 }
 
-// A file of so many times the letter a; none of no bytes.
+/// A file of so many times the letter a; none of no bytes.
 fn files(alloc: Global, name: &str, bytes: usize) -> Result<Files, Memory> {
     let mut items = Vec::new(alloc);
     if bytes > 0 {
@@ -137,7 +137,7 @@ fn files(alloc: Global, name: &str, bytes: usize) -> Result<Files, Memory> {
     Ok(Files::new(items))
 }
 
-// A message of a claim, of members with this tree's digest.
+/// A message of a claim, of members with this tree's digest.
 fn said(alloc: Global, rest: &str, tree: [u8; 32]) -> Result<Option<Input>, Memory> {
     let Some((sender, rest)) = first_number(rest) else {
         return Ok(None);
@@ -148,7 +148,7 @@ fn said(alloc: Global, rest: &str, tree: [u8; 32]) -> Result<Option<Input>, Memo
     }
 }
 
-// The message about the path, with the word and the claim that stand in front.
+/// The message about the path, with the word and the claim that stand in front.
 fn message(sender: u64, tree: [u8; 32], path: PkgPath, rest: &str) -> Option<Input> {
     let (word, rest) = first_word(rest);
     let claim = claim(rest)?;

@@ -1,0 +1,70 @@
+//! Answers rows of standard input, which blank lines part: nodes over disks in memory that are
+//! handed each other's datagrams by hand. A row begins with `nodes` and what each weighs, and with
+//! the lines of a listing, each behind `listing`. Each line behind that asks something, and is told
+//! again with its answer. Datagrams have numbers, in the order in which they were first sent, from
+//! 0; K is a node's number.
+//!
+//! - `claim K PATH HOST ABOVE`, `failed K PATH`, `nudge K`, `ask K PATH`, and `built K PATH` with
+//!   what stands behind it, which is for each package its path, a file's name and how many bytes it
+//!   has: the input, to the node. Its answer is the length of the node's log, what is sent to whom
+//!   and how long new datagrams are, and whether there is a job; or the number of the refusal and
+//!   its cause.
+//! - `deliver N K`: datagram N comes to the node. `changed N K PLACE BYTE`: it comes with this byte
+//!   at the place. `bytes K HEX`: these bytes come.
+//! - `knows K PATH`: what the node knows, and the letters of the row's packages.
+//! - `stop K`: the node is opened again. `crash K LEFT`: it is opened again after a crash, of which
+//!   LEFT is `before`, `written`, or the byte that fills what was not synced.
+//! - `cuts K`: what the node's log opens to where it is cut to each length, and `zeros K`: where the
+//!   byte at each place is 0: the length of the log, or the number of the refusal, behind the first
+//!   place that answers so.
+//! - `failures K STEP`: the node's steps are taken again on disks whose calls fail, each in turn,
+//!   alone and with all later ones, and each of the five crashes follows. Its answer is how many
+//!   calls there are, if the node answers 1001 and then 1201, and is opened with the notes from
+//!   before the step, with the step's or without; and if it then answers the same to that STEP,
+//!   counted from 0, where it was this one.
+//!
+//! Where memory runs out in a step, that is told on standard error, and the same is asked again.
+#![tactic(auto)]
+
+mod asked;
+mod cutting;
+mod failing;
+mod known;
+mod network;
+mod opening;
+mod rows;
+mod sending;
+mod stepping;
+
+use std::io;
+use std::process::ExitCode;
+
+fn main(rt: HostRuntime) -> io::Result<ExitCode> {
+    let mut row = Vec::new(rt.alloc());
+    for line in rt.lines(rt.alloc()) {
+        let line = line?;
+        if !line.is_empty() {
+            row.push(line)?;
+        } else if !tell(&rt, row.as_slice())? {
+            return Ok(ExitCode::from(1));
+        } else {
+            row.clear();
+        }
+    }
+    let told = tell(&rt, row.as_slice())?;
+    Ok(ExitCode::from(if told { 0 } else { 1 }))
+}
+
+/// Tells the answers of a row, unless memory runs out.
+fn tell(rt: &HostRuntime, row: &[String]) -> io::Result<bool> {
+    match rows::answers(rt.alloc(), row) {
+        Ok((answers, refused)) => {
+            println!(rt; "{answers}")?;
+            if refused > 0 {
+                eprintln!(rt; "{refused} again")?;
+            }
+            Ok(true)
+        }
+        Err(_) => Ok(false),
+    }
+}
