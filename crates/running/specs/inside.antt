@@ -3,3 +3,6 @@ pub mod Asking
 pub mod Deciding
 pub mod Posting
 pub mod Placing
+pub mod Starting
+pub mod Stepping
+pub mod Stopping

@@ -1,11 +1,11 @@
 //! What an event asks, and of which node.
-ghost use Rattle.std.specs.Prelude.{◌≡◌, ◌<◌, IfOk, length, map, true};
+ghost use Rattle.std.specs.Prelude.{◌≡◌, IfOk, length, map};
 ghost use Rattle.faults.specs.Answers.{map_ok};
 ghost use Rattle.events.specs.Events as events;
 ghost use Rattle.events.specs.Events.{event_view};
 ghost use Rattle.node.specs.Step.{IsReadyFor, taken_by};
 ghost use Rattle.protocol.specs.declared.input.Input.TheVariants as inputs;
-ghost use Rattle.running.specs.inside.Asking.{IsReadied, refused_by};
+ghost use Rattle.running.specs.inside.Asking.{CanBeAsked, IsReadied, refused_by};
 ghost use Rattle.world.specs.Happening as happening;
 ghost use Rattle.world.specs.World as worlds;
 
@@ -84,9 +84,7 @@ pub(crate) fn ready(
     sent: &IndexSet<Vec<u8>>,
     event: &Event,
 ) -> Result<Ready, NodeFault>
-    requires step { events.is_step (event_view event.now) ≡ true }
-    requires was_sent { (w : worlds.World) → length sent.now.keys ≡ length w.sent
-        → happening.lacks_datagram w (event_view event.now) ≡ false }
+    requires { CanBeAsked (map (λ d. d.items) sent.now.keys) (event_view event.now) }
     ensures step { IsReadied (map (λ d. d.items) sent.now.keys) (event_view event.now)
         node.old.node node.new.node (map_ok (taken_by node.old.node) result) }
     ensures ready { IfOk result (IsReadyFor node.new.node) }

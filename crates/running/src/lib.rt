@@ -6,6 +6,7 @@ mod placed;
 mod posted;
 mod run;
 mod running;
+mod scene;
 mod stepping;
 mod stopping;
 mod votes;

@@ -1,5 +1,5 @@
 //! A node of a world, up or down.
-ghost use Rattle.std.specs.Prelude.{◌≡◌, ◌++◌, ◌∷◌, [], IfOk, length};
+ghost use Rattle.std.specs.Prelude.{◌≡◌, ◌++◌, ◌∷◌, [], IfOk, true};
 ghost use Rattle.node.specs.inside.Noted.{notes_in};
 ghost use Rattle.stable_record.specs.History.{stands};
 ghost use Rattle.stable_record.specs.InMemory.{mem_history};
@@ -62,6 +62,7 @@ impl<'a> Placed<'a> {
     pub(crate) fn rest(self) -> Rest
         ensures disk { result.disk ≡ disk_of self }
         ensures notes { notes_in result.noted.texts ≡ (node_view self).notes }
+        ensures behind { (node_view self).up ≡ true → result.behind ≡ 0 }
     {
         match self {
             Placed::Up(node) => {

@@ -3,37 +3,28 @@
 ghost use Rattle.std.specs.Prelude.{◌≡◌, ◌<◌, [], IfOk, Some, length, map, slice_get, true};
 ghost use Rattle.std.specs.Option.{option_copied};
 ghost use Rattle.engine.specs.State as engines;
-ghost use Rattle.node.specs.State.{LoggedNode};
 ghost use Rattle.protocol.specs.State.{engine_of};
 ghost use Rattle.running.specs.History.{IsHistory, file_length};
 ghost use Rattle.world.specs.Happening.{is_up};
 ghost use Rattle.world.specs.Headline.{holds};
-ghost use Rattle.world.specs.World.{member_at, node_at, start, up_node};
+ghost use Rattle.world.specs.World.{member_at, start};
 
-use crate::placed::Placed;
-use crate::posted::Posted;
+use crate::scene::Scene;
 use ballots::Weights;
 use engine::{Counts, Letter};
 use events::Event;
 use faults::Memory;
 use indexmap::IndexSet;
 use listing::Tree;
-use node::Node;
 use package_record::Record;
 use pkgpath::PkgPath;
-use stable_record::MemDisk;
 use std::alloc::Global;
 use std::marker::Model;
-use units::Units;
 
 /// Nodes on disks in memory, the datagrams that they sent, and the list of what is agreed.
 #[derive(Drop)]
 pub struct World<'a> {
-    pub(crate) tree: &'a Tree,
-    pub(crate) units: Units<'a>,
-    pub(crate) weights: Weights,
-    pub(crate) nodes: Vec<Placed<'a>>,
-    pub(crate) posted: Posted,
+    pub(crate) scene: Scene<'a>,
     pub(crate) events: Vec<Event>,
 }
 
@@ -47,11 +38,11 @@ impl<'a> Model for World<'a> {
 
     ghost coded = { Prim.hlevel (codes, event.the_row.coded) };
 
-    ghost use Rattle.running.specs.inside.Placing.{IsReached, history_of};
+    ghost use Rattle.running.specs.inside.Placing.{StandsSo, history_of};
 
     ghost view = { history_of };
 
-    ghost invariant = { IsReached };
+    ghost invariant = { StandsSo };
 }
 
 impl<'a> World<'a> {
@@ -63,17 +54,8 @@ impl<'a> World<'a> {
         ensures events { IfOk result (λ w. w.events ≡ []) }
         ensures history { IfOk result IsHistory }
     {
-        let units = Units::new(alloc, tree)?;
-        let mut nodes = Vec::with_capacity(alloc, weights.len())?;
-        for me in 0..weights.len() as u8 {
-            nodes.push(Placed::Up(fresh(alloc, tree, weights, me)?))?;
-        }
         Ok(World {
-            tree,
-            units,
-            weights: weights.copy(),
-            nodes,
-            posted: Posted::new(alloc),
+            scene: Scene::new(alloc, tree, weights)?,
             events: Vec::new(alloc),
         })
     }
@@ -82,7 +64,7 @@ impl<'a> World<'a> {
     pub fn agreed(&self) -> &[Record]
         ensures { result.now ≡ self.now.world.agreed }
     {
-        self.posted.agreed.as_slice()
+        self.scene.posted.agreed.as_slice()
     }
 
     /// The events that were taken, in turn.
@@ -96,24 +78,21 @@ impl<'a> World<'a> {
     pub fn datagrams(&self) -> &IndexSet<Vec<u8>>
         ensures { map (λ d. d.items) result.now.keys ≡ self.now.world.sent }
     {
-        &self.posted.sent
+        &self.scene.posted.sent
     }
 
     /// How many nodes there are, one for each member.
     pub fn len(&self) -> u8
         ensures { result ≡ length self.now.world.nodes }
     {
-        self.nodes.len() as u8
+        self.scene.nodes.len() as u8
     }
 
     /// Whether the node is up. A number that is none of a node is not.
     pub fn is_up(&self, node: u8) -> bool
         ensures { result ≡ is_up self.now.world node }
     {
-        match self.nodes.get(node as usize) {
-            Some(placed) => placed.is_up(),
-            None => false,
-        }
+        self.scene.is_up(node)
     }
 
     /// The record that a node which is up holds for the path.
@@ -122,7 +101,7 @@ impl<'a> World<'a> {
         ensures { (x : _) → slice_get self.now.world.nodes node ≡ Some x
             → option_copied result ≡ holds self.now.world node x path.now }
     {
-        self.up(node).held(path)
+        self.scene.up(node).held(path)
     }
 
     /// The letter of the package at the position, as a node that is up shows it.
@@ -132,7 +111,7 @@ impl<'a> World<'a> {
         ensures { (x : _) → slice_get self.now.world.nodes node ≡ Some x
             → engines.HasLetter (engine_of (member_at self.now.world node x)) position result }
     {
-        self.up(node).letter(position)
+        self.scene.up(node).letter(position)
     }
 
     /// How many packages have each letter, as a node that is up shows them.
@@ -141,7 +120,7 @@ impl<'a> World<'a> {
         ensures { (x : _) → slice_get self.now.world.nodes node ≡ Some x
             → engines.AreCounts (engine_of (member_at self.now.world node x)) result }
     {
-        self.up(node).counts()
+        self.scene.up(node).counts()
     }
 
     /// The number of bytes of a member's log, whether it is up or down.
@@ -150,35 +129,6 @@ impl<'a> World<'a> {
         ensures { (x : _) → slice_get self.now.world.nodes node ≡ Some x
             → result ≡ file_length self.now.world node x }
     {
-        self.nodes[node as usize].file().len() as u64
-    }
-
-    /// The node, which is up.
-    fn up(&self, node: u8) -> &Node<'a, MemDisk>
-        requires { is_up self.now.world node ≡ true }
-        ensures { (x : _) → slice_get self.now.world.nodes node ≡ Some x
-            → result.now.node ≡ node_at self.now.world node x }
-    {
-        match &self.nodes[node as usize] {
-            Placed::Up(node) => node,
-            Placed::Down(_) => unreachable!(),
-        }
-    }
-}
-
-/// The node with this number at the start, over an empty disk.
-fn fresh<'a>(
-    alloc: Global,
-    tree: &'a Tree,
-    weights: &Weights,
-    me: u8,
-) -> Result<Node<'a, MemDisk>, Memory>
-    requires { me < length weights.now }
-    ensures { IfOk result (IsFresh tree.entry.now weights.now me) }
-{
-    let disk = MemDisk::new(alloc, &[])?;
-    match Node::open(alloc, disk, tree, weights, me) {
-        Ok(node) => Ok(node),
-        Err(_) => Err(Memory),
+        self.scene.nodes[node as usize].file().len() as u64
     }
 }

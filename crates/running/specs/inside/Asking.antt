@@ -1,10 +1,10 @@
 -- What an event asks, of what was sent.
-use Rattle.std.specs.Prelude.{◌≡◌, ◌×◌, ◌⊎◌, List, Option, None, Some, Result, Ok, Err, option_map, slice_get}
+use Rattle.std.specs.Prelude.{◌≡◌, ◌⊎◌, List, Option, None, Some, Result, Err, option_map, slice_get}
 use Rattle.faults.specs.Bytes.{Text}
 use Rattle.events.specs.Events.{Event, Claim, Built, Failed, Nudge, Ask, Deliver, Stop, StopIn, Restart}
 use Rattle.node.specs.Calls.{HasPrepared}
 use Rattle.node.specs.State.{NodeState}
-use Rattle.node.specs.Step.{Asked, Comes, Does, IsReadyFor, Taken}
+use Rattle.node.specs.Step.{Asked, Comes, Does, Taken}
 use Rattle.node.specs.declared.fault.NodeFault.{NodeFault}
 use Rattle.node.specs.declared.fault.NodeFault.TheVariants as node_fault
 use Rattle.protocol.specs.declared.input.Input.TheVariants as inputs
@@ -22,6 +22,10 @@ asked_by sent (Deliver d n) = option_map Comes (slice_get sent d)
 asked_by sent (Stop n) = None
 asked_by sent (StopIn e l) = None
 asked_by sent (Restart n) = None
+
+-- The event is a step, and what it delivers was sent.
+abbrev pub CanBeAsked : List Text → Event → Type 0
+CanBeAsked sent e = (asked : Asked) × (asked_by sent e ≡ Some asked)
 
 -- The node's step on what the event asks was made ready, or refused as is right; or memory was
 -- wanting, and the node stays.

@@ -36,13 +36,14 @@ abbrev pub message_in : List Send → Option (Message Value)
 message_in [] = None
 message_in (s ∷ sends) = Some s.message
 
--- the same vote by another member
-abbrev pub vote_by : Message Value → ℕ → Text
-vote_by m k = slice_set (datagram_text (datagram.Whole m)) sender_place k
+-- the members that sent this vote, each with its own number in it
+abbrev pub voters_in : List ℕ → List Text → Text → Members
+voters_in weights sent vote k =
+    nat_lt k (length weights) && is_among sent (slice_set vote sender_place k)
 
--- the members that sent that vote
+-- the members that sent the vote that the message is
 abbrev pub voters_of : List ℕ → List Text → Message Value → Members
-voters_of weights sent m k = nat_lt k (length weights) && is_among sent (vote_by m k)
+voters_of weights sent m = voters_in weights sent (datagram_text (datagram.Whole m))
 
 -- whether the vote makes a majority that there was not
 abbrev pub makes_majority : List ℕ → Members → ℕ → Bool

@@ -1,5 +1,6 @@
 -- What a contract sees of a world's fields.
 use Rattle.std.specs.Prelude.{◌≡◌, ◌-◌, ℕ, List, Some, drop, length, map, slice_get}
+use Rattle.events.specs.Events.{Event}
 use Rattle.node.specs.OnLog.{IsOnLog, identity, texts_of}
 use Rattle.node.specs.inside.Noted.{notes_in}
 use Rattle.running.specs.History.{History, IsHistory}
@@ -7,12 +8,17 @@ use Rattle.running.specs.declared.placed.Placed.{Placed}
 use Rattle.running.specs.declared.placed.Placed.TheVariants.{Up, Down}
 use Rattle.running.specs.declared.placed.Rest.{Rest}
 use Rattle.running.specs.declared.running.World.TheInside.{Inside}
+use Rattle.running.specs.declared.scene.Scene.{Scene}
+use Rattle.running.specs.inside.Posting.{AreListed, list_in, sent_in}
 use Rattle.stable_record.specs.Crash.{IsOnDisk}
 use Rattle.stable_record.specs.History.{seen}
 use Rattle.stable_record.specs.InMemory.{mem_history}
 use Rattle.stable_record.specs.Log.{HasNotes}
 use Rattle.stable_record.specs.declared.mem_disk.MemDisk.{MemDisk}
-use Rattle.world.specs.World.{World, WorldNode, down_node, node_at, up_node}
+use Rattle.world.specs.Happening.{Leads}
+use Rattle.world.specs.World.{IsMade, World, WorldNode, down_node, node_at, start, up_node}
+
+-- ---- nodes
 
 -- the bytes that a read of the disk gives
 abbrev pub file_of : MemDisk → List ℕ
@@ -36,19 +42,6 @@ abbrev pub disk_of : Placed → MemDisk
 disk_of (Up n) = n.log.disk
 disk_of (Down r) = r.disk
 
--- the world, and the events that it took
-abbrev pub history_of : Inside → History
-history_of w = record {
-  world = record {
-    division = w.units;
-    weights = w.weights;
-    nodes = map node_view w.nodes.items;
-    sent = map (λ d. d.items) w.posted.sent.keys;
-    agreed = w.posted.agreed.items;
-  };
-  events = w.events.items;
-}
-
 -- The file has the node's notes behind its open gates, and just what the node left behind the
 -- closed one; and all of it is on the disk.
 pub record HasLeft (w : World) (k : ℕ) (x : WorldNode) (disk : MemDisk) : Type 0 where
@@ -62,11 +55,36 @@ abbrev pub StandsOn : World → ℕ → Placed → Type 0
 StandsOn w k (Up n) = (n.node ≡ node_at w k (up_node n.node)) × IsOnLog mem_history n
 StandsOn w k (Down r) = HasLeft w k (rest_view r) r.disk
 
--- The events that were taken led here from the start, each node stands on its disk, and the paths
--- of the list are kept beside it.
-pub record IsReached (w : Inside) : Type 0 where
-  pub tree : w.units.tree ≡ w.tree.now
+-- ---- worlds
+
+-- the world
+abbrev pub world_of : Scene → World
+world_of s = record {
+  division = s.units;
+  weights = s.weights;
+  nodes = map node_view s.nodes.items;
+  sent = sent_in s.posted;
+  agreed = list_in s.posted;
+}
+
+-- Each node stands on its disk, and the paths of the list are kept beside it.
+pub record IsStanding (s : Scene) : Type 0 where
+  pub tree : s.units.tree ≡ s.tree.now
+  pub disks : (k : ℕ) (x : Placed) → slice_get s.nodes.items k ≡ Some x
+      → StandsOn (world_of s) k x
+  pub listed : AreListed s.posted
+
+-- Some events led to the world from its start.
+pub record IsReached (w : World) : Type 0 where
+  pub made : IsMade w.division w.weights
+  pub events : List Event
+  pub led : Leads (start w.division w.weights) events w
+
+-- the world, and the events that it took
+abbrev pub history_of : Inside → History
+history_of w = record { world = world_of w.scene; events = w.events.items }
+
+-- The events that were taken led here from the start, and each node stands on its disk.
+pub record StandsSo (w : Inside) : Type 0 where
   pub history : IsHistory (history_of w)
-  pub disks : (k : ℕ) (x : Placed) → slice_get w.nodes.items k ≡ Some x
-      → StandsOn (history_of w).world k x
-  pub listed : w.posted.listed.keys ≡ map (λ r. r.path) w.posted.agreed.items
+  pub standing : IsStanding w.scene

@@ -16,11 +16,11 @@ list_in p = p.agreed.items
 abbrev pub AreListed : Posted → Type 0
 AreListed p = p.listed.keys ≡ map (λ r. r.path) p.agreed.items
 
--- Nothing of the old tables was taken away: what there is more stands at the end.
+-- What there is more than in the old tables stands at their ends.
 pub record HasGrown (old new : Posted) : Type 0 where
   pub sent : take (length old.sent.keys) (sent_in new) ≡ sent_in old
   pub list : take (length old.agreed.items) (list_in new) ≡ list_in old
-  pub listed : take (length old.agreed.items) new.listed.keys ≡ take (length old.agreed.items) old.listed.keys
+  pub listed : take (length old.listed.keys) new.listed.keys ≡ old.listed.keys
 
 -- The tables are the same again.
 pub record AreSame (old new : Posted) : Type 0 where
