@@ -36,13 +36,17 @@ audit_command = command (codes "audit") (word (codes "LISTING") ∷ word (codes 
 abbrev pub run_command : Shape
 run_command = command (codes "run") (word (codes "LISTING") ∷ word (codes "TRACE") ∷ single ∷ [])
 
--- the program, which has to be given one of its subcommands
-unfoldable pub dpbr_app : App
-dpbr_app =
+-- the program with its subcommands on lists alone; it has to be given a subcommand
+abbrev pub list_app : App
+list_app =
     let program = new_app (codes "dpbr") in
     fold with_subcommand
     (record program { top = record program.top { subcommand_required = true } })
-    (status_command ∷ audit_command ∷ run_command ∷ [])
+    (status_command ∷ audit_command ∷ [])
+
+-- the program
+unfoldable pub dpbr_app : App
+dpbr_app = with_subcommand list_app run_command
 
 -- the kinds of fault of which clap names one, where it finds any in the words
 unfoldable pub faults_of : List Text → Kinds

@@ -3,7 +3,7 @@
 
 ghost use Rattle.std.specs.Prelude.{◌≡◌, IfNone, IfOk, IfSome, map};
 ghost use Rattle.clap.specs.Words.{FailsBy, app_of, subcommand_rows_of};
-ghost use Rattle.words.specs.Calls.{IsCallOf, NamesCall, dpbr_app, faults_of, matched};
+ghost use Rattle.words.specs.Calls.{IsCallOf, NamesCall, dpbr_app, faults_of, list_app, matched};
 
 mod arguments;
 mod audit;
@@ -87,10 +87,16 @@ fn no_call(alloc: Global) -> Result<Error, AllocError> {
 fn dpbr_command<'a>(alloc: Global) -> Result<Command<'a>, AllocError>
     ensures { IfOk result (λ command. app_of command ≡ dpbr_app) }
 {
+    with_lists(alloc)?.subcommand(run::command(alloc)?)
+}
+
+/// The same of its subcommands on lists alone.
+fn with_lists<'a>(alloc: Global) -> Result<Command<'a>, AllocError>
+    ensures { IfOk result (λ command. app_of command ≡ list_app) }
+{
     Command::new(alloc, "dpbr")
         .about("Letters, audits and runs of a bulk build of ports.")
         .subcommand_required(true)
         .subcommand(status::command(alloc)?)?
-        .subcommand(audit::command(alloc)?)?
-        .subcommand(run::command(alloc)?)
+        .subcommand(audit::command(alloc)?)
 }
