@@ -1,5 +1,5 @@
-"""Members whose memory runs out: each allocation of some rows of `member_probe` refused in turn. Where that falls into a step,
-the program gives the same input again, and has to go on as if nothing had been."""
+"""Members and nodes whose memory runs out: each allocation of some rows of `member_probe` and `node_probe` refused in turn.
+Where that falls into a step, the program gives the same input again, and has to go on as if nothing had been."""
 import os
 import subprocess
 import tempfile
@@ -7,14 +7,16 @@ import tempfile
 from topics.memory import refusing
 from topics.tally import TOP, built_shim, contents
 
-CRATE = f"{TOP}/crates/member_probe"
-PROBE = f"{CRATE}/out/member_probe"
-# a plain run, a unit of two packages, and a job that stands on two others
-ROWS = (0, 4, 8)
+ROWS = {
+    # a plain run, a unit of two packages, and a job that stands on two others
+    "member_probe": (0, 4, 8),
+    # a claim that a crash ends, a unit of two packages, and a build in pieces, which a stop loses
+    "node_probe": (1, 4, 5),
+}
 
 
-def run_probe(row, **more):
-    done = subprocess.run([PROBE], input=row, capture_output=True, timeout=60, **more)
+def run_probe(probe, row, **more):
+    done = subprocess.run([f"{TOP}/crates/{probe}/out/{probe}"], input=row, capture_output=True, timeout=60, **more)
     return done.stdout, done.stderr, done.returncode
 
 
@@ -36,30 +38,32 @@ def problem_of(got, right, again):
     return f"{told[-200:]!r}, {said!r:.200}, status {status}"
 
 
-def refused_in_turn(tally, folder, place, row):
-    right, said, status = run_probe(row)
+def refused_in_turn(tally, folder, probe, place, row):
+    name = f"row {place} of {probe}"
+    right, said, status = run_probe(probe, row)
     if said or status:
-        tally.add(f"row {place} of members", f"it ended with {status}: {said!r:.200}")
+        tally.add(name, f"it ended with {status}: {said!r:.200}")
         return
     number, again = 0, []
     while True:
         number += 1
         environment, mark = refusing(folder, number)
-        got = run_probe(row, env=environment)
+        got = run_probe(probe, row, env=environment)
         if not os.path.exists(mark):
             break
         os.remove(mark)
         problem = problem_of(got, right, again)
         if problem:
-            tally.add(f"row {place} of members, allocation {number} refused", problem)
+            tally.add(f"{name}, allocation {number} refused", problem)
             return
-    print(f"tests/run: row {place} of members: {number - 1} allocations, each refused once, {len(again)} of them in steps", flush=True)
-    tally.add(f"row {place} of members", "" if again else "no step was refused memory")
+    print(f"tests/run: {name}: {number - 1} allocations, each refused once, {len(again)} of them in steps", flush=True)
+    tally.add(name, "" if again else "no step was refused memory")
 
 
 def run(tally):
-    rows = contents(f"{CRATE}/stdin").split(b"\n\n")
     with tempfile.TemporaryDirectory() as folder:
         if built_shim(tally, folder, "refuse"):
-            for place in ROWS:
-                refused_in_turn(tally, folder, place, rows[place].strip() + b"\n")
+            for probe, places in ROWS.items():
+                rows = contents(f"{TOP}/crates/{probe}/stdin").split(b"\n\n")
+                for place in places:
+                    refused_in_turn(tally, folder, probe, place, rows[place].strip() + b"\n")

@@ -56,6 +56,8 @@ module _ (division : Division) (weights : List ℕ) (made : IsMade division weig
     among = was.among;
     world = was.world;
     led = mirrors_lead division weights was.before was.world was.acts was.mirrors;
+    then = was.then;
+    happened = was.happened;
     builds = record {
       takes = record {
         builder = was.maker;

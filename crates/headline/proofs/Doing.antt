@@ -1,4 +1,5 @@
--- A step of a node is a step of its member: an act after which the world matches.
+-- A step of a node is a step of its member: an act after which the world matches, and some list
+-- stands.
 use Rattle.std.proofs.Common.{◌≡◌, ◌<◌, ℕ, true, List, [], length, Some, slice_set, sym, ap, subst, ◌∙◌}
 use Rattle.std.specs.Prelude.{All}
 use Rattle.std.proofs.lemmas.List.Elements.{All-weaker}
@@ -12,9 +13,9 @@ use Rattle.agreement.specs.Quorums.{is_majority}
 use Rattle.agreement.specs.Step as theory
 use Rattle.agreement.specs.Step.{Outcome}
 use Rattle.agreement.specs.Votes.{Ballot}
-use Rattle.agreement.specs.World.{Take, after_any, after_event, outcome, run}
+use Rattle.agreement.specs.World.{Take, add_sent, after_any, after_event, outcome, run}
 use Rattle.events.specs.Events.{Event, node_of as whose}
-use Rattle.node.specs.Step.{after}
+use Rattle.node.specs.Step.{Taken, after}
 use Rattle.package_record.specs.Content.{Content}
 use Rattle.package_record.specs.Laws.{BuildTextIsReadAgain}
 use Rattle.protocol.specs.Laws.{GoesOut, IsOutcome, Says}
@@ -23,7 +24,7 @@ use Rattle.protocol.specs.Step.{members_of}
 use Rattle.protocol.specs.declared.sends.Send.{Send}
 use Rattle.units.specs.Division.{Division}
 use Rattle.wire.specs.Messages.{IsMessage}
-use Rattle.world.specs.Happening.{Steps}
+use Rattle.world.specs.Happening.{Acts, Steps}
 use Rattle.world.specs.Lists.{IsListAfter}
 use Rattle.world.specs.Sent.{with_sends}
 use Rattle.world.specs.World.{IsMade, World, WorldNode, member_at, node_at, up_node}
@@ -37,16 +38,27 @@ use Rattle.headline.proofs.Cutting.{made_here}
 use Rattle.headline.proofs.Deciding.{list_is}
 use Rattle.headline.proofs.Naming.{IsNaming, body_names}
 use Rattle.headline.proofs.Ranging.{is_one}
+use Rattle.headline.proofs.SomeList.{some_list}
 use Rattle.headline.proofs.Speaking.{world_matches}
 use Rattle.headline.proofs.Standing.{IsLeftAs, sent_here, sent_there}
 use Rattle.headline.proofs.Stepping.{is_as_before, left_so, takes}
 use Rattle.headline.proofs.Stopping.{one_more}
 
+-- The event's node takes this step, whichever list stands then.
+pub record Acted (w : World) (e : Event) : Type 0 where
+  pub node : WorldNode
+  pub taken : Taken
+  pub acts : Acts w e node taken
+
+-- as it does where it is taken
+abbrev pub acted : (w v : World) (e : Event) → Steps w e v → Acted w e
+acted w v e s = record { node = s.node; taken = s.taken; acts = s.acts }
+
 module _ (division : Division) (weights : List ℕ) (acts : List (Act Value)) (w : World)
     (made : IsMade division weights)
     (of : (w.division ≡ division) × (w.weights ≡ weights)) (local : AreLocal w)
     (m : Matches w (after_all_acts division weights acts))
-    (again : BuildTextIsReadAgain) (e : Event) (v : World) (s : Steps w e v) where
+    (again : BuildTextIsReadAgain) (e : Event) (s : Acted w e) where
   -- what the acts leave
   abbrev here : Cluster Value
   here = after_all_acts division weights acts
@@ -92,13 +104,13 @@ module _ (division : Division) (weights : List ℕ) (acts : List (Act Value)) (w
     abbrev d : IsDone
     d = a.done
 
-    abbrev act : Act Value
+    abbrev pub act : Act Value
     act = record { path = d.unit; event = Take k d.input }
 
-    abbrev new : Cluster Value
+    abbrev pub new : Cluster Value
     new = after_all_acts division weights (with_act acts (Some act))
 
-    abbrev stepped : Cluster Value
+    abbrev pub stepped : Cluster Value
     stepped = cluster_after (is_majority weights) here d.unit (Take k d.input)
 
     its_made : IsMade w.division w.weights
@@ -135,7 +147,7 @@ module _ (division : Division) (weights : List ℕ) (acts : List (Act Value)) (w
     abbrev sent : List Text
     sent = with_sends w.sent s.taken.answer.sends
 
-    abbrev world : List Content → World
+    abbrev pub world : List Content → World
     world packages = record w { nodes = slice_set w.nodes k then; sent = sent; agreed = packages }
 
     stands_so : Matches (world (packages_of stepped.list)) stepped
@@ -144,7 +156,7 @@ module _ (division : Division) (weights : List ℕ) (acts : List (Act Value)) (w
         s.taken.answer d.is.sends d.out d.written claimers
         (is_one w its_made local k x s.acts.is_up.stands) own
 
-    matches_then : Matches (world (packages_of stepped.list)) new
+    pub matches_then : Matches (world (packages_of stepped.list)) new
     matches_then = subst (Matches (world (packages_of stepped.list))) (sym same) stands_so
 
     others : (q : ℕ) → (q ≡ d.unit → ⊥) → (new.at q).sent ≡ (here.at q).sent
@@ -160,29 +172,32 @@ module _ (division : Division) (weights : List ℕ) (acts : List (Act Value)) (w
         taken x then s.acts.is_up.stands left)
         ∙ sym (ap (λ (c : Cluster Value). (c.at d.unit).sent) same)
 
+    said_then : (new.at d.unit).sent ≡ add_sent d.outcome.send (here.at d.unit).sent
+    said_then =
+        ap (λ (c : Cluster Value). (c.at d.unit).sent) same
+        ∙ sent_here w (is_majority weights) here m d.unit d.within (Take k d.input) d.outcome taken
+        x then s.acts.is_up.stands left
+
     goes_on : new.list ≡ list_with d.unit here.list (lookup here.list d.unit)
         (decided_value (is_majority weights) (new.at d.unit).sent (new.at d.unit).sent)
     goes_on = ap (λ (c : Cluster Value). c.list) same
         ∙ ap (λ l. list_with d.unit here.list (lookup here.list d.unit)
         (decided_value (is_majority weights) l l)) sent_then
 
-    -- and so each list is that may stand after the event
-    lists : (list : List Content) → IsListAfter w sent list → list ≡ packages_of stepped.list
+    -- some list stands after the step,
+    pub has_list : (list : List Content) × IsListAfter w sent list
+    has_list =
+        some_list division weights acts (with_act acts (Some act)) w made of m
+        (slice_set w.nodes k then) sent (packages_of stepped.list) matches_then
+        d.unit d.within others d.outcome.send said_then
+
+    -- and each that may is that of the agreements
+    pub lists : (list : List Content) → IsListAfter w sent list → list ≡ packages_of stepped.list
     lists list is =
         list_is division weights acts (with_act acts (Some act)) w made of m
         (slice_set w.nodes k then) sent (packages_of stepped.list) matches_then again
         d.unit d.within others goes_on list is
         ∙ ap (λ (c : Cluster Value). packages_of c.list) same
-
-    pub only_list : (list : List Content) → IsListAfter w sent list → list ≡ v.agreed
-    only_list list is = lists list is ∙ sym (lists v.agreed s.list)
-
-    pub done_matches : Matches v new
-    done_matches =
-        subst (λ z. Matches z new) (sym (s.leaves ∙ ap world (lists v.agreed s.list))) matches_then
-
-    pub is_one_act_more : IsOneActMore division weights acts w e v
-    is_one_act_more = (Some act, a.is, done_matches)
 
   -- what a step is for the other units, if it opens no claim
   pub no_other : (d : IsDone) → elsewhere (Take k d.input) ≡ []
@@ -196,3 +211,28 @@ module _ (division : Division) (weights : List ℕ) (acts : List (Act Value)) (w
       ∙ is_as_before (is_majority weights) w (made_here division weights acts w made of local m)
       here m k x s.acts.is_up.stands s.acts.is_up.up
       d.unit d.within d.input d.outcome s.taken d.answered d.is closed q ne
+
+-- So where the step is taken the event is one act more, and no other list may stand.
+module _ (division : Division) (weights : List ℕ) (acts : List (Act Value)) (w : World)
+    (made : IsMade division weights)
+    (of : (w.division ≡ division) × (w.weights ≡ weights)) (local : AreLocal w)
+    (m : Matches w (after_all_acts division weights acts))
+    (again : BuildTextIsReadAgain) (e : Event) (v : World) (s : Steps w e v)
+    (a : IsAct division weights acts w made of local m again e (acted w v e s)) where
+  pub only_list : (list : List Content)
+      → IsListAfter w (with_sends w.sent s.taken.answer.sends) list → list ≡ v.agreed
+  only_list list is =
+      lists division weights acts w made of local m again e (acted w v e s) a list is
+      ∙ sym (lists division weights acts w made of local m again e (acted w v e s) a v.agreed
+      s.list)
+
+  pub is_one_act_more : IsOneActMore division weights acts w e v
+  is_one_act_more = (
+    Some (act division weights acts w made of local m again e (acted w v e s) a),
+    a.is,
+    subst (λ z. Matches z (new division weights acts w made of local m again e (acted w v e s) a))
+        (sym (s.leaves ∙ ap (world division weights acts w made of local m again e (acted w v e s)
+        a)
+        (lists division weights acts w made of local m again e (acted w v e s) a v.agreed s.list)))
+        (matches_then division weights acts w made of local m again e (acted w v e s) a),
+  )

@@ -1,5 +1,5 @@
 -- An event leaves one world at most, or is refused with one fault.
-use Rattle.std.proofs.Common.{◌≡◌, ◌&&◌, ℕ, Bool, true, false, not, nat_le, List, [], ◌∷◌, length, None, Some, Result, Ok, Err, slice_get, refl, sym, ap, ap₂, subst, ◌∙◌, inl, inr, true≢false, if◌then◌else◌}
+use Rattle.std.proofs.Common.{◌≡◌, ◌&&◌, ℕ, Bool, true, false, not, nat_le, List, [], ◌∷◌, length, None, Some, Result, Ok, Err, slice_get, refl, sym, ap, ap₂, subst, ◌∙◌, inl, inr, true≢false}
 use Rattle.std.proofs.lemmas.Bool.{lt-leb}
 use Rattle.faults.specs.Answers.{first_that_applies}
 use Rattle.engine.specs.declared.Letter.{Letter}

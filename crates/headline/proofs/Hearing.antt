@@ -21,7 +21,6 @@ use Rattle.protocol.specs.Step.{outcome_of}
 use Rattle.protocol.specs.declared.input.Input.TheVariants as inputs
 use Rattle.units.specs.Division.{Division}
 use Rattle.wire.specs.Reading.{datagram_of}
-use Rattle.world.specs.Happening.{Steps}
 use Rattle.world.specs.Sent.{WasSent}
 use Rattle.world.specs.World.{IsMade, World, member_at}
 use Rattle.headline.specs.Local.{AreLocal}
@@ -30,7 +29,7 @@ use Rattle.headline.specs.Mirrored.{after_all_acts}
 use Rattle.headline.proofs.Asking.{answers_with}
 use Rattle.headline.proofs.Cutting.{made_here}
 use Rattle.headline.proofs.Delivering.{by_arrival, delivered, no_build_in_delivery, place, theirs}
-use Rattle.headline.proofs.Doing.{IsAct, IsDone, no_other}
+use Rattle.headline.proofs.Doing.{Acted, IsAct, IsDone, no_other}
 use Rattle.headline.proofs.Foreign.{comes_welcome, get_contains}
 use Rattle.headline.proofs.Members.{node_is_member}
 use Rattle.headline.proofs.Naming.{body_comes, message_names}
@@ -41,7 +40,7 @@ module _ (division : Division) (weights : List ℕ) (acts : List (Act Value)) (w
     (made : IsMade division weights)
     (of : (w.division ≡ division) × (w.weights ≡ weights)) (local : AreLocal w)
     (m : Matches w (after_all_acts division weights acts))
-    (again : BuildTextIsReadAgain) (d n : ℕ) (v : World) (s : Steps w (events.Deliver d n) v) where
+    (again : BuildTextIsReadAgain) (d n : ℕ) (s : Acted w (events.Deliver d n)) where
   -- the member
   abbrev member : State
   member = member_at w n s.node
@@ -69,7 +68,7 @@ module _ (division : Division) (weights : List ℕ) (acts : List (Act Value)) (w
         (in_range w its_made local n s.node s.acts.is_up.stands)
         (message_good x.path x.body is_sent.is_message.body) e
 
-    abbrev done : IsDone division weights acts w made of local m again (events.Deliver d n) v s
+    abbrev done : IsDone division weights acts w made of local m again (events.Deliver d n) s
     done = record {
       unit = answer.unit;
       within = answer.within;
@@ -90,11 +89,11 @@ module _ (division : Division) (weights : List ℕ) (acts : List (Act Value)) (w
           (body_comes _ x.sender x.body (heard_names member x s.taken.answer e));
     }
 
-    pub heard_is_act : IsAct division weights acts w made of local m again (events.Deliver d n) v s
+    pub heard_is_act : IsAct division weights acts w made of local m again (events.Deliver d n) s
     heard_is_act = record {
       done = done;
       allowed = refl;
-      there = no_other division weights acts w made of local m again (events.Deliver d n) v s done
+      there = no_other division weights acts w made of local m again (events.Deliver d n) s done
           refl
           (λ closed. message_opens_none Value (is_majority w.weights) n (view member answer.unit)
           closed (said x.sender x.body));
@@ -103,7 +102,7 @@ module _ (division : Division) (weights : List ℕ) (acts : List (Act Value)) (w
 
   -- So each delivery is an act, or does nothing but keep a piece.
   pub delivery_is_act : (s.taken.answer ≡ nothing member)
-      ⊎ IsAct division weights acts w made of local m again (events.Deliver d n) v s
+      ⊎ IsAct division weights acts w made of local m again (events.Deliver d n) s
   delivery_is_act =
       let text = s.acts.asks.0 in
       let kept = (local.each n s.node s.acts.is_up.stands).pieces in

@@ -24,7 +24,7 @@ use Rattle.protocol.specs.Step.{unit_in}
 use Rattle.protocol.specs.declared.input.Input.{Input}
 use Rattle.protocol.specs.declared.input.Input.TheVariants as inputs
 use Rattle.units.specs.Division.{Division}
-use Rattle.world.specs.Happening.{Asks, Steps}
+use Rattle.world.specs.Happening.{Asks}
 use Rattle.world.specs.World.{IsMade, World, WorldNode, member_at, node_at, up_node}
 use Rattle.headline.specs.Local.{AreLocal}
 use Rattle.headline.specs.Matches.{Matches, node_of}
@@ -32,7 +32,7 @@ use Rattle.headline.specs.Mirrored.{after_all_acts}
 use Rattle.headline.proofs.Acting.{dropped_here}
 use Rattle.headline.proofs.Asking.{IsInputOf, input_of}
 use Rattle.headline.proofs.Cutting.{answered, asks_for, made_here}
-use Rattle.headline.proofs.Doing.{IsAct, IsDone, no_other}
+use Rattle.headline.proofs.Doing.{Acted, IsAct, IsDone, no_other}
 use Rattle.headline.proofs.Members.{facts_there, node_is_member}
 use Rattle.headline.proofs.Naming.{input_names}
 use Rattle.headline.proofs.Opening.{failed_opens_none, inquire_opens_none, nudge_opens_none}
@@ -70,7 +70,7 @@ module _ (division : Division) (weights : List ℕ) (acts : List (Act Value)) (w
     (made : IsMade division weights)
     (of : (w.division ≡ division) × (w.weights ≡ weights)) (local : AreLocal w)
     (m : Matches w (after_all_acts division weights acts))
-    (again : BuildTextIsReadAgain) (e : Event) (v : World) (s : Steps w e v) (input : Input)
+    (again : BuildTextIsReadAgain) (e : Event) (s : Acted w e) (input : Input)
     (asks : (a : Asked) → Asks w e a → a ≡ Does input)
     (none : IsNoMessage input) where
   -- what the acts leave
@@ -107,7 +107,7 @@ module _ (division : Division) (weights : List ℕ) (acts : List (Act Value)) (w
 
   -- for any name of what it is
   abbrev pub done_so : (what : theory.Input Value) → what ≡ its_input.answers.asks
-      → IsDone division weights acts w made of local m again e v s
+      → IsDone division weights acts w made of local m again e s
   done_so what is =
       let i = its_input.answers in
       let theirs : theory.answer (is_majority w.weights) k (view member i.unit) [] what ≡ Some
@@ -134,7 +134,7 @@ module _ (division : Division) (weights : List ℕ) (acts : List (Act Value)) (w
 
   -- a claim that is opened drops the one that was open
   module _ (above : ℕ) (is : theory.Start above ≡ its_input.answers.asks) where
-    abbrev d : IsDone division weights acts w made of local m again e v s
+    abbrev d : IsDone division weights acts w made of local m again e s
     d = done_so (theory.Start above) is
 
     -- what is known of another unit stays
@@ -180,17 +180,17 @@ module _ (division : Division) (weights : List ℕ) (acts : List (Act Value)) (w
         (m.members k q x s.acts.is_up.stands lt)
         ∙ dropped_so q ne
 
-    pub start_is_act : IsAct division weights acts w made of local m again e v s
+    pub start_is_act : IsAct division weights acts w made of local m again e s
     start_is_act = record { done = d; allowed = refl; there = there; is = λ j b built. absurd cc }
 
   -- a nudge says again what was said
   pub nudge_is_act : theory.Nudge ≡ its_input.answers.asks
-      → IsAct division weights acts w made of local m again e v s
+      → IsAct division weights acts w made of local m again e s
   nudge_is_act is =
       let d = done_so theory.Nudge is in record {
         done = d;
         allowed = refl;
-        there = no_other division weights acts w made of local m again e v s d refl
+        there = no_other division weights acts w made of local m again e s d refl
             (λ closed. absurd (nudge_opens_none Value (is_majority weights) k
             (nodes.view (node_of w k x) d.unit) closed _ closed d.outcome d.answered));
         is = λ j b built. absurd cc;
@@ -198,12 +198,12 @@ module _ (division : Division) (weights : List ℕ) (acts : List (Act Value)) (w
 
   -- a build that failed closes the claim
   pub fail_is_act : theory.Failed ≡ its_input.answers.asks
-      → IsAct division weights acts w made of local m again e v s
+      → IsAct division weights acts w made of local m again e s
   fail_is_act is =
       let d = done_so theory.Failed is in record {
         done = d;
         allowed = refl;
-        there = no_other division weights acts w made of local m again e v s d refl
+        there = no_other division weights acts w made of local m again e s d refl
             (λ closed. absurd (failed_opens_none Value (is_majority weights) k
             (nodes.view (node_of w k x) d.unit) closed _ closed d.outcome d.answered));
         is = λ j b built. absurd cc;
@@ -211,12 +211,12 @@ module _ (division : Division) (weights : List ℕ) (acts : List (Act Value)) (w
 
   -- and a question asks
   pub inquire_is_act : theory.Inquire ≡ its_input.answers.asks
-      → IsAct division weights acts w made of local m again e v s
+      → IsAct division weights acts w made of local m again e s
   inquire_is_act is =
       let d = done_so theory.Inquire is in record {
         done = d;
         allowed = refl;
-        there = no_other division weights acts w made of local m again e v s d refl
+        there = no_other division weights acts w made of local m again e s d refl
             (λ closed. inquire_opens_none Value (is_majority weights) k
             (nodes.view (node_of w k x) d.unit) closed (nodes.view (node_of w k x) d.unit).held
             d.outcome d.answered);
@@ -229,43 +229,43 @@ module _ (division : Division) (weights : List ℕ) (acts : List (Act Value)) (w
     (made : IsMade division weights)
     (of : (w.division ≡ division) × (w.weights ≡ weights)) (local : AreLocal w)
     (m : Matches w (after_all_acts division weights acts))
-    (again : BuildTextIsReadAgain) (n : ℕ) (v : World) where
-  pub claim_is_act : (path : Text) (host above : ℕ) (s : Steps w (events.Claim n path host above) v)
-      → IsAct division weights acts w made of local m again (events.Claim n path host above) v s
+    (again : BuildTextIsReadAgain) (n : ℕ) where
+  pub claim_is_act : (path : Text) (host above : ℕ) (s : Acted w (events.Claim n path host above))
+      → IsAct division weights acts w made of local m again (events.Claim n path host above) s
   claim_is_act path host above s =
       let i = its_input division weights acts w made of local m again
-      (events.Claim n path host above) v s (inputs.Claim path host above) (λ a e. e) tt in
-      start_is_act division weights acts w made of local m again (events.Claim n path host above) v
+      (events.Claim n path host above) s (inputs.Claim path host above) (λ a e. e) tt in
+      start_is_act division weights acts w made of local m again (events.Claim n path host above)
       s (inputs.Claim path host above) (λ a e. e) tt above
       (asks_for division weights acts w made of local m (unit_in (member_at w n s.node) path)
       (λ u. theory.Start above) i.answers.unit i.answers.asks i.answers.is_asked)
 
-  pub failed_is_act : (path : Text) (s : Steps w (events.Failed n path) v)
-      → IsAct division weights acts w made of local m again (events.Failed n path) v s
+  pub failed_is_act : (path : Text) (s : Acted w (events.Failed n path))
+      → IsAct division weights acts w made of local m again (events.Failed n path) s
   failed_is_act path s =
-      let i = its_input division weights acts w made of local m again (events.Failed n path) v s
+      let i = its_input division weights acts w made of local m again (events.Failed n path) s
       (inputs.Failed path) (λ a e. e) tt in
-      fail_is_act division weights acts w made of local m again (events.Failed n path) v s
+      fail_is_act division weights acts w made of local m again (events.Failed n path) s
       (inputs.Failed path) (λ a e. e) tt
       (asks_for division weights acts w made of local m (unit_in (member_at w n s.node) path)
       (λ u. theory.Failed) i.answers.unit i.answers.asks i.answers.is_asked)
 
-  pub ask_is_act : (path : Text) (s : Steps w (events.Ask n path) v)
-      → IsAct division weights acts w made of local m again (events.Ask n path) v s
+  pub ask_is_act : (path : Text) (s : Acted w (events.Ask n path))
+      → IsAct division weights acts w made of local m again (events.Ask n path) s
   ask_is_act path s =
-      let i = its_input division weights acts w made of local m again (events.Ask n path) v s
+      let i = its_input division weights acts w made of local m again (events.Ask n path) s
       (inputs.Ask path) (λ a e. e) tt in
-      inquire_is_act division weights acts w made of local m again (events.Ask n path) v s
+      inquire_is_act division weights acts w made of local m again (events.Ask n path) s
       (inputs.Ask path) (λ a e. e) tt
       (asks_for division weights acts w made of local m (unit_in (member_at w n s.node) path)
       (λ u. theory.Inquire) i.answers.unit i.answers.asks i.answers.is_asked)
 
-  pub nudged_is_act : (s : Steps w (events.Nudge n) v)
-      → IsAct division weights acts w made of local m again (events.Nudge n) v s
+  pub nudged_is_act : (s : Acted w (events.Nudge n))
+      → IsAct division weights acts w made of local m again (events.Nudge n) s
   nudged_is_act s =
-      let i = its_input division weights acts w made of local m again (events.Nudge n) v s
+      let i = its_input division weights acts w made of local m again (events.Nudge n) s
       inputs.Nudge (λ a e. e) tt in
-      nudge_is_act division weights acts w made of local m again (events.Nudge n) v s inputs.Nudge
+      nudge_is_act division weights acts w made of local m again (events.Nudge n) s inputs.Nudge
       (λ a e. e) tt
       (nudge_for s.node.claim i.answers.unit i.answers.asks i.answers.is_asked)
     where

@@ -66,6 +66,8 @@ given_later division weights early late job g = record {
   among = ap (λ es. es ++ late) g.among ∙ append_assoc g.before (g.event ∷ g.behind) late;
   world = g.world;
   led = g.led;
+  then = g.then;
+  happened = g.happened;
   gives = g.gives;
 }
 
@@ -322,6 +324,8 @@ module _ (division : Division) (weights : List ℕ) (made : IsMade division weig
             among = refl;
             world = w;
             led = mirrors_lead division weights before w others mirrors;
+            then = v;
+            happened = h;
             gives = record {
               node = s.node;
               taken = s.taken;

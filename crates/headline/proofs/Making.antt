@@ -22,7 +22,6 @@ use Rattle.protocol.specs.State.{Building, Gathering, OpenClaim, Progress, State
 use Rattle.protocol.specs.Step.{host_in, unit_in}
 use Rattle.protocol.specs.declared.input.Input.TheVariants as inputs
 use Rattle.units.specs.Division.{Division}
-use Rattle.world.specs.Happening.{Steps}
 use Rattle.world.specs.World.{IsMade, World, member_at}
 use Rattle.headline.specs.Local.{AreLocal}
 use Rattle.headline.specs.Matches.{Matches, node_of}
@@ -31,7 +30,7 @@ use Rattle.headline.specs.Needs.{may_build}
 use Rattle.headline.proofs.Asking.{IsInputOf}
 use Rattle.headline.proofs.Building.{made_may_be_built}
 use Rattle.headline.proofs.Cutting.{asks_for}
-use Rattle.headline.proofs.Doing.{IsAct, IsDone, no_other}
+use Rattle.headline.proofs.Doing.{Acted, IsAct, IsDone, no_other}
 use Rattle.headline.proofs.Inputs.{done_so, its_input}
 use Rattle.headline.proofs.Opening.{built_opens_none}
 
@@ -106,8 +105,8 @@ module _ (division : Division) (weights : List ℕ) (acts : List (Act Value)) (w
     (made : IsMade division weights)
     (of : (w.division ≡ division) × (w.weights ≡ weights)) (local : AreLocal w)
     (m : Matches w (after_all_acts division weights acts))
-    (again : BuildTextIsReadAgain) (n : ℕ) (v : World) (path : Text) (given : Given)
-    (s : Steps w (events.Built n path given) v) where
+    (again : BuildTextIsReadAgain) (n : ℕ) (path : Text) (given : Given)
+    (s : Acted w (events.Built n path given)) where
   abbrev here : Cluster Value
   here = after_all_acts division weights acts
 
@@ -115,7 +114,7 @@ module _ (division : Division) (weights : List ℕ) (acts : List (Act Value)) (w
   member = member_at w n s.node
 
   abbrev i : IsInputOf w (events.Built n path given) s.node s.taken (inputs.Built path given)
-  i = its_input division weights acts w made of local m again (events.Built n path given) v s
+  i = its_input division weights acts w made of local m again (events.Built n path given) s
       (inputs.Built path given) (λ a e. e) tt
 
   abbrev u : ℕ
@@ -130,8 +129,8 @@ module _ (division : Division) (weights : List ℕ) (acts : List (Act Value)) (w
       (λ u. theory.Built (built_at member u given (view member u).stage)) u i.answers.asks
       i.answers.is_asked
 
-  abbrev d : IsDone division weights acts w made of local m again (events.Built n path given) v s
-  d = done_so division weights acts w made of local m again (events.Built n path given) v s
+  abbrev d : IsDone division weights acts w made of local m again (events.Built n path given) s
+  d = done_so division weights acts w made of local m again (events.Built n path given) s
       (inputs.Built path given) (λ a e. e) tt (theory.Built built) asks
 
   waiting : (c : Claim) × ((view member u).stage ≡ stages.Building c)
@@ -173,11 +172,11 @@ module _ (division : Division) (weights : List ℕ) (acts : List (Act Value)) (w
 
   -- Each build is an act.
   pub build_is_act : IsAct division weights acts w made of local m again (events.Built n path given)
-      v s
+      s
   build_is_act = record {
     done = d;
     allowed = may_be;
-    there = no_other division weights acts w made of local m again (events.Built n path given) v s d
+    there = no_other division weights acts w made of local m again (events.Built n path given) s d
         refl
         (λ closed. absurd (built_opens_none Value (is_majority weights) n
         (nodes.view (node_of w n s.node) u) closed _ closed built d.outcome d.answered));

@@ -12,7 +12,7 @@ use Rattle.units.specs.Division.{Division}
 use Rattle.auditing.specs.Fits.{Fits}
 use Rattle.world.specs.Happening.{Leads}
 use Rattle.world.specs.Headline.{AllFit, AtEachMoment, AuditSaysYes, HasOneList, InstallableIsHeld, WasBuilt, entry_of}
-use Rattle.world.specs.Laws.{OneAnswer, OneWorldFollows}
+use Rattle.world.specs.Laws.{EachHappensOrIsRefused, EachStepHasAList, OneAnswer, OneWorldFollows}
 use Rattle.world.specs.Safety.{JobsStood}
 use Rattle.world.specs.World.{IsMade, World, start}
 use Rattle.world.proofs.Distinct.{one_a_path, one_there}
@@ -22,11 +22,12 @@ use Rattle.headline.specs.Matches.{Matches, packages_of}
 use Rattle.headline.specs.Mirrored.{after_all_acts}
 use Rattle.headline.proofs.Auditing.{audit_says_yes}
 use Rattle.headline.proofs.Built.{list_was_built}
+use Rattle.headline.proofs.EitherWay.{either_way}
 use Rattle.headline.proofs.Following.{happens_not_refused, one_follows, one_refusal}
 use Rattle.headline.proofs.Headers.{in_order}
 use Rattle.headline.proofs.Installed.{installable_is_held}
 use Rattle.headline.proofs.Listed.{list_fits}
-use Rattle.headline.proofs.Mirroring.{event_is_act, step_has_one_list}
+use Rattle.headline.proofs.Mirroring.{event_is_act, step_has_list, step_has_one_list}
 use Rattle.headline.proofs.Runs.{always_bound, always_listed, always_one_proposal, always_repeated, always_told_apart, at_each, runs_are_acts}
 use Rattle.headline.proofs.Signed.{jobs_stood}
 use Rattle.headline.proofs.Staying.{event_keeps}
@@ -134,6 +135,21 @@ one_world runs again division weights events w a b e made led first second =
     let later = leads_later (start division weights) w events led in
     one_follows w a b e (λ v step s. step_has_one_list division weights r.0 w made
     (later.division, later.weights) r.3 r.2 again e v step s) first second
+
+-- And some list stands after each step.
+pub each_has_list : EachRunIsActs → BuildTextIsReadAgain → EachStepHasAList
+each_has_list runs again division weights events w e x t made led step acts =
+    let r = runs division weights events w made led in
+    let later = leads_later (start division weights) w events led in
+    step_has_list division weights r.0 w made (later.division, later.weights) r.3 r.2 again e step
+    (record { node = x; taken = t; acts = acts })
+
+-- So each event happens, or is refused.
+pub each_happens_or_not : EachRunIsActs → BuildTextIsReadAgain → EachHappensOrIsRefused
+each_happens_or_not runs again division weights events w e made led letters can =
+    either_way w letters
+    (λ e step x t acts. each_has_list runs again division weights events w e x t made led step acts)
+    e can
 
 pub one_answer : OneAnswer
 one_answer division weights events w e made led =

@@ -19,7 +19,7 @@ use Rattle.world.specs.Safety.{EachIsOfAMessage, EqualHeaders, LaterRepeats, One
 use Rattle.world.specs.World.{IsMade, World, WorldNode, fresh_node, member_at, start}
 use Rattle.world.proofs.Alike.{held_alike}
 use Rattle.world.proofs.Distinct.{one_there}
-use Rattle.world.proofs.Growing.{each_moment, event_later, leads_later}
+use Rattle.world.proofs.Growing.{each_moment, each_moment_to, event_later, leads_later}
 use Rattle.headline.specs.Laws.{EachEventIsAnAct, EachEventKeepsLocal, EachRunIsActs}
 use Rattle.headline.specs.Local.{AreLocal, IsLocal, IsOfUnit}
 use Rattle.headline.specs.Matches.{Matches, log_of, node_of}
@@ -187,14 +187,19 @@ module _ (runs : EachRunIsActs) (again : BuildTextIsReadAgain) (division : Divis
   always_listed = at_each HeldIsListed (λ acts w of m local. held_is_listed division weights acts w
       made of m local)
 
-  pub always_alike : AtEachMoment division weights events last (λ early w. HoldAlike w)
-  always_alike = each_moment division weights (λ early w. HoldAlike w)
-      (λ early w l.
-      let r = runs division weights early w made l in
-      let later = leads_later (start division weights) w early l in
-      held_alike w (held_is_listed division weights r.0 w made (later.division, later.weights) r.2
-      r.3) (one_there division weights early w l))
-      events last led
+  listed_there : (before : List Event) (w : World) → Leads (start division weights) before w
+      → HeldIsListed w
+  listed_there before w l =
+      let r = runs division weights before w made l in
+      let later = leads_later (start division weights) w before l in
+      held_is_listed division weights r.0 w made (later.division, later.weights) r.2 r.3
+
+  pub always_alike : AtEachMoment division weights events last (λ early w. HoldAlike w last)
+  always_alike = each_moment_to division weights events last (λ w. HoldAlike w last)
+      (λ early late w first then. held_alike w last (listed_there early w first)
+      (listed_there events last led) (leads_later w last late then).agreed
+      (one_there division weights events last led))
+      led
 
 -- Nothing that was sent is foreign, where each run is acts.
 pub none_is_foreign : BuildTextIsReadAgain → EachRunIsActs → NothingSentIsForeign

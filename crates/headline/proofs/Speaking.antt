@@ -107,7 +107,7 @@ has_added None l z h = h
 has_added (Some y) l z h = inr h
 
 -- and what is there was said, or is said now
-added_has : (s : Option (theory_says.Message Value)) (l : List (theory_says.Message Value))
+pub added_has : (s : Option (theory_says.Message Value)) (l : List (theory_says.Message Value))
     (z : theory_says.Message Value) → Has (add_sent s l) z
     → Has l z ⊎ (s ≡ Some z)
 added_has None l z h = inl h

@@ -9,7 +9,7 @@ use Rattle.agreement.specs.World.{Restart, Stop, StopIn, Take}
 use Rattle.events.specs.Events.{Event}
 use Rattle.protocol.specs.State.{Value}
 use Rattle.units.specs.Division.{Division}
-use Rattle.world.specs.Happening.{Leads}
+use Rattle.world.specs.Happening.{Happens, Leads}
 use Rattle.world.specs.World.{World, start}
 use Rattle.world.proofs.Leading.{leads_together}
 use Rattle.headline.specs.Matches.{Matches}
@@ -58,6 +58,8 @@ pub record WasMade (division : Division) (weights : List ℕ) (events : List Eve
   pub is_match : Matches world (after_all_acts division weights acts)
   pub maker : ℕ
   pub makes : MakesBuild world event maker u build
+  pub then : World
+  pub happened : Happens world event then
   pub listed : may_build division (lookup (after_all_acts division weights acts).list) u build ≡
       true
 
@@ -86,15 +88,17 @@ module _ (division : Division) (weights : List ℕ) where
     is_match = was.is_match;
     maker = was.maker;
     makes = was.makes;
+    then = was.then;
+    happened = was.happened;
     listed = was.listed;
   }
 
-  made_now : (events : List Event) (w : World) (acts : List (Act Value)) (e : Event) (a : Act Value)
-      (u : ℕ) (build : Value) → Mirrors division weights events w acts
-      → Matches w (after_all_acts division weights acts) → IsActOf w e (Some a)
+  made_now : (events : List Event) (w v : World) (acts : List (Act Value)) (e : Event)
+      (a : Act Value) (u : ℕ) (build : Value) → Mirrors division weights events w acts
+      → Matches w (after_all_acts division weights acts) → Happens w e v → IsActOf w e (Some a)
       → BuildsNow Value (may_build division) (after_all_acts division weights acts) a u build
       → WasMade division weights (events ++ e ∷ []) u build
-  made_now events w acts e a u build mirrors m is now =
+  made_now events w v acts e a u build mirrors m h is now =
       let b = builds_event ((after_all_acts division weights acts).at a.path) a.event build
       now.builds in record {
         before = events;
@@ -107,6 +111,8 @@ module _ (division : Division) (weights : List ℕ) where
         is_match = m;
         maker = b.0;
         makes = subst (λ p. MakesBuild w e b.0 p build) now.path (is b.0 build b.1);
+        then = v;
+        happened = h;
         listed = now.listed;
       }
 
@@ -121,5 +127,5 @@ module _ (division : Division) (weights : List ℕ) where
   built_was_made events last acts (and_then before w v others e (Some a) mirrors m h is) u build b =
       ⊎_elim
       (λ old. one_later before e u build (built_was_made before w others mirrors u build old))
-      (λ now. made_now before w others e a u build mirrors m is now)
+      (λ now. made_now before w v others e a u build mirrors m h is now)
       (built_more (is_majority weights) (may_build division) others a beginning u build b)

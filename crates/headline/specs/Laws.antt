@@ -115,12 +115,13 @@ pub record IsSafe (division : Division) (weights : List ℕ) (events : List Even
   pub equal_headers : AtEachMoment division weights events last
       (λ early w. EqualHeaders w × EachIsOfAMessage w)
 
--- Two nodes of a run never hold different packages for one path.
+-- Two nodes of a run never hold different packages for one path: not at one moment, and not one at
+-- an earlier moment than the other.
 abbrev pub NodesNeverDiffer : Type 0
 NodesNeverDiffer =
     (division : Division) (weights : List ℕ) (events : List Event) (w : World)
     → IsMade division weights → Leads (start division weights) events w
-    → AtEachMoment division weights events w (λ early w. HoldAlike w)
+    → AtEachMoment division weights events w (λ early v. HoldAlike v w)
 
 -- Each run has one list, and is safe.
 abbrev pub EachRunHasOneList : Type 0

@@ -13,7 +13,13 @@ ghost use Rattle.headline.specs.Laws.{
   NodesNeverDiffer,
   SentWasSaid,
 };
-ghost use Rattle.world.specs.Laws.{NothingSentIsForeign, OneAnswer, OneWorldFollows};
+ghost use Rattle.world.specs.Laws.{
+  EachHappensOrIsRefused,
+  EachStepHasAList,
+  NothingSentIsForeign,
+  OneAnswer,
+  OneWorldFollows,
+};
 
 /// What a build needs is spoiled by nothing that is held besides.
 pub fn needs_are_monotone()
@@ -42,10 +48,13 @@ pub fn matched_worlds_are_safe()
     ensures held { MatchedHeldIsListed }
 {}
 
-/// In a world that is reached an event leaves one world at most; one that happens is not refused,
-/// and none is refused with two faults, nor as foreign.
+/// In a world that is reached each event happens or is refused: it leaves one world at most, one
+/// that happens is not refused, and none is refused with two faults, nor as foreign. Some list
+/// stands after each step that a node takes.
 pub fn events_have_one_answer()
     ensures world { OneWorldFollows }
+    ensures list { EachStepHasAList }
+    ensures either { EachHappensOrIsRefused }
     ensures answer { OneAnswer }
     ensures foreign { NothingSentIsForeign }
 {}
@@ -54,7 +63,7 @@ pub fn events_have_one_answer()
 /// most one package a path; each was built by a host under a claim for its unit, after every
 /// dependency in its signature stood in the list with that very signature; every package a node
 /// holds is in it, and a path a node shows installable has its run closure held there.
-/// So two nodes never hold different packages for one path.
+/// So two nodes never hold different packages for one path, at one moment or at two.
 pub fn worlds_have_one_list()
     ensures one { EachRunHasOneList }
     ensures alike { NodesNeverDiffer }

@@ -1,5 +1,5 @@
 -- Bytes that come to a node.
-use Rattle.std.proofs.Common.{◌≡◌, ◌⊎◌, ⊎_elim, inl, inr, ℕ, All, Bool, true, false, List, Option, None, Some, Result, Ok, Err, IfOk, OnOk, refl, sym, subst, ap, ◌∙◌}
+use Rattle.std.proofs.Common.{◌≡◌, ◌⊎◌, ⊎_elim, inl, inr, true, false, List, Option, None, Some, Result, Ok, Err, IfOk, OnOk, refl, sym, subst, ap, ◌∙◌}
 use Rattle.faults.specs.Answers.{map_ok}
 use Rattle.faults.specs.Bytes.{Text}
 use Rattle.ballots.specs.declared.message.Message.{Message}
@@ -8,18 +8,15 @@ use Rattle.protocol.specs.Answers.{Answer}
 use Rattle.protocol.specs.State.{State, Value}
 use Rattle.protocol.specs.Step as members
 use Rattle.protocol.specs.declared.refusal.Refusal.{Refusal}
-use Rattle.protocol.specs.declared.refusal.Refusal.TheVariants as refusals
 use Rattle.wire.specs.Joining.{bytes_of}
-use Rattle.wire.specs.Pieces.{IsPiece}
 use Rattle.wire.specs.Reading.{datagram_of, joined}
 use Rattle.wire.specs.declared.WireFault.{WireFault}
 use Rattle.wire.specs.declared.WireFault.TheVariants as wire
-use Rattle.wire.specs.declared.datagram.Datagram.TheVariants as datagrams
 use Rattle.wire.specs.declared.datagram.Header.{Header}
 use Rattle.wire.specs.declared.datagram.Piece.{Piece}
 use Rattle.node.proofs.Finishing.{member_stays}
 use Rattle.node.proofs.Readying.{told_foreign}
-use Rattle.node.specs.Arrival.{Arrival, Strange, Waits, Whole, arrival_of, arrival_of_all, arrival_of_new, arrival_of_piece}
+use Rattle.node.specs.Arrival.{Arrival, Strange, Waits, Whole, arrival_of, arrival_of_all, arrival_of_piece}
 use Rattle.node.specs.Calls.{HasPrepared, left_by}
 use Rattle.node.specs.Kept.{are_all, has_number, with_piece, without}
 use Rattle.node.specs.State.{IsNode, LoggedNode, NodeState}
@@ -30,7 +27,7 @@ use Rattle.node.specs.declared.fault.NodeFault.{NodeFault}
 use Rattle.node.specs.declared.fault.NodeFault.TheVariants as fault
 use Rattle.node.specs.declared.ready.Change.{Change}
 use Rattle.node.specs.declared.ready.Change.TheVariants as change
-use Rattle.node.specs.inside.Stepping.{AreKept, ComesAs, IsSafe, MakesReady, dropped_by, foreign_by, left_at, strange_by}
+use Rattle.node.specs.inside.Stepping.{AreKept, ComesAs, MakesReady, dropped_by, foreign_by, left_at, strange_by}
 
 -- ---- what is refused
 
@@ -95,8 +92,10 @@ module _ (n : NodeState) (text : Text) (running : n.stopped ≡ false) where
     where
       told : datagram_of text ≡ Err f → strange_by f ≡ fault.Foreign (foreign.Bytes f) → step_on n.member a ≡ Err (strange_by f)
       told e is = rw e (ap Err (sym is))
+
       given : (strange_by f ≡ fault.Memory) ⊎ (step_on n.member a ≡ Err (strange_by f))
       given = ⊎_elim (λ e. inl (ap strange_by e)) (λ e. ⊎_elim (λ is. inl is) (λ is. inr (told e is)) (told_strange f)) read
+
       stays : (strange_by f ≡ fault.Memory) ⊎ (step_on n.member a ≡ Err (strange_by f)) → n ≡ left_at n a (Err (strange_by f))
       stays g = ⊎_elim
           (λ e. subst (λ (f : NodeFault). n ≡ left_at n a (Err f)) (sym e) refl)
@@ -177,8 +176,10 @@ module _ (n : NodeState) (p : Piece) where
       one : (f : WireFault) → r ≡ Err f → strange_by f ≡ fault.Foreign (foreign.Bytes f) → new ≡ record n { pieces = without h n.pieces }
           → ComesAs n new (arrival_of_all (without h n.pieces) r) (Err (strange_by f))
       one f e is state = rw (e, is) (record { ready = record { given = inr refl; safe = tt }; state = state })
+
       not_memory : (f : WireFault) → (f ≡ wire.Memory → ⊥) → (f ≡ wire.Memory) ⊎ (r ≡ Err f) → r ≡ Err f
       not_memory f never read = ⊎_elim (λ e. absurd (never e)) (λ e. e) read
+
       by : (f : WireFault) → (f ≡ wire.Memory) ⊎ (r ≡ Err f) → new ≡ dropped_by n h f → ComesAs n new (arrival_of_all (without h n.pieces) r) (Err (strange_by f))
       by wire.Memory read state = record { ready = record { given = inl refl; safe = tt }; state = state }
       by wire.TooLong read state = one wire.TooLong (not_memory wire.TooLong (λ e. cc) read) refl state

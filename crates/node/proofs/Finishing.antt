@@ -1,5 +1,5 @@
 -- A step that is taken, and what a log's refusal leaves.
-use Rattle.std.proofs.Common.{◌≡◌, ◌⊎◌, ⊎_elim, inl, inr, ◌++◌, ◌<◌, ℕ, All, Bool, true, false, List, [], ◌∷◌, Option, None, Some, Result, Ok, Err, arith, length, map, option_map, refl, sym, subst, ap, ◌∙◌, if◌then◌else◌}
+use Rattle.std.proofs.Common.{◌≡◌, ◌⊎◌, ⊎_elim, inl, inr, ◌++◌, All, Bool, true, false, List, [], ◌∷◌, Option, None, Some, Ok, Err, option_map, refl, sym, subst, ap, ◌∙◌, if◌then◌else◌}
 use Rattle.std.specs.Option.{ForSome}
 use Rattle.std.proofs.lemmas.List.{map-append}
 use Rattle.std.proofs.lemmas.List.Elements.{All-head, All-tail}
@@ -9,25 +9,26 @@ use Rattle.ballots.specs.declared.message.Note.{Note}
 use Rattle.member.specs.Prepared.{Prepared, answer_by}
 use Rattle.protocol.specs.Answers.{after as member_after}
 use Rattle.protocol.specs.State.{State, Value}
+use Rattle.stable_record.specs.Crash.{AllAlong, Leaves, at_first}
 use Rattle.stable_record.specs.History.{History}
+use Rattle.stable_record.specs.Log.{HasBeforeOrAfter}
 use Rattle.stable_record.specs.declared.log.Log.{Log}
-use Rattle.stable_record.specs.declared.log_fault.LogFault.{LogFault}
 use Rattle.stable_record.specs.declared.log_fault.LogFault.TheVariants as log
 use Rattle.wire.specs.Messages.{IsNote}
 use Rattle.wire.specs.Spelling.{note_text}
 use Rattle.node.proofs.Sent.{note_more}
 use Rattle.node.proofs.ranges.Leaving.{facts_after}
-use Rattle.node.specs.Calls.{IsLogCause}
+use Rattle.node.specs.Calls.{HasTaken, IsLogCause}
 use Rattle.node.specs.OnLog.{IsOnLog, LacksRoom, LeavesOneMoreAtMost, identity_of, texts_of}
 use Rattle.stable_record.specs.OpenLog.{Holds}
 use Rattle.node.specs.State.{IsLogged, IsNode, LoggedNode, NodeState, restored_member, with_note}
 use Rattle.node.specs.Step.{Asked, IsReadyFor, ReadyStep, Taken, Takes, after, answer_then, changed, note_in, running_step, sends_in, taken_by}
+use Rattle.node.specs.Parcels.{datagrams_to}
 use Rattle.node.specs.declared.fault.NodeFault.{NodeFault}
+use Rattle.node.specs.declared.ready.Out.{Out}
 use Rattle.node.specs.declared.fault.NodeFault.TheVariants as fault
 use Rattle.node.specs.inside.Noted.{notes_in}
-use Rattle.node.specs.inside.Opening.{told_by}
-use Rattle.node.specs.declared.ready.Change.{Change}
-use Rattle.node.specs.inside.Stepping.{GoesOnWith, LacksRoomFor, committed, is_device, with_text}
+use Rattle.node.specs.inside.Stepping.{GoesOnWith, IsNoteCause, LacksRoomFor, committed, with_text}
 use Rattle.wire.specs.declared.datagram.Piece.{Piece}
 
 -- a node that takes a step is not stopped
@@ -37,6 +38,10 @@ takes_when_running n asked t takes = by n.stopped takes.right_is
     by : (b : Bool) → Ok t ≡ (if b then Err fault.Stopped else running_step n.member n.pieces takes.letter asked) → b ≡ false
     by true e = absurd (let no : Ok t ≡ Err fault.Stopped = e in cc)
     by false e = refl
+
+-- so one that is ready for a step is not
+pub runs : (n : NodeState) (r : ReadyStep) → IsReadyFor n r → n.stopped ≡ false
+runs n r ready = takes_when_running n ready.asked (taken_by n r) ready.takes
 
 -- ---- notes
 
@@ -78,10 +83,6 @@ pub lacks : {D : Type 0} (l : Log D) (note : Option (Note Value)) → LacksRoomF
 lacks l None over = over
 lacks l (Some n) over = over
 
-pub lacks_back : {D : Type 0} (l : Log D) (note : Option (Note Value)) → LacksRoom l note → LacksRoomFor l (option_map note_text note)
-lacks_back l None over = over
-lacks_back l (Some n) over = over
-
 -- ---- the step
 
 -- what a step sends, notes and gives to be built
@@ -116,100 +117,86 @@ module _ (s : State) (texts : List Text) (pieces : List Piece) (stopped : Bool) 
           let notes = notes_with texts p.note good in
           rw (e, notes) (ap (λ (m : State). record { member = m; notes = with_note (notes_in texts) p.note; pieces = changed r.change pieces; stopped = stopped }) (member_taken node_with is p))
 
-module _ {D : Type 0} (history : D → History) (s : State) (texts : List Text) (pieces : List Piece) (stopped : Bool) (l now : Log D) (r : ReadyStep) (text : Option Text) where
-  -- the node over its log, before the step and after it
+module _ {D : Type 0} (history : D → History) (s : State) (texts : List Text) (pieces : List Piece) (stopped : Bool) (l : Log D) (r : ReadyStep) (text : Option Text) where
+  -- the node over its log, before the step
   abbrev pub before : LoggedNode D
   before = record { node = node_with s texts pieces stopped; log = l }
 
-  abbrev pub behind : LoggedNode D
-  behind = record {
-    node = record { member = committed s r.step; notes = notes_in (with_text texts text); pieces = changed r.change pieces; stopped = stopped };
-    log = now;
-  }
+  -- where the log had no call, a crash leaves the notes as it did
+  pub no_moments : IsOnLog history before → LeavesOneMoreAtMost before.node (note_in r.step) (history l.disk) (history l.disk)
+  no_moments on = by (note_in r.step)
+    where
+      files : (note : Text) → Leaves (HasBeforeOrAfter l.identity (texts_of before.node.notes) note) (history l.disk)
+      files note c left =
+          let settled = on.holds.settled in
+          inl (record { gate = settled.gate; behind = []; parts = settled.on_disk c left ∙ settled.file; closed = settled.closed; lengths = settled.lengths })
 
-  module _ (is : IsLogged before) (ready : IsReadyFor before.node r) (e : text ≡ option_map note_text (note_in r.step)) where
-    -- the node is as the step says
-    pub done_state : behind.node ≡ after before.node (taken_by before.node r)
-    done_state = finished s texts pieces stopped is.node r (noted_good before.node r ready.leaves) text e
+      by : (note : Option (Note Value)) → LeavesOneMoreAtMost before.node note (history l.disk) (history l.disk)
+      by None = refl
+      by (Some n) = subst (λ i. AllAlong (HasBeforeOrAfter i (texts_of before.node.notes) (note_text n)) (history l.disk) (history l.disk)) on.owner (at_first (files (note_text n)))
 
-    -- it did not stop
-    done_together : (now.stopped ≡ true → (l.stopped ≡ true) ⊎ ⊥) → now.stopped ≡ stopped
-    done_together goes_on =
-        let running = takes_when_running before.node ready.asked (taken_by before.node r) ready.takes in
-        by now.stopped (λ e. ⊎_elim (λ old. (let never : true ≡ false = sym old ∙ is.together ∙ running in cc)) (λ none. none) (goes_on e)) ∙ sym running
-      where
-        by : (b : Bool) → (b ≡ true → ⊥) → b ≡ false
-        by true never = absurd (never refl)
-        by false never = refl
-
-    pub done_invariant : (now.stopped ≡ true → (l.stopped ≡ true) ⊎ ⊥) → IsLogged behind
-    done_invariant goes_on = record { node = subst IsNode (sym done_state) ready.leaves; together = done_together goes_on }
-
-    -- its notes are on the log
-    pub done_on_log : now.identity ≡ l.identity → ((ts : List Text) → Holds history l ts → Holds history now (with_text ts text)) → IsOnLog history before → IsOnLog history behind
-    done_on_log owner acknowledged on =
-        let notes : notes_in (with_text texts text) ≡ with_note (notes_in texts) (note_in r.step) =
-            rw e (notes_with texts (note_in r.step) (noted_good before.node r ready.leaves)) in
-        let has : texts_of behind.node.notes ≡ with_text (texts_of (notes_in texts)) text = ap texts_of notes ∙ texts_with (notes_in texts) (note_in r.step) ∙ ap (with_text (texts_of (notes_in texts))) (sym e) in
-        record { owner = owner ∙ on.owner ∙ sym (same r.step); holds = subst (Holds history now) (sym has) (acknowledged (texts_of (notes_in texts)) on.holds) }
-      where
-        same : (step : Option Prepared) → identity_of (committed s step) ≡ identity_of s
-        same None = refl
-        same (Some p) = refl
-
-  -- a crash leaves the notes with this one or without
-  pub done_moments : (old new : History) → text ≡ option_map note_text (note_in r.step) → ((ts : List Text) → Holds history l ts → GoesOnWith l.identity ts text old new) → IsOnLog history before
+  -- where it had one, it leaves the notes with this one or without
+  pub note_moments : (old new : History) → text ≡ option_map note_text (note_in r.step) → ((ts : List Text) → Holds history l ts → GoesOnWith l.identity ts text old new) → IsOnLog history before
       → LeavesOneMoreAtMost before.node (note_in r.step) old new
-  done_moments old new e goes on = by (note_in r.step) e
+  note_moments old new e goes on = by (note_in r.step) e
     where
       by : (note : Option (Note Value)) → text ≡ option_map note_text note → LeavesOneMoreAtMost before.node note old new
       by None e = rw e at (goes (texts_of before.node.notes) on.holds)
       by (Some n) e = rw (e, on.owner) at (goes (texts_of before.node.notes) on.holds)
 
+  -- the step was taken: these are the member, the texts, the pieces and the log then
+  module _ (is : IsLogged before) (ready : IsReadyFor before.node r) (e : text ≡ option_map note_text (note_in r.step))
+      (new : State) (more : List Text) (had left : List Piece) (stops : Bool) (now : Log D)
+      (member : new ≡ committed s r.step) (noted : more ≡ with_text texts text) (had_them : had ≡ pieces) (kept : left ≡ changed r.change had) (running : stops ≡ false) where
+    -- the node is as the step says
+    pub done_state : node_with new more left stops ≡ after before.node (taken_by before.node r)
+    done_state =
+        let same : stops ≡ stopped = running ∙ sym (runs before.node r ready) in
+        rw (member, noted, kept, had_them, same) (finished s texts pieces stopped is.node r (noted_good before.node r ready.leaves) text e)
+
+    pub done_invariant : now.stopped ≡ stops → IsLogged (record { node = node_with new more left stops; log = now })
+    done_invariant together = record { node = subst IsNode (sym done_state) ready.leaves; together = together }
+
+    -- what comes out is what it tells
+    pub done_taken : (out : Out) → out.sends ≡ datagrams_to (sends_in r.step) → out.job ≡ (answer_then s r.step).job
+        → HasTaken before.node (node_with new more left stops) (taken_by before.node r) out
+    done_taken out sends job = record {
+      state = done_state;
+      tells = record { sends = sends ∙ ap datagrams_to (sym (sends_are s r.step)); job = job };
+    }
+
+    -- its notes are on the log
+    pub done_on_log : now.identity ≡ l.identity → ((ts : List Text) → Holds history l ts → Holds history now (with_text ts text)) → IsOnLog history before
+        → IsOnLog history (record { node = node_with new more left stops; log = now })
+    done_on_log owner acknowledged on =
+        let notes : notes_in more ≡ with_note (notes_in texts) (note_in r.step) =
+        rw (noted, e) (notes_with texts (note_in r.step) (noted_good before.node r ready.leaves)) in
+        let has : texts_of (notes_in more) ≡ with_text (texts_of (notes_in texts)) text = ap texts_of notes ∙ texts_with (notes_in texts) (note_in r.step) ∙ ap (with_text (texts_of (notes_in texts))) (sym e) in
+        record { owner = owner ∙ on.owner ∙ sym (ap identity_of member ∙ same r.step); holds = subst (Holds history now) (sym has) (acknowledged (texts_of (notes_in texts)) on.holds) }
+      where
+        same : (step : Option Prepared) → identity_of (committed s step) ≡ identity_of s
+        same None = refl
+        same (Some p) = refl
+
 -- ---- a refusal of the log
 
--- what a node that is not told of the device does not stop for
-device_or_not : (f : LogFault) → (told_by f ≡ fault.Log log.Device) ⊎ (is_device f ≡ false)
-device_or_not log.Memory = inr refl
-device_or_not log.Device = inl refl
-device_or_not log.Full = inr refl
-device_or_not log.MustReopen = inr refl
-device_or_not log.NotALog = inr refl
-device_or_not log.OtherCluster = inr refl
-
--- it is told of the device where the device failed
-pub told_device : (f : LogFault) → told_by f ≡ fault.Log log.Device → f ≡ log.Device
-told_device log.Memory e = absurd (let never : fault.Memory ≡ fault.Log log.Device = e in cc)
-told_device log.Device e = refl
-told_device log.Full e = let same : fault.Log log.Full ≡ fault.Log log.Device = e in cc
-told_device log.MustReopen e = let same : fault.Log log.MustReopen ≡ fault.Log log.Device = e in cc
-told_device log.NotALog e = let same : fault.Log log.NotALog ≡ fault.Log log.Device = e in cc
-told_device log.OtherCluster e = let same : fault.Log log.OtherCluster ≡ fault.Log log.Device = e in cc
-
 -- why the note was not taken
-pub told_cause : {D : Type 0} (l : Log D) (note : Option (Note Value)) (text : Option Text) (f : LogFault) → text ≡ option_map note_text note → l.stopped ≡ false
-    → (f ≡ log.Full → LacksRoomFor l text) → (f ≡ log.MustReopen → l.stopped ≡ true) → ((f ≡ log.NotALog) ⊎ (f ≡ log.OtherCluster) → ⊥) → IsLogCause l note (told_by f)
-told_cause l note text log.Memory e running full must no_opening = tt
-told_cause l note text log.Device e running full must no_opening = tt
-told_cause l note text log.Full e running full must no_opening = lacks l note (rw e at (full refl))
-told_cause l note text log.MustReopen e running full must no_opening = absurd (let never : true ≡ false = sym (must refl) ∙ running in cc)
-told_cause l note text log.NotALog e running full must no_opening = no_opening (inl refl)
-told_cause l note text log.OtherCluster e running full must no_opening = no_opening (inr refl)
+pub cause_told : {D : Type 0} (l : Log D) (noted : Option (Note Value)) (text : Option Text) (f : NodeFault) → text ≡ option_map note_text noted → IsNoteCause l text f → IsLogCause l noted f
+cause_told l noted text fault.Memory e cause = tt
+cause_told l noted text (fault.Refused r) e cause = cause
+cause_told l noted text (fault.Log log.Full) e cause = lacks l noted (rw e at cause)
+cause_told l noted text (fault.Log log.Device) e cause = tt
+cause_told l noted text (fault.Log log.Memory) e cause = cause
+cause_told l noted text (fault.Log log.MustReopen) e cause = cause
+cause_told l noted text (fault.Log log.NotALog) e cause = cause
+cause_told l noted text (fault.Log log.OtherCluster) e cause = cause
+cause_told l noted text fault.Stopped e cause = cause
+cause_told l noted text (fault.Foreign f) e cause = cause
 
-module _ {D : Type 0} (history : D → History) (s : State) (texts : List Text) (pieces : List Piece) (stopped : Bool) (l now : Log D) (f : LogFault) (running : stopped ≡ false) where
-  -- the node over its log, once the log refused
-  abbrev pub failed : LoggedNode D
-  failed = record { node = node_with s texts pieces (is_device f); log = now }
-
-  -- it stays, unless the device failed
-  pub failed_refused : (told_by f ≡ fault.Log log.Device) ⊎ (failed.node ≡ node_with s texts pieces stopped)
-  failed_refused = ⊎_elim (λ e. inl e) (λ e. inr (ap (λ b. node_with s texts pieces b) (e ∙ sym running))) (device_or_not f)
-
-  pub failed_stops : told_by f ≡ fault.Log log.Device → failed.node ≡ record (node_with s texts pieces stopped) { stopped = true }
-  failed_stops e = ap (λ g. node_with s texts pieces (is_device g)) (told_device f e)
-
-  pub failed_invariant : IsLogged (record { node = node_with s texts pieces stopped; log = l }) → (f ≡ log.Device → now.stopped ≡ true) → (now.stopped ≡ true → (l.stopped ≡ true) ⊎ (f ≡ log.Device)) → IsLogged failed
-  failed_invariant is stops goes_on = record {
+-- the node once the note was not taken
+module _ {D : Type 0} (history : D → History) (s : State) (texts : List Text) (pieces : List Piece) (stopped : Bool) (l : Log D) (stops : Bool) (now : Log D) (f : NodeFault) where
+  pub still_logged : IsLogged (record { node = node_with s texts pieces stopped; log = l }) → now.stopped ≡ stops → IsLogged (record { node = node_with s texts pieces stops; log = now })
+  still_logged is together = record {
     node = record {
       member = is.node.member;
       restored = is.node.restored;
@@ -219,33 +206,16 @@ module _ {D : Type 0} (history : D → History) (s : State) (texts : List Text) 
       pieces = is.node.pieces;
       once = is.node.once;
     };
-    together = ⊎_elim
-        (λ e. let device = told_device f e in stops device ∙ sym (ap is_device device))
-        (λ e. by now.stopped goes_on e)
-        (device_or_not f);
+    together = together;
   }
-    where
-      by : (b : Bool) → (b ≡ true → (l.stopped ≡ true) ⊎ (f ≡ log.Device)) → is_device f ≡ false → b ≡ is_device f
-      by false goes_on e = sym e
-      by true goes_on e = ⊎_elim
-          (λ old. absurd (let never : true ≡ false = sym old ∙ is.together ∙ running in cc))
-          (λ device. absurd (let never : true ≡ false = sym (ap is_device device) ∙ e in cc))
-          (goes_on refl)
 
-  pub failed_on_log : now.identity ≡ l.identity → l.stopped ≡ false → (f ≡ log.MustReopen → l.stopped ≡ true) → ((f ≡ log.NotALog) ⊎ (f ≡ log.OtherCluster) → ⊥)
-      → ((ts : List Text) → Holds history l ts → (f ≡ log.Memory) ⊎ (f ≡ log.Full) → Holds history now ts × (history now.disk ≡ history l.disk))
-      → IsOnLog history (record { node = node_with s texts pieces stopped; log = l }) → (told_by f ≡ fault.Log log.Device) ⊎ (IsOnLog history failed × (history now.disk ≡ history l.disk))
-  failed_on_log owner logs_run must no_opening refused on = by f must no_opening refused
-    where
-      stays : {g : LogFault} (b : Bool) → Holds history now (texts_of (notes_in texts)) × (history now.disk ≡ history l.disk)
-          → IsOnLog history (record { node = node_with s texts pieces b; log = now }) × (history now.disk ≡ history l.disk)
-      stays b h = (record { owner = owner ∙ on.owner; holds = h.0 }, h.1)
-      by : (g : LogFault) → (g ≡ log.MustReopen → l.stopped ≡ true) → ((g ≡ log.NotALog) ⊎ (g ≡ log.OtherCluster) → ⊥)
-          → ((ts : List Text) → Holds history l ts → (g ≡ log.Memory) ⊎ (g ≡ log.Full) → Holds history now ts × (history now.disk ≡ history l.disk))
-          → (told_by g ≡ fault.Log log.Device) ⊎ (IsOnLog history (record { node = node_with s texts pieces (is_device g); log = now }) × (history now.disk ≡ history l.disk))
-      by log.Memory must no_opening refused = inr (stays {g = log.Memory} false (refused (texts_of (notes_in texts)) on.holds (inl refl)))
-      by log.Device must no_opening refused = inl refl
-      by log.Full must no_opening refused = inr (stays {g = log.Full} false (refused (texts_of (notes_in texts)) on.holds (inr refl)))
-      by log.MustReopen must no_opening refused = absurd (let never : true ≡ false = sym (must refl) ∙ logs_run in cc)
-      by log.NotALog must no_opening refused = absurd (no_opening (inl refl))
-      by log.OtherCluster must no_opening refused = absurd (no_opening (inr refl))
+  -- it stays, unless the device failed
+  pub still_node : stopped ≡ false → (f ≡ fault.Log log.Device) ⊎ (stops ≡ false) → (f ≡ fault.Log log.Device) ⊎ (node_with s texts pieces stops ≡ node_with s texts pieces stopped)
+  still_node running stays = ⊎_elim (λ e. inl e) (λ e. inr (ap (λ (b : Bool). node_with s texts pieces b) (e ∙ sym running))) stays
+
+  -- and so do its notes on the log
+  pub still_noted : now.identity ≡ l.identity → IsOnLog history (record { node = node_with s texts pieces stopped; log = l })
+      → ((ts : List Text) → Holds history l ts → (f ≡ fault.Log log.Device) ⊎ (Holds history now ts × (history now.disk ≡ history l.disk)))
+      → (f ≡ fault.Log log.Device) ⊎ (IsOnLog history (record { node = node_with s texts pieces stops; log = now }) × (history now.disk ≡ history l.disk))
+  still_noted owner on refused =
+      ⊎_elim (λ e. inl e) (λ h. inr (record { owner = owner ∙ on.owner; holds = h.0 }, h.1)) (refused (texts_of (notes_in texts)) on.holds)

@@ -6,4 +6,6 @@ pub mod Readying
 pub mod Finishing
 pub mod Reading
 pub mod Places
+pub mod AtFirst
+pub mod Opened
 pub mod Coming

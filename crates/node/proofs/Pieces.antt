@@ -1,7 +1,6 @@
 -- The pieces that a node keeps.
-use Rattle.std.proofs.Common.{◌≡◌, ◌==◌, ◌&&◌, ◌||◌, ◌++◌, ◌<◌, ℕ, suc, All, AllPairs, Bool, true, false, not, List, [], ◌∷◌, arith, filter, refl, subst, sym, ap, ◌∙◌, None, Some, Ok, if◌then◌else◌}
-use Rattle.std.specs.List.{list_all, list_any}
-use Rattle.std.proofs.lemmas.Bool.{cond_both}
+use Rattle.std.proofs.Common.{◌≡◌, ◌&&◌, ◌||◌, ◌++◌, ℕ, suc, All, AllPairs, Bool, true, false, not, List, [], ◌∷◌, arith, filter, refl, subst, ap, None, Some, Ok, if◌then◌else◌}
+use Rattle.std.specs.List.{list_all}
 use Rattle.std.proofs.lemmas.List.Elements.{All-append, All-cons, All-filter, All-nil}
 use Rattle.std.proofs.lemmas.List.Kept.{AllPairs-cons, AllPairs-filter}
 use Rattle.faults.specs.Bytes.{Text}

@@ -1,5 +1,5 @@
 -- Which datagram stands at a place, where each of some receivers gets them all.
-use Rattle.std.proofs.Common.{◌≡◌, ◌+◌, ◌*◌, ◌/◌, ◌%◌, ◌<◌, ◌++◌, ℕ, zero, suc, List, [], ◌∷◌, Option, None, Some, arith, length, map, refl, ap, sym, ◌∙◌, option_map, slice_get, ◌≤◌, get_or, Vec}
+use Rattle.std.proofs.Common.{◌≡◌, ◌+◌, ◌*◌, ◌/◌, ◌%◌, ◌<◌, ◌++◌, ℕ, zero, suc, List, [], ◌∷◌, Option, None, Some, arith, length, refl, ap, sym, ◌∙◌, option_map, slice_get, ◌≤◌, get_or, Vec}
 use Rattle.std.proofs.lemmas.List.{length-map}
 use Rattle.std.proofs.lemmas.Nat.{div-add-mod'}
 use Rattle.std.proofs.lemmas.Option.{slice_get-get_or, slice_get-map, slice_get_past}

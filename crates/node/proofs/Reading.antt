@@ -1,6 +1,9 @@
 -- The notes that the texts of a log are.
-use Rattle.std.proofs.Common.{◌≡◌, ◌⊎◌, ⊎_elim, inl, inr, ◌++◌, ℕ, zero, suc, All, Bool, true, false, List, [], ◌∷◌, Option, None, Some, Ok, Err, is_some, map, slice_get, refl, sym, ap, ◌∙◌}
-use Rattle.std.proofs.lemmas.List.{map-append}
+use Rattle.std.proofs.Common.{◌≡◌, ◌⊎◌, ⊎_elim, inl, inr, ◌++◌, ◌+◌, ◌<◌, ℕ, zero, suc, All, Bool, true, false, List, [], ◌∷◌, None, Some, Ok, Err, Vec, get_or, is_some, length, map, option_map, refl, slice_get, sym, take, ap, ◌∙◌}
+use Rattle.std.specs.declared.alloc.Global.{Global}
+use Rattle.std.proofs.lemmas.List.{map-append, take_more}
+use Rattle.std.proofs.lemmas.Option.{slice_get-get_or, slice_get-map}
+use Rattle.stable_record.specs.Log.{note_of as logged}
 use Rattle.std.proofs.lemmas.List.Elements.{All-append, All-cons, All-head, All-nil, All-tail}
 use Rattle.std.proofs.lemmas.Slice.Eq.{bytes_eq-Decides}
 use Rattle.std.specs.Str.{bytes_eq}
@@ -18,7 +21,8 @@ use Rattle.wire.specs.Spelling.{note_text}
 use Rattle.wire.specs.declared.WireFault.{WireFault}
 use Rattle.node.specs.Calls.{AreNotes}
 use Rattle.wire.specs.declared.WireFault.TheVariants as wire
-use Rattle.node.specs.inside.Opening.{IsNoteOf, IsReadBy, unread_by}
+use Rattle.node.specs.declared.fault.NodeFault.{NodeFault}
+use Rattle.node.specs.inside.Opening.{IsNoteFault, IsNoteOf, IsReadBy, unread_by}
 
 -- whether a unit that a path finds has that name
 pub has_name : (d : Division) (path name : Text) (u : ℕ) (b : Bool) → number_found d path ≡ Some u → (unit_at d u).name ≡ name → b ≡ bytes_eq name path → b ≡ is_some (number_named d path)
@@ -84,3 +88,15 @@ module _ (d : Division) where
     on_units = All-append (λ x. (u : ℕ) × (number_named d x.path ≡ Some u)) notes (n ∷ []) are.on_units
         (All-cons (λ x. (u : ℕ) × (number_named d x.path ≡ Some u)) n [] (is.unit, is.named) (All-nil (λ x. (u : ℕ) × (number_named d x.path ≡ Some u))));
   }
+
+  -- one of the file's texts that is read as no note of a unit
+  pub not_notes : (texts : List (Vec ℕ Global)) (k : ℕ) (t : Vec ℕ Global) (f : NodeFault) → k < length texts → t ≡ get_or texts k t → IsReadBy d t.items (Err f) → IsNoteFault d (map logged texts) f
+  not_notes texts k t f lt is read =
+      let at : slice_get (map logged texts) k ≡ Some t.items = slice_get-map logged texts k ∙ ap (option_map logged) (slice_get-get_or texts k t lt ∙ ap Some (sym is)) in
+      ⊎_elim (λ e. inl e) (λ bad. inr (bad.0, no_notes (map logged texts) k t.items at bad.1)) read
+
+  -- the texts that were read, with one more
+  pub texts_so_far : (texts : List (Vec ℕ Global)) (k : ℕ) (t : Vec ℕ Global) → k < length texts → t ≡ get_or texts k t
+      → map logged (take (k + 1) texts) ≡ map logged (take k texts) ++ t.items ∷ []
+  texts_so_far texts k t lt is =
+      ap (map logged) (take_more texts k t lt ∙ ap (λ (x : Vec ℕ Global). take k texts ++ x ∷ []) (sym is)) ∙ map-append logged (take k texts) (t ∷ [])

@@ -1,7 +1,5 @@
 -- Steps that are made ready.
-use Rattle.std.proofs.Common.{◌≡◌, ◌⊎◌, ⊎_elim, inl, inr, ℕ, true, false, Option, None, Some, Result, Ok, Err, IfOk, refl, sym, subst, ap, ◌∙◌}
-use Rattle.std.specs.Option.{ForSome}
-use Rattle.faults.specs.Answers.{IsRightUnless, map_ok}
+use Rattle.std.proofs.Common.{◌≡◌, ◌⊎◌, ⊎_elim, inl, inr, true, false, Some, Result, Ok, Err, refl, sym, subst, ap, ◌∙◌}
 use Rattle.ballots.specs.declared.message.Message.{Message}
 use Rattle.engine.specs.declared.Letter.TheVariants.{T}
 use Rattle.member.specs.Prepared.{MayBeTaken, Prepared, answer_by}
@@ -102,8 +100,8 @@ module _ (n : NodeState) (m : Message Value) (change : Change) where
       → MakesReady n (heard (changed change n.pieces) (members.heard n.member m)) (Err (foreign_by refusal))
   message_refused refusal prepared =
       let told : members.heard n.member m ≡ Err refusal → foreign_by refusal ≡ fault.Foreign (foreign.Message refusal)
-          → heard (changed change n.pieces) (members.heard n.member m) ≡ Err (foreign_by refusal) =
-          λ e is. ap (heard (changed change n.pieces)) e ∙ ap Err (sym is) in
+      → heard (changed change n.pieces) (members.heard n.member m) ≡ Err (foreign_by refusal) =
+      λ e is. ap (heard (changed change n.pieces)) e ∙ ap Err (sym is) in
       record {
         given = ⊎_elim (λ e. inl (ap foreign_by e)) (λ e. ⊎_elim (λ is. inl is) (λ is. inr (told e is)) (told_foreign refusal)) prepared.given;
         safe = tt;
@@ -150,9 +148,9 @@ module _ (n : NodeState) (input : Input) (running : n.stopped ≡ false) where
   input_refused refusal prepared =
       let right = taken n.pieces (answer n.member prepared.letter input) in
       let told : answer n.member prepared.letter input ≡ Err refusal → refused_by refusal ≡ fault.Refused refusal → right ≡ Err (refused_by refusal) =
-          λ e is. ap (taken n.pieces) e ∙ ap Err (sym is) in
+      λ e is. ap (taken n.pieces) e ∙ ap Err (sym is) in
       let stays : (f : NodeFault) → (f ≡ fault.Memory) ⊎ (f ≡ fault.Refused refusal) → n ≡ left_by n (Does input) f =
-          λ f is. ⊎_elim (λ e. subst (λ (f : NodeFault). n ≡ left_by n (Does input) f) (sym e) refl) (λ e. subst (λ (f : NodeFault). n ≡ left_by n (Does input) f) (sym e) refl) is in
+      λ f is. ⊎_elim (λ e. subst (λ (f : NodeFault). n ≡ left_by n (Does input) f) (sym e) refl) (λ e. subst (λ (f : NodeFault). n ≡ left_by n (Does input) f) (sym e) refl) is in
       record {
         right = right;
         takes = record { letter = prepared.letter; shown = rw running prepared.shown; right_is = rw running refl };

@@ -1,5 +1,5 @@
 -- What a step sends, as datagrams with receivers, and the notes of a log, as texts.
-use Rattle.std.proofs.Common.{◌≡◌, ◌==◌, ◌++◌, ℕ, All, true, false, List, [], ◌∷◌, length, map, Ok, refl, sym, ap, ◌∙◌}
+use Rattle.std.proofs.Common.{◌≡◌, ◌==◌, ◌++◌, ℕ, All, true, false, List, [], ◌∷◌, length, map, refl, ap, ◌∙◌}
 use Rattle.std.proofs.lemmas.List.Elements.{All-head, All-tail, filter_map-append}
 use Rattle.faults.specs.Bytes.{Text}
 use Rattle.ballots.specs.declared.message.Message.{Message}
@@ -11,7 +11,6 @@ use Rattle.protocol.specs.declared.sends.Send.{Send}
 use Rattle.std.specs.Prelude.{Some}
 use Rattle.wire.proofs.NoteTexts.{note_again}
 use Rattle.wire.specs.Messages.{IsMessage, IsNote}
-use Rattle.wire.specs.Reading.{note_of}
 use Rattle.wire.specs.Spelling.{note_text}
 use Rattle.node.specs.Parcels.{datagrams_of, datagrams_to, each_to, parcels_to}
 use Rattle.node.specs.inside.Noted.{notes_in}

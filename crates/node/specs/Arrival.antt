@@ -1,5 +1,5 @@
 -- What bytes are to a node.
-use Rattle.std.specs.Prelude.{List, [], ◌∷◌, Option, None, Some, Result, Ok, Err, if◌then◌else◌}
+use Rattle.std.specs.Prelude.{List, ◌∷◌, Option, None, Some, Result, Ok, Err, if◌then◌else◌}
 use Rattle.ballots.specs.declared.message.Message.{Message}
 use Rattle.protocol.specs.State.{State, Value}
 use Rattle.protocol.specs.Step.{header_refusal}

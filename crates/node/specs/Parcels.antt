@@ -1,5 +1,5 @@
 -- What goes out, as bytes with receivers.
-use Rattle.std.specs.Prelude.{ℕ, List, [], map, flat_map, Vec}
+use Rattle.std.specs.Prelude.{ℕ, List, map, flat_map, Vec}
 use Rattle.std.specs.declared.alloc.Global.{Global}
 use Rattle.faults.specs.Bytes.{Text}
 use Rattle.ballots.specs.declared.message.Message.{Message}

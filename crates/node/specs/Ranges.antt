@@ -8,7 +8,6 @@ use Rattle.agreement.specs.Member as members
 use Rattle.agreement.specs.Member.{Facts}
 use Rattle.agreement.specs.Messages as messages
 use Rattle.agreement.specs.Step.{Outcome}
-use Rattle.agreement.specs.declared.claim.Claim.{Claim}
 use Rattle.claims.specs.Claim.{IsClaim, IsRound, greatest_round}
 use Rattle.engine.specs.declared.Letter.{Letter}
 use Rattle.ballots.specs.Weights.{AreWeights}

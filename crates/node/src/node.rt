@@ -6,7 +6,9 @@ ghost use Rattle.engine.specs.State as engines;
 ghost use Rattle.member.specs.OpenClaims.{open_of};
 ghost use Rattle.protocol.specs.State.{engine_of, held_record};
 ghost use Rattle.protocol.specs.Step.{facts_named};
+ghost use Rattle.stable_record.specs.History.{seen};
 ghost use Rattle.stable_record.specs.OpenLog.{file_len};
+ghost use Rattle.node.specs.OnLog.{IsOnLog};
 ghost use Rattle.node.specs.inside.Noted.{notes_in};
 
 use crate::noted::Noted;
@@ -64,6 +66,8 @@ impl<'a, D: Disk> Model for Node<'a, D> {
 }
 
 impl<'a, D: Disk> Node<'a, D> {
+    ghost use Rattle.node.specs.State.{IsLogged};
+
     /// The record that is held for the package path.
     pub fn held(&self, path: &PkgPath) -> Option<&Record>
         ensures { option_copied result ≡ held_record self.now.node.member path.now }
@@ -74,21 +78,24 @@ impl<'a, D: Disk> Node<'a, D> {
     /// The letter of the package at the position.
     pub fn letter(&self, position: u32) -> Letter
         requires { position < length self.now.node.member.division.tree }
-        ensures { engines.HasLetter (engine_of self.now.node.member) position result }
+        ensures letter { engines.HasLetter (engine_of self.now.node.member) position result }
+        ensures node { IsLogged self.now }
     {
         self.member.letter(position)
     }
 
     /// How many packages have each letter.
     pub fn counts(&self) -> Counts
-        ensures { engines.AreCounts (engine_of self.now.node.member) result }
+        ensures counts { engines.AreCounts (engine_of self.now.node.member) result }
+        ensures node { IsLogged self.now }
     {
         self.member.counts()
     }
 
     /// The claim that is open.
     pub fn open_claim(&self) -> Option<&OpenClaim>
-        ensures { option_map open_of (option_copied result) ≡ self.now.node.member.claim }
+        ensures claim { option_map open_of (option_copied result) ≡ self.now.node.member.claim }
+        ensures node { IsLogged self.now }
     {
         self.member.open_claim()
     }
@@ -117,7 +124,10 @@ impl<'a, D: Disk> Node<'a, D> {
 
     /// The length of its log's file in bytes.
     pub fn log_len(&self) -> u64
-        ensures { result ≡ file_len self.now.log }
+        ensures len { result ≡ file_len self.now.log }
+        ensures file { IsOnLog D.history self.now
+            → result ≡ length (seen (D.history self.now.log.disk)) }
+        ensures node { IsLogged self.now }
     {
         self.log.len()
     }

@@ -1,16 +1,15 @@
 //! A node of what a file holds.
-ghost use Rattle.std.specs.Prelude.{◌≡◌, ◌<◌, ◌⊎◌, IfErr, IfOk, List, Ok, is_some, length, map};
-ghost use Rattle.ballots.specs.declared.message.Note as notes;
-ghost use Rattle.ballots.specs.Value.{Value};
+ghost use Rattle.std.specs.Prelude.{◌≡◌, ◌<◌, ◌≤◌, IfErr, IfOk, MatchResult, Ok, OnOk, false, is_some, length, map};
+ghost use Rattle.ballots.specs.Weights.{AreWeights};
 ghost use Rattle.stable_record.specs.Crash.{AllAlong};
 ghost use Rattle.stable_record.specs.Faults.{HasRisen};
 ghost use Rattle.stable_record.specs.History.{seen};
 ghost use Rattle.stable_record.specs.Log.{note_of};
-ghost use Rattle.stable_record.specs.Opening.{Opens, OpensAsLeft};
+ghost use Rattle.stable_record.specs.Opening.{HasOneAnswer, Opens, OpensAsLeft};
 ghost use Rattle.node.specs.Calls.{AreNotes, IsOpenFault, IsOpened, IsUntouched};
 ghost use Rattle.node.specs.OnLog.{IsOnLog, identity, identity_of, texts_of};
-ghost use Rattle.units.specs.Division.{Division, number_named};
-ghost use Rattle.node.specs.inside.Opening.{IsReadBy, told_by, unread_by};
+ghost use Rattle.units.specs.Division.{number_named};
+ghost use Rattle.node.specs.inside.Opening.{IsNew, IsNoteFault, IsOver, IsReadBy, told_by, unread_by};
 
 use crate::noted::Noted;
 use crate::{Node, NodeFault};
@@ -47,6 +46,9 @@ impl<'a, D: Disk> Node<'a, D> {
             (Ok (texts_of n.node.notes))) }
         ensures on_log { IfOk result (λ n. D.is_kept n.log.disk → IsOnLog D.history n) }
 
+        // A file of bytes has one answer, so these notes are all that it opens as.
+        ensures one_answer { OnOk result (HasOneAnswer (identity tree.entry.now weights.now me)) }
+
         // A crash at any moment leaves notes that a crash at the start could leave, whatever the
         // call answers.
         ensures any_moment { IfOk result (λ n. D.is_kept n.log.disk
@@ -63,34 +65,59 @@ impl<'a, D: Disk> Node<'a, D> {
             → IsUntouched tree.entry.now weights.now me e.0 (D.history disk) (D.history e.1)) }
         ensures device { IfErr result (λ e. e.0 ≡ NodeFault.Log LogFault.Device
             → HasRisen (D.failures_of disk) (D.failures_of e.1)) }
+
+        // What was said of the disk before still stands.
+        ensures kept { MatchResult result (λ n. D.is_kept n.log.disk → D.is_kept disk)
+            (λ e. D.is_kept e.1 → D.is_kept disk) }
+        ensures later { MatchResult result (λ n. D.failures_of disk ≤ D.failures_of n.log.disk)
+            (λ e. D.failures_of disk ≤ D.failures_of e.1) }
     {
         let owner = owner(tree, weights, me);
-        let Ok(mut member) = Member::new(alloc, tree, weights, me) else {
+        let Ok(member) = Member::new(alloc, tree, weights, me) else {
             return Err((NodeFault::Memory, disk));
         };
-        let (log, texts) = match Log::open(alloc, disk, &owner) {
-            Ok(opened) => opened,
-            Err((fault, disk)) => return Err((told(fault), disk)),
-        };
-        match all_notes(alloc, member.units(), texts.as_slice()) {
-            Ok((notes, noted)) => {
-                member.restore(notes);
-                Ok(Node {
-                    member,
-                    log,
-                    noted,
-                    pieces: Vec::new(alloc),
-                    stopped: false,
-                })
-            }
-            Err(fault) => Err((fault, log.into_disk())),
+        match Log::open(alloc, disk, &owner) {
+            Ok((log, texts)) => over(alloc, member, log, texts.as_slice()),
+            Err((fault, disk)) => Err((told(fault), disk)),
         }
+    }
+}
+
+/// The node over a log whose notes have these texts. Its member knows nothing yet.
+fn over<'a, D: Disk>(
+    alloc: Global,
+    member: Member<'a>,
+    log: Log<D>,
+    texts: &[Vec<u8>],
+) -> Result<Node<'a, D>, (NodeFault, D)>
+    requires member { IsNew member }
+    requires log { log.stopped ≡ false }
+    ensures node { IfOk result (λ n. IsOver member.entry (map note_of texts.now) n.node) }
+    ensures log { IfOk result (λ n. n.log ≡ log) }
+    ensures refused { IfErr result
+        (λ e. IsNoteFault member.entry.division (map note_of texts.now) e.0) }
+    ensures disk { IfErr result (λ e. e.1 ≡ log.disk) }
+{
+    match all_notes(alloc, member.units(), texts) {
+        Ok((notes, noted)) => {
+            let mut member = member;
+            member.restore(notes);
+            Ok(Node {
+                member,
+                log,
+                noted,
+                pieces: Vec::new(alloc),
+                stopped: false,
+            })
+        }
+        Err(fault) => Err((fault, log.into_disk())),
     }
 }
 
 /// Whose log it is: that of this member, of members that weigh so, over the tree.
 fn owner(tree: &Tree, weights: &Weights, me: u8) -> Identity
-    ensures { result ≡ identity tree.now weights.now me }
+    ensures identity { result ≡ identity tree.now weights.now me }
+    ensures weights { AreWeights weights.now }
 {
     let mut table = ArrayVec::new();
     table.try_extend_from_slice(weights.as_slice()).unwrap();
@@ -119,10 +146,7 @@ fn all_notes(
 ) -> Result<(Vec<Note>, Noted), NodeFault>
     ensures notes { IfOk result (λ r. AreNotes units.now (map note_of texts.now) r.0.items) }
     ensures texts { IfOk result (λ r. r.1.texts ≡ map note_of texts.now) }
-    ensures bad { IfErr result (λ f. (f ≡ NodeFault.Memory)
-        ⊎ ((f ≡ NodeFault.Log LogFault.NotALog)
-        × ((given : List (notes.Note Value)) → ¬ AreNotes units.now
-        (map note_of texts.now) given))) }
+    ensures bad { IfErr result (IsNoteFault units.now (map note_of texts.now)) }
 {
     let mut notes = Vec::with_capacity(alloc, texts.len())?;
     let mut noted = Noted::new();

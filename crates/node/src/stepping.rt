@@ -1,5 +1,21 @@
 //! The steps of a node.
-ghost use Rattle.std.specs.Prelude.{◌≡◌, ◌≤◌, ◌⊎◌, IfErr, IfOk, IsErrOf, List, OnErr, OnOk, ℕ, true};
+ghost use Rattle.std.specs.Prelude.{
+  ◌≡◌,
+  ◌≤◌,
+  ◌<◌,
+  ◌⊎◌,
+  IfErr,
+  IfOk,
+  IsErrOf,
+  List,
+  OnErr,
+  OnOk,
+  ℕ,
+  false,
+  true,
+  vec_capacity,
+  vec_len,
+};
 ghost use Rattle.std.specs.Option.{ForSome, option_copied};
 ghost use Rattle.faults.specs.Answers.{map_ok};
 ghost use Rattle.member.specs.Prepared.{MayBeTaken};
@@ -22,6 +38,7 @@ ghost use Rattle.node.specs.Calls.{
 };
 ghost use Rattle.node.specs.Kept.{with_piece, without};
 ghost use Rattle.node.specs.OnLog.{IsOnLog, LacksRoom, LeavesOneMoreAtMost};
+ghost use Rattle.node.specs.Parcels.{datagrams_to};
 ghost use Rattle.node.specs.Ranges.{IsGoodInput};
 ghost use Rattle.node.specs.Step.{
   Comes,
@@ -31,12 +48,14 @@ ghost use Rattle.node.specs.Step.{
   changed,
   heard,
   note_in,
+  sends_in,
   taken_by,
 };
 ghost use Rattle.node.specs.inside.Stepping.{
   AreKept,
   ComesAs,
   GoesOnWith,
+  IsNoteCause,
   IsPrepared,
   LacksRoomFor,
   MakesReady,
@@ -195,8 +214,6 @@ impl<'a, D: Disk> Node<'a, D> {
     /// `Memory`, and those of `Log::append`.
     pub fn finish(&mut self, ready: Ready) -> Result<Out, NodeFault>
         requires present { IsReadyFor self.old.node ready }
-        ensures kept { D.is_kept self.new.log.disk → D.is_kept self.old.log.disk }
-        ensures later { D.failures_of self.old.log.disk ≤ D.failures_of self.new.log.disk }
         ensures taken { IfOk result
             (HasTaken self.old.node self.new.node (taken_by self.old.node ready)) }
         ensures on_log { D.is_kept self.new.log.disk → IsOnLog D.history self.old
@@ -207,6 +224,10 @@ impl<'a, D: Disk> Node<'a, D> {
         ensures any_moment { D.is_kept self.new.log.disk → IsOnLog D.history self.old
             → LeavesOneMoreAtMost self.old.node (note_in ready.step)
             (D.history self.old.log.disk) (D.history self.new.log.disk) }
+
+        // What was said of the disk before still stands, so that calls can follow one another.
+        ensures kept { D.is_kept self.new.log.disk → D.is_kept self.old.log.disk }
+        ensures later { D.failures_of self.old.log.disk ≤ D.failures_of self.new.log.disk }
 
         // Each refusal has its cause, and says what it leaves of the node, and of the log.
         ensures causes { IfErr result (IsLogCause self.old.log (note_in ready.step)) }
@@ -223,14 +244,13 @@ impl<'a, D: Disk> Node<'a, D> {
             × (D.history self.new.log.disk ≡ D.history self.old.log.disk))) }
     {
         make_room(&mut self.pieces)?;
-        if let Err(fault) = write(&mut self.log, &mut self.noted, ready.note()) {
-            self.stopped = is_device(fault);
-            return Err(told(fault));
-        }
-        let (step, sends, change) = ready.apart();
-        change_kept(&mut self.pieces, change);
-        let job = commit(&mut self.member, step);
-        Ok(Out { sends, job })
+        write_note(
+            &mut self.log,
+            &mut self.noted,
+            &mut self.stopped,
+            ready.note(),
+        )?;
+        Ok(take(&mut self.member, &mut self.pieces, ready))
     }
 
     /// Takes the step on an input: `prepare`, and then `finish`.
@@ -240,8 +260,6 @@ impl<'a, D: Disk> Node<'a, D> {
     /// Those of the two.
     pub fn handle(&mut self, input: Input) -> Result<Out, NodeFault>
         requires message { IsGoodInput input }
-        ensures kept { D.is_kept self.new.log.disk → D.is_kept self.old.log.disk }
-        ensures later { D.failures_of self.old.log.disk ≤ D.failures_of self.new.log.disk }
         ensures taken { IfOk result (HasHandled self.old.node self.new.node (Does input)) }
         ensures on_log { D.is_kept self.new.log.disk → IsOnLog D.history self.old
             → OnOk result (IsOnLog D.history self.new) }
@@ -251,6 +269,10 @@ impl<'a, D: Disk> Node<'a, D> {
         ensures any_moment { D.is_kept self.new.log.disk → IsOnLog D.history self.old
             → LeavesItsNoteAtMost self.old.node (Does input) (D.history self.old.log.disk)
             (D.history self.new.log.disk) }
+
+        // What was said of the disk before still stands, so that calls can follow one another.
+        ensures kept { D.is_kept self.new.log.disk → D.is_kept self.old.log.disk }
+        ensures later { D.failures_of self.old.log.disk ≤ D.failures_of self.new.log.disk }
 
         // Each refusal has its cause, and says what it leaves of the node, and of the log: all,
         // unless the device failed.
@@ -275,8 +297,6 @@ impl<'a, D: Disk> Node<'a, D> {
     ///
     /// Those of the two.
     pub fn handle_datagram(&mut self, bytes: &[u8]) -> Result<Out, NodeFault>
-        ensures kept { D.is_kept self.new.log.disk → D.is_kept self.old.log.disk }
-        ensures later { D.failures_of self.old.log.disk ≤ D.failures_of self.new.log.disk }
         ensures taken { IfOk result (HasHandled self.old.node self.new.node (Comes bytes.now)) }
         ensures on_log { D.is_kept self.new.log.disk → IsOnLog D.history self.old
             → OnOk result (IsOnLog D.history self.new) }
@@ -286,6 +306,10 @@ impl<'a, D: Disk> Node<'a, D> {
         ensures any_moment { D.is_kept self.new.log.disk → IsOnLog D.history self.old
             → LeavesItsNoteAtMost self.old.node (Comes bytes.now) (D.history self.old.log.disk)
             (D.history self.new.log.disk) }
+
+        // What was said of the disk before still stands, so that calls can follow one another.
+        ensures kept { D.is_kept self.new.log.disk → D.is_kept self.old.log.disk }
+        ensures later { D.failures_of self.old.log.disk ≤ D.failures_of self.new.log.disk }
 
         // Each refusal has its cause, and says what it leaves of the node, and of the log: all,
         // unless the device failed.
@@ -311,16 +335,19 @@ impl<'a, D: Disk> Node<'a, D> {
     }
 }
 
-/// Adds the note to the log, if there is one. At `Ok` it is on the disk.
-fn write<D: Disk>(
+/// Writes the note of a step to the log of a node that is not stopped, if there is a note. Where
+/// the device fails, the node stops.
+fn write_note<D: Disk>(
     log: &mut Log<D>,
     noted: &mut Noted,
+    stopped: &mut bool,
     note: Option<&[u8]>,
-) -> Result<(), LogFault>
-    ensures noted { OnOk result (noted.new.texts ≡ with_text noted.old.texts (option_copied note.entry)) }
+) -> Result<(), NodeFault>
+    requires node_runs { stopped.old ≡ false }
+    requires log_runs { log.old.stopped ≡ false }
+    ensures noted { OnOk result
+        (noted.new.texts ≡ with_text noted.old.texts (option_copied note.entry)) }
     ensures not_noted { OnErr result (noted.new.texts ≡ noted.old.texts) }
-    ensures kept { D.is_kept log.new.disk → D.is_kept log.old.disk }
-    ensures later { D.failures_of log.old.disk ≤ D.failures_of log.new.disk }
     ensures acknowledged { D.is_kept log.new.disk → (texts : List (List ℕ))
         → Holds D.history log.old texts
         → OnOk result (Holds D.history log.new (with_text texts (option_copied note.entry))) }
@@ -328,6 +355,47 @@ fn write<D: Disk>(
         → Holds D.history log.old texts
         → GoesOnWith log.old.identity texts (option_copied note.entry) (D.history log.old.disk)
         (D.history log.new.disk) }
+    ensures kept { D.is_kept log.new.disk → D.is_kept log.old.disk }
+    ensures later { D.failures_of log.old.disk ≤ D.failures_of log.new.disk }
+    ensures owner { log.new.identity ≡ log.old.identity }
+    ensures causes { IfErr result (IsNoteCause log.old (option_copied note.entry)) }
+    ensures within { OnOk result (¬ (LacksRoomFor log.old (option_copied note.entry))) }
+    ensures device { IsErrOf result (NodeFault.Log LogFault.Device)
+        → HasRisen (D.failures_of log.old.disk) (D.failures_of log.new.disk) }
+    ensures together { log.new.stopped ≡ stopped.new }
+    ensures goes_on { OnOk result (stopped.new ≡ false) }
+    ensures stops { IsErrOf result (NodeFault.Log LogFault.Device) → stopped.new ≡ true }
+    ensures stays { IfErr result (λ f. (f ≡ NodeFault.Log LogFault.Device)
+        ⊎ (stopped.new ≡ false)) }
+    ensures refused { D.is_kept log.new.disk → (texts : List (List ℕ))
+        → Holds D.history log.old texts
+        → IfErr result (λ f. (f ≡ NodeFault.Log LogFault.Device)
+        ⊎ (Holds D.history log.new texts
+        × (D.history log.new.disk ≡ D.history log.old.disk))) }
+{
+    match write(log, noted, note) {
+        Ok(()) => Ok(()),
+        Err(fault) => {
+            *stopped = is_device(fault);
+            Err(told(fault))
+        }
+    }
+}
+
+/// Adds the note to the log, if there is one. At `Ok` it is on the disk.
+fn write<D: Disk>(log: &mut Log<D>, noted: &mut Noted, note: Option<&[u8]>) -> Result<(), LogFault>
+    ensures noted { OnOk result
+        (noted.new.texts ≡ with_text noted.old.texts (option_copied note.entry)) }
+    ensures not_noted { OnErr result (noted.new.texts ≡ noted.old.texts) }
+    ensures acknowledged { D.is_kept log.new.disk → (texts : List (List ℕ))
+        → Holds D.history log.old texts
+        → OnOk result (Holds D.history log.new (with_text texts (option_copied note.entry))) }
+    ensures any_moment { D.is_kept log.new.disk → (texts : List (List ℕ))
+        → Holds D.history log.old texts
+        → GoesOnWith log.old.identity texts (option_copied note.entry) (D.history log.old.disk)
+        (D.history log.new.disk) }
+    ensures kept { D.is_kept log.new.disk → D.is_kept log.old.disk }
+    ensures later { D.failures_of log.old.disk ≤ D.failures_of log.new.disk }
     ensures owner { log.new.identity ≡ log.old.identity }
     ensures full { IsErrOf result LogFault.Full → LacksRoomFor log.old (option_copied note.entry) }
     ensures within { OnOk result (¬ (LacksRoomFor log.old (option_copied note.entry))) }
@@ -349,6 +417,21 @@ fn write<D: Disk>(
         noted.note(text);
     }
     Ok(())
+}
+
+/// Takes a step whose note is on the disk. It takes no memory.
+fn take(member: &mut Member<'_>, pieces: &mut Vec<Piece>, ready: Ready) -> Out
+    requires room { vec_len pieces.old < vec_capacity pieces.old }
+    requires step { ForSome ready.step (MayBeTaken member.old) }
+    ensures member { member.new ≡ committed member.old ready.step }
+    ensures pieces { pieces.new.items ≡ changed ready.change pieces.old.items }
+    ensures sends { result.sends ≡ datagrams_to (sends_in ready.step) }
+    ensures job { result.job ≡ (answer_then member.old ready.step).job }
+{
+    let (step, sends, change) = ready.apart();
+    change_kept(pieces, change);
+    let job = commit(member, step);
+    Out { sends, job }
 }
 
 /// Takes the member's part of a step, if it has one. It takes no memory.

@@ -1,5 +1,5 @@
 //! The answer to a line.
-use crate::cutting::{cuts, zeros};
+use crate::cutting::{cuts, opens, zeros};
 use crate::failing::failures;
 use crate::known::{crashed, known, stopped};
 use crate::network::Network;
@@ -12,7 +12,7 @@ pub fn answer(network: &mut Network<'_>, line: &str) -> Result<String, Memory> {
     let (word, rest) = first_word(line);
     match word {
         "deliver" | "changed" => sent(network, word, rest),
-        "bytes" => bytes(network, rest),
+        "bytes" | "opens" => bytes(network, word, rest),
         "knows" => knows(network, rest),
         "stop" | "crash" => opened_again(network, word, rest),
         "cuts" | "zeros" | "failures" => over_disks(network, word, rest),
@@ -57,12 +57,13 @@ fn change(bytes: &mut [u8], rest: &str) {
     }
 }
 
-fn bytes(network: &mut Network<'_>, rest: &str) -> Result<String, Memory> {
-    let Some((to, text)) = first_place(rest) else {
+fn bytes(network: &mut Network<'_>, word: &str, rest: &str) -> Result<String, Memory> {
+    let Some((at, text)) = first_place(rest) else {
         return no_question(network.alloc);
     };
     match hex::decode(network.alloc, text) {
-        Ok(bytes) => network.give(to, Asked::Comes(bytes)),
+        Ok(bytes) if word == "opens" => opens(network, at, bytes.as_slice()),
+        Ok(bytes) => network.give(at, Asked::Comes(bytes)),
         Err(_) => no_question(network.alloc),
     }
 }

@@ -1,4 +1,4 @@
-//! What a node's log opens to where bytes of it are gone, or 0.
+//! What files open to as a node's log, and what its log does where bytes of it are gone, or 0.
 use crate::known::{opened_at, taken_off};
 use crate::network::{Network, fault_text};
 use crate::opening::{new_disk, opened};
@@ -11,9 +11,9 @@ pub fn cuts(network: &mut Network<'_>, at: usize) -> Result<String, Memory> {
     let bytes = log_of(network, at)?;
     let mut told = Told::new(network.alloc);
     for len in 0..bytes.len() {
-        told.add(len, answer(network, at, &bytes.as_slice()[..len])?)?;
+        told.add(len, opens(network, at, &bytes.as_slice()[..len])?)?;
     }
-    told.add(bytes.len(), answer(network, at, bytes.as_slice())?)?;
+    told.add(bytes.len(), opens(network, at, bytes.as_slice())?)?;
     Ok(told.text)
 }
 
@@ -24,7 +24,7 @@ pub fn zeros(network: &mut Network<'_>, at: usize) -> Result<String, Memory> {
     for place in 0..bytes.len() {
         let was = bytes[place];
         bytes[place] = 0;
-        told.add(place, answer(network, at, bytes.as_slice())?)?;
+        told.add(place, opens(network, at, bytes.as_slice())?)?;
         bytes[place] = was;
     }
     Ok(told.text)
@@ -74,7 +74,7 @@ fn log_of(network: &mut Network<'_>, at: usize) -> Result<Vec<u8>, Memory> {
 }
 
 /// The length of the log that a file with these bytes opens to, or the number of the refusal.
-fn answer(network: &Network<'_>, at: usize, bytes: &[u8]) -> Result<String, Memory> {
+pub fn opens(network: &Network<'_>, at: usize, bytes: &[u8]) -> Result<String, Memory> {
     let alloc = network.alloc;
     if at >= network.weights.len() {
         return Ok(String::from_str(alloc, "no node")?);

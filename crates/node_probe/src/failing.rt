@@ -47,14 +47,18 @@ pub fn failures(
 }
 
 /// How many calls may fail, with each of the crashes behind; 0 where the node doesn't survive one.
-fn calls(
-    network: &Network<'_>,
-    at: usize,
-    again: Option<usize>,
-    on: bool,
-) -> Result<u64, Memory> {
+fn calls(network: &Network<'_>, at: usize, again: Option<usize>, on: bool) -> Result<u64, Memory> {
     for call in 1..MOST {
-        match each_crash(network, at, again, if on { Failing::From(call) } else { Failing::Once(call) })? {
+        match each_crash(
+            network,
+            at,
+            again,
+            if on {
+                Failing::From(call)
+            } else {
+                Failing::Once(call)
+            },
+        )? {
             Fared::Well => return Ok(call - 1),
             Fared::Survived => {}
             Fared::Badly => return Ok(0),
@@ -71,7 +75,15 @@ fn each_crash(
 ) -> Result<Fared, Memory> {
     for kind in 0..5u8 {
         let left = each_left(kind);
-        match fared(network, Trial { at, failing, left, again })? {
+        match tried(
+            network,
+            Trial {
+                at,
+                failing,
+                left,
+                again,
+            },
+        )? {
             Fared::Survived => {}
             other => return Ok(other),
         }
@@ -80,12 +92,18 @@ fn each_crash(
 }
 
 /// How the node fares that takes its steps on such a disk.
-fn fared(network: &Network<'_>, trial: Trial) -> Result<Fared, Memory> {
+fn tried(network: &Network<'_>, trial: Trial) -> Result<Fared, Memory> {
     let disk = FaultDisk::new(MemDisk::new(network.alloc, &[])?, trial.failing);
     if trial.at >= network.weights.len() {
         return Ok(Fared::Badly);
     }
-    match Node::open(network.alloc, disk, network.tree, &network.weights, trial.at as u8) {
+    match Node::open(
+        network.alloc,
+        disk,
+        network.tree,
+        &network.weights,
+        trial.at as u8,
+    ) {
         Ok(node) => stepped(network, trial, node),
         Err((NodeFault::Memory, _disk)) => Err(Memory),
         Err((fault, disk)) => {
@@ -117,7 +135,13 @@ fn opened_after<'a>(
         return Ok(None);
     }
     let disk = sound(disk.crash(trial.left));
-    match opened(network.alloc, network.tree, &network.weights, trial.at as u8, disk) {
+    match opened(
+        network.alloc,
+        network.tree,
+        &network.weights,
+        trial.at as u8,
+        disk,
+    ) {
         Ok(node) => Ok(Some(node)),
         Err(NodeFault::Memory) => Err(Memory),
         Err(_) => Ok(None),
@@ -139,7 +163,11 @@ fn stepped(
     let right = number == 1001 && is_stopped(&mut node);
     let disk = node.into_disk().into_inner();
     let survives = survives(network, trial, (place, step), disk)?;
-    Ok(if right && survives { Fared::Survived } else { Fared::Badly })
+    Ok(if right && survives {
+        Fared::Survived
+    } else {
+        Fared::Badly
+    })
 }
 
 /// The place of the first step that the node refuses, and the number of the refusal.

@@ -13,15 +13,19 @@ use stable_record::{FaultDisk, MemDisk};
 use std::alloc::Global;
 
 /// What the node knows of the path, whether it has an open claim, and the counts.
-pub fn known(
-    alloc: Global,
-    node: &Node<'_, FaultDisk>,
-    path: &PkgPath,
-) -> Result<String, Memory> {
+pub fn known(alloc: Global, node: &Node<'_, FaultDisk>, path: &PkgPath) -> Result<String, Memory> {
     let promised = claim_text(alloc, node.promised(path))?;
     let voted = claim_text(alloc, node.voted(path).map(|vote| vote.0))?;
-    let held = if node.held(path).is_some() { "held" } else { "not held" };
-    let open = if node.open_claim().is_some() { "a claim" } else { "no claim" };
+    let held = if node.held(path).is_some() {
+        "held"
+    } else {
+        "not held"
+    };
+    let open = if node.open_claim().is_some() {
+        "a claim"
+    } else {
+        "no claim"
+    };
     let counts = counts_text(alloc, node)?;
     Ok(format!(in alloc;
         "opened {}, promised {promised}, voted {voted}, {held}, {open}; {counts}",

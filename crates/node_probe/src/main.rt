@@ -1,8 +1,8 @@
 //! Answers rows of standard input, which blank lines part: nodes over disks in memory that are
-//! handed each other's datagrams by hand. A row begins with `nodes` and what each weighs, and with
-//! the lines of a listing, each behind `listing`. Each line behind that asks something, and is told
-//! again with its answer. Datagrams have numbers, in the order in which they were first sent, from
-//! 0; K is a node's number.
+//! handed each other's datagrams by hand. A row begins with `nodes` and what each weighs, or with
+//! `singles` where each package is built by itself, and with the lines of a listing, each behind
+//! `listing`. Each line behind that asks something, and is told again with its answer. Datagrams
+//! have numbers, in the order in which they were first sent, from 0; K is a node's number.
 //!
 //! - `claim K PATH HOST ABOVE`, `failed K PATH`, `nudge K`, `ask K PATH`, and `built K PATH` with
 //!   what stands behind it, which is for each package its path, a file's name and how many bytes it
@@ -14,9 +14,10 @@
 //! - `knows K PATH`: what the node knows, and the letters of the row's packages.
 //! - `stop K`: the node is opened again. `crash K LEFT`: it is opened again after a crash, of which
 //!   LEFT is `before`, `written`, or the byte that fills what was not synced.
+//! - `opens K HEX`: what a file with these bytes opens to as the node's log: the length of the log,
+//!   or the number of the refusal.
 //! - `cuts K`: what the node's log opens to where it is cut to each length, and `zeros K`: where the
-//!   byte at each place is 0: the length of the log, or the number of the refusal, behind the first
-//!   place that answers so.
+//!   byte at each place is 0, behind the first place that answers so. The node is opened again.
 //! - `failures K STEP`: the node's steps are taken again on disks whose calls fail, each in turn,
 //!   alone and with all later ones, and each of the five crashes follows. Its answer is how many
 //!   calls there are, if the node answers 1001 and then 1201, and is opened with the notes from

@@ -9,7 +9,7 @@ use std::alloc::Global;
 /// The answers, and how often memory ran out in a step.
 pub fn answers(alloc: Global, row: &[String]) -> Result<(String, u32), Memory> {
     let text = listing(alloc, row)?;
-    let (Ok(tree), Some(weights)) = (Tree::parse(alloc, text.as_slice()), weights(row)) else {
+    let (Some(tree), Some(weights)) = (tree(alloc, row, text.as_slice()), weights(row)) else {
         return Err(Memory);
     };
     let mut network = Network::new(alloc, &tree, &weights)?;
@@ -17,14 +17,23 @@ pub fn answers(alloc: Global, row: &[String]) -> Result<(String, u32), Memory> {
     Ok((answers, network.refused))
 }
 
+/// The tree of the listing, in which each package is a unit by itself where the row says so.
+fn tree(alloc: Global, row: &[String], text: &[u8]) -> Option<Tree> {
+    let line = row.first()?;
+    match first_word(line.as_str()) {
+        ("singles", _) => Tree::parse_single(alloc, text).ok(),
+        _ => Tree::parse(alloc, text).ok(),
+    }
+}
+
 fn all(alloc: Global, network: &mut Network<'_>, row: &[String]) -> Result<String, Memory> {
     let mut answers = String::new(alloc);
     for line in row {
         let (word, _) = first_word(line.as_str());
-        if word == "nodes" {
-            answers.push_str(line.as_str())?;
-        } else if word != "listing" {
-            add(alloc, &mut answers, network, line.as_str())?;
+        match word {
+            "nodes" | "singles" => answers.push_str(line.as_str())?,
+            "listing" => {}
+            _ => add(alloc, &mut answers, network, line.as_str())?,
         }
     }
     Ok(answers)

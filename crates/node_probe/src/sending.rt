@@ -7,11 +7,7 @@ use std::alloc::Global;
 const MOST: usize = 1152;
 
 /// Enters the datagrams that were never sent before, and tells how long they are.
-pub fn entered(
-    alloc: Global,
-    sent: &mut Vec<Vec<u8>>,
-    sends: &Parcels,
-) -> Result<String, Memory> {
+pub fn entered(alloc: Global, sent: &mut Vec<Vec<u8>>, sends: &Parcels) -> Result<String, Memory> {
     let mut text = String::new(alloc);
     for place in 0..MOST {
         if let Some((_to, bytes)) = sends.get(place) {

@@ -15,7 +15,10 @@ pub enum Asked {
 }
 
 /// The node takes the step.
-pub fn taken(node: &mut Node<'_, FaultDisk>, asked: &Asked) -> Result<Result<Out, NodeFault>, Memory> {
+pub fn taken(
+    node: &mut Node<'_, FaultDisk>,
+    asked: &Asked,
+) -> Result<Result<Out, NodeFault>, Memory> {
     match asked {
         Asked::Comes(bytes) => Ok(node.handle_datagram(bytes.as_slice())),
         Asked::Does(input) => match own(input.copy()?) {

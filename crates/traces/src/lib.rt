@@ -11,9 +11,9 @@ ghost use Rattle.traces.specs.Written.{trace_text};
 
 use ballots::Weights;
 use events::Event;
-use faults::{Fault, Memory};
+use faults::{Fault, Memory, WantOfMemory};
 use protocol::Packages;
-use std::alloc::{AllocError, AllocFailed, Global};
+use std::alloc::Global;
 use thiserror::Error;
 
 mod builds;
@@ -41,26 +41,10 @@ pub enum TraceFault {
     BadTrace(u64),
 }
 
-impl From<Memory> for TraceFault {
+impl<E: WantOfMemory> From<E> for TraceFault {
     ghost from_gives = { λ _ e. e ≡ out_of_memory };
 
-    fn from(_e: Memory) -> TraceFault {
-        TraceFault::Memory
-    }
-}
-
-impl From<AllocError> for TraceFault {
-    ghost from_gives = { λ _ e. e ≡ out_of_memory };
-
-    fn from(_e: AllocError) -> TraceFault {
-        TraceFault::Memory
-    }
-}
-
-impl<T: Drop> From<AllocFailed<T>> for TraceFault {
-    ghost from_gives = { λ _ e. e ≡ out_of_memory };
-
-    fn from(_e: AllocFailed<T>) -> TraceFault {
+    fn from(_e: E) -> TraceFault {
         TraceFault::Memory
     }
 }

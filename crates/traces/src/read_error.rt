@@ -4,8 +4,7 @@ ghost use Rattle.traces.specs.declared.read_error.ReadError.TheVariants.{Memory 
 ghost use Rattle.traces.specs.inside.Given.{outer_fault};
 
 use crate::TraceFault;
-use faults::Memory;
-use std::alloc::{AllocError, AllocFailed};
+use faults::WantOfMemory;
 
 /// Memory ran out, or the value is none.
 #[derive(Debug, Drop)]
@@ -14,26 +13,10 @@ pub enum ReadError {
     Bad,
 }
 
-impl From<Memory> for ReadError {
+impl<E: WantOfMemory> From<E> for ReadError {
     ghost from_gives = { λ _ e. e ≡ out_of_memory };
 
-    fn from(_e: Memory) -> ReadError {
-        ReadError::Memory
-    }
-}
-
-impl From<AllocError> for ReadError {
-    ghost from_gives = { λ _ e. e ≡ out_of_memory };
-
-    fn from(_e: AllocError) -> ReadError {
-        ReadError::Memory
-    }
-}
-
-impl<T: Drop> From<AllocFailed<T>> for ReadError {
-    ghost from_gives = { λ _ e. e ≡ out_of_memory };
-
-    fn from(_e: AllocFailed<T>) -> ReadError {
+    fn from(_e: E) -> ReadError {
         ReadError::Memory
     }
 }

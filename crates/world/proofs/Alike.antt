@@ -1,10 +1,11 @@
 -- Two nodes never hold different packages for one path.
-use Rattle.std.proofs.Common.{◌≡◌, ◌≢◌, ◌<◌, ℕ, zero, suc, List, [], ◌∷◌, length, map, get_or, refl, sym, ap, ◌∙◌, arith, ⊎_elim}
+use Rattle.std.proofs.Common.{◌≡◌, ◌≢◌, ◌<◌, ℕ, zero, suc, List, [], ◌∷◌, length, map, get_or, refl, sym, ap, subst, ◌∙◌, arith, ⊎_elim}
 use Rattle.std.specs.Prelude.{AllPairs, Contains}
 use Rattle.std.proofs.lemmas.Bool.{cases_eq, cases_lt}
 use Rattle.std.proofs.lemmas.List.{get_or-map, length-map}
+use Rattle.std.proofs.lemmas.List.Elements.{Contains-append_left}
 use Rattle.package_record.specs.Content.{Content}
-use Rattle.world.specs.Headline.{HasOneAPath, HeldIsListed, HoldAlike}
+use Rattle.world.specs.Headline.{HasOneAPath, HeldIsListed, HoldAlike, IsBeginningOf}
 use Rattle.world.specs.World.{World}
 
 -- an earlier package has another path than a later one
@@ -40,9 +41,12 @@ only_one_with list one r q (i, wi, er) (j, wj, eq) same = ⊎_elim
     same_place : (i j : ℕ) → i ≡ j → i < length list → get_or list i r ≡ get_or list j q
     same_place i j e lt = any_default list i r q lt ∙ ap (λ k. get_or list k q) e
 
--- What nodes hold for a path is one package, where all of it is in the list.
-pub held_alike : (w : World) → HeldIsListed w → HasOneAPath w → HoldAlike w
-held_alike w held one j k x y path r q sx sy hr hq =
-    let a = held.paths j x path r sx hr in
-    let b = held.paths k y path q sy hq in
-    only_one_with w.agreed one r q a.1 b.1 (a.0 ∙ sym b.0)
+-- What nodes hold for a path, then and later, is one package, where all of it is in the list.
+pub held_alike : (v w : World) → HeldIsListed v → HeldIsListed w → IsBeginningOf v.agreed w.agreed
+    → HasOneAPath w → HoldAlike v w
+held_alike v w then now grew one j k x y path r q sx sy hr hq =
+    let a = then.paths j x path r sx hr in
+    let b = now.paths k y path q sy hq in
+    only_one_with w.agreed one r q
+    (subst (λ l. Contains l r) (sym grew.1) (Contains-append_left v.agreed grew.0 r a.1)) b.1
+    (a.0 ∙ sym b.0)

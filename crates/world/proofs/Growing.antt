@@ -132,11 +132,22 @@ pub kept_on : (P : World → Type 0) → ((w v : World) (e : Event) → Happens 
 kept_on P step w v [] l h = subst P (sym l) h
 kept_on P step w v (e ∷ es) l h = kept_on P step l.0 v es l.2 (step w l.0 e l.1 h)
 
+-- What the way from there to the end gives holds at each moment, too.
+pub each_moment_to : (division : Division) (weights : List ℕ) (events : List Event) (last : World)
+    (P : World → Type 0)
+    → ((early late : List Event) (w : World) → Leads (start division weights) early w
+    → Leads w late last → P w)
+    → Leads (start division weights) events last
+    → AtEachMoment division weights events last (λ early w. P w)
+each_moment_to division weights events last P each led early late e =
+    let parts = leads_in_parts (start division weights) last early late
+    (subst (λ es. Leads (start division weights) es last) e led) in
+    (parts.0, parts.1, parts.2, each early late parts.0 parts.1 parts.2)
+
 -- The list then is a beginning of the list at the end.
 pub list_grows : (division : Division) (weights : List ℕ) (events : List Event) (last : World)
     → Leads (start division weights) events last
     → AtEachMoment division weights events last (λ early w. IsBeginningOf w.agreed last.agreed)
-list_grows division weights events last led early late e =
-    let parts = leads_in_parts (start division weights) last early late
-    (subst (λ es. Leads (start division weights) es last) e led) in
-    (parts.0, parts.1, parts.2, (leads_later parts.0 last late parts.2).agreed)
+list_grows division weights events last =
+    each_moment_to division weights events last (λ w. IsBeginningOf w.agreed last.agreed)
+    (λ early late w first then. (leads_later w last late then).agreed)

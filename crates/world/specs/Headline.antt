@@ -17,7 +17,7 @@ use Rattle.protocol.specs.Given.{Given}
 use Rattle.protocol.specs.Jobs.{job_of, record_by, signature}
 use Rattle.protocol.specs.State.{Building, Value, engine_of, facts_at, held_record}
 use Rattle.events.specs.Events.{Event, Built}
-use Rattle.world.specs.Happening.{Leads}
+use Rattle.world.specs.Happening.{Happens, Leads}
 use Rattle.world.specs.World.{World, WorldNode, member_at, start}
 
 -- ---- built by a host under a claim
@@ -63,9 +63,11 @@ pub record WasBuilt (division : Division) (weights : List ℕ) (events : List Ev
   pub event : Event
   pub behind : List Event
   pub among : events ≡ before ++ event ∷ behind
-  -- the world in which the event happened
+  -- the worlds in which the event happened, and which it left
   pub world : World
   pub led : Leads (start division weights) before world
+  pub then : World
+  pub happened : Happens world event then
   pub builds : Builds world event r
 
 -- ---- what a node holds
@@ -112,12 +114,12 @@ pub record HeldIsListed (w : World) : Type 0 where
   pub paths : (k : ℕ) (x : WorldNode) (path : Text) (r : Content) → slice_get w.nodes k ≡ Some x
       → holds w k x path ≡ Some r → (r.path ≡ path) × Contains w.agreed r
 
--- Two nodes never hold different packages for one path.
-abbrev pub HoldAlike : World → Type 0
-HoldAlike w =
-    (j k : ℕ) (x y : WorldNode) (path : Text) (r q : Content) → slice_get w.nodes j ≡ Some x
+-- A node of the one world and one of the other never hold different packages for one path.
+abbrev pub HoldAlike : World → World → Type 0
+HoldAlike v w =
+    (j k : ℕ) (x y : WorldNode) (path : Text) (r q : Content) → slice_get v.nodes j ≡ Some x
     → slice_get w.nodes k ≡ Some y
-    → holds w j x path ≡ Some r → holds w k y path ≡ Some q → r ≡ q
+    → holds v j x path ≡ Some r → holds w k y path ≡ Some q → r ≡ q
 
 -- A node that is up and shows a path as installable holds all of the path's run closure.
 abbrev pub InstallableIsHeld : World → Type 0

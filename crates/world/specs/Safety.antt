@@ -17,7 +17,7 @@ use Rattle.wire.specs.Pieces.{split_of}
 use Rattle.wire.specs.Spelling.{datagram_text}
 use Rattle.wire.specs.declared.datagram.Datagram.TheVariants as datagram
 use Rattle.wire.specs.declared.datagram.Piece.{Piece}
-use Rattle.world.specs.Happening.{Acts, Leads}
+use Rattle.world.specs.Happening.{Acts, Happens, Leads}
 use Rattle.world.specs.Headline.{HasSignature}
 use Rattle.world.specs.Sent.{WasPromised, WasProposed, WasSent, voters}
 use Rattle.world.specs.World.{World, WorldNode, start}
@@ -75,8 +75,11 @@ pub record JobGiven (division : Division) (weights : List ℕ) (events : List Ev
   pub event : Event
   pub behind : List Event
   pub among : events ≡ before ++ event ∷ behind
+  -- the worlds in which the event happened, and which it left
   pub world : World
   pub led : Leads (start division weights) before world
+  pub then : World
+  pub happened : Happens world event then
   pub gives : GivesJob world event job
 
 -- the record is the job's

@@ -24,7 +24,8 @@ pub fn datagrams_keep_their_numbers()
     ensures { DatagramsKeepTheirNumbers }
 {}
 
-/// Two nodes never hold different packages for one path, where all that they hold is in the list.
+/// Two nodes, one of them perhaps later than the other, never hold different packages for one path,
+/// where all that they hold is in the list.
 pub fn nodes_hold_alike()
     ensures { WhatIsListedIsHeldAlike }
 {}

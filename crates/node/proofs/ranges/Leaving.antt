@@ -1,5 +1,5 @@
 -- What a step leaves is a node.
-use Rattle.std.proofs.Common.{◌≡◌, ◌++◌, ◌<◌, ℕ, All, AllPairs, false, List, [], ◌∷◌, length, Option, None, Some, Ok, refl, sym, subst, ap, ◌∙◌}
+use Rattle.std.proofs.Common.{◌≡◌, ℕ, All, List, [], ◌∷◌, Option, None, Some, Ok, refl, sym, subst, ap, ◌∙◌}
 use Rattle.std.specs.List.{slice_index_or}
 use Rattle.std.specs.Option.{ForSome}
 use Rattle.std.proofs.lemmas.List.Sums.{fold_push}
@@ -7,10 +7,9 @@ use Rattle.std.proofs.lemmas.List.Elements.{All-append, All-cons, All-nil}
 use Rattle.agreement.specs.Member.{Facts, no_facts}
 use Rattle.ballots.specs.declared.message.Note.{Note}
 use Rattle.engine.specs.declared.Letter.{Letter}
-use Rattle.units.specs.Division.{Division, number_named}
+use Rattle.units.specs.Division.{number_named}
 use Rattle.protocol.specs.Answers.{Answer, after as member_after}
 use Rattle.protocol.specs.Member.{IsMember}
-use Rattle.protocol.specs.Restoring.{AreOnUnits}
 use Rattle.protocol.specs.State.{State, Value, facts_then, fresh, name_at}
 use Rattle.protocol.specs.Step.{answer}
 use Rattle.protocol.specs.declared.input.Input.{Input}
@@ -18,7 +17,7 @@ use Rattle.wire.specs.Messages.{IsNote}
 use Rattle.wire.specs.declared.datagram.Piece.{Piece}
 use Rattle.node.specs.State.{IsNode, NodeState, restored_member, with_note}
 use Rattle.node.specs.Step.{after}
-use Rattle.node.specs.Ranges.{AreFactsOf, CanBeWritten, IsGoodInput, IsInRange}
+use Rattle.node.specs.Ranges.{AreFactsOf, IsGoodInput, IsInRange}
 use Rattle.node.specs.inside.Stepping.{AreKept}
 use Rattle.node.proofs.ranges.Restored.{restored_written}
 use Rattle.node.proofs.ranges.Written.{answers_written}

@@ -1,12 +1,12 @@
 -- What the theory's member does with what can be written down can be written down.
-use Rattle.std.proofs.Common.{◌≡◌, ◌<◌, ◌≤◌, ℕ, Bool, true, false, not, ◌&&◌, All, List, [], ◌∷◌, Option, Some, None, arith, refl, sym, subst, ap, ◌∙◌, max, if◌then◌else◌}
+use Rattle.std.proofs.Common.{◌≡◌, ℕ, Bool, not, ◌&&◌, All, List, [], ◌∷◌, Option, Some, None, arith, refl, subst, ap, if◌then◌else◌}
 use Rattle.std.specs.Prelude.{unwrap_or}
 use Rattle.std.specs.Option.{ForSome}
 use Rattle.std.proofs.lemmas.Bool.{cond_both}
 use Rattle.std.proofs.lemmas.List.Elements.{All-head, All-tail}
 use Rattle.faults.specs.Bytes.{Text}
 use Rattle.agreement.specs.Votes.{Ballot, ballot, kept_report}
-use Rattle.agreement.specs.Quorums.{Quorums, Members, with_member, nobody}
+use Rattle.agreement.specs.Quorums.{Quorums, with_member, nobody}
 use Rattle.agreement.specs.Claims.{claim_same, is_above, is_below, is_promised}
 use Rattle.agreement.specs.Votes.{is_voted, PromiseOf}
 use Rattle.agreement.specs.Member as members
@@ -14,7 +14,7 @@ use Rattle.agreement.specs.Member.{Facts, facts_of, first, greater, no_facts, no
 use Rattle.agreement.specs.Messages as messages
 use Rattle.agreement.specs.Step.{Outcome, notes, notes_and_says, on_agreed, on_ask, on_message, on_offer, on_promise, on_propose, on_quorum, on_vote, says, still}
 use Rattle.agreement.specs.declared.claim.Claim.{Claim}
-use Rattle.claims.specs.Claim.{IsClaim, IsRound, greatest_round}
+use Rattle.claims.specs.Claim.{IsClaim}
 use Rattle.protocol.specs.State.{Value}
 use Rattle.wire.specs.Messages.{IsBuildOf}
 use Rattle.node.specs.Ranges.{AreFactsOf, IsOutcomeOf, IsSayable, IsStageOf, IsTold, IsVoteFor}

@@ -1,5 +1,5 @@
 -- What notes that can be written down restore can be written down.
-use Rattle.std.proofs.Common.{◌≡◌, ◌<◌, ℕ, All, List, [], ◌∷◌, filter, length, map, None, Some, refl, sym, subst}
+use Rattle.std.proofs.Common.{All, List, [], ◌∷◌, filter, map, sym, subst}
 use Rattle.std.specs.Prelude.{reverse}
 use Rattle.std.specs.Str.{bytes_eq}
 use Rattle.std.proofs.lemmas.Bool.{cond_both}
@@ -8,17 +8,15 @@ use Rattle.std.proofs.lemmas.List.Elements.{All-append, All-cons, All-head, All-
 use Rattle.faults.specs.Bytes.{Text}
 use Rattle.agreement.specs.Member as members
 use Rattle.ballots.specs.InTheAgreement.{note_of}
-use Rattle.ballots.specs.Weights.{AreWeights}
 use Rattle.ballots.specs.declared.message.Fact.{Fact}
 use Rattle.ballots.specs.declared.message.Fact.TheVariants as facts
 use Rattle.ballots.specs.declared.message.Note.{Note}
-use Rattle.units.specs.Division.{Division, IsDivision, unit_at}
+use Rattle.units.specs.Division.{unit_at}
 use Rattle.units.proofs.Places.{same_bytes}
-use Rattle.protocol.specs.Restoring.{AreOnUnits, restored}
-use Rattle.protocol.specs.State.{Value, facts_at, fresh}
+use Rattle.protocol.specs.State.{Value}
 use Rattle.protocol.proofs.Restored.{notes_restore}
 use Rattle.wire.specs.Messages.{IsFact, IsNote}
-use Rattle.node.specs.Ranges.{AreFactsOf, IsInRange, IsProgressOf, IsTold, WhatIsRestoredCanBeWritten}
+use Rattle.node.specs.Ranges.{AreFactsOf, IsProgressOf, IsTold, WhatIsRestoredCanBeWritten}
 use Rattle.node.proofs.ranges.Outcomes.{for_none, restored_facts}
 
 all_reversed : {X : Type 0} (P : X → Type 0) (xs : List X) → All P xs → All P (reverse xs)

@@ -1,7 +1,7 @@
 -- Each answer of a member can be written down.
-use Rattle.std.proofs.Common.{◌≡◌, ◌==◌, ◌&&◌, ◌<◌, ◌≤◌, ℕ, Bool, true, false, not, nat_le, nat_lt, All, List, [], ◌∷◌, Option, Some, None, Result, Ok, Err, arith, suc, eqb-true, refl, sym, subst, ap, ◌∙◌, length, option_map, max, leb-true, leb-false, ltb-true, if◌then◌else◌}
-use Rattle.std.specs.Prelude.{map, unwrap_or, IfSome}
-use Rattle.std.specs.List.{list_all, slice_index_or}
+use Rattle.std.proofs.Common.{◌≡◌, ◌==◌, ◌&&◌, ◌<◌, ◌≤◌, ℕ, Bool, true, false, not, nat_le, nat_lt, All, List, [], ◌∷◌, Option, Some, None, Result, Ok, Err, arith, suc, eqb-true, refl, sym, subst, ap, length, option_map, max, leb-true, leb-false, ltb-true, if◌then◌else◌}
+use Rattle.std.specs.Prelude.{IfSome}
+use Rattle.std.specs.List.{list_all}
 use Rattle.std.specs.Option.{ForSome}
 use Rattle.std.proofs.lemmas.Bool.{and_parts, cond_both}
 use Rattle.std.proofs.lemmas.List.{get_or_default}
@@ -10,7 +10,7 @@ use Rattle.sha2.proofs.Facts256.{length-sha256}
 use Rattle.faults.specs.Answers.{first_that_applies, option_or}
 use Rattle.faults.specs.Bytes.{Text}
 use Rattle.agreement.specs.Quorums.{is_majority, nobody}
-use Rattle.agreement.specs.Votes.{Ballot, ballot, report_of}
+use Rattle.agreement.specs.Votes.{Ballot, ballot}
 use Rattle.agreement.specs.Member as members
 use Rattle.agreement.specs.Member.{facts_of}
 use Rattle.agreement.specs.Messages as messages
@@ -22,7 +22,7 @@ use Rattle.engine.specs.declared.Letter.{Letter}
 use Rattle.package_record.specs.Build.{IsBuild}
 use Rattle.package_record.specs.Making.{build_fault}
 use Rattle.ballots.specs.InTheAgreement.{said}
-use Rattle.ballots.specs.Weights.{AreWeights, is_weight}
+use Rattle.ballots.specs.Weights.{is_weight}
 use Rattle.ballots.specs.declared.message.Body.{Body}
 use Rattle.ballots.specs.declared.message.Body.TheVariants as bodies
 use Rattle.ballots.specs.declared.message.Message.{Message}
@@ -36,18 +36,17 @@ use Rattle.protocol.specs.Jobs.{are_given, build_by, job_of, paths_at}
 use Rattle.protocol.specs.Member.{IsMember, IsOpen, claim_in}
 use Rattle.protocol.specs.Sends.{sent_to}
 use Rattle.protocol.specs.State.{Gathering, Building, OpenClaim, Progress, State, Value, Voting, facts_at, is_held, name_at}
-use Rattle.protocol.specs.Step.{answer, answered_or, builds, builds_under, claim_refusal, claims, fails, files_refusal, header_refusal, heard, hears, host_in, is_waiting, job_again, members_of, nudges, outcome_of, receivers, silent, stranger, unit_in}
+use Rattle.protocol.specs.Step.{answered_or, builds, builds_under, claim_refusal, claims, fails, files_refusal, header_refusal, heard, hears, host_in, is_waiting, job_again, members_of, nudges, outcome_of, receivers, silent, stranger, unit_in}
 use Rattle.protocol.specs.Step.{asks as member_asks}
-use Rattle.protocol.specs.declared.input.Input.{Input}
 use Rattle.protocol.specs.declared.input.Input.TheVariants as inputs
 use Rattle.protocol.specs.declared.refusal.Refusal.{Refusal}
 use Rattle.protocol.specs.declared.refusal.Refusal.TheVariants as refusals
 use Rattle.protocol.proofs.Answering.{has_unit, named_is, not_refused}
-use Rattle.protocol.proofs.Asked.{by_outcome, of_this, unit_is_one, without_job, stage_is}
+use Rattle.protocol.proofs.Asked.{by_outcome, of_this, unit_is_one, without_job}
 use Rattle.protocol.proofs.MadeBuilds.{builds_are_of_units}
 use Rattle.protocol.proofs.StayingMembers.{IsGood, IsOwn, view_is_good}
 use Rattle.wire.specs.Messages.{IsBody, IsBuildOf, IsFact, IsGoodBody, IsMessage, IsNote}
-use Rattle.node.specs.Ranges.{AnswersCanBeWritten, AreFactsOf, CanBeWritten, IsClaimOf, IsGoodInput, IsInRange, IsOutcomeOf, IsProgressOf, IsSayable, IsStageOf, IsTold, IsVoteFor}
+use Rattle.node.specs.Ranges.{AnswersCanBeWritten, AreFactsOf, CanBeWritten, IsClaimOf, IsInRange, IsOutcomeOf, IsProgressOf, IsSayable, IsStageOf, IsTold, IsVoteFor}
 use Rattle.node.proofs.ranges.Outcomes as outcomes
 use Rattle.node.proofs.ranges.Outcomes.{for_none, for_this, notes_and_says_of, says_of, still_of}
 

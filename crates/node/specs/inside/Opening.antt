@@ -1,17 +1,18 @@
 -- What reading the notes of a file answers.
-use Rattle.std.specs.Prelude.{◌≡◌, ◌⊎◌, ℕ, All, List, Option, None, Some, Result, Ok, Err, map}
+use Rattle.std.specs.Prelude.{◌≡◌, ◌<◌, ◌⊎◌, ℕ, List, Some, Result, Ok, Err, length}
 use Rattle.faults.specs.Bytes.{Text}
+use Rattle.ballots.specs.Weights.{AreWeights}
 use Rattle.ballots.specs.declared.message.Note.{Note}
-use Rattle.protocol.specs.Restoring.{AreOnUnits}
-use Rattle.protocol.specs.State.{Value}
+use Rattle.protocol.specs.State.{State, Value, fresh}
 use Rattle.stable_record.specs.declared.log_fault.LogFault.{LogFault}
 use Rattle.stable_record.specs.declared.log_fault.LogFault.TheVariants as log
-use Rattle.units.specs.Division.{Division, number_named}
+use Rattle.units.specs.Division.{Division, IsDivision, number_named}
 use Rattle.wire.specs.Messages.{IsNote}
 use Rattle.wire.specs.Spelling.{note_text}
 use Rattle.wire.specs.declared.WireFault.{WireFault}
 use Rattle.wire.specs.declared.WireFault.TheVariants as wire
 use Rattle.node.specs.Calls.{AreNotes}
+use Rattle.node.specs.State.{NodeState, opened_node}
 use Rattle.node.specs.declared.fault.NodeFault.{NodeFault}
 use Rattle.node.specs.declared.fault.NodeFault.TheVariants as fault
 
@@ -33,6 +34,24 @@ unread_by wire.Magic = fault.Log log.NotALog
 unread_by wire.Kind = fault.Log log.NotALog
 unread_by wire.BadField = fault.Log log.NotALog
 unread_by wire.Trailing = fault.Log log.NotALog
+
+-- The member knows nothing yet.
+pub record IsNew (s : State) : Type 0 where
+  pub fresh : s ≡ fresh s.division s.weights s.me
+  pub divided : IsDivision s.division
+  pub weights : AreWeights s.weights
+  pub one_of_them : s.me < length s.weights
+
+-- The node is such a member's, as notes with these texts restore it.
+pub record IsOver (s : State) (texts : List Text) (n : NodeState) : Type 0 where
+  pub notes : AreNotes s.division texts n.notes
+  pub node : n ≡ opened_node s.division s.weights s.me n.notes
+
+-- why texts are not taken as notes: they are none, or memory was wanting
+abbrev pub IsNoteFault : Division → List Text → NodeFault → Type 0
+IsNoteFault division texts f =
+    (f ≡ fault.Memory)
+    ⊎ ((f ≡ fault.Log log.NotALog) × ((given : List (Note Value)) → ¬ AreNotes division texts given))
 
 -- The text is that of a note of a unit.
 pub record IsNoteOf (division : Division) (text : Text) (n : Note Value) : Type 0 where

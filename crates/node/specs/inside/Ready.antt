@@ -1,6 +1,5 @@
 -- What a step that is ready holds.
-use Rattle.std.specs.Prelude.{◌≡◌, Option, None, Some, Vec, option_map}
-use Rattle.std.specs.declared.alloc.Global.{Global}
+use Rattle.std.specs.Prelude.{◌≡◌, option_map}
 use Rattle.node.specs.Parcels.{datagrams_to}
 use Rattle.node.specs.Step.{ReadyStep, note_in, sends_in}
 use Rattle.node.specs.declared.ready.Ready.TheInside.{Inside}

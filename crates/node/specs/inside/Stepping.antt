@@ -1,5 +1,5 @@
 -- What the functions have done that make a node's step ready, and that write its note.
-use Rattle.std.specs.Prelude.{◌≡◌, ◌++◌, ℕ, All, AllPairs, false, List, [], ◌∷◌, Option, None, Some, Result, Ok, Err, IfOk, Bool, true}
+use Rattle.std.specs.Prelude.{◌≡◌, ◌++◌, All, AllPairs, false, List, [], ◌∷◌, Option, None, Some, Result, Ok, Err, IfOk, Bool, true}
 use Rattle.std.specs.Option.{ForSome}
 use Rattle.engine.specs.declared.Letter.{Letter}
 use Rattle.faults.specs.Answers.{IsRightUnless, map_ok}
@@ -156,3 +156,16 @@ GoesOnWith i texts (Some text) old new = AllAlong (HasBeforeOrAfter i texts text
 abbrev pub LacksRoomFor : {D : Type 0} → Log D → Option Text → Type 0
 LacksRoomFor l None = ⊥
 LacksRoomFor l (Some text) = WouldPassLimit l text
+
+-- Why such a note is not written.
+abbrev pub IsNoteCause : {D : Type 0} → Log D → Option Text → NodeFault → Type 0
+IsNoteCause l text fault.Memory = Prim.Unit {0}
+IsNoteCause l text (fault.Refused r) = ⊥
+IsNoteCause l text (fault.Log log.Full) = LacksRoomFor l text
+IsNoteCause l text (fault.Log log.Device) = Prim.Unit {0}
+IsNoteCause l text (fault.Log log.Memory) = ⊥
+IsNoteCause l text (fault.Log log.MustReopen) = ⊥
+IsNoteCause l text (fault.Log log.NotALog) = ⊥
+IsNoteCause l text (fault.Log log.OtherCluster) = ⊥
+IsNoteCause l text fault.Stopped = ⊥
+IsNoteCause l text (fault.Foreign f) = ⊥

@@ -1,4 +1,4 @@
-use Rattle.std.proofs.Common.{◌≡◌, ◌⊎◌, ⊎_elim, inl, inr, refl, ap, sym, ◌∙◌}
+use Rattle.std.proofs.Common.{inr, refl, sym}
 use Rattle.node.proofs.Reading.{of_no_unit, unread_is}
 use Rattle.node.proofs.opening.note.Goals as goal
 

@@ -1,8 +1,5 @@
-use Rattle.std.proofs.Common.{◌≡◌, subst, sym, ap, ◌∙◌, All, false, length, ◌==◌}
-use Rattle.ballots.specs.declared.message.Message.{Message}
-use Rattle.protocol.specs.declared.sends.Send.{Send}
+use Rattle.std.proofs.Common.{sym}
 use Rattle.protocol.specs.Sends.{receivers_of}
-use Rattle.wire.specs.Messages.{IsMessage}
 use Rattle.node.proofs.Sent.{parcels_sent, sent_message}
 use Rattle.node.proofs.written.parcels.Goals as goal
 

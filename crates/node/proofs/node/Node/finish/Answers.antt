@@ -1,65 +1,94 @@
-use Rattle.std.proofs.Common.{◌≡◌, false, sym, ◌∙◌}
+use Rattle.std.proofs.Common.{None, inr, refl}
+use Rattle.std.proofs.lemmas.Result.{err_from_is_err_and}
 use Rattle.std.specs.Option.{option_copied}
-use Rattle.node.proofs.Finishing.{done_invariant, done_moments, done_on_log, done_state, failed_invariant, failed_on_log, failed_refused, failed_stops, lacks_back, takes_when_running, told_cause}
+use Rattle.node.proofs.Finishing.{cause_told, done_invariant, done_on_log, done_taken, no_moments, note_moments, runs, still_logged, still_node, still_noted}
 use Rattle.node.specs.Step.{note_in}
 use Rattle.node.proofs.node.Node.finish.Goals as goal
 
-pub invariant_of-self-in-Err : goal.invariant_of-self-in-Err
-invariant_of-self-in-Err g c =
+pub returns-in_err-make_room-clause-any_moment : goal.returns-in_err-make_room-clause-any_moment
+returns-in_err-make_room-clause-any_moment g c =
     let i = c.self.inside in
-    let ready = rw (← c.self.view_is) at c.requires.present in
-    let running = takes_when_running _ ready.asked _ ready.takes in
-    rw (c.is_device.ensures, c.make_room.ensures.same, c.in-Err.ensures.not_noted)
-    (failed_invariant g.D.Disk.history i.member i.noted.texts i.pieces.items i.stopped i.log c.write.new.log c.in-Err.fault running c.self.invariant c.in-Err.ensures.stops c.in-Err.ensures.goes_on)
+    rw (← c.self.view_is) (λ kept on. no_moments g.D.Disk.history i.member i.noted.texts i.pieces.items i.stopped i.log c.args.ready None on)
 
-pub returns-in-Err-clause-any_moment : goal.returns-in-Err-clause-any_moment
-returns-in-Err-clause-any_moment g c =
+pub returns-in_err-make_room-clause-refused : goal.returns-in_err-make_room-clause-refused
+returns-in_err-make_room-clause-refused g c =
+    let p = err_from_is_err_and c.from_residual.result c.from_residual.ensures.1 in
+    rw (p.1, c.make_room.ensures.same, ← c.self.view_is) (inr refl)
+
+pub returns-in_err-make_room-clause-still_on_log : goal.returns-in_err-make_room-clause-still_on_log
+returns-in_err-make_room-clause-still_on_log g c =
+    let p = err_from_is_err_and c.from_residual.result c.from_residual.ensures.1 in
+    rw (p.1, c.make_room.ensures.same, ← c.self.view_is) (λ kept on. inr (on, refl))
+
+pub invariant_of-self-in_err-write_note : goal.invariant_of-self-in_err-write_note
+invariant_of-self-in_err-write_note g c =
+    let i = c.self.inside in
+    rw (c.in_err-write_note.ensures.not_noted, c.make_room.ensures.same)
+    (still_logged g.D.Disk.history i.member i.noted.texts i.pieces.items i.stopped i.log c.write_note.new.stopped c.write_note.new.log c.in_err-write_note.field-0.0
+    c.self.invariant c.in_err-write_note.ensures.together)
+
+pub returns-in_err-write_note-clause-any_moment : goal.returns-in_err-write_note-clause-any_moment
+returns-in_err-write_note-clause-any_moment g c =
     let i = c.self.inside in
     rw (← c.self.view_is)
-    (λ kept on. done_moments g.D.Disk.history i.member i.noted.texts i.pieces.items i.stopped i.log c.write.new.log c.args.ready (option_copied c.note.result) _ _ c.note.ensures (c.in-Err.ensures.any_moment kept) on)
+    (λ kept on. note_moments g.D.Disk.history i.member i.noted.texts i.pieces.items i.stopped i.log c.args.ready (option_copied c.note.result) _ _
+    c.note.ensures (c.in_err-write_note.ensures.any_moment kept) on)
 
-pub returns-in-Err-clause-causes : goal.returns-in-Err-clause-causes
-returns-in-Err-clause-causes g c =
-    let ready = rw (← c.self.view_is) at c.requires.present in
-    let running = takes_when_running _ ready.asked _ ready.takes in
-    rw (c.told.ensures, ← c.self.view_is)
-    (told_cause c.self.inside.log (note_in c.args.ready.step) (option_copied c.note.result) c.in-Err.fault c.note.ensures (c.self.invariant.together ∙ running) c.in-Err.ensures.full c.in-Err.ensures.stopped c.in-Err.ensures.no_opening)
+pub returns-in_err-write_note-clause-causes : goal.returns-in_err-write_note-clause-causes
+returns-in_err-write_note-clause-causes g c =
+    let p = err_from_is_err_and c.from_residual-in_err-write_note.result c.from_residual-in_err-write_note.ensures.1 in
+    rw (p.1, p.2, ← c.self.view_is)
+    (cause_told c.self.inside.log (note_in c.args.ready.step) (option_copied c.note.result) c.in_err-write_note.field-0.0 c.note.ensures c.in_err-write_note.ensures.causes)
 
-pub returns-in-Err-clause-stops : goal.returns-in-Err-clause-stops
-returns-in-Err-clause-stops g c =
+pub returns-in_err-write_note-clause-refused : goal.returns-in_err-write_note-clause-refused
+returns-in_err-write_note-clause-refused g c =
     let i = c.self.inside in
     let ready = rw (← c.self.view_is) at c.requires.present in
-    let running = takes_when_running _ ready.asked _ ready.takes in
-    rw (c.told.ensures, c.is_device.ensures, c.make_room.ensures.same, c.in-Err.ensures.not_noted, ← c.self.view_is)
-    (failed_stops g.D.Disk.history i.member i.noted.texts i.pieces.items i.stopped i.log c.write.new.log c.in-Err.fault running)
+    let p = err_from_is_err_and c.from_residual-in_err-write_note.result c.from_residual-in_err-write_note.ensures.1 in
+    rw (p.1, p.2, c.in_err-write_note.ensures.not_noted, c.make_room.ensures.same, ← c.self.view_is)
+    (still_node g.D.Disk.history i.member i.noted.texts i.pieces.items i.stopped i.log c.write_note.new.stopped c.write_note.new.log c.in_err-write_note.field-0.0
+    (runs _ c.args.ready ready) c.in_err-write_note.ensures.stays)
 
-pub returns-in-Err-clause-refused : goal.returns-in-Err-clause-refused
-returns-in-Err-clause-refused g c =
+pub returns-in_err-write_note-clause-still_on_log : goal.returns-in_err-write_note-clause-still_on_log
+returns-in_err-write_note-clause-still_on_log g c =
+    let i = c.self.inside in
+    let p = err_from_is_err_and c.from_residual-in_err-write_note.result c.from_residual-in_err-write_note.ensures.1 in
+    rw (p.1, p.2, c.in_err-write_note.ensures.not_noted, c.make_room.ensures.same, ← c.self.view_is)
+    (λ kept on. still_noted g.D.Disk.history i.member i.noted.texts i.pieces.items i.stopped i.log c.write_note.new.stopped c.write_note.new.log c.in_err-write_note.field-0.0
+    c.in_err-write_note.ensures.owner on (c.in_err-write_note.ensures.refused kept))
+
+pub invariant_of-self-2 : goal.invariant_of-self-2
+invariant_of-self-2 g c =
     let i = c.self.inside in
     let ready = rw (← c.self.view_is) at c.requires.present in
-    let running = takes_when_running _ ready.asked _ ready.takes in
-    rw (c.told.ensures, c.is_device.ensures, c.make_room.ensures.same, c.in-Err.ensures.not_noted, ← c.self.view_is)
-    (failed_refused g.D.Disk.history i.member i.noted.texts i.pieces.items i.stopped i.log c.write.new.log c.in-Err.fault running)
+    done_invariant g.D.Disk.history i.member i.noted.texts i.pieces.items i.stopped i.log c.args.ready (option_copied c.note.result)
+    c.self.invariant ready c.note.ensures c.take.new.member c.write_note.new.noted.texts c.make_room.new.pieces.items c.take.new.pieces.items c.write_note.new.stopped c.write_note.new.log
+    c.take.ensures.member c.in_ok-write_note.ensures.noted c.make_room.ensures.same c.take.ensures.pieces c.in_ok-write_note.ensures.goes_on
+    c.in_ok-write_note.ensures.together
 
-pub returns-in-Err-clause-still_on_log : goal.returns-in-Err-clause-still_on_log
-returns-in-Err-clause-still_on_log g c =
+pub returns-clause-taken : goal.returns-clause-taken
+returns-clause-taken g c =
     let i = c.self.inside in
     let ready = rw (← c.self.view_is) at c.requires.present in
-    let running = takes_when_running _ ready.asked _ ready.takes in
-    rw (c.told.ensures, c.is_device.ensures, c.make_room.ensures.same, c.in-Err.ensures.not_noted, ← c.self.view_is)
-    (λ kept on. failed_on_log g.D.Disk.history i.member i.noted.texts i.pieces.items i.stopped i.log c.write.new.log c.in-Err.fault running c.in-Err.ensures.owner
-    (c.self.invariant.together ∙ running) c.in-Err.ensures.stopped c.in-Err.ensures.no_opening (c.in-Err.ensures.refused kept) on)
+    rw (← c.self.view_is)
+    (done_taken g.D.Disk.history i.member i.noted.texts i.pieces.items i.stopped i.log c.args.ready (option_copied c.note.result)
+    c.self.invariant ready c.note.ensures c.take.new.member c.write_note.new.noted.texts c.make_room.new.pieces.items c.take.new.pieces.items c.write_note.new.stopped c.write_note.new.log
+    c.take.ensures.member c.in_ok-write_note.ensures.noted c.make_room.ensures.same c.take.ensures.pieces c.in_ok-write_note.ensures.goes_on
+    c.take.result c.take.ensures.sends c.take.ensures.job)
 
 pub returns-clause-on_log : goal.returns-clause-on_log
 returns-clause-on_log g c =
     let i = c.self.inside in
     let ready = rw (← c.self.view_is) at c.requires.present in
-    rw (c.commit.ensures.member, c.in_default.ensures.noted, c.change_kept.ensures, c.make_room.ensures.same, c.apart.ensures.step, c.apart.ensures.change, ← c.self.view_is)
-    (λ kept on. done_on_log g.D.Disk.history i.member i.noted.texts i.pieces.items i.stopped i.log c.write.new.log c.args.ready (option_copied c.note.result)
-    c.self.invariant ready c.note.ensures c.in_default.ensures.owner (c.in_default.ensures.acknowledged kept) on)
+    rw (← c.self.view_is)
+    (λ kept on. done_on_log g.D.Disk.history i.member i.noted.texts i.pieces.items i.stopped i.log c.args.ready (option_copied c.note.result)
+    c.self.invariant ready c.note.ensures c.take.new.member c.write_note.new.noted.texts c.make_room.new.pieces.items c.take.new.pieces.items c.write_note.new.stopped c.write_note.new.log
+    c.take.ensures.member c.in_ok-write_note.ensures.noted c.make_room.ensures.same c.take.ensures.pieces c.in_ok-write_note.ensures.goes_on
+    c.in_ok-write_note.ensures.owner (c.in_ok-write_note.ensures.acknowledged kept) on)
 
 pub returns-clause-any_moment : goal.returns-clause-any_moment
 returns-clause-any_moment g c =
     let i = c.self.inside in
     rw (← c.self.view_is)
-    (λ kept on. done_moments g.D.Disk.history i.member i.noted.texts i.pieces.items i.stopped i.log c.write.new.log c.args.ready (option_copied c.note.result) _ _ c.note.ensures (c.in_default.ensures.any_moment kept) on)
+    (λ kept on. note_moments g.D.Disk.history i.member i.noted.texts i.pieces.items i.stopped i.log c.args.ready (option_copied c.note.result) _ _
+    c.note.ensures (c.in_ok-write_note.ensures.any_moment kept) on)

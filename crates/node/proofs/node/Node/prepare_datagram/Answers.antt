@@ -1,4 +1,4 @@
-use Rattle.std.proofs.Common.{◌≡◌, Ok, ap, false, subst, sym, ◌∙◌}
+use Rattle.std.proofs.Common.{◌≡◌, Ok, ap, false, subst, ◌∙◌}
 use Rattle.wire.specs.Pieces.{IsDatagram}
 use Rattle.node.proofs.Coming.{both_stay, bytes_done, bytes_left, bytes_strange, stopped_bytes, whole_comes}
 use Rattle.node.proofs.Pieces.{message_good}

@@ -1,4 +1,4 @@
-use Rattle.std.proofs.Common.{◌≡◌, ap, sym, ◌∙◌}
+use Rattle.std.proofs.Common.{ap}
 use Rattle.std.proofs.lemmas.Result.{err_from_is_err_and}
 use Rattle.node.proofs.Coming.{comes_lost, comes_strange, comes_whole}
 use Rattle.node.proofs.Pieces.{joined_good, others_kept}

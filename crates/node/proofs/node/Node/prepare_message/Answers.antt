@@ -1,4 +1,3 @@
-use Rattle.std.proofs.Common.{◌≡◌, sym, ◌∙◌}
 use Rattle.node.proofs.Readying.{message_ready, message_refused}
 use Rattle.node.proofs.node.Node.prepare_message.Goals as goal
 

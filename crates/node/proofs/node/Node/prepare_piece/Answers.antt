@@ -1,4 +1,4 @@
-use Rattle.std.proofs.Common.{◌≡◌, Err, None, Ok, Result, Some, false, subst, sym, true}
+use Rattle.std.proofs.Common.{◌≡◌, Err, None, Ok, Result, false, subst, sym, true}
 use Rattle.node.proofs.Coming.{comes_again, comes_foreign, comes_kept, comes_last}
 use Rattle.node.proofs.Pieces.{new_kept}
 use Rattle.node.specs.Arrival.{arrival_of_piece, refusal_of}
@@ -31,9 +31,9 @@ returns-then-is_last-clause-step g c =
     let n = c.args.self.now in
     let none : refusal_of n.node.member p.header ≡ None = subst (λ (n : LoggedNode g.row.D.Denot). refusal_of n.node.member p.header ≡ None) c.self.view_is c.in_default.ensures.ok in
     let has : has_number p.header n.node.pieces p.number ≡ false =
-        subst (λ (n : LoggedNode g.row.D.Denot). has_number p.header n.node.pieces p.number ≡ false) c.self.view_is (sym (rw c.as_slice.ensures.value at c.if-has_number.ensures)) in
+    subst (λ (n : LoggedNode g.row.D.Denot). has_number p.header n.node.pieces p.number ≡ false) c.self.view_is (sym (rw c.as_slice.ensures.value at c.if-has_number.ensures)) in
     let all : are_all p.header (with_piece n.node.pieces p) ≡ true =
-        subst (λ (n : LoggedNode g.row.D.Denot). are_all p.header (with_piece n.node.pieces p) ≡ true) c.self.view_is (sym (rw c.as_slice-else-has_number.ensures.value at c.if-is_last.ensures)) in
+    subst (λ (n : LoggedNode g.row.D.Denot). are_all p.header (with_piece n.node.pieces p) ≡ true) c.self.view_is (sym (rw c.as_slice-else-has_number.ensures.value at c.if-is_last.ensures)) in
     comes_last n.node p c.prepare_joined.new.self.node c.prepare_joined.result (refusal_of n.node.member p.header) none has all c.prepare_joined.ensures.step
 
 pub returns-else-is_last-clause-step : goal.returns-else-is_last-clause-step

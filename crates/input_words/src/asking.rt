@@ -2,9 +2,9 @@
 use ballots::{Body, Message};
 use claims::Claim;
 use faults::Memory;
-use protocol::{Input, Packages};
 use package_record::{File, Files};
 use pkgpath::{PathFault, PkgPath};
+use protocol::{Input, Packages};
 use std::alloc::Global;
 
 /// The word in front, and what stands behind the blank after it.

@@ -1,0 +1,31 @@
+use Rattle.std.proofs.Common.{refl, map, subst, sym}
+use Rattle.stable_record.specs.Log.{note_of}
+use Rattle.protocol.specs.Restoring.{AreOnUnits}
+use Rattle.node.specs.Calls.{AreNotes}
+use Rattle.node.specs.inside.Opening.{IsNoteFault, IsOver}
+use Rattle.node.proofs.Opened.{opened, opened_invariant}
+use Rattle.node.proofs.opening.over.Goals as goal
+
+pub restore-requires : goal.restore-requires
+restore-requires g c = subst (λ d. AreOnUnits d c.in-Ok.notes.items) c.units.ensures c.in-Ok.ensures.notes.on_units
+
+pub invariant_of-result : goal.invariant_of-result
+invariant_of-result g c =
+    let s = c.args.member in
+    let texts = map note_of c.args.texts.now in
+    let are = subst (λ d. AreNotes d texts c.in-Ok.notes.items) c.units.ensures c.in-Ok.ensures.notes in
+    let is = opened s c.requires.member texts c.in-Ok.notes.items are c.restore.new.self c.in-Ok.noted.texts c.new.result.items
+    c.restore.ensures c.in-Ok.ensures.texts c.new.ensures.items in
+    record { node = opened_invariant s c.requires.member texts c.in-Ok.notes.items are _ is; together = c.requires.log }
+
+pub returns-in-Ok-clause-node : goal.returns-in-Ok-clause-node
+returns-in-Ok-clause-node g c =
+    let s = c.args.member in
+    let texts = map note_of c.args.texts.now in
+    let are = subst (λ d. AreNotes d texts c.in-Ok.notes.items) c.units.ensures c.in-Ok.ensures.notes in
+    let is = opened s c.requires.member texts c.in-Ok.notes.items are c.restore.new.self c.in-Ok.noted.texts c.new.result.items
+    c.restore.ensures c.in-Ok.ensures.texts c.new.ensures.items in
+    subst (IsOver s texts) (sym is) (record { notes = are; node = refl })
+
+pub returns-clause-refused : goal.returns-clause-refused
+returns-clause-refused g c = subst (λ d. IsNoteFault d (map note_of c.args.texts.now) c.in-Err.fault) c.units.ensures c.in-Err.ensures.bad

@@ -1,7 +1,0 @@
-//! Traces and BUILDS, read and written.
-#![tactic(auto)]
-
-#[cfg(test)]
-mod builds;
-#[cfg(test)]
-mod texts;
