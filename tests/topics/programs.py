@@ -23,8 +23,9 @@ def examples(tally):
     """What the README and the manual page show."""
     letters = contents(f"{TESTS}/examples.stdout")
     late = b"no: package 5: dependency not earlier\n"
+    ran = contents(f"{TESTS}/examples.run.stdout")
     for words, out, status in ((["status", "listing", "held"], letters, 0), (["audit", "listing", "list"], b"yes\n", 0),
-                               (["audit", "listing", "list.late"], late, 3)):
+                               (["audit", "listing", "list.late"], late, 3), (["run", "listing", "trace"], ran, 0)):
         tally.add(f"the example {' '.join(words)}", difference(answer(words, EXAMPLES), (out, b"", status)))
     for command, text in (("status", b"I=0 B=0 Q=0 T=0 !=0\n"), ("audit", b"yes\n")):
         got = answer([command, "/dev/null", "/dev/null"], EXAMPLES)
