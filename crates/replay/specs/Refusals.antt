@@ -13,7 +13,7 @@ use Rattle.replay.specs.declared.held.HeldFault.{HeldFault}
 use Rattle.replay.specs.declared.list.ListFault.{ListFault}
 use Rattle.replay.specs.declared.refusal.Refusal.{Refusal}
 use Rattle.running.specs.Faults as runs
-use Rattle.running.specs.declared.run.RunFault.{RunFault}
+use Rattle.running.specs.declared.runs.RunFault.{RunFault}
 use Rattle.traces.specs.Faults as traces
 use Rattle.traces.specs.declared.TraceFault.{TraceFault}
 

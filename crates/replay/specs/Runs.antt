@@ -12,7 +12,7 @@ use Rattle.replay.specs.Refusals.{RefusesListing, run_refusal, trace_refusal}
 use Rattle.replay.specs.Status.{counts_line}
 use Rattle.replay.specs.declared.refusal.Refusal.{Refusal}
 use Rattle.running.specs.History.{IsHistory, IsRunFault, History, taken}
-use Rattle.running.specs.declared.run.RunFault.{RunFault}
+use Rattle.running.specs.declared.runs.RunFault.{RunFault}
 use Rattle.traces.specs.Faults.{IsTraceFault}
 use Rattle.traces.specs.Trace.{Trace, trace_of}
 use Rattle.traces.specs.declared.TraceFault.{TraceFault}

@@ -15,19 +15,19 @@ pub fn list_text(alloc: Global, list: &[Record]) -> Result<Vec<u8>, Memory>
     ensures { IfOk result (λ text. text.items ≡ list_text list.now) }
 {
     let mut text = Vec::new(alloc);
-    for record in list {
-        put_record(&mut text, record)?;
+    for package in list {
+        put_package(&mut text, package)?;
     }
     Ok(text)
 }
 
 /// Appends the lines of a package.
-fn put_record(text: &mut Vec<u8>, record: &Record) -> Result<(), Memory>
-    ensures { OnOk result (text.new.items ≡ text.old.items ++ record_lines record.now) }
+fn put_package(text: &mut Vec<u8>, content: &Record) -> Result<(), Memory>
+    ensures { OnOk result (text.new.items ≡ text.old.items ++ record_lines content.now) }
 {
-    let digest = record.digest()?;
-    put_signature(text, b"package ", record.path(), record.name(), &digest)?;
-    for dep in record.built() {
+    let digest = content.digest()?;
+    put_signature(text, b"package ", content.path(), content.name(), &digest)?;
+    for dep in content.built() {
         put_signature(text, b"built ", &dep.path, &dep.name, &dep.digest)?;
     }
     Ok(())
