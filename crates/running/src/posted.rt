@@ -109,7 +109,9 @@ impl Posted {
         requires { AreListed self.now }
         ensures { result ≡ list_any (λ r. has_path (list_in self.now) r.path) packages.now }
     {
-        packages.iter().any(|package| self.listed.contains(package.path()))
+        packages
+            .iter()
+            .any(|package| self.listed.contains(package.path()))
     }
 
     /// Appends the package, which the list has not.

@@ -38,7 +38,10 @@ fn of_world(alloc: Global, mut world: World<'_>, events: &[Event]) -> Result<Str
     }
     let logs = logs(alloc, &world)?;
     let sent = sent(alloc, &world)?;
-    format!(in alloc; "{text}logs{logs} datagrams{sent} agreed {}", world.agreed().len())
+    format!(in alloc;
+        "{text}logs{logs} datagrams{sent} agreed {}",
+        world.agreed().len()
+    )
 }
 
 // What the event is refused with, if it is.
