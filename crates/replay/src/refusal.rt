@@ -12,8 +12,8 @@ use std::io::ErrorKind;
 use std::{fmt, io};
 use traces::TraceFault;
 
-/// The number of a fault, and the line or event where it came up, counted from 1, if it has one. What
-/// a trace has outside its events is 0.
+/// The number of a fault, and the line or event where it came up, counted from 1, if it has one.
+/// What a trace has outside its events is 0.
 #[derive(Clone, Copy, Debug, PartialEq, Eq)]
 pub struct Refusal {
     pub number: u32,

@@ -72,7 +72,8 @@ pub fn audit_of_texts(
 ///
 /// # Errors
 ///
-/// Memory; else the listing's fault; else the trace's; else that of its first event that is refused.
+/// Memory; else the listing's fault; else the trace's; else that of its first event that is
+/// refused.
 pub fn run_of_texts(
     alloc: Global,
     listing: &[u8],

@@ -70,21 +70,20 @@ IsWord rows id value = first_of id rows ≡ Some value
 abbrev pub IsFlag : List Row → Text → Bool → Type 0
 IsFlag rows id given = (given ≡ true) ↔ (first_of id rows ≡ Some (codes "true"))
 
+-- under these two names these words were matched, and so the flag was given or not
+abbrev pub AreValues : List Row → Text × Text → Text → Text → Bool → Type 0
+AreValues rows names first second is_single =
+    IsWord rows names.0 first × IsWord rows names.1 second × IsFlag rows (codes "single") is_single
+
 -- clap matched the call's subcommand, and the call's values are those of its matches
 abbrev pub IsCallOf : Option (Text × List Row) → Call → Type 0
 IsCallOf None call = ⊥
-IsCallOf (Some (name, rows)) (Status listing held is_single) =
-    (name ≡ codes "status") × IsWord rows (codes "LISTING") listing.now
-    × IsWord rows (codes "HELD") held.now
-    × IsFlag rows (codes "single") is_single
-IsCallOf (Some (name, rows)) (Audit listing list is_single) =
-    (name ≡ codes "audit") × IsWord rows (codes "LISTING") listing.now
-    × IsWord rows (codes "LIST") list.now
-    × IsFlag rows (codes "single") is_single
-IsCallOf (Some (name, rows)) (Run listing trace is_single) =
-    (name ≡ codes "run") × IsWord rows (codes "LISTING") listing.now
-    × IsWord rows (codes "TRACE") trace.now
-    × IsFlag rows (codes "single") is_single
+IsCallOf (Some (name, rows)) (Status listing held is_single) = (name ≡ codes "status")
+    × AreValues rows (codes "LISTING", codes "HELD") listing.now held.now is_single
+IsCallOf (Some (name, rows)) (Audit listing list is_single) = (name ≡ codes "audit")
+    × AreValues rows (codes "LISTING", codes "LIST") listing.now list.now is_single
+IsCallOf (Some (name, rows)) (Run listing trace is_single) = (name ≡ codes "run")
+    × AreValues rows (codes "LISTING", codes "TRACE") listing.now trace.now is_single
 
 -- a word was matched under each of two names
 abbrev pub HasBoth : List Row → Text → Text → Type 0
