@@ -9,7 +9,7 @@ pub fn answer(post: &mut Post<'_>, line: &str) -> Result<String, Memory> {
     let (word, rest) = first_word(line);
     match word {
         "deliver" => delivered(post, rest),
-        "look" => looked(post, rest),
+        "look" | "twice" => looked_or_twice(post, word, rest),
         "held" | "facts" => of_path(post, word, rest),
         "open" | "counts" | "restart" => of_member(post, word, rest),
         _ => given(post, word, rest),
@@ -30,13 +30,14 @@ fn given(post: &mut Post<'_>, word: &str, rest: &str) -> Result<String, Memory> 
     }
 }
 
-fn looked(post: &mut Post<'_>, rest: &str) -> Result<String, Memory> {
+fn looked_or_twice(post: &mut Post<'_>, how: &str, rest: &str) -> Result<String, Memory> {
     let (word, rest) = first_word(rest);
     let Some((at, rest)) = first_place(rest) else {
         return no_question(post);
     };
     match input(post.alloc, word, rest, post.digest)? {
-        Some(input) => post.looked(at, input),
+        Some(input) if how == "look" => post.looked(at, input),
+        Some(input) => post.twice(at, input),
         None => no_question(post),
     }
 }

@@ -1,6 +1,8 @@
 // What a member knows, and one that restores it.
-ghost use Rattle.std.specs.Prelude.{◌≡◌, ◌<◌, IfOk, length};
-ghost use Rattle.protocol.specs.Restoring.{AreOnUnits};
+ghost use Rattle.std.specs.Prelude.{◌≡◌, ◌<◌, IfOk, List, length};
+ghost use Rattle.ballots.specs.declared.message.Note.{Note};
+ghost use Rattle.protocol.specs.Restoring.{AreOnUnits, restored};
+ghost use Rattle.protocol.specs.State.{Value, fresh};
 
 use crate::post::Post;
 use crate::told::{build_text, path_text};
@@ -103,6 +105,7 @@ fn noted(alloc: Global, notes: &[(usize, Note)], at: usize) -> Result<Vec<Note>,
     Ok(own)
 }
 
+// A new member, which is what it restores of the notes that are about its units.
 fn restored<'a>(
     alloc: Global,
     tree: &'a Tree,
@@ -111,7 +114,9 @@ fn restored<'a>(
     notes: Vec<Note>,
 ) -> Result<Member<'a>, Memory>
     requires { me < length weights.now }
-    ensures { IfOk result (λ m. m.division.tree ≡ tree.entry.now) }
+    ensures tree { IfOk result (λ m. m.division.tree ≡ tree.entry.now) }
+    ensures restored { IfOk result (λ m. (kept : List (Note Value))
+        × (m ≡ restored (fresh m.division weights.now me) kept)) }
 {
     let mut member = Member::new(alloc, tree, weights, me)?;
     let notes = on_units(alloc, &member, tree.digest(), notes)?;

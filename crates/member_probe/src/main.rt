@@ -12,6 +12,7 @@
 //   the body `offer`, `promise`, `vote`, `nay` or `ask`, of this claim; or of another tree, where
 //   the body is `stranger`.
 // - `look` and an input: the step is prepared, and not taken.
+// - `twice` and an input: the member handles it, and then the same again.
 // - `held K PATH`, `facts K PATH`, `open K`, `counts K`: what the member knows.
 // - `restart K`: a new member restores what this one noted, and the letters of all packages are
 //   told.
@@ -21,6 +22,7 @@
 #![tactic(auto)]
 
 mod asked;
+mod in_turn;
 mod known;
 mod post;
 mod rows;

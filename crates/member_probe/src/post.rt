@@ -1,6 +1,7 @@
 // Members, what each noted, and all messages that they ever sent.
 ghost use Rattle.std.specs.Prelude.{◌≡◌, IfOk};
 
+use crate::in_turn::{in_turn, prepared, stepped};
 use crate::told::{answer_text, refusal_text, told};
 use ballots::{Message, Note, Weights};
 use faults::Memory;
@@ -99,6 +100,28 @@ impl<'a> Post<'a> {
         }
     }
 
+    // What the member tells on the input, and then on the same again.
+    pub fn twice(&mut self, at: usize, input: Input) -> Result<String, Memory> {
+        let again = input.copy()?;
+        let (one, two) = match self.members.get_mut(at) {
+            Some(member) => in_turn(member, input, again),
+            None => (Err(Refusal::NotAMember), Err(Refusal::NotAMember)),
+        };
+        let one = self.handled(at, one)?;
+        let two = self.handled(at, two)?;
+        Ok(format!(in self.alloc; "{one} then {two}")?)
+    }
+
+    fn handled(&mut self, at: usize, answer: Result<Outcome, Refusal>) -> Result<String, Memory> {
+        match answer {
+            Ok(outcome) => {
+                let ahead = told(self.alloc, outcome.note.as_ref(), &outcome.sends)?;
+                self.taken(at, Ok((ahead, outcome)))
+            }
+            Err(refusal) => self.taken(at, Err(refusal)),
+        }
+    }
+
     fn keep(&mut self, at: usize, outcome: Outcome) -> Result<(), Memory> {
         let Outcome { note, sends, .. } = outcome;
         if let Some(message) = sends.message() {
@@ -121,20 +144,4 @@ fn members<'a>(
         members.push(Member::new(alloc, tree, weights, me)?)?;
     }
     Ok(members)
-}
-
-fn stepped(
-    alloc: Global,
-    member: &mut Member<'_>,
-    input: Input,
-) -> Result<(String, Outcome), Refusal> {
-    let step = member.prepare(input)?;
-    let ahead = told(alloc, step.note(), step.sends())?;
-    let outcome = member.commit(step);
-    Ok((ahead, outcome))
-}
-
-fn prepared(alloc: Global, member: &mut Member<'_>, input: Input) -> Result<String, Refusal> {
-    let step = member.prepare(input)?;
-    Ok(told(alloc, step.note(), step.sends())?)
 }

@@ -122,13 +122,17 @@ HasBadNotes tree texts =
     (division : Division) (notes : List (Note Value)) → division.tree ≡ tree → IsDivision division
     → ¬ AreNotes division texts notes
 
--- why a file is not opened, want of memory and failures of the device aside
-abbrev pub IsOpenFault : Tree → List ℕ → ℕ → Text → NodeFault → Type 0
-IsOpenFault tree weights me file Memory = Prim.Unit {0}
-IsOpenFault tree weights me file (Log log.NotALog) =
+-- The file is no log, or its notes are none of this tree.
+abbrev pub HasNoNode : Tree → List ℕ → ℕ → Text → Type 0
+HasNoNode tree weights me file =
     Opens (identity tree weights me) file (Err log.NotALog)
     ⊎ ((texts : List Text) × Opens (identity tree weights me) file (Ok texts)
     × HasBadNotes tree texts)
+
+-- why a file is not opened, want of memory and failures of the device aside
+abbrev pub IsOpenFault : Tree → List ℕ → ℕ → Text → NodeFault → Type 0
+IsOpenFault tree weights me file Memory = Prim.Unit {0}
+IsOpenFault tree weights me file (Log log.NotALog) = HasNoNode tree weights me file
 IsOpenFault tree weights me file (Log log.OtherCluster) =
     Opens (identity tree weights me) file (Err log.OtherCluster)
 IsOpenFault tree weights me file (Log log.Device) = Prim.Unit {0}

@@ -16,8 +16,8 @@
 //!   LEFT is `before`, `written`, or the byte that fills what was not synced.
 //! - `opens K HEX`: what a file with these bytes opens to as the node's log: the length of the log,
 //!   or the number of the refusal.
-//! - `cuts K`: what the node's log opens to where it is cut to each length, and `zeros K`: where the
-//!   byte at each place is 0, behind the first place that answers so. The node is opened again.
+//! - `cuts K`: what the node's log opens to where it is cut to each length, and `zeros K`: where
+//!   the byte at each place is 0, behind the first place that answers so. The node is opened again.
 //! - `failures K STEP`: the node's steps are taken again on disks whose calls fail, each in turn,
 //!   alone and with all later ones, and each of the five crashes follows. Its answer is how many
 //!   calls there are, if the node answers 1001 and then 1201, and is opened with the notes from

@@ -51,7 +51,8 @@ pub record IsOver (s : State) (texts : List Text) (n : NodeState) : Type 0 where
 abbrev pub IsNoteFault : Division → List Text → NodeFault → Type 0
 IsNoteFault division texts f =
     (f ≡ fault.Memory)
-    ⊎ ((f ≡ fault.Log log.NotALog) × ((given : List (Note Value)) → ¬ AreNotes division texts given))
+    ⊎ ((f ≡ fault.Log log.NotALog)
+    × ((given : List (Note Value)) → ¬ AreNotes division texts given))
 
 -- The text is that of a note of a unit.
 pub record IsNoteOf (division : Division) (text : Text) (n : Note Value) : Type 0 where

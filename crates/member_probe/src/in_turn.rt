@@ -1,0 +1,48 @@
+// Calls of a member, one after the other: each is answered by the member that the one before it
+// left.
+ghost use Rattle.std.specs.Prelude.{◌≡◌};
+ghost use Rattle.faults.specs.Answers.{map_ok};
+ghost use Rattle.protocol.specs.State.{State};
+ghost use Rattle.protocol.specs.Step.{HasHandled};
+ghost use Rattle.member.specs.Outcomes.{told};
+
+use crate::told::told;
+use member::{Input, Member, Outcome, Refusal};
+use std::alloc::Global;
+
+// Prepares the step, tells what it is to note and to say, and takes it.
+pub fn stepped(
+    alloc: Global,
+    member: &mut Member<'_>,
+    input: Input,
+) -> Result<(String, Outcome), Refusal>
+    ensures { HasHandled member.old member.new input (map_ok (λ x. told x.1) result) }
+{
+    let step = member.prepare(input)?;
+    let ahead = told(alloc, step.note(), step.sends())?;
+    let outcome = member.commit(step);
+    Ok((ahead, outcome))
+}
+
+// Prepares the step, and tells what it would note and say.
+pub fn prepared(alloc: Global, member: &mut Member<'_>, input: Input) -> Result<String, Refusal>
+    ensures { member.new ≡ member.old }
+{
+    let step = member.prepare(input)?;
+    Ok(told(alloc, step.note(), step.sends())?)
+}
+
+// Handles both, the second whatever became of the first.
+pub fn in_turn(
+    member: &mut Member<'_>,
+    first: Input,
+    second: Input,
+) -> (Result<Outcome, Refusal>, Result<Outcome, Refusal>)
+    ensures { (between : State)
+        × HasHandled member.old between first (map_ok told result.0)
+        × HasHandled between member.new second (map_ok told result.1) }
+{
+    let one = member.handle(first);
+    let two = member.handle(second);
+    (one, two)
+}
