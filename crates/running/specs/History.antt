@@ -1,7 +1,6 @@
 -- A world together with the events that led to it.
 use Rattle.std.specs.Prelude.{◌≡◌, ◌⊎◌, ◌+◌, ◌∷◌, ◌++◌, ℕ, List, Option, None, Some, length, map}
 use Rattle.listing.specs.Tree.{Tree}
-use Rattle.units.specs.Division.{Division}
 use Rattle.events.specs.Events.{Event, event_view}
 use Rattle.events.specs.declared.event.Event as declared
 use Rattle.node.specs.OnLog.{identity, texts_of}
@@ -40,17 +39,15 @@ file_length w k x =
 -- refused with the fault, or memory was wanting.
 pub record StoppedAt (tree : Tree) (weights : List ℕ) (events : List Event) (place : ℕ)
     (fault : WorldFault) : Type 0 where
-  pub division : Division
-  pub of_tree : division.tree ≡ tree
-  pub made : IsMade division weights
-  pub world : World
-  pub before : List Event
+  pub history : History
+  pub is_history : IsHistory history
+  pub of_tree : history.world.division.tree ≡ tree
+  pub weigh : history.world.weights ≡ weights
   pub event : Event
   pub behind : List Event
-  pub among : events ≡ before ++ event ∷ behind
-  pub number : place ≡ length before + 1
-  pub led : Leads (start division weights) before world
-  pub refused : (fault ≡ Memory) ⊎ IsRefused world event fault
+  pub among : events ≡ taken history ++ event ∷ behind
+  pub number : place ≡ length (taken history) + 1
+  pub refused : (fault ≡ Memory) ⊎ IsRefused history.world event fault
 
 -- A run's fault has the number of the event at which it stopped, or none, where memory was wanting
 -- before the first.

@@ -4,12 +4,12 @@
 mod asked;
 mod placed;
 mod posted;
-mod run;
 mod running;
+mod runs;
 mod scene;
 mod stepping;
 mod stopping;
 mod votes;
 
-pub use crate::run::{RunFault, run};
 pub use crate::running::World;
+pub use crate::runs::{RunFault, run};

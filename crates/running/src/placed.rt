@@ -60,9 +60,9 @@ impl<'a> Placed<'a> {
 
     /// What is left of it once it is down. It takes no memory.
     pub(crate) fn rest(self) -> Rest
-        ensures disk { result.disk ≡ disk_of self }
-        ensures notes { notes_in result.noted.texts ≡ (node_view self).notes }
-        ensures behind { (node_view self).up ≡ true → result.behind ≡ 0 }
+        ensures disk { result.disk ≡ disk_of self.entry }
+        ensures notes { notes_in result.noted.texts ≡ (node_view self.entry).notes }
+        ensures behind { (node_view self.entry).up ≡ true → result.behind ≡ 0 }
     {
         match self {
             Placed::Up(node) => {

@@ -94,34 +94,36 @@ impl Posted {
         ensures grown { HasGrown self.old self.new }
         ensures sent { self.new.sent ≡ self.old.sent }
     {
-        let records = build.packages();
-        if self.has_any(records) {
+        let packages = build.packages();
+        if self.has_any(packages) {
             return Ok(());
         }
-        for record in records {
-            self.append_record(record)?;
+        for package in packages {
+            self.append_package(package)?;
         }
         Ok(())
     }
 
     /// Whether the list has a package with a path of these.
-    fn has_any(&self, records: &[Record]) -> bool
+    fn has_any(&self, packages: &[Record]) -> bool
         requires { AreListed self.now }
-        ensures { result ≡ list_any (λ r. has_path (list_in self.now) r.path) records.now }
+        ensures { result ≡ list_any (λ r. has_path (list_in self.now) r.path) packages.now }
     {
-        records.iter().any(|record| self.listed.contains(record.path()))
+        packages
+            .iter()
+            .any(|package| self.listed.contains(package.path()))
     }
 
     /// Appends the package, which the list has not.
-    fn append_record(&mut self, record: &Record) -> Result<(), Memory>
-        ensures ok { OnOk result (list_in self.new ≡ list_in self.old ++ record.now ∷ []) }
+    fn append_package(&mut self, content: &Record) -> Result<(), Memory>
+        ensures ok { OnOk result (list_in self.new ≡ list_in self.old ++ content.now ∷ []) }
         ensures listed { OnOk result (self.new.listed.keys
-            ≡ insert_key bytes_eq self.old.listed.keys record.now.path) }
+            ≡ insert_key bytes_eq self.old.listed.keys content.now.path) }
         ensures grown { HasGrown self.old self.new }
         ensures sent { self.new.sent ≡ self.old.sent }
     {
-        self.listed.insert(record.path().copy()?)?;
-        self.agreed.push(record.copy()?)?;
+        self.listed.insert(content.path().copy()?)?;
+        self.agreed.push(content.copy()?)?;
         Ok(())
     }
 }

@@ -1,14 +1,10 @@
 //! The nodes of a world, what they sent, and what is agreed.
 ghost use Rattle.std.specs.Prelude.{◌≡◌, ◌<◌, IfOk, Some, length, slice_get, true};
-ghost use Rattle.node.specs.OnLog.{IsOnLog};
-ghost use Rattle.node.specs.State.{IsNode, opened_node};
-ghost use Rattle.stable_record.specs.InMemory.{mem_history};
-ghost use Rattle.units.specs.Division.{Division, IsDivision};
 ghost use Rattle.world.specs.Happening.{fault_before, is_up};
 ghost use Rattle.world.specs.World.{node_at, start};
 ghost use Rattle.events.specs.Events.{event_view};
 ghost use Rattle.running.specs.inside.Placing.{IsStanding, world_of};
-ghost use Rattle.running.specs.inside.Starting.{IsFresh};
+ghost use Rattle.running.specs.inside.Starting.{AreFresh, IsFresh};
 
 use crate::asked::{is_bad_stop, is_restart, lacks_datagram, node_of};
 use crate::placed::Placed;

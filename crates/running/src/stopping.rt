@@ -48,8 +48,8 @@ impl<'a> Scene<'a> {
     pub(crate) fn stop_in(&mut self, step: &Event, left: &Left) -> Result<(), NodeFault>
         requires standing { IsStanding self.old }
         requires reached { IsReached (world_of self.old) }
-        requires may { fault_before (world_of self.old) (events.StopIn (event_view step.now) left.now)
-            ≡ None }
+        requires may { fault_before (world_of self.old)
+            (events.StopIn (event_view step.now) left.now) ≡ None }
         ensures taken { OnOk result (StopsIn (world_of self.old) (event_view step.now) left.now
             (world_of self.new)) }
         ensures same { OnErr result (world_of self.new ≡ world_of self.old) }

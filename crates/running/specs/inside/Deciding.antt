@@ -71,13 +71,16 @@ voted_by s (Some n) name c = voted_in c n.fact
 voted_by s None name c = option_and_then (value_under c) (facts_named s name).voted
 
 -- the build of the claim that the message decides, where a member sends it in a step
-abbrev pub decided_by : List ℕ → List Text → State → Option (Note Value) → Message Value → Option Claim → Option Value
+abbrev pub decided_by : List ℕ → List Text → State → Option (Note Value) → Message Value
+    → Option Claim → Option Value
 decided_by weights sent s note m None = None
 decided_by weights sent s note m (Some c) =
-    if makes_majority weights (voters_of weights sent m) m.sender then voted_by s note m.path c else None
+    if makes_majority weights (voters_of weights sent m) m.sender
+    then voted_by s note m.path c else None
 
 -- the build of the claim that the member's step decides
 abbrev pub decision : List ℕ → List Text → State → Option Prepared → Option Value
 decision weights sent s None = None
 decision weights sent s (Some p) =
-    option_and_then (λ m. decided_by weights sent s p.note m (claim_voted m.body)) (message_in p.sends)
+    option_and_then (λ m. decided_by weights sent s p.note m (claim_voted m.body))
+    (message_in p.sends)

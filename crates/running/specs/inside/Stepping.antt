@@ -67,4 +67,5 @@ pub record HasNoRoom (sent : List Text) (e : Event) (n m : LoggedNode MemDisk) (
 abbrev pub RefusesStep : List Text → Event → LoggedNode MemDisk → LoggedNode MemDisk → NodeFault
     → Type 0
 RefusesStep sent e n m f =
-    ((f ≡ node_fault.Memory) × (m.node ≡ n.node)) ⊎ (TakesNone sent e n m f ⊎ HasNoRoom sent e n m f)
+    ((f ≡ node_fault.Memory) × (m.node ≡ n.node))
+    ⊎ (TakesNone sent e n m f ⊎ HasNoRoom sent e n m f)

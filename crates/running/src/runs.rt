@@ -94,7 +94,7 @@ pub fn run<'a>(
         All (WasBuilt w.world.division w.world.weights early) v.agreed)) }
     ensures fits { IfOk result (λ w. AlongRun w (λ early v. AllFit v)) }
     ensures held { IfOk result (λ w. AlongRun w (λ early v. HeldIsListed v)) }
-    ensures alike { IfOk result (λ w. AlongRun w (λ early v. HoldAlike v)) }
+    ensures alike { IfOk result (λ w. AlongRun w (λ early v. HoldAlike v w.world)) }
     ensures installable { IfOk result (λ w. AlongRun w (λ early v. InstallableIsHeld v)) }
     ensures allowed { IfOk result (λ w. AlongRun w (λ early v. AuditSaysYes v)) }
 
