@@ -1,12 +1,15 @@
 //! What a vote decides.
-ghost use Rattle.std.specs.Prelude.{◌≡◌, ◌<◌, IfOk, length, map, option_map};
-ghost use Rattle.ballots.specs.Support.{IsMember, set_of};
+ghost use Rattle.std.specs.Prelude.{◌≡◌, ◌<◌, IfOk, length, map, option_and_then, option_map};
+ghost use Rattle.ballots.specs.Support.{set_of};
+ghost use Rattle.protocol.specs.Step.{facts_named};
 ghost use Rattle.running.specs.inside.Deciding.{
   claim_voted,
   decision,
   makes_majority,
   same_claim,
+  value_under,
   voted_by,
+  voted_in,
   voters_in,
 };
 
@@ -17,6 +20,7 @@ use indexmap::IndexSet;
 use member::Step;
 use node::{Node, Ready};
 use package_record::Build;
+use pkgpath::PkgPath;
 use stable_record::MemDisk;
 use std::alloc::Global;
 
@@ -29,7 +33,12 @@ fn claim_of(message: &Message) -> Option<Claim>
 {
     match &message.body {
         Body::Vote(claim) => Some(*claim),
-        _ => None,
+        Body::Offer(_)
+        | Body::Promise(_, _)
+        | Body::Propose(_, _)
+        | Body::Agreed(_)
+        | Body::Ask
+        | Body::Nay(_, _) => None,
     }
 }
 
@@ -46,14 +55,14 @@ fn voters(
     alloc: Global,
     weights: &Weights,
     sent: &IndexSet<Vec<u8>>,
-    vote: &[u8],
+    text: &[u8],
 ) -> Result<Tally, Memory>
-    requires { SENDER < length vote.now }
+    requires { SENDER < length text.now }
     ensures weights { IfOk result (λ tally. tally.weights ≡ weights.now) }
     ensures voters { IfOk result (λ tally. set_of tally
-        ≡ voters_in weights.now (map (λ d. d.items) sent.now.keys) vote.now) }
+        ≡ voters_in weights.now (map (λ d. d.items) sent.now.keys) text.now) }
 {
-    let mut vote = vote.to_vec(alloc)?;
+    let mut vote = text.to_vec(alloc)?;
     let mut tally = Tally::new(weights);
     for member in 0..weights.len() as u8 {
         vote[SENDER] = member;
@@ -64,14 +73,45 @@ fn voters(
     Ok(tally)
 }
 
-/// Whether a majority has voted with this member's vote, and had not without it.
+/// Whether a majority has voted with this member's vote, and had not without it. Who is no member
+/// makes none.
 fn makes_majority(mut tally: Tally, sender: u8) -> bool
-    requires { IsMember sender }
     ensures { result ≡ makes_majority tally.weights (set_of tally) sender }
 {
+    if sender as usize >= tally.weights().len() {
+        return false;
+    }
     let was_majority = tally.is_majority();
     tally.join(sender);
     tally.is_majority() && !was_majority
+}
+
+/// The build that the fact is a vote for, under the claim.
+fn voted_in(fact: &Fact, claim: Claim) -> Option<&Build>
+    ensures { option_map (λ build. build.now) result ≡ voted_in claim fact.now }
+{
+    match fact {
+        Fact::Voted(under, build) => {
+            if is_same(*under, claim) {
+                Some(build)
+            } else {
+                None
+            }
+        }
+        Fact::Opened(_) | Fact::Promised(_) | Fact::Held(_) => None,
+    }
+}
+
+/// The build of the node's last vote for the unit that the path names, if it is under the claim.
+fn voted_last<'a>(node: &'a Node<'_, MemDisk>, path: &PkgPath, claim: Claim) -> Option<&'a Build>
+    ensures { option_map (λ build. build.now) result
+        ≡ option_and_then (value_under claim)
+        (facts_named node.entry.now.node.member path.now).voted }
+{
+    match node.voted(path) {
+        Some((under, build)) if is_same(*under, claim) => Some(build),
+        _ => None,
+    }
 }
 
 /// The build that the step votes for under the claim: the node notes that vote now, or has noted
@@ -85,15 +125,9 @@ fn voted<'a>(
     ensures { option_map (λ build. build.now) result
         ≡ voted_by node.entry.now.node.member step.entry.now.note message.now.path claim }
 {
-    if let Some(note) = step.note() {
-        return match &note.fact {
-            Fact::Voted(under, build) if is_same(*under, claim) => Some(build),
-            _ => None,
-        };
-    }
-    match node.voted(&message.path) {
-        Some((under, build)) if is_same(*under, claim) => Some(build),
-        _ => None,
+    match step.note() {
+        Some(note) => voted_in(&note.fact, claim),
+        None => voted_last(node, &message.path, claim),
     }
 }
 
