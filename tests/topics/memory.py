@@ -1,5 +1,6 @@
 """Want of memory at each allocation of dpbr: the right answer or fault 1, and nothing else."""
 import os
+import re
 import shutil
 import tempfile
 
@@ -22,6 +23,12 @@ def long_listing(paths):
     return "".join(lines), "".join(f"ports/p{n}\n" for n in range(paths // 3))
 
 
+def is_want_of_memory(got):
+    """Nothing is printed but fault 1, which a run tells of the event at which it came up, once there is one."""
+    out, error, status = got
+    return (out, status) == (b"", 1) and re.fullmatch(rb"dpbr: fault 1( at [1-9][0-9]*)?\n", error)
+
+
 def refusals(tally, folder, words, name):
     """Refuses the first request for memory, the second, and so on, until a run meets no refusal."""
     right = answer(words, folder)
@@ -33,7 +40,7 @@ def refusals(tally, folder, words, name):
         if not os.path.exists(mark):
             break
         os.remove(mark)
-        if got != right and got != (b"", b"dpbr: fault 1\n", 1):
+        if got != right and not is_want_of_memory(got):
             tally.add(f"{name}, allocation {number} refused", difference(got, (b"", b"dpbr: fault 1\n", 1)))
             return
     print(f"tests/run: {name}: {number - 1} allocations, each refused once", flush=True)
@@ -48,7 +55,7 @@ def run(tally):
         for name, text in (("LONG", listing), ("HALF", held), ("BAD", "a/p\n")):
             with open(f"{folder}/{name}", "w") as file:
                 file.write(text)
-        for name in ("listing", "held", "list", "list.late"):
+        for name in ("listing", "held", "list", "list.late", "trace"):
             shutil.copy(f"{EXAMPLES}/{name}", folder)
         refusals(tally, folder, ["status", "listing", "held"], "memory for the example")
         refusals(tally, folder, ["audit", "listing", "list"], "memory for the example's list")
@@ -56,3 +63,5 @@ def run(tally):
         refusals(tally, folder, ["status", "--single", "LONG", "HALF"], "memory for a long listing")
         refusals(tally, folder, ["status", "listing", "BAD"], "memory for a refused text")
         refusals(tally, folder, ["audit", "listing", "BAD"], "memory for a refused list")
+        refusals(tally, folder, ["run", "listing", "trace"], "memory for a take-over")
+        refusals(tally, folder, ["run", "listing", "BAD"], "memory for a refused trace")

@@ -5,25 +5,27 @@ import tempfile
 
 from topics.tally import EXAMPLES, PROGRAM, TESTS, TOP, answer, contents, difference
 
-COMMANDS = ("status", "audit")
+# The folders of stored cases: of `dpbr status`, of `dpbr audit`, and of `dpbr run`, those with builds of several pieces apart.
+STORED = ("status", "audit", "traces", "pieces")
 
 
 def stored_cases(tally):
     """Texts whose answers are known, each a folder with the words and the three answers."""
-    for command in COMMANDS:
-        for number in sorted(os.listdir(f"{TESTS}/{command}")):
-            folder = f"{TESTS}/{command}/{number}"
+    for kind in STORED:
+        for number in sorted(os.listdir(f"{TESTS}/{kind}")):
+            folder = f"{TESTS}/{kind}/{number}"
             words = contents(f"{folder}/words").decode().split()
             wanted = (contents(f"{folder}/stdout"), contents(f"{folder}/stderr"), int(contents(f"{folder}/status")))
-            tally.add(f"{command}/{number}", difference(answer(words, folder), wanted))
+            tally.add(f"{kind}/{number}", difference(answer(words, folder), wanted))
 
 
 def examples(tally):
     """What the README and the manual page show."""
     letters = contents(f"{TESTS}/examples.stdout")
     late = b"no: package 5: dependency not earlier\n"
+    ran = contents(f"{TESTS}/examples.run.stdout")
     for words, out, status in ((["status", "listing", "held"], letters, 0), (["audit", "listing", "list"], b"yes\n", 0),
-                               (["audit", "listing", "list.late"], late, 3)):
+                               (["audit", "listing", "list.late"], late, 3), (["run", "listing", "trace"], ran, 0)):
         tally.add(f"the example {' '.join(words)}", difference(answer(words, EXAMPLES), (out, b"", status)))
     for command, text in (("status", b"I=0 B=0 Q=0 T=0 !=0\n"), ("audit", b"yes\n")):
         got = answer([command, "/dev/null", "/dev/null"], EXAMPLES)
@@ -32,10 +34,11 @@ def examples(tally):
 
 def no_calls(tally):
     """Words that are no call of the program: clap's text on standard error, and status 2."""
-    status, audit = ["status", "listing", "held"], ["audit", "listing", "list"]
+    status, audit, run = ["status", "listing", "held"], ["audit", "listing", "list"], ["run", "listing", "trace"]
     for words in ([], ["--help"], ["help"], ["--version"], ["status"], ["status", "listing"], [*status, "more"], ["state", *status[1:]],
                   [b"status", b"\xff", b"held"], ["status", "--help"], ["audit"], ["audit", "listing"], [*audit, "more"],
                   ["audit", "--help"], ["audits", *audit[1:]], ["--single", *status], ["--single", *audit], [*status, "--single=yes"],
+                  ["run"], ["run", "listing"], [*run, "more"], ["run", "--help"], ["runs", *run[1:]], ["--single", *run],
                   ["status", "--single", "--single", *status[1:]], ["status", "--singles", *status[1:]], ["status", "--", *status[1:], "--single"]):
         out, error, code = answer(words, EXAMPLES)
         problem = "" if (out, code) == (b"", 2) and error else f"{out!r:.200}, {error!r:.200}, status {code}"
@@ -50,6 +53,7 @@ def faults(tally):
             file.write("a/p\n")
         for words, fault in (("status none none", "2"), (f"status {good} none", "2"), ("status bad none", "401 at 1"),
                              (f"status {folder} bad", "2"), (f"status {good} bad", "901 at 1"), ("audit none bad", "2"),
+                             ("run none bad", "2"), (f"run {good} none", "2"), ("run bad none", "401 at 1"), (f"run {good} bad", "1305 at 0"),
                              (f"audit {good} none", "2"), (f"audit {good} {folder}", "2"), ("audit bad none", "401 at 1"),
                              (f"audit {good} bad", "1308 at 1"), ("status none bad --single", "2"), (f"audit --single {good} bad", "1308 at 1")):
             tally.add(words, difference(answer(words.split(), folder), (b"", f"dpbr: fault {fault}\n".encode(), 1)))

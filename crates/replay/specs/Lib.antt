@@ -4,9 +4,11 @@ pub mod HeldRefusals
 pub mod List
 pub mod ListLaws
 pub mod ListRefusals
+pub mod ListText
 pub mod Listed
 pub mod Printed
 pub mod Refusals
 pub mod Rules
+pub mod Runs
 pub mod Status
 pub mod Stopped

@@ -8,10 +8,11 @@ use Rattle.listing.specs.Listing.{tree_of}
 use Rattle.listing.specs.Tree.{Tree}
 use Rattle.replay.specs.Audit.{IsVerdictOnListing, status_of, verdict_line}
 use Rattle.replay.specs.Rules.{rules_for}
+use Rattle.replay.specs.Runs.{IsRunOfListing}
 use Rattle.replay.specs.Status.{IsStatusOfListing}
 use Rattle.words.specs.Calls.{AreTaken, IsCallOf, matched}
 use Rattle.words.specs.declared.Call.{Call}
-use Rattle.words.specs.declared.Call.TheVariants.{Audit, Status}
+use Rattle.words.specs.declared.Call.TheVariants.{Audit, Run, Status}
 
 -- a listing describes the tree, where each path is a group of its own or not
 abbrev pub IsDescribed : Bool → Tree → Type 0
@@ -32,10 +33,17 @@ pub record IsAudit (is_single : Bool) (status : ℕ) (text : Text) : Type 0 wher
   pub text_is : text ≡ verdict_line verdict
   pub status_is : status ≡ status_of verdict
 
+-- what a run of a trace leaves, by a listing
+pub record IsRun (is_single : Bool) (text : Text) : Type 0 where
+  pub listing : Text
+  pub trace : Text
+  pub is_run : IsRunOfListing (rules_for is_single) listing trace text
+
 -- what a call prints, and its status
 abbrev pub IsOutputOf : Call → ℕ → Text → Type 0
 IsOutputOf (Status listing held is_single) status text = (status ≡ 0) × IsStatus is_single text
 IsOutputOf (Audit listing list is_single) status text = IsAudit is_single status text
+IsOutputOf (Run listing trace is_single) status text = (status ≡ 0) × IsRun is_single text
 
 -- what was written since, where it is known, is one such text, and the status is the one that goes
 -- with it

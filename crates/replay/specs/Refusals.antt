@@ -12,6 +12,10 @@ use Rattle.replay.specs.ListRefusals as lists
 use Rattle.replay.specs.declared.held.HeldFault.{HeldFault}
 use Rattle.replay.specs.declared.list.ListFault.{ListFault}
 use Rattle.replay.specs.declared.refusal.Refusal.{Refusal}
+use Rattle.running.specs.Faults as runs
+use Rattle.running.specs.declared.runs.RunFault.{RunFault}
+use Rattle.traces.specs.Faults as traces
+use Rattle.traces.specs.declared.TraceFault.{TraceFault}
 
 -- memory was refused
 abbrev pub memory_refusal : Refusal
@@ -36,6 +40,14 @@ held_refusal e = record { number = helds.number_of e; place = helds.place_of e }
 -- how the fault of a list of packages is told
 abbrev pub list_refusal : ListFault → Refusal
 list_refusal e = record { number = lists.number_of e; place = lists.place_of e }
+
+-- how the fault of a trace is told: by the event that is none, or 0
+abbrev pub trace_refusal : TraceFault → Refusal
+trace_refusal e = record { number = traces.fault_number e; place = traces.fault_place e }
+
+-- how the fault of a run is told: by the event that is refused
+abbrev pub run_refusal : RunFault → Refusal
+run_refusal e = record { number = runs.run_number e; place = e.event }
 
 -- the listing describes no tree, and this is told of its fault
 abbrev pub RefusesListing : Rules → Text → Refusal → Type 0

@@ -8,12 +8,13 @@ use Rattle.faults.specs.Bytes.{Text}
 use Rattle.replay.specs.Printed.{HasBegun}
 use Rattle.replay.specs.Refusals.{IsSystemRefusal, RefusesAudit, RefusesListing, RefusesStatus, memory_refusal}
 use Rattle.replay.specs.Rules.{rules_for}
+use Rattle.replay.specs.Runs.{RefusesRun}
 use Rattle.replay.specs.declared.refusal.Refusal.{Refusal}
 use Rattle.replay.specs.declared.stop.Stop.{Stop}
 use Rattle.replay.specs.declared.stop.Stop.TheVariants.{Refused, Unwritten, WrongWords}
 use Rattle.words.specs.Calls.{AreTaken, IsCallOf, faults_of, matched}
 use Rattle.words.specs.declared.Call.{Call}
-use Rattle.words.specs.declared.Call.TheVariants.{Audit, Status}
+use Rattle.words.specs.declared.Call.TheVariants.{Audit, Run, Status}
 
 -- the status with which the program then ends
 abbrev pub status_after : Stop → ℕ
@@ -44,10 +45,17 @@ RefusesAuditFiles is_single r =
     IsSystemRefusal r
     ⊎ ((listing : Text) × (list : Text) × RefusesAudit (rules_for is_single) listing list r)
 
+-- the same of a trace
+abbrev pub RefusesRunFiles : Bool → Refusal → Type 0
+RefusesRunFiles is_single r =
+    IsSystemRefusal r
+    ⊎ ((listing : Text) × (trace : Text) × RefusesRun (rules_for is_single) listing trace r)
+
 -- what is told of the files of a call
 abbrev pub RefusesCall : Call → Refusal → Type 0
 RefusesCall (Status listing held is_single) r = RefusesStatusFiles is_single r
 RefusesCall (Audit listing list is_single) r = RefusesAuditFiles is_single r
+RefusesCall (Run listing trace is_single) r = RefusesRunFiles is_single r
 
 -- A refusal comes before anything was written. Only where a write was refused, a beginning of the
 -- answer was written.

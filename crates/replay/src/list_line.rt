@@ -80,7 +80,7 @@ fn digest_of(text: &[u8]) -> Option<[u8; 32]>
 }
 
 /// The digest in lower-case hexadecimal digits.
-fn digits(digest: &[u8; 32]) -> [u8; 64]
+pub(crate) fn digits(digest: &[u8; 32]) -> [u8; 64]
     ensures { result ≡ encode_lower digest.now }
 {
     let mut text = [0; 64];

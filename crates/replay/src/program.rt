@@ -1,10 +1,11 @@
 //! The program `dpbr`.
 ghost use Rattle.std.specs.Prelude.{◌≡◌, ◌≤◌, ◌⊎◌, Bool, IfErr, IfOk, map, string_bytes};
 ghost use Rattle.std.specs.Io.KnownBytes.{Keeps};
-ghost use Rattle.replay.specs.Printed.{HasCarriedOut, HasPrinted, IsAudit, IsDescribed, IsOutputOf, IsStatus};
-ghost use Rattle.replay.specs.Stopped.{CannotCarryOut, HasFailed, HasStopped, RefusesAuditFiles, RefusesCall, RefusesListingFile, RefusesStatusFiles};
+ghost use Rattle.replay.specs.Printed.{HasCarriedOut, HasPrinted, IsAudit, IsDescribed, IsOutputOf, IsRun, IsStatus};
+ghost use Rattle.replay.specs.Stopped.{CannotCarryOut, HasFailed, HasStopped, RefusesAuditFiles, RefusesCall, RefusesListingFile, RefusesRunFiles, RefusesStatusFiles};
 ghost use Rattle.words.specs.Calls.{AreTaken};
 
+use crate::outcome::run_of_trace;
 use crate::printing::print;
 use crate::refusal::Refusal;
 use crate::report::status;
@@ -113,6 +114,11 @@ fn answer_of_files<R: Files + AllocGlobal>(rt: &R, call: &Call<'_>) -> Result<An
             list,
             is_single,
         } => audit_of_files(rt, listing, list, *is_single),
+        Call::Run {
+            listing,
+            trace,
+            is_single,
+        } => run_of_files(rt, listing, trace, *is_single),
     }
 }
 
@@ -189,4 +195,19 @@ fn audit_in_file<R: Files + AllocGlobal>(rt: &R, tree: &Tree, list: &str) -> Res
         text: text.into_bytes(),
         status: status_after(verdict),
     })
+}
+
+fn run_of_files<R: Files + AllocGlobal>(
+    rt: &R,
+    listing: &str,
+    trace: &str,
+    is_single: bool,
+) -> Result<Answer, Refusal>
+    ensures ok { IfOk result (λ answer. (answer.status ≡ 0) × IsRun is_single answer.text.items) }
+    ensures refused { IfErr result (RefusesRunFiles is_single) }
+{
+    let tree = tree_of_file(rt, listing, is_single)?;
+    let trace = fs::read(rt, trace)?;
+    let text = run_of_trace(rt.alloc(), &tree, trace.as_slice())?;
+    Ok(Answer { text, status: 0 })
 }

@@ -1,16 +1,19 @@
 //! How a refusal is told.
 ghost use Rattle.std.specs.Prelude.{◌≡◌};
-ghost use Rattle.replay.specs.Refusals.{IsSystemRefusal, device_refusal, held_refusal, list_refusal, listing_refusal, memory_refusal};
+ghost use Rattle.replay.specs.Refusals.{IsSystemRefusal, device_refusal, held_refusal, list_refusal, listing_refusal, memory_refusal, run_refusal, trace_refusal};
 
 use crate::held::HeldFault;
 use crate::list::ListFault;
 use faults::{Fault, Memory};
 use listing::ListingFault;
+use running::RunFault;
 use std::alloc::AllocError;
 use std::io::ErrorKind;
 use std::{fmt, io};
+use traces::TraceFault;
 
-/// The number of a fault, and the line where it came up, counted from 1, if it has one.
+/// The number of a fault, and the line or event where it came up, counted from 1, if it has one.
+/// What a trace has outside its events is 0.
 #[derive(Clone, Copy, Debug, PartialEq, Eq)]
 pub struct Refusal {
     pub number: u32,
@@ -79,6 +82,30 @@ impl From<ListFault> for Refusal {
 
     fn from(fault: ListFault) -> Refusal {
         Refusal::of(&fault)
+    }
+}
+
+impl From<TraceFault> for Refusal {
+    ghost from_gives = { λ fault refusal. refusal ≡ trace_refusal fault };
+
+    fn from(fault: TraceFault) -> Refusal {
+        Refusal::of(&fault)
+    }
+}
+
+impl From<RunFault> for Refusal {
+    ghost from_gives = { λ fault refusal. refusal ≡ run_refusal fault };
+
+    fn from(fault: RunFault) -> Refusal {
+        Refusal::of(&fault)
+    }
+}
+
+impl From<Memory> for Refusal {
+    ghost from_gives = { λ _ refusal. refusal ≡ memory_refusal };
+
+    fn from(_e: Memory) -> Refusal {
+        Refusal::memory()
     }
 }
 

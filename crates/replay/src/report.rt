@@ -69,7 +69,7 @@ fn letter_byte(letter: Letter) -> u8
 }
 
 /// How many packages have each letter, as a line.
-fn counts_text(alloc: Global, counts: Counts) -> Result<String, AllocError>
+pub(crate) fn counts_text(alloc: Global, counts: Counts) -> Result<String, AllocError>
     ensures { IfOk result (λ text. string_bytes text ≡ counts_line counts) }
 {
     let Counts {

@@ -3,10 +3,12 @@ ghost use Rattle.std.specs.Prelude.{◌≡◌, ◌⊎◌, IfErr, IfOk};
 ghost use Rattle.faults.specs.Answers.{IsRightUnless};
 ghost use Rattle.listing.specs.Listing.{tree_of};
 ghost use Rattle.replay.specs.Audit.{IsVerdictOnListing};
-ghost use Rattle.replay.specs.Refusals.{RefusesAudit, RefusesStatus, memory_refusal};
+ghost use Rattle.replay.specs.Refusals.{RefusesAudit, RefusesRun, RefusesStatus, memory_refusal};
 ghost use Rattle.replay.specs.Rules.{rules_for};
+ghost use Rattle.replay.specs.Runs.{IsRunOfListing};
 ghost use Rattle.replay.specs.Status.{IsStatusOfListing};
 
+use crate::outcome::run_of_trace;
 use crate::refusal::Refusal;
 use crate::report::status;
 use crate::verdict::audit_list;
@@ -64,4 +66,26 @@ pub fn audit_of_texts(
     let tree = tree_of_text(alloc, listing, is_single)?;
     let verdict = audit_list(alloc, &tree, list)?;
     Ok(verdict)
+}
+
+/// What `dpbr run` prints of a listing and a trace.
+///
+/// # Errors
+///
+/// Memory; else the listing's fault; else the trace's; else that of its first event that is
+/// refused.
+pub fn run_of_texts(
+    alloc: Global,
+    listing: &[u8],
+    trace: &[u8],
+    is_single: bool,
+) -> Result<Vec<u8>, Refusal>
+    ensures ok { IfOk result
+        (λ text. IsRunOfListing (rules_for is_single) listing.now trace.now text.items) }
+    ensures refused { IfErr result
+        (λ r. (r ≡ memory_refusal) ⊎ RefusesRun (rules_for is_single) listing.now trace.now r) }
+{
+    let tree = tree_of_text(alloc, listing, is_single)?;
+    let text = run_of_trace(alloc, &tree, trace)?;
+    Ok(text)
 }

@@ -49,6 +49,21 @@ example_audit_list : value_at (codes "LIST") audit_words ≡ Some (codes "packag
 unfolding matched dpbr_app clap_on_literals
 example_audit_list = refl
 
+abbrev run_words : List Text
+run_words = codes "dpbr" ∷ codes "run" ∷ codes "tree" ∷ codes "events" ∷ codes "--single" ∷ []
+
+example_run : AreTaken run_words
+unfolding faults_of dpbr_app clap_on_literals
+example_run = refl
+
+example_run_name : name_at run_words ≡ Some (codes "run")
+unfolding matched dpbr_app clap_on_literals
+example_run_name = refl
+
+example_run_trace : value_at (codes "TRACE") run_words ≡ Some (codes "events")
+unfolding matched dpbr_app clap_on_literals
+example_run_trace = refl
+
 -- `--single` stands anywhere behind the subcommand
 example_single : AreTaken (codes "dpbr" ∷ codes "status" ∷ codes "tree" ∷ codes "--single" ∷ codes "held" ∷ [])
 unfolding faults_of dpbr_app clap_on_literals

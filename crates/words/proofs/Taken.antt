@@ -12,23 +12,28 @@ use Rattle.words.proofs.Entering.{Enters, enters_one, none_lacks}
 use Rattle.words.proofs.Rows.{AskForHelp, ask_for_help, given_value, rows_filled}
 use Rattle.words.specs.Calls.{AreTaken, NamesCall, dpbr_app, faults_of, matched, status_command}
 
-found_among : {X : Type 0} (p : X → Bool) (a b c x : X) → find p (a ∷ b ∷ c ∷ []) ≡ Some x → (a ≡ x) ⊎ ((b ≡ x) ⊎ ((c ≡ x) × (p c ≡ true)))
-found_among {X} p a b c x = by (p a) (p b) (p c) refl
+-- which one of four is found: the last passes the test
+abbrev IsOneOf : {X : Type 0} → (X → Bool) → X → X → X → X → X → Type 0
+IsOneOf p a b c d x = (a ≡ x) ⊎ ((b ≡ x) ⊎ ((c ≡ x) ⊎ ((d ≡ x) × (p d ≡ true))))
+
+found_among : {X : Type 0} (p : X → Bool) (a b c d x : X) → find p (a ∷ b ∷ c ∷ d ∷ []) ≡ Some x → IsOneOf p a b c d x
+found_among {X} p a b c d x = by (p a) (p b) (p c) (p d) refl
   where
     same : (u v : X) → Some u ≡ Some v → u ≡ v
     same u v e = cc
 
-    by : (i j k : Bool) → p c ≡ k → cond i (Some a) (cond j (Some b) (cond k (Some c) None)) ≡ Some x → (a ≡ x) ⊎ ((b ≡ x) ⊎ ((c ≡ x) × (p c ≡ true)))
-    by true j k at e = inl (same a x e)
-    by false true k at e = inr (inl (same b x e))
-    by false false true at e = inr (inr (same c x e, at))
-    by false false false at e = absurd (let no : None ≡ Some x = e in cc)
+    by : (i j k l : Bool) → p d ≡ l → cond i (Some a) (cond j (Some b) (cond k (Some c) (cond l (Some d) None))) ≡ Some x → IsOneOf p a b c d x
+    by true j k l at e = inl (same a x e)
+    by false true k l at e = inr (inl (same b x e))
+    by false false true l at e = inr (inr (inl (same c x e)))
+    by false false false true at e = inr (inr (inr (same d x e, at)))
+    by false false false false at e = absurd (let no : None ≡ Some x = e in cc)
 
--- the subcommands as they are built: the program's two, and clap's own
+-- the subcommands as they are built: the program's three, and clap's own
 abbrev subcommand_at : ℕ → Shape
 subcommand_at k = slice_index_or (built dpbr_app).subs k status_command
 
-help_is_met : (name : Text) → answers_to name (label_of (subcommand_at 2)) ≡ true → name ≡ codes "help"
+help_is_met : (name : Text) → answers_to name (label_of (subcommand_at 3)) ≡ true → name ≡ codes "help"
 unfolding dpbr_app
 help_is_met name met = sym ((bytes_eq-Decides (codes "help") name).0 (by (bytes_eq (codes "help") name) met))
   where
@@ -52,6 +57,10 @@ audit_asks : AskForHelp (subcommand_at 1).rules
 unfolding dpbr_app
 audit_asks = ask_for_help (subcommand_at 1).rules (inl refl, (inl refl, (inr (refl, inr (refl, omega arith)), (inr (refl, inl refl), tt))))
 
+run_asks : AskForHelp (subcommand_at 2).rules
+unfolding dpbr_app
+run_asks = ask_for_help (subcommand_at 2).rules (inl refl, (inl refl, (inr (refl, inr (refl, omega arith)), (inr (refl, inl refl), tt))))
+
 abbrev rows_at_sub : ℕ → List Text → List Row
 rows_at_sub k rest = rows_after (subcommand_at k).rules [] rest
 
@@ -71,7 +80,16 @@ audit_values rest none =
     let filled = rows_filled (subcommand_at 1).rules [] rest audit_asks in
     let first = is_there (is_given (codes "LISTING") (rows_at_sub 1 rest)) _ (none_lacks (subcommand_at 1) rest refl none) in
     let second = is_there (is_given (codes "LIST") (rows_at_sub 1 rest)) _ first.1 in
-    inr (refl, (given_value (codes "LISTING") _ filled first.0, given_value (codes "LIST") _ filled second.0))
+    inr (inl (refl, (given_value (codes "LISTING") _ filled first.0, given_value (codes "LIST") _ filled second.0)))
+
+run_values : (rest : List Text) → level_fault (subcommand_at 2) [] nothing_held rest false [] ≡ []
+    → NamesCall (Some (rows_at (subcommand_at 2) rest))
+unfolding dpbr_app
+run_values rest none =
+    let filled = rows_filled (subcommand_at 2).rules [] rest run_asks in
+    let first = is_there (is_given (codes "LISTING") (rows_at_sub 2 rest)) _ (none_lacks (subcommand_at 2) rest refl none) in
+    let second = is_there (is_given (codes "TRACE") (rows_at_sub 2 rest)) _ first.1 in
+    inr (inr (refl, (given_value (codes "LISTING") _ filled first.0, given_value (codes "TRACE") _ filled second.0)))
 
 abbrev NamedBy : Shape → List Text → Type 0
 NamedBy shape rest = NamesCall (Some (rows_at shape rest))
@@ -79,11 +97,14 @@ NamedBy shape rest = NamesCall (Some (rows_at shape rest))
 shape_values : (words : List Text) (e : Enters (built dpbr_app) words) → NamedBy e.shape e.rest
 unfolding dpbr_app
 shape_values words e =
-    elim (found_among (λ s. answers_to e.name (label_of s)) (subcommand_at 0) (subcommand_at 1) (subcommand_at 2) e.shape e.found) [
+    elim (found_among (λ s. answers_to e.name (label_of s)) (subcommand_at 0) (subcommand_at 1) (subcommand_at 2) (subcommand_at 3) e.shape e.found) [
       | inl is ↦ subst (λ s. NamedBy s e.rest) is (status_values e.rest (subst (λ s. level_fault s [] nothing_held e.rest false [] ≡ []) (sym is) e.faultless))
       | inr rest ↦ elim rest [
         | inl is ↦ subst (λ s. NamedBy s e.rest) is (audit_values e.rest (subst (λ s. level_fault s [] nothing_held e.rest false [] ≡ []) (sym is) e.faultless))
-        | inr own ↦ absurd (never_help e.name (help_is_met e.name own.1) e.no_help)
+        | inr others ↦ elim others [
+          | inl is ↦ subst (λ s. NamedBy s e.rest) is (run_values e.rest (subst (λ s. level_fault s [] nothing_held e.rest false [] ≡ []) (sym is) e.faultless))
+          | inr own ↦ absurd (never_help e.name (help_is_met e.name own.1) e.no_help)
+        ]
       ]
     ]
 

@@ -3,7 +3,7 @@ use Rattle.std.specs.Prelude.{◌≡◌, ◌⊎◌, ◌↔◌, codes, fold, List
 use Rattle.clap.specs.Words.{App, Kinds, Row, Rule, Shape, Text, fault_of, first_of, new_app, new_rule, subcommand_of, with_rule, with_subcommand}
 use Rattle.clap.specs.declared.builder.action.ArgAction.TheVariants.{SetTrue}
 use Rattle.words.specs.declared.Call.{Call}
-use Rattle.words.specs.declared.Call.TheVariants.{Audit, Status}
+use Rattle.words.specs.declared.Call.TheVariants.{Audit, Run, Status}
 
 -- ---- what clap is told
 
@@ -32,13 +32,21 @@ status_command =
 abbrev pub audit_command : Shape
 audit_command = command (codes "audit") (word (codes "LISTING") ∷ word (codes "LIST") ∷ single ∷ [])
 
--- the program, which has to be given one of its subcommands
-unfoldable pub dpbr_app : App
-dpbr_app =
+-- `dpbr run`, which takes a listing and a trace
+abbrev pub run_command : Shape
+run_command = command (codes "run") (word (codes "LISTING") ∷ word (codes "TRACE") ∷ single ∷ [])
+
+-- the program with its subcommands on lists alone; it has to be given a subcommand
+abbrev pub list_app : App
+list_app =
     let program = new_app (codes "dpbr") in
     fold with_subcommand
     (record program { top = record program.top { subcommand_required = true } })
     (status_command ∷ audit_command ∷ [])
+
+-- the program
+unfoldable pub dpbr_app : App
+dpbr_app = with_subcommand list_app run_command
 
 -- the kinds of fault of which clap names one, where it finds any in the words
 unfoldable pub faults_of : List Text → Kinds
@@ -62,17 +70,20 @@ IsWord rows id value = first_of id rows ≡ Some value
 abbrev pub IsFlag : List Row → Text → Bool → Type 0
 IsFlag rows id given = (given ≡ true) ↔ (first_of id rows ≡ Some (codes "true"))
 
+-- under these two names these words were matched, and so the flag was given or not
+abbrev pub AreValues : List Row → Text × Text → Text → Text → Bool → Type 0
+AreValues rows names first second is_single =
+    IsWord rows names.0 first × IsWord rows names.1 second × IsFlag rows (codes "single") is_single
+
 -- clap matched the call's subcommand, and the call's values are those of its matches
 abbrev pub IsCallOf : Option (Text × List Row) → Call → Type 0
 IsCallOf None call = ⊥
-IsCallOf (Some (name, rows)) (Status listing held is_single) =
-    (name ≡ codes "status") × IsWord rows (codes "LISTING") listing.now
-    × IsWord rows (codes "HELD") held.now
-    × IsFlag rows (codes "single") is_single
-IsCallOf (Some (name, rows)) (Audit listing list is_single) =
-    (name ≡ codes "audit") × IsWord rows (codes "LISTING") listing.now
-    × IsWord rows (codes "LIST") list.now
-    × IsFlag rows (codes "single") is_single
+IsCallOf (Some (name, rows)) (Status listing held is_single) = (name ≡ codes "status")
+    × AreValues rows (codes "LISTING", codes "HELD") listing.now held.now is_single
+IsCallOf (Some (name, rows)) (Audit listing list is_single) = (name ≡ codes "audit")
+    × AreValues rows (codes "LISTING", codes "LIST") listing.now list.now is_single
+IsCallOf (Some (name, rows)) (Run listing trace is_single) = (name ≡ codes "run")
+    × AreValues rows (codes "LISTING", codes "TRACE") listing.now trace.now is_single
 
 -- a word was matched under each of two names
 abbrev pub HasBoth : List Row → Text → Text → Type 0
@@ -84,3 +95,4 @@ NamesCall None = ⊥
 NamesCall (Some (name, rows)) =
     ((name ≡ codes "status") × HasBoth rows (codes "LISTING") (codes "HELD"))
     ⊎ ((name ≡ codes "audit") × HasBoth rows (codes "LISTING") (codes "LIST"))
+    ⊎ ((name ≡ codes "run") × HasBoth rows (codes "LISTING") (codes "TRACE"))

@@ -3,10 +3,11 @@
 
 ghost use Rattle.std.specs.Prelude.{◌≡◌, IfNone, IfOk, IfSome, map};
 ghost use Rattle.clap.specs.Words.{FailsBy, app_of, subcommand_rows_of};
-ghost use Rattle.words.specs.Calls.{IsCallOf, NamesCall, dpbr_app, faults_of, matched};
+ghost use Rattle.words.specs.Calls.{IsCallOf, NamesCall, dpbr_app, faults_of, list_app, matched};
 
 mod arguments;
 mod audit;
+mod run;
 mod status;
 
 use clap::error::ErrorKind;
@@ -28,6 +29,12 @@ pub enum Call<'a> {
     Audit {
         listing: &'a str,
         list: &'a str,
+        is_single: bool,
+    },
+    /// What a trace of events leaves of nodes that build a listing's packages.
+    Run {
+        listing: &'a str,
+        trace: &'a str,
         is_single: bool,
     },
 }
@@ -65,6 +72,7 @@ fn call_of<'a>(matches: &ArgMatches<'a>) -> Option<Call<'a>>
     match matches.subcommand() {
         Some(("status", found)) => status::call_of(found),
         Some(("audit", found)) => audit::call_of(found),
+        Some(("run", found)) => run::call_of(found),
         _ => None,
     }
 }
@@ -79,8 +87,15 @@ fn no_call(alloc: Global) -> Result<Error, AllocError> {
 fn dpbr_command<'a>(alloc: Global) -> Result<Command<'a>, AllocError>
     ensures { IfOk result (λ command. app_of command ≡ dpbr_app) }
 {
+    with_lists(alloc)?.subcommand(run::command(alloc)?)
+}
+
+/// The same of its subcommands on lists alone.
+fn with_lists<'a>(alloc: Global) -> Result<Command<'a>, AllocError>
+    ensures { IfOk result (λ command. app_of command ≡ list_app) }
+{
     Command::new(alloc, "dpbr")
-        .about("Letters and audits of a bulk build of ports.")
+        .about("Letters, audits and runs of a bulk build of ports.")
         .subcommand_required(true)
         .subcommand(status::command(alloc)?)?
         .subcommand(audit::command(alloc)?)

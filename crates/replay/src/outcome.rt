@@ -1,0 +1,56 @@
+//! The text of `dpbr run`.
+ghost use Rattle.std.specs.Prelude.{◌≡◌, ◌++◌, ◌⊎◌, IfErr, IfOk, OnOk};
+ghost use Rattle.replay.specs.Refusals.{memory_refusal};
+ghost use Rattle.replay.specs.Runs.{IsNodeLine, IsOutcome, IsRunOf, RefusesTrace};
+
+use crate::list_text::list_text;
+use crate::refusal::Refusal;
+use crate::report::counts_text;
+use faults::Memory;
+use listing::Tree;
+use running::{World, run};
+use std::alloc::{AllocError, Global};
+use traces::read_trace;
+
+/// What is printed once the trace was run: for each node how many packages have each letter, or
+/// that it is down, a line each; and then the agreed list.
+///
+/// # Errors
+///
+/// Memory; else the trace's fault; else that of its first event that is refused.
+pub fn run_of_trace(alloc: Global, tree: &Tree, trace: &[u8]) -> Result<Vec<u8>, Refusal>
+    ensures ok { IfOk result (λ text. IsRunOf tree.now trace.now text.items) }
+    ensures refused { IfErr result
+        (λ r. (r ≡ memory_refusal) ⊎ RefusesTrace tree.now trace.now r) }
+{
+    let trace = read_trace(alloc, trace)?;
+    let world = run(alloc, tree, &trace.weights, trace.events.as_slice())?;
+    let text = run_text(alloc, &world)?;
+    Ok(text)
+}
+
+/// What is printed of a world.
+pub fn run_text(alloc: Global, world: &World<'_>) -> Result<Vec<u8>, Memory>
+    ensures { IfOk result (λ text. IsOutcome world.now.world text.items) }
+{
+    let mut text = Vec::new(alloc);
+    for node in 0..world.len() {
+        let line = node_text(alloc, world, node)?;
+        text.extend_from_slice(line.as_bytes())?;
+    }
+    let list = list_text(alloc, world.agreed())?;
+    text.extend_from_slice(list.as_slice())?;
+    Ok(text)
+}
+
+/// How many packages have each letter at the node, or that it is down, as a line.
+fn node_text(alloc: Global, world: &World<'_>, node: u8) -> Result<String, AllocError>
+    ensures { IfOk result (λ text. IsNodeLine world.now.world node text) }
+{
+    if world.is_up(node) {
+        let counts = counts_text(alloc, world.counts(node))?;
+        format!(in alloc; "node {node}: {counts}")
+    } else {
+        format!(in alloc; "node {node}: down\n")
+    }
+}

@@ -1,0 +1,64 @@
+-- The vote that a step sends, and its text.
+use Rattle.std.proofs.Common.{◌≡◌, ◌<◌, ◌↔◌, ℕ, List, [], ◌∷◌, ◌++◌, length, map, Option, None, Some, slice_get, refl, sym, ap, subst, ◌∙◌, arith}
+use Rattle.faults.specs.Bytes.{Text}
+use Rattle.agreement.specs.declared.claim.Claim.{Claim}
+use Rattle.ballots.specs.declared.message.Body.{Body}
+use Rattle.ballots.specs.declared.message.Body.TheVariants as body
+use Rattle.ballots.specs.declared.message.Message.{Message}
+use Rattle.node.specs.Parcels.{datagrams_to, each_to}
+use Rattle.protocol.specs.Sends.{receivers_of, sent_to}
+use Rattle.protocol.specs.State.{Value}
+use Rattle.protocol.specs.declared.sends.Send.{Send}
+use Rattle.wire.specs.Pieces.{carried_in, split_by}
+use Rattle.wire.specs.Spelling.{datagram_text}
+use Rattle.wire.specs.declared.datagram.Datagram.TheVariants as datagram
+use Rattle.running.specs.inside.Deciding.{claim_voted, message_in, sender_place}
+
+-- ---- the message
+
+some_same : {X : Type 0} (x y : X) → Some x ≡ Some y → x ≡ y
+some_same x y e = cc
+
+-- what all sends share is in the first
+pub message_is : (sends : List Send) (o : Option (Message Value))
+    → sends ≡ sent_to o (receivers_of sends) → (sends ≡ [] → o ≡ None) → message_in sends ≡ o
+message_is [] o e none = sym (none refl)
+message_is (s ∷ ss) None e none = absurd (let wrong : s ∷ ss ≡ [] = e in cc)
+message_is (s ∷ ss) (Some m) e none =
+    ap message_in e
+
+-- ---- its text
+
+-- what is voted for is in a vote
+pub vote_is : (b : Body Value) (c : Claim) → claim_voted b ≡ Some c → b ≡ body.Vote c
+vote_is (body.Offer d) c e = absurd (let wrong : None ≡ Some c = e in cc)
+vote_is (body.Promise d r) c e = absurd (let wrong : None ≡ Some c = e in cc)
+vote_is (body.Propose d v) c e = absurd (let wrong : None ≡ Some c = e in cc)
+vote_is (body.Vote d) c e = ap (λ x. body.Vote x) (some_same d c e)
+vote_is (body.Agreed v) c e = absurd (let wrong : None ≡ Some c = e in cc)
+vote_is body.Ask c e = absurd (let wrong : None ≡ Some c = e in cc)
+vote_is (body.Nay d p) c e = absurd (let wrong : None ≡ Some c = e in cc)
+
+-- the text of a message that goes out in whole
+abbrev pub whole_text : Message Value → Text
+whole_text m = datagram_text (datagram.Whole m)
+
+-- a vote goes out in whole, so that its text is the first that does
+pub first_text : (sends : List Send) (m : Message Value) (c : Claim) → message_in sends ≡ Some m
+    → claim_voted m.body ≡ Some c
+    → (to : ℕ) × (slice_get (datagrams_to sends) 0 ≡ Some (to, whole_text m))
+first_text [] m c e votes = absurd (let wrong : None ≡ Some m = e in cc)
+first_text (s ∷ ss) m c e votes =
+    let same : s.message ≡ m = some_same s.message m e in
+    let carried : carried_in s.message.body ≡ None = ap (λ (n : Message Value). carried_in n.body)
+    same
+    ∙ ap carried_in (vote_is m.body c votes) in (
+      s.to,
+      ap (λ o. slice_get (each_to (map datagram_text (split_by s.message o)) s.to
+          ++ datagrams_to ss) 0) carried
+          ∙ ap (λ (n : Message Value). Some (s.to, whole_text n)) same,
+    )
+
+-- and it has a place for the sender's number
+pub has_sender : (m : Message Value) → sender_place < length (whole_text m)
+has_sender m = omega arith

@@ -1,0 +1,132 @@
+-- Votes that were sent, and what a step's vote decides.
+use Rattle.std.proofs.Common.{◌≡◌, ◌<◌, ◌≤◌, ◌==◌, ◌&&◌, ◌||◌, ℕ, zero, suc, Bool, true, false, not, List, [], ◌∷◌, ◌++◌, length, map, Option, None, Some, Vec, nat_lt, refl, sym, ap, ap₂, subst, ◌∙◌, arith, inl, inr, eqb-true, eq-eqb, ltb-true, lt-ltb, if◌then◌else◌, set-set, slice_set, bytes_eq, ltb-false}
+use Rattle.std.proofs.lemmas.Bool.{and_from, and_parts, cases_Bool, cond-true, cond-false, false_from_ne_true, true_from_ne_false, true≢false}
+use Rattle.std.specs.List.{list_any}
+use Rattle.agreement.specs.Quorums.{Members, is_majority, named_in, with_member}
+use Rattle.agreement.proofs.Majorities.{named_more}
+use Rattle.ballots.specs.Support.{Support, joined_by, named_with, set_of}
+use Rattle.faults.specs.Bytes.{Text, is_among}
+use Rattle.headline.proofs.Safe.{majority_within}
+use Rattle.units.proofs.Places.{equal_bytes, same_bytes}
+use Rattle.running.specs.inside.Deciding.{makes_majority, sender_place, voters_in}
+
+-- ---- tests
+
+same_tests : (a b : Bool) → (a ≡ true → b ≡ true) → (b ≡ true → a ≡ true) → a ≡ b
+same_tests true b f g = sym (f refl)
+same_tests false true f g = g refl
+same_tests false false f g = refl
+
+-- the bytes are compared either way
+eq_turned : (s t : Text) → bytes_eq s t ≡ bytes_eq t s
+eq_turned s t = same_tests (bytes_eq s t) (bytes_eq t s)
+    (λ e. equal_bytes t s (sym (same_bytes s t e))) (λ e. equal_bytes s t (sym (same_bytes t s e)))
+
+-- ---- tallies
+
+-- a set has one that is named already
+named_again : (xs : List ℕ) (m k : ℕ) → named_in xs m ≡ true
+    → named_in xs k ≡ with_member (named_in xs) m k
+named_again xs m k e = by (k == m) refl
+  where
+    by : (b : Bool) → (k == m) ≡ b → named_in xs k ≡ b || named_in xs k
+    by true t = ap (named_in xs) (eqb-true k m t) ∙ e
+    by false f = refl
+
+-- who joins a tally joins the set of those that joined
+pub joined_set : (s : Support) (m : ℕ) → set_of (joined_by s m) ≡ with_member (set_of s) m
+joined_set s m = λ i k. member k i
+  where
+    by : (b : Bool) (k : ℕ) → named_in s.joined m ≡ b
+        → named_in (if b then s.joined else s.joined ++ m ∷ []) k ≡ with_member (named_in s.joined)
+        m k
+    by true k t = named_again s.joined m k t
+    by false k f = named_more s.joined m k
+
+    member : (k : ℕ) → named_in (named_with s.joined m) k ≡ with_member (named_in s.joined) m k
+    member k = by (named_in s.joined m) k refl
+
+-- who is no member makes no majority
+pub none_makes_none : (ws : List ℕ) (S : Members) (k : ℕ) → length ws ≤ k
+    → makes_majority ws S k ≡ false
+none_makes_none ws S k out = by (is_majority ws (with_member S k)) (is_majority ws S)
+    (majority_within ws (with_member S k) S within)
+  where
+    within : (j : ℕ) → j < length ws → with_member S k j ≡ true → S j ≡ true
+    within j lt e =
+        let other : (j == k) ≡ false = false_from_ne_true (j == k) (λ t. let same : j ≡ k =
+        eqb-true j k t in omega (arith, lt, out, same)) in
+        sym (ap (λ b. b || S j) other) ∙ e
+
+    by : (a b : Bool) → (a ≡ true → b ≡ true) → (a && not b) ≡ false
+    by true true h = refl
+    by true false h = absurd (true≢false (sym (h refl)))
+    by false b h = refl
+
+-- ---- who sent a vote
+
+-- those below this number that sent the vote
+abbrev pub voters_below : ℕ → List Text → Text → Members
+voters_below n sent vote k = nat_lt k n && is_among sent (slice_set vote sender_place k)
+
+-- none is below the first
+pub none_below : (sent : List Text) (vote : Text) → named_in [] ≡ voters_below 0 sent vote
+none_below sent vote = λ i k. at k i
+  where
+    at : (k : ℕ) → false ≡ voters_below 0 sent vote k
+    at k = sym (ap (λ b. b && is_among sent (slice_set vote sender_place k))
+        (false_from_ne_true (nat_lt k 0) (λ t. let lt = ltb-true k 0 t in omega (arith, lt))))
+
+-- below the next there are those below this one, and this one if it did
+pub voters_next : (n : ℕ) (sent : List Text) (vote : Text)
+    → is_among sent (slice_set vote sender_place n) ≡ true
+    → with_member (voters_below n sent vote) n ≡ voters_below (suc n) sent vote
+voters_next n sent vote yes = λ i k. at k i
+  where
+    at : (k : ℕ) → with_member (voters_below n sent vote) n k ≡ voters_below (suc n) sent vote k
+    at k = by (k == n) refl
+      where
+        a : ℕ → Bool
+        a j = is_among sent (slice_set vote sender_place j)
+
+        by : (b : Bool) → (k == n) ≡ b → (b || (nat_lt k n && a k)) ≡ (nat_lt k (suc n) && a k)
+        by true t =
+            let same : k ≡ n = eqb-true k n t in
+            sym (and_from (nat_lt k (suc n)) (a k) (lt-ltb k (suc n) (omega (arith, same)))
+            (subst (λ j. a j ≡ true) (sym same) yes))
+        by false f = same_tests (nat_lt k n && a k) (nat_lt k (suc n) && a k)
+            (λ e. let p = and_parts (nat_lt k n) (a k) e in
+            let lt = ltb-true k n p.0 in
+            and_from (nat_lt k (suc n)) (a k) (lt-ltb k (suc n) (omega (arith, lt))) p.1)
+            (λ e. let p = and_parts (nat_lt k (suc n)) (a k) e in
+            let lt = ltb-true k (suc n) p.0 in
+            and_from (nat_lt k n) (a k) (true_from_ne_false (nat_lt k n) (λ g.
+            let ge = ltb-false k n g in
+            let same : k ≡ n = omega (arith, lt, ge) in
+            true≢false (sym (eq-eqb k n same) ∙ f))) p.1)
+
+pub voters_same : (n : ℕ) (sent : List Text) (vote : Text)
+    → is_among sent (slice_set vote sender_place n) ≡ false
+    → voters_below n sent vote ≡ voters_below (suc n) sent vote
+voters_same n sent vote no = λ i k. at k i
+  where
+    at : (k : ℕ) → voters_below n sent vote k ≡ voters_below (suc n) sent vote k
+    at k = same_tests (nat_lt k n && a k) (nat_lt k (suc n) && a k)
+        (λ e. let p = and_parts (nat_lt k n) (a k) e in
+        let lt = ltb-true k n p.0 in
+        and_from (nat_lt k (suc n)) (a k) (lt-ltb k (suc n) (omega (arith, lt))) p.1)
+        (λ e. let p = and_parts (nat_lt k (suc n)) (a k) e in
+        let lt = ltb-true k (suc n) p.0 in
+        and_from (nat_lt k n) (a k) (true_from_ne_false (nat_lt k n) (λ g.
+        let ge = ltb-false k n g in
+        let same : k ≡ n = omega (arith, lt, ge) in
+        true≢false (sym p.1 ∙ ap a same ∙ no))) p.1)
+      where
+        a : ℕ → Bool
+        a j = is_among sent (slice_set vote sender_place j)
+
+-- what a set of vectors says of bytes, as texts
+pub found_among : {Z : Type 0} (vs : List (Vec ℕ Z)) (t : Text)
+    → list_any (λ v. bytes_eq t v.items) vs ≡ is_among (map (λ v. v.items) vs) t
+found_among [] t = refl
+found_among (v ∷ vs) t = ap₂ (λ a b. a || b) (eq_turned t v.items) (found_among vs t)

@@ -1,0 +1,8 @@
+-- What only bodies and proofs need.
+pub mod Asking
+pub mod Deciding
+pub mod Posting
+pub mod Placing
+pub mod Starting
+pub mod Stepping
+pub mod Stopping

@@ -1,0 +1,86 @@
+-- What the vote of a step decides.
+use Rattle.std.specs.Prelude.{◌≡◌, ◌&&◌, ◌==◌, ℕ, Bool, List, [], ◌∷◌, Option, None, Some, length, nat_lt, not, option_and_then, slice_set, if◌then◌else◌}
+use Rattle.faults.specs.Bytes.{Text, is_among}
+use Rattle.agreement.specs.Quorums.{Members, is_majority, with_member}
+use Rattle.agreement.specs.Votes.{Ballot}
+use Rattle.agreement.specs.declared.claim.Claim.{Claim}
+use Rattle.ballots.specs.declared.message.Body.{Body}
+use Rattle.ballots.specs.declared.message.Body.TheVariants as body
+use Rattle.ballots.specs.declared.message.Fact.{Fact}
+use Rattle.ballots.specs.declared.message.Fact.TheVariants as fact
+use Rattle.ballots.specs.declared.message.Message.{Message}
+use Rattle.ballots.specs.declared.message.Note.{Note}
+use Rattle.member.specs.Prepared.{Prepared}
+use Rattle.protocol.specs.State.{State, Value}
+use Rattle.protocol.specs.Step.{facts_named}
+use Rattle.protocol.specs.declared.sends.Send.{Send}
+use Rattle.wire.specs.Spelling.{datagram_text}
+use Rattle.wire.specs.declared.datagram.Datagram.TheVariants as datagram
+
+-- the number of a vote's sender stands behind four bytes and the kind
+abbrev pub sender_place : ℕ
+sender_place = 5
+
+-- the claim that a body votes for
+abbrev pub claim_voted : Body Value → Option Claim
+claim_voted (body.Offer c) = None
+claim_voted (body.Promise c report) = None
+claim_voted (body.Propose c v) = None
+claim_voted (body.Vote c) = Some c
+claim_voted (body.Agreed v) = None
+claim_voted body.Ask = None
+claim_voted (body.Nay c promised) = None
+
+-- the message that goes out, if one does
+abbrev pub message_in : List Send → Option (Message Value)
+message_in [] = None
+message_in (s ∷ sends) = Some s.message
+
+-- the members that sent this vote, each with its own number in it
+abbrev pub voters_in : List ℕ → List Text → Text → Members
+voters_in weights sent vote k =
+    nat_lt k (length weights) && is_among sent (slice_set vote sender_place k)
+
+-- the members that sent the vote that the message is
+abbrev pub voters_of : List ℕ → List Text → Message Value → Members
+voters_of weights sent m = voters_in weights sent (datagram_text (datagram.Whole m))
+
+-- whether the vote makes a majority that there was not
+abbrev pub makes_majority : List ℕ → Members → ℕ → Bool
+makes_majority weights voters sender =
+    is_majority weights (with_member voters sender) && not (is_majority weights voters)
+
+-- whether the claims are one
+abbrev pub same_claim : Claim → Claim → Bool
+same_claim c d = c.round == d.round && c.member == d.member
+
+-- the build that the fact is a vote for, under the claim
+abbrev pub voted_in : Claim → Fact Value → Option Value
+voted_in c (fact.Opened round) = None
+voted_in c (fact.Promised d) = None
+voted_in c (fact.Voted d v) = if same_claim d c then Some v else None
+voted_in c (fact.Held v) = None
+
+-- the build of the vote, if it is under the claim
+abbrev pub value_under : Claim → Ballot Value → Option Value
+value_under c b = if same_claim b.claim c then Some b.value else None
+
+-- the build that a member's step votes for: what it notes now, or has noted
+abbrev pub voted_by : State → Option (Note Value) → Text → Claim → Option Value
+voted_by s (Some n) name c = voted_in c n.fact
+voted_by s None name c = option_and_then (value_under c) (facts_named s name).voted
+
+-- the build of the claim that the message decides, where a member sends it in a step
+abbrev pub decided_by : List ℕ → List Text → State → Option (Note Value) → Message Value
+    → Option Claim → Option Value
+decided_by weights sent s note m None = None
+decided_by weights sent s note m (Some c) =
+    if makes_majority weights (voters_of weights sent m) m.sender
+    then voted_by s note m.path c else None
+
+-- the build of the claim that the member's step decides
+abbrev pub decision : List ℕ → List Text → State → Option Prepared → Option Value
+decision weights sent s None = None
+decision weights sent s (Some p) =
+    option_and_then (λ m. decided_by weights sent s p.note m (claim_voted m.body))
+    (message_in p.sends)

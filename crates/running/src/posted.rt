@@ -1,0 +1,129 @@
+//! What a world's nodes sent, and what is agreed.
+ghost use Rattle.std.specs.Prelude.{◌≡◌, ◌++◌, ◌∷◌, [], OnOk, fold, length, map, take};
+ghost use Rattle.std.specs.List.{list_any};
+ghost use Rattle.std.specs.Str.{bytes_eq};
+ghost use Rattle.indexmap.specs.IndexSet.{insert_key};
+ghost use Rattle.world.specs.Lists.{has_path, with_build};
+ghost use Rattle.world.specs.Sent.{with_datagram};
+ghost use Rattle.running.specs.inside.Posting.{AreListed, HasGrown, list_in, sent_in};
+
+use faults::Memory;
+use indexmap::IndexSet;
+use node::Parcels;
+use package_record::{Build, Record};
+use pkgpath::PkgPath;
+use std::alloc::Global;
+
+/// The datagrams that were sent, and the agreed list.
+#[derive(Drop)]
+pub(crate) struct Posted {
+    /// The different datagrams, in order of first sending.
+    pub(crate) sent: IndexSet<Vec<u8>>,
+    /// The list, in the order in which it grew.
+    pub(crate) agreed: Vec<Record>,
+    /// The paths of its packages, in that order.
+    pub(crate) listed: IndexSet<PkgPath>,
+}
+
+impl Posted {
+    /// Nothing was sent, and nothing is agreed.
+    pub(crate) fn new(alloc: Global) -> Posted
+        ensures sent { sent_in result ≡ [] }
+        ensures list { list_in result ≡ [] }
+        ensures listed { AreListed result }
+    {
+        Posted {
+            sent: IndexSet::new(alloc),
+            agreed: Vec::new(alloc),
+            listed: IndexSet::new(alloc),
+        }
+    }
+
+    /// How many datagrams and packages there are.
+    pub(crate) fn lengths(&self) -> (usize, usize)
+        ensures { result ≡ (length self.now.sent.keys, length self.now.agreed.items) }
+    {
+        (self.sent.len(), self.agreed.len())
+    }
+
+    /// Keeps so many datagrams and packages. It takes no memory.
+    pub(crate) fn cut_back(&mut self, lengths: (usize, usize))
+        ensures sent { sent_in self.new ≡ take lengths.0 (sent_in self.old) }
+        ensures list { list_in self.new ≡ take lengths.1 (list_in self.old) }
+        ensures listed { self.new.listed.keys ≡ take lengths.1 self.old.listed.keys }
+    {
+        let (sent, agreed) = lengths;
+        self.sent.truncate(sent);
+        self.agreed.truncate(agreed);
+        self.listed.truncate(agreed);
+    }
+
+    /// Enters the datagrams. One that was sent before keeps its number.
+    pub(crate) fn enter(&mut self, sends: &Parcels) -> Result<(), Memory>
+        ensures ok { OnOk result (sent_in self.new
+            ≡ fold with_datagram (sent_in self.old) (map (λ s. s.1) sends.now)) }
+        ensures grown { HasGrown self.old self.new }
+        ensures list { (self.new.agreed ≡ self.old.agreed) × (self.new.listed ≡ self.old.listed) }
+    {
+        let mut place = 0;
+        while let Some((_, text)) = sends.get(place) {
+            self.enter_text(text)?;
+            place += 1;
+        }
+        Ok(())
+    }
+
+    /// Enters the datagram, unless it was sent before.
+    fn enter_text(&mut self, text: &[u8]) -> Result<(), Memory>
+        ensures ok { OnOk result (sent_in self.new ≡ with_datagram (sent_in self.old) text.now) }
+        ensures grown { HasGrown self.old self.new }
+        ensures list { (self.new.agreed ≡ self.old.agreed) × (self.new.listed ≡ self.old.listed) }
+    {
+        if !self.sent.contains(text) {
+            let alloc: Global = *self.sent.allocator();
+            self.sent.insert(text.to_vec(alloc)?)?;
+        }
+        Ok(())
+    }
+
+    /// Appends the build's packages, unless one of their paths is in the list.
+    pub(crate) fn append(&mut self, build: &Build) -> Result<(), Memory>
+        requires { AreListed self.old }
+        ensures ok { OnOk result (list_in self.new ≡ with_build (list_in self.old) build.now) }
+        ensures listed { OnOk result (AreListed self.new) }
+        ensures grown { HasGrown self.old self.new }
+        ensures sent { self.new.sent ≡ self.old.sent }
+    {
+        let packages = build.packages();
+        if self.has_any(packages) {
+            return Ok(());
+        }
+        for package in packages {
+            self.append_package(package)?;
+        }
+        Ok(())
+    }
+
+    /// Whether the list has a package with a path of these.
+    fn has_any(&self, packages: &[Record]) -> bool
+        requires { AreListed self.now }
+        ensures { result ≡ list_any (λ r. has_path (list_in self.now) r.path) packages.now }
+    {
+        packages
+            .iter()
+            .any(|package| self.listed.contains(package.path()))
+    }
+
+    /// Appends the package, which the list has not.
+    fn append_package(&mut self, content: &Record) -> Result<(), Memory>
+        ensures ok { OnOk result (list_in self.new ≡ list_in self.old ++ content.now ∷ []) }
+        ensures listed { OnOk result (self.new.listed.keys
+            ≡ insert_key bytes_eq self.old.listed.keys content.now.path) }
+        ensures grown { HasGrown self.old self.new }
+        ensures sent { self.new.sent ≡ self.old.sent }
+    {
+        self.listed.insert(content.path().copy()?)?;
+        self.agreed.push(content.copy()?)?;
+        Ok(())
+    }
+}

@@ -1,0 +1,134 @@
+//! A world, which contracts see as its nodes, its datagrams, its list, and the events that led to
+//! it.
+ghost use Rattle.std.specs.Prelude.{◌≡◌, ◌<◌, [], IfOk, Some, length, map, slice_get, true};
+ghost use Rattle.std.specs.Option.{option_copied};
+ghost use Rattle.engine.specs.State as engines;
+ghost use Rattle.protocol.specs.State.{engine_of};
+ghost use Rattle.running.specs.History.{IsHistory, file_length};
+ghost use Rattle.world.specs.Happening.{is_up};
+ghost use Rattle.world.specs.Headline.{holds};
+ghost use Rattle.world.specs.World.{member_at, start};
+
+use crate::scene::Scene;
+use ballots::Weights;
+use engine::{Counts, Letter};
+use events::Event;
+use faults::Memory;
+use indexmap::IndexSet;
+use listing::Tree;
+use package_record::Record;
+use pkgpath::PkgPath;
+use std::alloc::Global;
+use std::marker::Model;
+
+/// Nodes on disks in memory, the datagrams that they sent, and the list of what is agreed.
+#[derive(Drop)]
+pub struct World<'a> {
+    pub(crate) scene: Scene<'a>,
+    pub(crate) events: Vec<Event>,
+}
+
+impl<'a> Model for World<'a> {
+    ghost use Rattle.running.specs.History.{History};
+
+    ghost Value = { History };
+
+    ghost use Rattle.events.specs.contracts.event.Event as event;
+    ghost use Rattle.std.specs.Coded.{codes};
+
+    ghost coded = { Prim.hlevel (codes, event.the_row.coded) };
+
+    ghost use Rattle.running.specs.inside.Placing.{StandsSo, history_of};
+
+    ghost view = { history_of };
+
+    ghost invariant = { StandsSo };
+}
+
+impl<'a> World<'a> {
+    /// The world at its start: all nodes are up, nothing is noted, and nothing was sent. `weights`
+    /// has one for each member.
+    pub fn new(alloc: Global, tree: &'a Tree, weights: &Weights) -> Result<World<'a>, Memory>
+        ensures world { IfOk result (λ w. w.world ≡ start w.world.division weights.now) }
+        ensures tree { IfOk result (λ w. w.world.division.tree ≡ tree.entry.now) }
+        ensures events { IfOk result (λ w. w.events ≡ []) }
+        ensures history { IfOk result IsHistory }
+    {
+        Ok(World {
+            scene: Scene::new(alloc, tree, weights)?,
+            events: Vec::new(alloc),
+        })
+    }
+
+    /// The agreed list, in the order in which it grew.
+    pub fn agreed(&self) -> &[Record]
+        ensures { result.now ≡ self.now.world.agreed }
+    {
+        self.scene.posted.agreed.as_slice()
+    }
+
+    /// The events that were taken, in turn.
+    pub fn events(&self) -> &[Event]
+        ensures { result.now ≡ self.now.events }
+    {
+        self.events.as_slice()
+    }
+
+    /// The different datagrams that were sent, in order of first sending.
+    pub fn datagrams(&self) -> &IndexSet<Vec<u8>>
+        ensures { map (λ d. d.items) result.now.keys ≡ self.now.world.sent }
+    {
+        &self.scene.posted.sent
+    }
+
+    /// How many nodes there are, one for each member.
+    pub fn len(&self) -> u8
+        ensures { result ≡ length self.now.world.nodes }
+    {
+        self.scene.nodes.len() as u8
+    }
+
+    /// Whether the node is up. A number that is none of a node is not.
+    pub fn is_up(&self, node: u8) -> bool
+        ensures { result ≡ is_up self.now.world node }
+    {
+        self.scene.is_up(node)
+    }
+
+    /// The record that a node which is up holds for the path.
+    pub fn held(&self, node: u8, path: &PkgPath) -> Option<&Record>
+        requires { is_up self.now.world node ≡ true }
+        ensures { (x : _) → slice_get self.now.world.nodes node ≡ Some x
+            → option_copied result ≡ holds self.now.world node x path.now }
+    {
+        self.scene.up(node).held(path)
+    }
+
+    /// The letter of the package at the position, as a node that is up shows it.
+    pub fn letter(&self, node: u8, position: u32) -> Letter
+        requires up { is_up self.now.world node ≡ true }
+        requires listed { position < length self.now.world.division.tree }
+        ensures { (x : _) → slice_get self.now.world.nodes node ≡ Some x
+            → engines.HasLetter (engine_of (member_at self.now.world node x)) position result }
+    {
+        self.scene.up(node).letter(position)
+    }
+
+    /// How many packages have each letter, as a node that is up shows them.
+    pub fn counts(&self, node: u8) -> Counts
+        requires { is_up self.now.world node ≡ true }
+        ensures { (x : _) → slice_get self.now.world.nodes node ≡ Some x
+            → engines.AreCounts (engine_of (member_at self.now.world node x)) result }
+    {
+        self.scene.up(node).counts()
+    }
+
+    /// The number of bytes of a member's log, whether it is up or down.
+    pub fn log_len(&self, node: u8) -> u64
+        requires { node < length self.now.world.nodes }
+        ensures { (x : _) → slice_get self.now.world.nodes node ≡ Some x
+            → result ≡ file_length self.now.world node x }
+    {
+        self.scene.nodes[node as usize].file().len() as u64
+    }
+}

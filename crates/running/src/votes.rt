@@ -1,0 +1,165 @@
+//! What a vote decides.
+ghost use Rattle.std.specs.Prelude.{◌≡◌, ◌<◌, IfOk, length, map, option_and_then, option_map};
+ghost use Rattle.ballots.specs.Support.{set_of};
+ghost use Rattle.protocol.specs.Step.{facts_named};
+ghost use Rattle.running.specs.inside.Deciding.{
+  claim_voted,
+  decision,
+  makes_majority,
+  same_claim,
+  value_under,
+  voted_by,
+  voted_in,
+  voters_in,
+};
+
+use ballots::{Body, Fact, Message, Tally, Weights};
+use claims::Claim;
+use faults::Memory;
+use indexmap::IndexSet;
+use member::Step;
+use node::{Node, Ready};
+use package_record::Build;
+use pkgpath::PkgPath;
+use stable_record::MemDisk;
+use std::alloc::Global;
+
+/// Where the number of its sender stands in a datagram.
+const SENDER: usize = 5;
+
+/// The claim that the message votes for, if it is a vote.
+fn claim_of(message: &Message) -> Option<Claim>
+    ensures { result ≡ claim_voted message.now.body }
+{
+    match &message.body {
+        Body::Vote(claim) => Some(*claim),
+        Body::Offer(_)
+        | Body::Promise(_, _)
+        | Body::Propose(_, _)
+        | Body::Agreed(_)
+        | Body::Ask
+        | Body::Nay(_, _) => None,
+    }
+}
+
+/// Whether both are one.
+fn is_same(a: Claim, b: Claim) -> bool
+    ensures { result ≡ same_claim a b }
+{
+    a.round == b.round && a.member == b.member
+}
+
+/// Those of the members that sent this vote. Votes of two members for one claim differ in their
+/// senders alone.
+fn voters(
+    alloc: Global,
+    weights: &Weights,
+    sent: &IndexSet<Vec<u8>>,
+    text: &[u8],
+) -> Result<Tally, Memory>
+    requires { SENDER < length text.now }
+    ensures weights { IfOk result (λ tally. tally.weights ≡ weights.now) }
+    ensures voters { IfOk result (λ tally. set_of tally
+        ≡ voters_in weights.now (map (λ d. d.items) sent.now.keys) text.now) }
+{
+    let mut vote = text.to_vec(alloc)?;
+    let mut tally = Tally::new(weights);
+    for member in 0..weights.len() as u8 {
+        vote[SENDER] = member;
+        if sent.contains(vote.as_slice()) {
+            tally.join(member);
+        }
+    }
+    Ok(tally)
+}
+
+/// Whether a majority has voted with this member's vote, and had not without it. Who is no member
+/// makes none.
+fn makes_majority(mut tally: Tally, sender: u8) -> bool
+    ensures { result ≡ makes_majority tally.weights (set_of tally) sender }
+{
+    if sender as usize >= tally.weights().len() {
+        return false;
+    }
+    let was_majority = tally.is_majority();
+    tally.join(sender);
+    tally.is_majority() && !was_majority
+}
+
+/// The build that the fact is a vote for, under the claim.
+fn voted_in(fact: &Fact, claim: Claim) -> Option<&Build>
+    ensures { option_map (λ build. build.now) result ≡ voted_in claim fact.now }
+{
+    match fact {
+        Fact::Voted(under, build) => {
+            if is_same(*under, claim) {
+                Some(build)
+            } else {
+                None
+            }
+        }
+        Fact::Opened(_) | Fact::Promised(_) | Fact::Held(_) => None,
+    }
+}
+
+/// The build of the node's last vote for the unit that the path names, if it is under the claim.
+fn voted_last<'a>(node: &'a Node<'_, MemDisk>, path: &PkgPath, claim: Claim) -> Option<&'a Build>
+    ensures { option_map (λ build. build.now) result
+        ≡ option_and_then (value_under claim)
+        (facts_named node.entry.now.node.member path.now).voted }
+{
+    match node.voted(path) {
+        Some((under, build)) if is_same(*under, claim) => Some(build),
+        _ => None,
+    }
+}
+
+/// The build that the step votes for under the claim: the node notes that vote now, or has noted
+/// it.
+fn voted<'a>(
+    node: &'a Node<'_, MemDisk>,
+    step: &'a Step,
+    message: &Message,
+    claim: Claim,
+) -> Option<&'a Build>
+    ensures { option_map (λ build. build.now) result
+        ≡ voted_by node.entry.now.node.member step.entry.now.note message.now.path claim }
+{
+    match step.note() {
+        Some(note) => voted_in(&note.fact, claim),
+        None => voted_last(node, &message.path, claim),
+    }
+}
+
+/// The build of the claim that the node's step decides: with the vote that it sends a majority of
+/// the members has sent votes for the claim, and before it none had.
+pub(crate) fn decided<'a>(
+    alloc: Global,
+    weights: &Weights,
+    sent: &IndexSet<Vec<u8>>,
+    node: &'a Node<'_, MemDisk>,
+    ready: &'a Ready,
+) -> Result<Option<&'a Build>, Memory>
+    ensures { IfOk result (λ build. option_map (λ b. b.now) build
+        ≡ decision weights.now (map (λ d. d.items) sent.now.keys) node.entry.now.node.member
+        ready.entry.now.step) }
+{
+    let Some(step) = ready.step() else {
+        return Ok(None);
+    };
+    let Some(message) = step.sends().message() else {
+        return Ok(None);
+    };
+    let Some(claim) = claim_of(message) else {
+        return Ok(None);
+    };
+    let Some((_, vote)) = ready.sends().get(0) else {
+        return Ok(None);
+    };
+    let tally = voters(alloc, weights, sent, vote)?;
+    if makes_majority(tally, message.sender) {
+        Ok(voted(node, step, message, claim))
+    } else {
+        Ok(None)
+    }
+}

@@ -1,0 +1,39 @@
+//! `dpbr run [--single] LISTING TRACE`.
+ghost use Rattle.std.specs.Prelude.{◌≡◌, IfNone, IfOk, IfSome, Some, codes, false};
+ghost use Rattle.clap.specs.Words.{found_of, rows_of, shape_of};
+ghost use Rattle.clap.specs.declared.builder.command.Command.TheViews.{out-Command as fields_of};
+ghost use Rattle.words.specs.Calls.{HasBoth, IsCallOf, run_command};
+
+use crate::Call;
+use crate::arguments::{is_single, required, single, text_of};
+use clap::{ArgMatches, Command};
+use std::alloc::{AllocError, Global};
+
+/// What clap is told of the subcommand.
+pub fn command<'a>(alloc: Global) -> Result<Command<'a>, AllocError>
+    ensures shape { IfOk result (λ command. shape_of command ≡ run_command) }
+    ensures local { IfOk result (λ command. (fields_of command).has_globals ≡ false) }
+{
+    let listing = required(alloc, "LISTING", "a listing of the ports tree");
+    let trace = required(alloc, "TRACE", "the events of a run, as JSON");
+    Command::new(alloc, "run")
+        .about("Runs a trace, and prints what each node shows and the list of what is agreed.")
+        .arg(listing)?
+        .arg(trace)?
+        .arg(single(alloc))
+}
+
+/// The call with the values that were found.
+pub fn call_of<'a>(found: &ArgMatches<'a>) -> Option<Call<'a>>
+    ensures some { IfSome result (IsCallOf (Some (codes "run", rows_of (found_of found.now)))) }
+    ensures none { IfNone result
+        (¬ HasBoth (rows_of (found_of found.now)) (codes "LISTING") (codes "TRACE")) }
+{
+    let listing = text_of(found, "LISTING")?;
+    let trace = text_of(found, "TRACE")?;
+    Some(Call::Run {
+        listing,
+        trace,
+        is_single: is_single(found),
+    })
+}
