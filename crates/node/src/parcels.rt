@@ -1,5 +1,5 @@
 //! Datagrams with their receivers.
-ghost use Rattle.std.specs.Prelude.{◌≡◌, [], List, ℕ, option_map, slice_get};
+ghost use Rattle.std.specs.Prelude.{◌≡◌, [], option_map, slice_get};
 ghost use Rattle.node.specs.Parcels.{parcels_to, texts_in};
 
 use std::alloc::Global;
@@ -41,11 +41,12 @@ impl Parcels {
         Parcels { texts, receivers }
     }
 
-    /// The members that get the datagrams, in order of number.
-    pub fn receivers(&self) -> &[u8]
-        ensures { (texts : List (List ℕ)) × (self.now ≡ parcels_to result.now texts) }
+    /// The members that get the datagrams, in order of number, and the datagrams, each of which goes
+    /// to each of these.
+    pub fn parts(&self) -> (&[u8], &[Vec<u8>])
+        ensures { self.now ≡ parcels_to result.0.now (texts_in result.1.now) }
     {
-        self.receivers.as_slice()
+        (self.receivers.as_slice(), self.texts.as_slice())
     }
 
     /// The receiver and the bytes at this place, counted from 0. None, where so many are not sent.

@@ -3,6 +3,7 @@ ghost use Rattle.std.specs.Prelude.{◌≡◌, ◌++◌, ◌∷◌, [], OnOk, fo
 ghost use Rattle.std.specs.List.{list_any};
 ghost use Rattle.std.specs.Str.{bytes_eq};
 ghost use Rattle.indexmap.specs.IndexSet.{insert_key};
+ghost use Rattle.node.specs.Parcels.{texts_in};
 ghost use Rattle.world.specs.Lists.{has_path, with_build};
 ghost use Rattle.world.specs.Sent.{with_datagram};
 ghost use Rattle.running.specs.inside.Posting.{AreListed, HasGrown, list_in, sent_in};
@@ -65,10 +66,22 @@ impl Posted {
         ensures grown { HasGrown self.old self.new }
         ensures list { (self.new.agreed ≡ self.old.agreed) × (self.new.listed ≡ self.old.listed) }
     {
-        let mut place = 0;
-        while let Some((_, text)) = sends.get(place) {
-            self.enter_text(text)?;
-            place += 1;
+        let (receivers, texts) = sends.parts();
+        for _ in receivers {
+            self.enter_all(texts)?;
+        }
+        Ok(())
+    }
+
+    /// Enters these datagrams.
+    fn enter_all(&mut self, texts: &[Vec<u8>]) -> Result<(), Memory>
+        ensures ok { OnOk result (sent_in self.new
+            ≡ fold with_datagram (sent_in self.old) (texts_in texts.now)) }
+        ensures grown { HasGrown self.old self.new }
+        ensures list { (self.new.agreed ≡ self.old.agreed) × (self.new.listed ≡ self.old.listed) }
+    {
+        for text in texts {
+            self.enter_text(text.as_slice())?;
         }
         Ok(())
     }
@@ -94,6 +107,7 @@ impl Posted {
         ensures grown { HasGrown self.old self.new }
         ensures sent { self.new.sent ≡ self.old.sent }
     {
+        let _unit = build.unit_path();
         let packages = build.packages();
         if self.has_any(packages) {
             return Ok(());
