@@ -1,2 +1,6 @@
 pub mod Voting
-pub mod Votes
+pub mod VoteSent
+pub mod Entering
+pub mod AtStart
+pub mod Shown
+pub mod Readied
