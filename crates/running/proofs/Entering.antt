@@ -1,5 +1,5 @@
 -- What is entered in a world's tables stands behind what was there.
-use Rattle.std.proofs.Common.{◌≡◌, ◌≢◌, ◌<◌, ℕ, zero, suc, Bool, true, false, cond, List, [], ◌∷◌, ◌++◌, length, map, take, get_or, fold, refl, sym, ap, subst, ◌∙◌, arith, append_assoc, ◌||◌, Vec}
+use Rattle.std.proofs.Common.{◌≡◌, ◌≢◌, ◌<◌, ◌≤◌, ◌+◌, ℕ, zero, suc, Bool, true, false, cond, List, [], ◌∷◌, ◌++◌, length, map, take, get_or, fold, refl, sym, ap, subst, ◌∙◌, arith, append_assoc, ◌||◌, Vec}
 use Rattle.std.specs.Prelude.{All, AllPairs, flat_map}
 use Rattle.std.specs.List.{list_any}
 use Rattle.std.specs.Str.{bytes_eq}
@@ -26,7 +26,7 @@ use Rattle.running.specs.inside.Posting.{AreListed, HasGrown, list_in, sent_in}
 -- what begins a beginning begins the whole
 begins_on : {X : Type 0} (m n : ℕ) (a b c : List X) → length a ≡ m → length b ≡ n → take m b ≡ a → take n c ≡ b → take m c ≡ a
 begins_on m n a b c short long ab bc =
-    let less = omega (arith, length-take m b, ap length ab, short, long) in
+    let less : m ≤ n = omega (arith, length-take m b, ap length ab, short, long) in
     sym (take-take m n c less) ∙ ap (take m) bc ∙ ab
 
 -- tables that grew, and grew on, have grown
@@ -54,6 +54,14 @@ grown_none p q es el ek = record {
   listed = ap (take (length p.listed.keys)) ek ∙ take_all (length p.listed.keys) p.listed.keys (omega arith);
 }
 
+-- tables where a path alone was kept more have grown
+pub grown_key : (p q : Posted) (path : Text) → sent_in q ≡ sent_in p → list_in q ≡ list_in p → q.listed.keys ≡ insert_key bytes_eq p.listed.keys path → HasGrown p q
+grown_key p q path es el ek = by_case (list_any (bytes_eq path) p.listed.keys) ek
+  where
+    by_case : (b : Bool) → q.listed.keys ≡ cond b p.listed.keys (p.listed.keys ++ path ∷ []) → HasGrown p q
+    by_case true e = grown_none p q es el e
+    by_case false e = grown_by p q [] [] (path ∷ []) (es ∙ sym (append-nil (sent_in p))) (el ∙ sym (append-nil (list_in p))) e
+
 -- ---- datagrams
 
 -- a key that equals the text is the text among these
@@ -69,10 +77,10 @@ text_there keys text there =
     sym (ap (λ b. cond b sent (sent ++ text ∷ [])) (sym (among_texts text keys) ∙ there))
 
 -- and one that isn't goes last
-pub text_entered : (keys : List (Vec ℕ Global)) (text : Text) (v : Vec ℕ Global) → v.items ≡ text
-    → map (λ d. d.items) (insert_key (λ (a b : Vec ℕ Global). bytes_eq a.items b.items) keys v) ≡ with_datagram (map (λ d. d.items) keys) text
-text_entered keys text v is =
-    by_case (list_any (λ w. bytes_eq v.items w.items) keys)
+pub text_entered : (keys now : List (Vec ℕ Global)) (text : Text) (v : Vec ℕ Global) → v.items ≡ text
+    → now ≡ insert_key (λ (a b : Vec ℕ Global). bytes_eq a.items b.items) keys v → map (λ d. d.items) now ≡ with_datagram (map (λ d. d.items) keys) text
+text_entered keys now text v is e =
+    ap (map (λ (d : Vec ℕ Global). d.items)) e ∙ by_case (list_any (λ w. bytes_eq v.items w.items) keys)
     ∙ ap (λ b. cond b sent (sent ++ v.items ∷ [])) (among_texts v.items keys)
     ∙ ap (with_datagram sent) is
   where
@@ -82,15 +90,6 @@ text_entered keys text v is =
     by_case : (b : Bool) → map (λ (d : Vec ℕ Global). d.items) (cond b keys (keys ++ v ∷ [])) ≡ cond b sent (sent ++ v.items ∷ [])
     by_case true = refl
     by_case false = map-append (λ (d : Vec ℕ Global). d.items) keys (v ∷ [])
-
--- one datagram more of some
-pub texts_more : (sent : List Text) (texts : List (Vec ℕ Global)) (i : ℕ) (v : Vec ℕ Global) (now : List Text) → i < length texts → v ≡ get_or texts i v
-    → now ≡ with_datagram (fold with_datagram sent (texts_in (take i texts))) v.items
-    → now ≡ fold with_datagram sent (texts_in (take (i + 1) texts))
-texts_more sent texts i v now within here is =
-    is ∙ sym (fold_push with_datagram sent (texts_in (take i texts)) v.items)
-    ∙ ap (fold with_datagram sent) (sym (map-append (λ (d : Vec ℕ Global). d.items) (take i texts) (v ∷ [])))
-    ∙ ap (λ l. fold with_datagram sent (texts_in l)) (ap (λ x. take i texts ++ x ∷ []) here ∙ sym (take_more texts i v within))
 
 -- ---- datagrams to several receivers
 
@@ -121,6 +120,10 @@ receivers_more sent receivers texts i now within is =
 pub paths_have : (list : List Content) (path : Text) → list_any (bytes_eq path) (paths_of list) ≡ has_path list path
 paths_have [] path = refl
 paths_have (r ∷ rs) path = rw (nat_list_eq_equiv.symm path r.path, paths_have rs path) refl
+
+pub any_have : (list packages : List Content) (keys : List Text) → keys ≡ paths_of list
+    → list_any (λ (r : Content). list_any (bytes_eq r.path) keys) packages ≡ list_any (λ (r : Content). has_path list r.path) packages
+any_have list packages keys are = λ i. list_any (λ (r : Content). (ap (list_any (bytes_eq r.path)) are ∙ paths_have list r.path) i) packages
 
 -- an element passes no test that none passes
 none_at : {X : Type 0} (p : X → Bool) (xs : List X) (i : ℕ) (d : X) → i < length xs → list_any p xs ≡ false → p (get_or xs i d) ≡ false
