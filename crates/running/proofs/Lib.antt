@@ -1,4 +1,8 @@
 pub mod Voting
 pub mod VoteSent
+pub mod Entering
+pub mod AtStart
+pub mod Shown
+pub mod Readied
 pub mod Grown
 pub mod Taking
