@@ -1,2 +1,4 @@
 pub mod Voting
-pub mod Votes
+pub mod VoteSent
+pub mod Casting
+pub mod Listing
