@@ -6,3 +6,5 @@ pub mod Shown
 pub mod Readied
 pub mod Grown
 pub mod Taking
+pub mod Casting
+pub mod Listing
