@@ -15,7 +15,7 @@ returns-in_err-world-clause-refused c =
       read = trace_view c.in_ok-trace.trace;
       is_trace = c.in_ok-trace.ensures.ok;
       fault = c.in_err-world.field-0.0;
-      is_fault = c.in_err-world.ensures.refused;
+      is_fault = rw c.as_slice.ensures.value at c.in_err-world.ensures.refused;
       told = refl;
     })))
 
@@ -26,7 +26,7 @@ returns-clause-ok c = record {
   history = c.in_ok-world.world;
   of_tree = c.in_ok-world.ensures.tree;
   weights = c.in_ok-world.ensures.weights;
-  events = c.in_ok-world.ensures.kept;
+  events = rw c.as_slice.ensures.value at c.in_ok-world.ensures.kept;
   is_history = c.in_ok-world.ensures.history;
   outcome = c.in_ok-text.ensures;
 }
