@@ -5,13 +5,13 @@ import tempfile
 
 from topics.tally import EXAMPLES, PROGRAM, TESTS, TOP, answer, contents, difference
 
-# The folders of stored cases: of `dpbr status`, of `dpbr audit`, and of `dpbr run`, those with builds of several pieces apart.
-STORED = ("status", "audit", "traces", "pieces")
+# The folders of stored cases of `dpbr status` and `dpbr audit`.
+STORED = ("status", "audit")
 
 
-def stored_cases(tally):
+def stored_cases(tally, kinds):
     """Texts whose answers are known, each a folder with the words and the three answers."""
-    for kind in STORED:
+    for kind in kinds:
         for number in sorted(os.listdir(f"{TESTS}/{kind}")):
             folder = f"{TESTS}/{kind}/{number}"
             words = contents(f"{folder}/words").decode().split()
@@ -57,7 +57,7 @@ def faults(tally):
                              (f"audit {good} none", "2"), (f"audit {good} {folder}", "2"), ("audit bad none", "401 at 1"),
                              (f"audit {good} bad", "1308 at 1"), ("status none bad --single", "2"), (f"audit --single {good} bad", "1308 at 1")):
             tally.add(words, difference(answer(words.split(), folder), (b"", f"dpbr: fault {fault}\n".encode(), 1)))
-    for words in (["status", "listing", "held"], ["audit", "listing", "list"], ["audit", "listing", "list.late"]):
+    for words in (["status", "listing", "held"], ["audit", "listing", "list"], ["audit", "listing", "list.late"], ["run", "listing", "trace"]):
         with open("/dev/full", "wb") as full:
             done = subprocess.run([PROGRAM, *words], cwd=EXAMPLES, stdout=full, stderr=subprocess.PIPE)
         tally.add(f"{words} on a full device", difference((b"", done.stderr, done.returncode), (b"", b"dpbr: fault 2\n", 1)))
@@ -117,7 +117,7 @@ def wrapper(tally):
 
 def run(tally):
     wrapper(tally)
-    stored_cases(tally)
+    stored_cases(tally, STORED)
     examples(tally)
     no_calls(tally)
     faults(tally)

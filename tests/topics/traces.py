@@ -1,11 +1,15 @@
-"""Traces and BUILDS whose memory runs out: each allocation of some rows of `traces_probe` refused in turn. The answer is then
-the right one, or that memory ran out, or the program ends."""
+"""Stored cases of `dpbr run`, and traces and BUILDS whose memory runs out: each allocation of some rows of `traces_probe`
+refused in turn. The answer is then the right one, or that memory ran out, or the program ends."""
 import os
 import subprocess
 import tempfile
 
 from topics.memory import refusing
+from topics.programs import stored_cases
 from topics.tally import TOP, built_shim
+
+# The folders of stored cases of `dpbr run`: those whose builds go out in several pieces stand apart.
+STORED = ("traces", "pieces")
 
 PROBE = f"{TOP}/crates/traces_probe/out/traces_probe"
 FILES = b'[{"hex":"616263","name":"x"}]'
@@ -50,6 +54,7 @@ def refused_in_turn(tally, folder, name, row):
 
 
 def run(tally):
+    stored_cases(tally, STORED)
     with tempfile.TemporaryDirectory() as folder:
         if built_shim(tally, folder, "refuse"):
             for name, row in ROWS.items():

@@ -2,8 +2,10 @@ mod Examples
 pub mod Beginnings
 pub mod Ends
 pub mod Fields
+pub mod FlatLines
 pub mod Holding
 pub mod Lines
+pub mod NodeLines
 pub mod NumberedLines
 pub mod OneList
 pub mod PackageLines

@@ -10,7 +10,8 @@ use Rattle.replay.specs.List.{IsFirstBadLine}
 use Rattle.replay.specs.Printed.{IsDescribed}
 use Rattle.replay.specs.Refusals.{RefusesHeld, RefusesList, RefusesListing, held_refusal, list_refusal, listing_refusal, memory_refusal}
 use Rattle.replay.specs.Rules.{rules_for}
-use Rattle.replay.specs.Stopped.{RefusesAuditFiles, RefusesListingFile, RefusesStatusFiles}
+use Rattle.replay.specs.Runs.{RefusesRun, RefusesTrace}
+use Rattle.replay.specs.Stopped.{RefusesAuditFiles, RefusesListingFile, RefusesRunFiles, RefusesStatusFiles}
 use Rattle.replay.specs.declared.held.HeldFault.{HeldFault}
 use Rattle.replay.specs.declared.held.HeldFault.TheVariants.{Memory as HeldMemory}
 use Rattle.replay.specs.declared.list.ListFault.{ListFault}
@@ -34,6 +35,12 @@ pub list_refused : (rules : Rules) (listing list : Text) (tree : Tree) (e : List
     → (e ≡ ListMemory) ⊎ IsFirstBadLine list e → r ≡ list_refusal e → (r ≡ memory_refusal) ⊎ RefusesList rules listing list r
 list_refused rules listing list tree e r described (inl memory) told = inl (told ∙ ap list_refusal memory)
 list_refused rules listing list tree e r described (inr fault) told = inr (tree, described, e, fault, told)
+
+-- want of memory, or what is told of a trace
+pub trace_refused : (rules : Rules) (listing trace : Text) (tree : Tree) (r : Refusal) → tree_of rules listing ≡ Ok tree
+    → (r ≡ memory_refusal) ⊎ RefusesTrace tree trace r → (r ≡ memory_refusal) ⊎ RefusesRun rules listing trace r
+trace_refused rules listing trace tree r described (inl memory) = inl memory
+trace_refused rules listing trace tree r described (inr refused) = inr (inr (tree, described, refused))
 
 -- the first of two texts is refused, or else the second
 pub first_refused : {A B C : Type 0} → A ⊎ B → A ⊎ (B ⊎ C)
@@ -62,6 +69,11 @@ pub list_in_file : (is_single : Bool) (list : Text) (tree : Tree) (e : ListFault
 list_in_file is_single list tree e described (inl memory) = inl (inl (ap list_refusal memory))
 list_in_file is_single list tree e (listing, described) (inr fault) = inr (listing, list, inr (tree, described, e, fault, refl))
 
+pub trace_in_file : (is_single : Bool) (trace : Text) (tree : Tree) (r : Refusal) → IsDescribed is_single tree → (r ≡ memory_refusal) ⊎ RefusesTrace tree trace r
+    → RefusesRunFiles is_single r
+trace_in_file is_single trace tree r described (inl memory) = inl (inl memory)
+trace_in_file is_single trace tree r (listing, described) (inr refused) = inr (listing, trace, inr (tree, described, refused))
+
 -- what is told of the first file is told of both
 pub status_by_listing : (is_single : Bool) (r : Refusal) → RefusesListingFile is_single r → RefusesStatusFiles is_single r
 status_by_listing is_single r (inl system) = inl system
@@ -70,3 +82,7 @@ status_by_listing is_single r (inr (listing, refused)) = inr (listing, [], inl r
 pub audit_by_listing : (is_single : Bool) (r : Refusal) → RefusesListingFile is_single r → RefusesAuditFiles is_single r
 audit_by_listing is_single r (inl system) = inl system
 audit_by_listing is_single r (inr (listing, refused)) = inr (listing, [], inl refused)
+
+pub run_by_listing : (is_single : Bool) (r : Refusal) → RefusesListingFile is_single r → RefusesRunFiles is_single r
+run_by_listing is_single r (inl system) = inl system
+run_by_listing is_single r (inr (listing, refused)) = inr (listing, [], inl refused)

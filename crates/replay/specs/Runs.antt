@@ -1,5 +1,5 @@
 -- What `dpbr run` prints.
-use Rattle.std.specs.Prelude.{◌≡◌, ◌⊎◌, ◌++◌, ℕ, Bool, false, true, List, [], ◌∷◌, Some, Ok, Err, codes, flat, length, map, slice_get}
+use Rattle.std.specs.Prelude.{◌≡◌, ◌⊎◌, ◌++◌, ℕ, Bool, false, true, List, [], ◌∷◌, Some, Ok, Err, codes, flat_map, length, slice_get}
 use Rattle.std.specs.Fmt.{decimal}
 use Rattle.engine.specs.State.{AreCounts}
 use Rattle.engine.specs.declared.Counts.{Counts}
@@ -29,13 +29,16 @@ IsLineOf w k x line =
     ⊎ ((x.up ≡ true) × ((c : Counts) × AreCounts (engine_of (member_at w k x)) c
     × (line ≡ node_front k ++ counts_line c)))
 
+-- the same of the node with this number
+abbrev pub IsNodeLine : World → ℕ → Text → Type 0
+IsNodeLine w k line = (x : WorldNode) → slice_get w.nodes k ≡ Some x → IsLineOf w k x line
+
 -- a line for each node, by number, and then the text of the agreed list
 pub record IsOutcome (w : World) (text : Text) : Type 0 where
   pub lines : List Text
   pub one_for_each : length lines ≡ length w.nodes
-  pub are_lines : (k : ℕ) (x : WorldNode) (line : Text) → slice_get w.nodes k ≡ Some x
-      → slice_get lines k ≡ Some line → IsLineOf w k x line
-  pub parts : text ≡ flat lines ++ list_text w.agreed
+  pub are_lines : (k : ℕ) (line : Text) → slice_get lines k ≡ Some line → IsNodeLine w k line
+  pub parts : text ≡ flat_map (λ line. line) lines ++ list_text w.agreed
 
 -- The text is a trace, its events lead from the start over the tree to a world, and that is told.
 pub record IsRunOf (tree : Tree) (trace text : Text) : Type 0 where

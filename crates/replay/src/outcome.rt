@@ -1,11 +1,11 @@
 //! The text of `dpbr run`.
-ghost use Rattle.std.specs.Prelude.{◌≡◌, ◌++◌, ◌⊎◌, IfErr, IfOk, OnOk};
+ghost use Rattle.std.specs.Prelude.{◌≡◌, ◌⊎◌, IfErr, IfOk, string_bytes};
 ghost use Rattle.replay.specs.Refusals.{memory_refusal};
 ghost use Rattle.replay.specs.Runs.{IsNodeLine, IsOutcome, IsRunOf, RefusesTrace};
 
-use crate::list_text::list_text;
 use crate::refusal::Refusal;
 use crate::report::counts_text;
+use crate::writing::list_text;
 use faults::Memory;
 use listing::Tree;
 use running::{World, run};
@@ -45,7 +45,7 @@ pub fn run_text(alloc: Global, world: &World<'_>) -> Result<Vec<u8>, Memory>
 
 /// How many packages have each letter at the node, or that it is down, as a line.
 fn node_text(alloc: Global, world: &World<'_>, node: u8) -> Result<String, AllocError>
-    ensures { IfOk result (λ text. IsNodeLine world.now.world node text) }
+    ensures { IfOk result (λ text. IsNodeLine world.now.world node (string_bytes text)) }
 {
     if world.is_up(node) {
         let counts = counts_text(alloc, world.counts(node))?;

@@ -207,7 +207,17 @@ fn run_of_files<R: Files + AllocGlobal>(
     ensures refused { IfErr result (RefusesRunFiles is_single) }
 {
     let tree = tree_of_file(rt, listing, is_single)?;
+    run_in_file(rt, &tree, trace)
+}
+
+/// What is printed of the trace in a file, over the tree that a listing describes.
+fn run_in_file<R: Files + AllocGlobal>(rt: &R, tree: &Tree, trace: &str) -> Result<Answer, Refusal>
+    ensures ok { (is_single : Bool) → IsDescribed is_single tree.now
+        → IfOk result (λ answer. (answer.status ≡ 0) × IsRun is_single answer.text.items) }
+    ensures refused { (is_single : Bool) → IsDescribed is_single tree.now
+        → IfErr result (RefusesRunFiles is_single) }
+{
     let trace = fs::read(rt, trace)?;
-    let text = run_of_trace(rt.alloc(), &tree, trace.as_slice())?;
+    let text = run_of_trace(rt.alloc(), tree, trace.as_slice())?;
     Ok(Answer { text, status: 0 })
 }

@@ -3,9 +3,9 @@ ghost use Rattle.std.specs.Prelude.{◌≡◌, ◌⊎◌, IfErr, IfOk};
 ghost use Rattle.faults.specs.Answers.{IsRightUnless};
 ghost use Rattle.listing.specs.Listing.{tree_of};
 ghost use Rattle.replay.specs.Audit.{IsVerdictOnListing};
-ghost use Rattle.replay.specs.Refusals.{RefusesAudit, RefusesRun, RefusesStatus, memory_refusal};
+ghost use Rattle.replay.specs.Refusals.{RefusesAudit, RefusesStatus, memory_refusal};
 ghost use Rattle.replay.specs.Rules.{rules_for};
-ghost use Rattle.replay.specs.Runs.{IsRunOfListing};
+ghost use Rattle.replay.specs.Runs.{IsRunOfListing, RefusesRun};
 ghost use Rattle.replay.specs.Status.{IsStatusOfListing};
 
 use crate::outcome::run_of_trace;

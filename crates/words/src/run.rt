@@ -5,7 +5,7 @@ ghost use Rattle.clap.specs.declared.builder.command.Command.TheViews.{out-Comma
 ghost use Rattle.words.specs.Calls.{HasBoth, IsCallOf, run_command};
 
 use crate::Call;
-use crate::arguments::{is_single, required, single, text_of};
+use crate::arguments::{self, is_single, required, text_of};
 use clap::{ArgMatches, Command};
 use std::alloc::{AllocError, Global};
 
@@ -16,11 +16,8 @@ pub fn command<'a>(alloc: Global) -> Result<Command<'a>, AllocError>
 {
     let listing = required(alloc, "LISTING", "a listing of the ports tree");
     let trace = required(alloc, "TRACE", "the events of a run, as JSON");
-    Command::new(alloc, "run")
-        .about("Runs a trace, and prints what each node shows and the list of what is agreed.")
-        .arg(listing)?
-        .arg(trace)?
-        .arg(single(alloc))
+    let about = "Runs a trace, and prints what each node shows and the list of what is agreed.";
+    arguments::command(alloc, "run", about, listing, trace)
 }
 
 /// The call with the values that were found.

@@ -1,0 +1,59 @@
+-- The lines of the nodes so far.
+use Rattle.std.proofs.Common.{◌≡◌, ◌+◌, ◌∙◌, ◌++◌, ℕ, zero, suc, Bool, true, false, List, [], ◌∷◌, None, Some, length, arith, ap, inl, inr, refl, sym, subst, slice_get, flat_map, unwrap_or, codes}
+use Rattle.std.proofs.lemmas.Grind.{flat_map-append}
+use Rattle.std.proofs.lemmas.List.{append-nil, length-append}
+use Rattle.engine.specs.State.{AreCounts}
+use Rattle.engine.specs.declared.Counts.{Counts}
+use Rattle.faults.specs.Bytes.{Text, line_feed}
+use Rattle.protocol.specs.State.{engine_of}
+use Rattle.replay.specs.Runs.{IsNodeLine, node_front}
+use Rattle.replay.specs.Status.{counts_line}
+use Rattle.world.specs.Happening.{is_up, up_of}
+use Rattle.world.specs.World.{World, WorldNode, member_at}
+
+-- ---- one node
+
+-- whether a node is up, once it is known
+its_state : (w : World) (k : ℕ) (b : Bool) → is_up w k ≡ b → (x : WorldNode) → slice_get w.nodes k ≡ Some x → x.up ≡ b
+its_state w k b is x stands = ap up_of (sym stands) ∙ is
+
+-- the line of a node that is down
+pub down_line : (w : World) (k : ℕ) (line : Text) → is_up w k ≡ false → line ≡ node_front k ++ codes "down" ++ line_feed ∷ [] → IsNodeLine w k line
+down_line w k line down is x stands = inl (its_state w k false down x stands, is)
+
+-- the line of a node that is up
+pub up_line : (w : World) (k : ℕ) (c : Counts) (line : Text) → is_up w k ≡ true
+    → ((x : WorldNode) → slice_get w.nodes k ≡ Some x → AreCounts (engine_of (member_at w k x)) c)
+    → line ≡ node_front k ++ counts_line c → IsNodeLine w k line
+up_line w k c line up counts is x stands = inr (its_state w k true up x stands, (c, counts x stands, is))
+
+-- ---- all of them
+
+-- the text has the lines of the nodes below a number
+pub record HasNodeLines (w : World) (n : ℕ) (text : Text) : Type 0 where
+  pub lines : List Text
+  pub count : length lines ≡ n
+  pub are_lines : (k : ℕ) (line : Text) → slice_get lines k ≡ Some line → IsNodeLine w k line
+  pub text_is : text ≡ flat_map (λ line. line) lines
+
+-- what holds of each and of one more
+one_more : (P : ℕ → Text → Type 0) (lines : List Text) (line : Text) → ((k : ℕ) (l : Text) → slice_get lines k ≡ Some l → P k l) → P (length lines) line
+    → (k : ℕ) (l : Text) → slice_get (lines ++ line ∷ []) k ≡ Some l → P k l
+one_more P [] line each last zero l e = let same : line ≡ l = ap (λ o. unwrap_or o line) e in subst (P 0) same last
+one_more P [] line each last (suc k) l e = absurd (let no : None ≡ Some l = e in cc)
+one_more P (x ∷ xs) line each last zero l e = each 0 l e
+one_more P (x ∷ xs) line each last (suc k) l e = one_more (λ m. P (suc m)) xs line (λ m. each (suc m)) last k l e
+
+pub no_node_lines : (w : World) → HasNodeLines w 0 []
+no_node_lines w = record { lines = []; count = refl; are_lines = λ k line e. absurd (let no : None ≡ Some line = e in cc); text_is = refl }
+
+pub node_lines_more : (w : World) (n : ℕ) (text after line : Text) → HasNodeLines w n text → IsNodeLine w n line → after ≡ text ++ line
+    → HasNodeLines w (n + 1) after
+node_lines_more w n text after line has is appended = record {
+  lines = has.lines ++ line ∷ [];
+  count = let more : length (has.lines ++ line ∷ []) ≡ length has.lines + 1 = search (length-append, arith) in more ∙ ap (λ m. m + 1) has.count;
+  are_lines = one_more (IsNodeLine w) has.lines line has.are_lines (subst (λ m. IsNodeLine w m line) (sym has.count) is);
+  text_is =
+      let all : flat_map (λ l. l) (has.lines ++ line ∷ []) ≡ flat_map (λ l. l) has.lines ++ (line ++ []) = flat_map-append (λ l. l) has.lines (line ∷ []) in
+      appended ∙ ap (λ (t : Text). t ++ line) has.text_is ∙ ap (λ (t : Text). flat_map (λ l. l) has.lines ++ t) (sym (append-nil line)) ∙ sym all;
+}
