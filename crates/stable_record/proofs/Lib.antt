@@ -8,6 +8,7 @@ mod Files
 mod Filled
 mod Foretold
 mod Headers
+mod Kept
 mod NewLog
 mod NotesRead
 mod Steps

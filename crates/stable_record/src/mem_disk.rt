@@ -39,19 +39,21 @@ pub enum Left {
 #[derive(Drop)]
 pub struct MemDisk {
     file: Vec<u8>,
-    /// Nothing was written or cut since the last sync.
-    is_synced: bool,
-    /// Otherwise, the file as of then.
+    /// Before this place nothing was changed since the last sync.
+    unchanged: usize,
+    /// What the disk has from there on.
     before: Vec<u8>,
     /// Where the ranges begin that were written since then, and how many bytes each has.
     ranges: Vec<(usize, usize)>,
     noted: Record,
     ghost file_is: { file.items ≡ seen (replay no_past noted.events) },
-    ghost before_is: { (if is_synced then file.items else before.items)
+    ghost before_is: { take unchanged file.items ++ before.items
         ≡ on_disk (replay no_past noted.events) },
     ghost ranges_are: { ranges.items ≡ unsynced (replay no_past noted.events) },
+    ghost within: { unchanged ≤ length file.items },
     ghost fits: { length file.items ≤ vec_capacity before },
-    ghost fits_back: { length before.items ≤ vec_capacity file },
+    ghost fits_before: { unchanged + length before.items ≤ vec_capacity before },
+    ghost fits_back: { unchanged + length before.items ≤ vec_capacity file },
     ghost were_bytes: { WereBytes no_past noted.events },
 }
 
@@ -67,8 +69,8 @@ impl MemDisk {
         let mut noted = Record::new();
         noted.note(&[BEGUN], bytes);
         Ok(MemDisk {
+            unchanged: file.len(),
             file,
-            is_synced: true,
             before,
             ranges: Vec::new(alloc),
             noted,
@@ -92,26 +94,27 @@ impl MemDisk {
         ensures possible { MayLeave (mem_history self) (left_file left (mem_history self)) }
     {
         let MemDisk {
-            file,
-            is_synced,
-            before,
-            ranges,
+            mut file,
+            unchanged,
+            mut before,
+            mut ranges,
             ..
         } = self;
-        let (mut file, before) = match left {
-            Left::Before if !is_synced => (before, file),
-            _ => (file, before),
-        };
-        let mut ranges = ranges;
-        if let Left::Fill(byte) = left {
-            fill(&mut file, &ranges, byte);
+        match left {
+            Left::Before => {
+                file.truncate(unchanged);
+                file.extend_from_slice(&before).unwrap();
+            }
+            Left::Written => {}
+            Left::Fill(byte) => fill(&mut file, &ranges, byte),
         }
         ranges.clear();
+        before.clear();
         let mut noted = Record::new();
         noted.note(&[BEGUN], &file);
         MemDisk {
+            unchanged: file.len(),
             file,
-            is_synced: true,
             before,
             ranges,
             noted,
@@ -123,7 +126,7 @@ impl MemDisk {
     /// Makes room for a file that ends here, and for one range more.
     fn make_room(&mut self, end: usize) -> Result<(), Memory>
         ensures same { (self.new.noted ≡ self.old.noted)
-            × (self.new.is_synced ≡ self.old.is_synced) }
+            × (self.new.unchanged ≡ self.old.unchanged) }
         ensures items { (self.new.file.items ≡ self.old.file.items)
             × (self.new.before.items ≡ self.old.before.items)
             × (self.new.ranges.items ≡ self.old.ranges.items) }
@@ -146,17 +149,18 @@ impl MemDisk {
         Ok(())
     }
 
-    /// Keeps the file as of the last sync, before it is changed.
-    fn keep_before(&mut self)
+    /// Keeps what the disk has from the place on, before that is changed.
+    fn keep_from(&mut self, place: usize)
         ensures same { (self.new.noted ≡ self.old.noted) × (self.new.file ≡ self.old.file)
             × (self.new.ranges ≡ self.old.ranges) }
-        ensures unsynced { self.new.is_synced ≡ false }
+        ensures unchanged { self.new.unchanged ≤ place }
         ensures capacity { vec_capacity self.old.before ≤ vec_capacity self.new.before }
     {
-        if self.is_synced {
-            self.before.clear();
-            self.before.extend_from_slice(&self.file).unwrap();
-            self.is_synced = false;
+        if place < self.unchanged {
+            let kept = &self.file[place..self.unchanged];
+            self.before.extend_from_slice(kept).unwrap();
+            self.before.rotate_right(self.unchanged - place);
+            self.unchanged = place;
         }
     }
 }
@@ -259,8 +263,8 @@ impl Disk for MemDisk {
         }
         let end = start + bytes.len();
         self.make_room(end)?;
-        self.keep_before();
         let first = start.min(self.file.len());
+        self.keep_from(first);
         self.ranges.push_reserved((first, end - first));
         overwrite(&mut self.file, start, bytes);
         self.noted.note(&[WRITTEN, at], bytes);
@@ -268,14 +272,16 @@ impl Disk for MemDisk {
     }
 
     fn cut(&mut self, len: u64) -> Result<(), DiskFault> {
-        self.keep_before();
-        self.file.truncate(len as usize);
+        let end = (len as usize).min(self.file.len());
+        self.keep_from(end);
+        self.file.truncate(end);
         self.noted.note(&[CUT, len], &[]);
         Ok(())
     }
 
     fn sync(&mut self) -> Result<(), DiskFault> {
-        self.is_synced = true;
+        self.unchanged = self.file.len();
+        self.before.clear();
         self.ranges.clear();
         self.noted.note(&[SYNCED], &[]);
         Ok(())

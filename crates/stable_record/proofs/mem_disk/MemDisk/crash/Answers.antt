@@ -1,33 +1,28 @@
-use Rattle.std.proofs.Common.{◌≡◌, ◌∙◌, ℕ, [], ◌∷◌, rules, refl, sym, ap, subst}
+use Rattle.std.proofs.Common.{◌≡◌, ◌∙◌, [], ◌∷◌, rules, refl, sym, ap, subst}
 use Rattle.stable_record.specs.Events.{holds, replay}
 use Rattle.stable_record.specs.History.{IsBytes}
 use Rattle.stable_record.specs.Memory.{left_file}
 use Rattle.stable_record.specs.Pasts.{no_past}
-use Rattle.stable_record.specs.declared.mem_disk.Left.{Left}
-use Rattle.stable_record.specs.declared.mem_disk.Left.TheVariants.{Before, Written, Fill}
 use Rattle.stable_record.proofs.Bytes.{left_are_bytes, no_bytes, none_noted, noted}
 use Rattle.stable_record.proofs.Filled.{TellsByte, left_possible}
-use Rattle.stable_record.proofs.mem_disk.MemDisk.crash.Goals.{in-Fill, in_default-left}
+use Rattle.stable_record.proofs.mem_disk.MemDisk.crash.Goals.{in-Before, in-Written, in-Fill}
 use Rattle.stable_record.proofs.mem_disk.MemDisk.crash.Goals as goal
-
-no_byte_told : (left : Left) → ((b : ℕ) → left ≡ Fill b → ⊥) → TellsByte left
-no_byte_told Before not_fill = tt
-no_byte_told Written not_fill = tt
-no_byte_told (Fill b) not_fill = absurd (not_fill b refl)
 
 pub returns-clause-possible : goal.returns-clause-possible
 returns-clause-possible c =
-    let tells : TellsByte c.args.left = elim c.match-left-2.branch [
+    let tells : TellsByte c.args.left = elim c.match-left.branch [
+      | in-Before w ↦ subst TellsByte (sym w.in-Before.is) tt
+      | in-Written w ↦ subst TellsByte (sym w.in-Written.is) tt
       | in-Fill w ↦ subst TellsByte (sym w.in-Fill.is) w.fill.ensures.is_byte
-      | in_default-left w ↦ no_byte_told c.args.left w.in_default-left.not-Fill
     ] in left_possible c.args.left c.args.self.noted.events tells c.args.self.were_bytes
 
 pub invariant_of-result-clause-were_bytes : goal.invariant_of-result-clause-were_bytes
 invariant_of-result-clause-were_bytes c =
     let events = c.args.self.noted.events in
-    let tells : TellsByte c.args.left = elim c.match-left-2.branch [
+    let tells : TellsByte c.args.left = elim c.match-left.branch [
+      | in-Before w ↦ subst TellsByte (sym w.in-Before.is) tt
+      | in-Written w ↦ subst TellsByte (sym w.in-Written.is) tt
       | in-Fill w ↦ subst TellsByte (sym w.in-Fill.is) w.fill.ensures.is_byte
-      | in_default-left w ↦ no_byte_told c.args.left w.in_default-left.not-Fill
     ] in
     let same : c.deref-2.result.now ≡ left_file c.args.left (replay no_past events) = search rules in
     let are = left_are_bytes (replay no_past events) (left_file c.args.left (replay no_past events)) (left_possible c.args.left events tells c.args.self.were_bytes) in
