@@ -1,5 +1,5 @@
 -- A step that is taken, and what a log's refusal leaves.
-use Rattle.std.proofs.Common.{◌≡◌, ◌⊎◌, ⊎_elim, inl, inr, ◌++◌, All, Bool, true, false, List, [], ◌∷◌, Option, None, Some, Ok, Err, option_map, refl, sym, subst, ap, ◌∙◌, if◌then◌else◌}
+use Rattle.std.proofs.Common.{◌≡◌, ◌⊎◌, ⊎_elim, inl, inr, ◌++◌, All, Bool, true, false, List, [], ◌∷◌, Option, None, Some, Ok, Err, Result, IsErrOf, option_map, refl, sym, subst, ap, ◌∙◌, if◌then◌else◌}
 use Rattle.std.specs.Option.{ForSome}
 use Rattle.std.proofs.lemmas.List.{map-append}
 use Rattle.std.proofs.lemmas.List.Elements.{All-head, All-tail}
@@ -19,7 +19,7 @@ use Rattle.wire.specs.Spelling.{note_text}
 use Rattle.node.proofs.Sent.{note_more}
 use Rattle.node.proofs.ranges.Leaving.{facts_after}
 use Rattle.node.specs.Calls.{HasTaken, IsLogCause}
-use Rattle.node.specs.OnLog.{IsOnLog, LacksRoom, LeavesOneMoreAtMost, identity_of, texts_of}
+use Rattle.node.specs.OnLog.{HasRoomForNote, IsOnLog, LacksRoom, LeavesOneMoreAtMost, identity_of, texts_of}
 use Rattle.stable_record.specs.OpenLog.{Holds}
 use Rattle.node.specs.State.{IsLogged, IsNode, LoggedNode, NodeState, restored_member, with_note}
 use Rattle.node.specs.Step.{Asked, IsReadyFor, ReadyStep, Taken, Takes, after, answer_then, changed, note_in, running_step, sends_in, taken_by}
@@ -27,8 +27,8 @@ use Rattle.node.specs.Parcels.{datagrams_to}
 use Rattle.node.specs.declared.fault.NodeFault.{NodeFault}
 use Rattle.node.specs.declared.ready.Out.{Out}
 use Rattle.node.specs.declared.fault.NodeFault.TheVariants as fault
-use Rattle.node.specs.inside.Noted.{notes_in}
-use Rattle.node.specs.inside.Stepping.{GoesOnWith, IsNoteCause, LacksRoomFor, committed, with_text}
+use Rattle.node.specs.Noted.{notes_in}
+use Rattle.node.specs.inside.Stepping.{GoesOnWith, HasRoomForText, IsNoteCause, LacksRoomFor, committed, with_text}
 use Rattle.wire.specs.declared.datagram.Piece.{Piece}
 
 -- a node that takes a step is not stopped
@@ -82,6 +82,24 @@ member_stays n is = ap (λ (fs : List (Facts Value)). record n.member { facts = 
 pub lacks : {D : Type 0} (l : Log D) (note : Option (Note Value)) → LacksRoomFor l (option_map note_text note) → LacksRoom l note
 lacks l None over = over
 lacks l (Some n) over = over
+
+-- and it has room for the note where it has it for the text
+pub has_room : {D : Type 0} (l : Log D) (note : Option (Note Value)) → HasRoomForText l (option_map note_text note) → HasRoomForNote l note
+has_room l None room = room
+has_room l (Some n) room = room
+
+-- a note that has no room has none for its text
+pub lacks_text : {D : Type 0} (l : Log D) (note : Option (Note Value)) → LacksRoom l note → LacksRoomFor l (option_map note_text note)
+lacks_text l None over = over
+lacks_text l (Some n) over = over
+
+-- a fault is one, whatever the answer would be
+abbrev fault_or : {T E : Type 0} → E → Result T E → E
+fault_or f (Ok x) = f
+fault_or f (Err e) = e
+
+pub same_fault : {T U E : Type 0} (e f : E) → IsErrOf {T = T} {E = E} (Err e) f → IsErrOf {T = U} {E = E} (Err e) f
+same_fault e f is = ap Err (ap (fault_or e) is)
 
 -- ---- the step
 
@@ -185,7 +203,7 @@ pub cause_told : {D : Type 0} (l : Log D) (noted : Option (Note Value)) (text : 
 cause_told l noted text fault.Memory e cause = tt
 cause_told l noted text (fault.Refused r) e cause = cause
 cause_told l noted text (fault.Log log.Full) e cause = lacks l noted (rw e at cause)
-cause_told l noted text (fault.Log log.Device) e cause = tt
+cause_told l noted text (fault.Log log.Device) e cause = has_room l noted (rw e at cause)
 cause_told l noted text (fault.Log log.Memory) e cause = cause
 cause_told l noted text (fault.Log log.MustReopen) e cause = cause
 cause_told l noted text (fault.Log log.NotALog) e cause = cause

@@ -4,8 +4,10 @@ pub mod Found
 pub mod Sent
 pub mod Readying
 pub mod Finishing
+pub mod OneStep
 pub mod Reading
 pub mod Places
 pub mod AtFirst
 pub mod Opened
+pub mod OneNode
 pub mod Coming

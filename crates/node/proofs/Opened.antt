@@ -27,7 +27,7 @@ use Rattle.node.specs.Ranges.{IsProgressOf}
 use Rattle.node.specs.State.{IsNode, NodeState, opened_node}
 use Rattle.node.specs.declared.fault.NodeFault.{NodeFault}
 use Rattle.node.specs.declared.fault.NodeFault.TheVariants as fault
-use Rattle.node.specs.inside.Noted.{notes_in}
+use Rattle.node.specs.Noted.{notes_in}
 use Rattle.node.specs.inside.Opening.{IsNew, IsNoteFault, IsOver, told_by}
 
 module _ (s : State) (new : IsNew s) (texts : List Text) (notes : List (Note Value)) (are : AreNotes s.division texts notes) where
@@ -78,7 +78,7 @@ opens_as s tree weights me new of_tree texts n over i owner file opens =
 -- ---- the tree's division
 
 -- a tree is divided in one way
-one_way : (d e : Division) → d.tree ≡ e.tree → IsDivision d → IsDivision e → d ≡ e
+pub one_way : (d e : Division) → d.tree ≡ e.tree → IsDivision d → IsDivision e → d ≡ e
 one_way d e same a b =
     let units : d.units ≡ e.units = one_division d.tree d.units e.units a.units (subst (λ (t : Tree). AreUnits t e.units) (sym same) b.units) in
     λ i. record { tree = same i; units = units i }

@@ -13,7 +13,7 @@ use Rattle.wire.proofs.NoteTexts.{note_again}
 use Rattle.wire.specs.Messages.{IsMessage, IsNote}
 use Rattle.wire.specs.Spelling.{note_text}
 use Rattle.node.specs.Parcels.{datagrams_of, datagrams_to, each_to, parcels_to}
-use Rattle.node.specs.inside.Noted.{notes_in}
+use Rattle.node.specs.Noted.{notes_in}
 
 -- one message to some members goes out as its datagrams to each of them
 pub parcels_are : (m : Message Value) (to : List ℕ) → datagrams_to (sent_to (Some m) to) ≡ parcels_to to (datagrams_of m)

@@ -6,7 +6,7 @@ use Rattle.ballots.specs.declared.message.Note.{Note}
 use Rattle.listing.specs.Tree.{Tree}
 use Rattle.protocol.specs.Restoring.{AreOnUnits}
 use Rattle.protocol.specs.State.{Value}
-use Rattle.node.specs.OnLog.{LacksRoom, LeavesOneMoreAtMost, identity}
+use Rattle.node.specs.OnLog.{HasRoomForNote, LacksRoom, LeavesOneMoreAtMost, identity, identity_of, texts_of}
 use Rattle.node.specs.Parcels.{datagrams_to}
 use Rattle.node.specs.State.{LoggedNode, NodeState, opened_node}
 use Rattle.node.specs.Step.{Asked, Taken, Takes, after, after_refusal}
@@ -16,6 +16,7 @@ use Rattle.node.specs.declared.ready.Out.{Out}
 use Rattle.stable_record.specs.Crash.{OnlySyncs}
 use Rattle.stable_record.specs.History.{History, seen}
 use Rattle.stable_record.specs.declared.log.Log as logs
+use Rattle.stable_record.specs.declared.log_fault.LogFault.{LogFault}
 use Rattle.stable_record.specs.declared.log_fault.LogFault.TheVariants as log
 use Rattle.stable_record.specs.Opening.{Opens}
 use Rattle.units.specs.Division.{Division, IsDivision}
@@ -67,12 +68,13 @@ pub record HasHandled (old new : NodeState) (asked : Asked) (out : Out) : Type 0
   pub takes : Takes old asked (Ok step)
   pub taken : HasTaken old new step out
 
--- Why a step that is ready is not taken.
+-- Why a step that is ready is not taken: its note has no room, or it has room and the device
+-- failed; that it did so in the call is told apart.
 abbrev pub IsLogCause : {D : Type 0} → logs.Log D → Option (Note Value) → NodeFault → Type 0
 IsLogCause stood noted Memory = Prim.Unit {0}
 IsLogCause stood noted (Refused r) = ⊥
 IsLogCause stood noted (Log log.Full) = LacksRoom stood noted
-IsLogCause stood noted (Log log.Device) = Prim.Unit {0}
+IsLogCause stood noted (Log log.Device) = HasRoomForNote stood noted
 IsLogCause stood noted (Log log.Memory) = ⊥
 IsLogCause stood noted (Log log.MustReopen) = ⊥
 IsLogCause stood noted (Log log.NotALog) = ⊥
@@ -80,19 +82,26 @@ IsLogCause stood noted (Log log.OtherCluster) = ⊥
 IsLogCause stood noted Stopped = ⊥
 IsLogCause stood noted (Foreign f) = ⊥
 
--- The log refused the step's note for want of room.
+-- The log has no room for the note of the step that the node takes.
 pub record HasFilled {D : Type 0} (n : LoggedNode D) (asked : Asked) : Type 0 where
   pub step : Taken
   pub takes : Takes n.node asked (Ok step)
   pub lacks : LacksRoom n.log step.answer.note
 
--- Each refusal of what the node was asked, want of memory and failures of the device aside, has its
--- cause.
+-- The log has room for the note of the step that the node takes, so that the note went to the
+-- device.
+pub record HasTried {D : Type 0} (n : LoggedNode D) (asked : Asked) : Type 0 where
+  pub step : Taken
+  pub takes : Takes n.node asked (Ok step)
+  pub room : HasRoomForNote n.log step.answer.note
+
+-- Each refusal of what the node was asked, want of memory aside, has its cause. Of a failure of the
+-- device it is that a note went there; that it failed in the call is told apart.
 abbrev pub IsCause : {D : Type 0} → LoggedNode D → Asked → NodeFault → Type 0
 IsCause n asked Memory = Prim.Unit {0}
 IsCause n asked (Refused r) = Takes n.node asked (Err (Refused r))
 IsCause n asked (Log log.Full) = HasFilled n asked
-IsCause n asked (Log log.Device) = Prim.Unit {0}
+IsCause n asked (Log log.Device) = HasTried n asked
 IsCause n asked (Log log.Memory) = ⊥
 IsCause n asked (Log log.MustReopen) = ⊥
 IsCause n asked (Log log.NotALog) = ⊥
@@ -128,6 +137,25 @@ HasNoNode tree weights me file =
     Opens (identity tree weights me) file (Err log.NotALog)
     ⊎ ((texts : List Text) × Opens (identity tree weights me) file (Ok texts)
     × HasBadNotes tree texts)
+
+-- What a file opens as, want of memory and failures of the device aside: a node over a log that has
+-- its notes, or no node, or another's log.
+abbrev pub OpensNode : Tree → List ℕ → ℕ → Text → Result NodeState LogFault → Type 0
+OpensNode tree weights me file (Ok n) =
+    IsOpened tree weights me n × Opens (identity_of n.member) file (Ok (texts_of n.notes))
+OpensNode tree weights me file (Err log.NotALog) = HasNoNode tree weights me file
+OpensNode tree weights me file (Err log.OtherCluster) =
+    Opens (identity tree weights me) file (Err log.OtherCluster)
+OpensNode tree weights me file (Err log.Memory) = ⊥
+OpensNode tree weights me file (Err log.Device) = ⊥
+OpensNode tree weights me file (Err log.Full) = ⊥
+OpensNode tree weights me file (Err log.MustReopen) = ⊥
+
+-- No file opens as two things: one that is refused opens as no node, nor is it refused otherwise.
+abbrev pub OpensAsOne : Tree → List ℕ → ℕ → Type 0
+OpensAsOne tree weights me =
+    (file : Text) (a b : Result NodeState LogFault) → OpensNode tree weights me file a
+    → OpensNode tree weights me file b → a ≡ b
 
 -- why a file is not opened, want of memory and failures of the device aside
 abbrev pub IsOpenFault : Tree → List ℕ → ℕ → Text → NodeFault → Type 0

@@ -1,5 +1,6 @@
 pub mod Refusals
 pub mod Kept
+pub mod Noted
 pub mod Ranges
 pub mod State
 pub mod Arrival

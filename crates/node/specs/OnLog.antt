@@ -44,7 +44,12 @@ abbrev pub LacksRoom : {D : Type 0} → Log D → Option (Note Value) → Type 0
 LacksRoom log None = ⊥
 LacksRoom log (Some note) = WouldPassLimit log (note_text note)
 
--- The same, read off the notes. With one more note the node's log would have more bytes than it
+-- There is a note, and the file has room for it.
+abbrev pub HasRoomForNote : {D : Type 0} → Log D → Option (Note Value) → Type 0
+HasRoomForNote log None = ⊥
+HasRoomForNote log (Some note) = ¬ (WouldPassLimit log (note_text note))
+
+-- The same as LacksRoom, read off the notes. With one more note the node's log would have more bytes than it
 -- may.
 abbrev pub IsFull : NodeState → Option (Note Value) → Type 0
 IsFull n None = ⊥

@@ -9,7 +9,7 @@ ghost use Rattle.protocol.specs.Step.{facts_named};
 ghost use Rattle.stable_record.specs.History.{seen};
 ghost use Rattle.stable_record.specs.OpenLog.{file_len};
 ghost use Rattle.node.specs.OnLog.{IsOnLog};
-ghost use Rattle.node.specs.inside.Noted.{notes_in};
+ghost use Rattle.node.specs.Noted.{notes_in};
 
 use crate::noted::Noted;
 use ballots::Weights;
@@ -40,7 +40,7 @@ pub struct Node<'a, D: Disk> {
 
 impl<'a, D: Disk> Model for Node<'a, D> {
     ghost use Rattle.node.specs.State.{IsLogged, LoggedNode};
-    ghost use Rattle.node.specs.inside.Noted.{notes_in};
+    ghost use Rattle.node.specs.Noted.{notes_in};
 
     ghost Value = { LoggedNode D };
 

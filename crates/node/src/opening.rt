@@ -1,12 +1,12 @@
 //! A node of what a file holds.
-ghost use Rattle.std.specs.Prelude.{◌≡◌, ◌<◌, ◌≤◌, IfErr, IfOk, MatchResult, Ok, OnOk, false, is_some, length, map};
+ghost use Rattle.std.specs.Prelude.{◌≡◌, ◌≢◌, ◌<◌, ◌≤◌, IfErr, IfOk, MatchResult, Ok, OnOk, false, is_some, length, map};
 ghost use Rattle.ballots.specs.Weights.{AreWeights};
 ghost use Rattle.stable_record.specs.Crash.{AllAlong};
 ghost use Rattle.stable_record.specs.Faults.{HasRisen};
 ghost use Rattle.stable_record.specs.History.{seen};
 ghost use Rattle.stable_record.specs.Log.{note_of};
 ghost use Rattle.stable_record.specs.Opening.{HasOneAnswer, Opens, OpensAsLeft};
-ghost use Rattle.node.specs.Calls.{AreNotes, IsOpenFault, IsOpened, IsUntouched};
+ghost use Rattle.node.specs.Calls.{AreNotes, IsOpenFault, IsOpened, IsUntouched, OpensAsOne};
 ghost use Rattle.node.specs.OnLog.{IsOnLog, identity, identity_of, texts_of};
 ghost use Rattle.units.specs.Division.{number_named};
 ghost use Rattle.node.specs.inside.Opening.{IsNew, IsNoteFault, IsOver, IsReadBy, told_by, unread_by};
@@ -48,6 +48,12 @@ impl<'a, D: Disk> Node<'a, D> {
 
         // A file of bytes has one answer, so these notes are all that it opens as.
         ensures one_answer { OnOk result (HasOneAnswer (identity tree.entry.now weights.now me)) }
+
+        // Nor is there a second one for a node: a file that is refused opens as no node, and is
+        // refused in one way.
+        ensures one_node { MatchResult result
+            (λ _. OpensAsOne tree.entry.now weights.now me)
+            (λ e. e.0 ≢ NodeFault.Memory → OpensAsOne tree.entry.now weights.now me) }
 
         // A crash at any moment leaves notes that a crash at the start could leave, whatever the
         // call answers.

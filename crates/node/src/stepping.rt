@@ -28,6 +28,7 @@ ghost use Rattle.wire.specs.Pieces.{IsPiece};
 ghost use Rattle.wire.specs.Reading.{joined as message_of};
 ghost use Rattle.node.specs.Arrival.{arrival_of_all, arrival_of_piece, refusal_of};
 ghost use Rattle.node.specs.Calls.{
+  HasFilled,
   HasHandled,
   HasPrepared,
   HasTaken,
@@ -55,6 +56,7 @@ ghost use Rattle.node.specs.inside.Stepping.{
   AreKept,
   ComesAs,
   GoesOnWith,
+  HasRoomForText,
   IsNoteCause,
   IsPrepared,
   LacksRoomFor,
@@ -232,6 +234,8 @@ impl<'a, D: Disk> Node<'a, D> {
         // Each refusal has its cause, and says what it leaves of the node, and of the log.
         ensures causes { IfErr result (IsLogCause self.old.log (note_in ready.step)) }
         ensures within { OnOk result (¬ (LacksRoom self.old.log (note_in ready.step))) }
+        ensures full { LacksRoom self.old.log (note_in ready.step)
+            → IsErrOf result NodeFault.Memory ⊎ IsErrOf result (NodeFault.Log LogFault.Full) }
         ensures device { IsErrOf result (NodeFault.Log LogFault.Device)
             → HasRisen (D.failures_of self.old.log.disk) (D.failures_of self.new.log.disk) }
         ensures stops { IsErrOf result (NodeFault.Log LogFault.Device)
@@ -277,6 +281,8 @@ impl<'a, D: Disk> Node<'a, D> {
         // Each refusal has its cause, and says what it leaves of the node, and of the log: all,
         // unless the device failed.
         ensures causes { IfErr result (IsCause self.old (Does input)) }
+        ensures full { HasFilled self.old (Does input)
+            → IsErrOf result NodeFault.Memory ⊎ IsErrOf result (NodeFault.Log LogFault.Full) }
         ensures left { IfErr result (λ f. self.new.node ≡ left_by self.old.node (Does input) f) }
         ensures still_on_log { D.is_kept self.new.log.disk → IsOnLog D.history self.old
             → IfErr result (λ f. (f ≡ NodeFault.Log LogFault.Device)
@@ -314,6 +320,8 @@ impl<'a, D: Disk> Node<'a, D> {
         // Each refusal has its cause, and says what it leaves of the node, and of the log: all,
         // unless the device failed.
         ensures causes { IfErr result (IsCause self.old (Comes bytes.now)) }
+        ensures full { HasFilled self.old (Comes bytes.now)
+            → IsErrOf result NodeFault.Memory ⊎ IsErrOf result (NodeFault.Log LogFault.Full) }
         ensures left { IfErr result
             (λ f. self.new.node ≡ left_by self.old.node (Comes bytes.now) f) }
         ensures still_on_log { D.is_kept self.new.log.disk → IsOnLog D.history self.old
@@ -360,6 +368,8 @@ fn write_note<D: Disk>(
     ensures owner { log.new.identity ≡ log.old.identity }
     ensures causes { IfErr result (IsNoteCause log.old (option_copied note.entry)) }
     ensures within { OnOk result (¬ (LacksRoomFor log.old (option_copied note.entry))) }
+    ensures is_full { LacksRoomFor log.old (option_copied note.entry)
+        → IsErrOf result (NodeFault.Log LogFault.Full) }
     ensures device { IsErrOf result (NodeFault.Log LogFault.Device)
         → HasRisen (D.failures_of log.old.disk) (D.failures_of log.new.disk) }
     ensures together { log.new.stopped ≡ stopped.new }
@@ -399,6 +409,10 @@ fn write<D: Disk>(log: &mut Log<D>, noted: &mut Noted, note: Option<&[u8]>) -> R
     ensures owner { log.new.identity ≡ log.old.identity }
     ensures full { IsErrOf result LogFault.Full → LacksRoomFor log.old (option_copied note.entry) }
     ensures within { OnOk result (¬ (LacksRoomFor log.old (option_copied note.entry))) }
+    ensures is_full { log.old.stopped ≡ false → LacksRoomFor log.old (option_copied note.entry)
+        → IsErrOf result LogFault.Full }
+    ensures room { IsErrOf result LogFault.Device
+        → HasRoomForText log.old (option_copied note.entry) }
     ensures device { IsErrOf result LogFault.Device
         → HasRisen (D.failures_of log.old.disk) (D.failures_of log.new.disk) }
     ensures stopped { IsErrOf result LogFault.MustReopen → log.old.stopped ≡ true }

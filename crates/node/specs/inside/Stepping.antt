@@ -157,12 +157,17 @@ abbrev pub LacksRoomFor : {D : Type 0} → Log D → Option Text → Type 0
 LacksRoomFor l None = ⊥
 LacksRoomFor l (Some text) = WouldPassLimit l text
 
+-- There is such a note, and the file has room for it.
+abbrev pub HasRoomForText : {D : Type 0} → Log D → Option Text → Type 0
+HasRoomForText l None = ⊥
+HasRoomForText l (Some text) = ¬ (WouldPassLimit l text)
+
 -- Why such a note is not written.
 abbrev pub IsNoteCause : {D : Type 0} → Log D → Option Text → NodeFault → Type 0
 IsNoteCause l text fault.Memory = Prim.Unit {0}
 IsNoteCause l text (fault.Refused r) = ⊥
 IsNoteCause l text (fault.Log log.Full) = LacksRoomFor l text
-IsNoteCause l text (fault.Log log.Device) = Prim.Unit {0}
+IsNoteCause l text (fault.Log log.Device) = HasRoomForText l text
 IsNoteCause l text (fault.Log log.Memory) = ⊥
 IsNoteCause l text (fault.Log log.MustReopen) = ⊥
 IsNoteCause l text (fault.Log log.NotALog) = ⊥

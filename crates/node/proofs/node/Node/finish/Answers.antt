@@ -1,8 +1,11 @@
-use Rattle.std.proofs.Common.{None, inr, refl}
+use Rattle.std.proofs.Common.{None, inr, refl, subst, sym}
 use Rattle.std.proofs.lemmas.Result.{err_from_is_err_and}
 use Rattle.std.specs.Option.{option_copied}
-use Rattle.node.proofs.Finishing.{cause_told, done_invariant, done_on_log, done_taken, no_moments, note_moments, runs, still_logged, still_node, still_noted}
+use Rattle.node.proofs.Finishing.{cause_told, done_invariant, done_on_log, done_taken, lacks_text, no_moments, note_moments, runs, same_fault, still_logged, still_node, still_noted}
 use Rattle.node.specs.Step.{note_in}
+use Rattle.node.specs.declared.fault.NodeFault.TheVariants as fault
+use Rattle.node.specs.inside.Stepping.{LacksRoomFor}
+use Rattle.stable_record.specs.declared.log_fault.LogFault.TheVariants as log
 use Rattle.node.proofs.node.Node.finish.Goals as goal
 
 pub returns-in_err-make_room-clause-any_moment : goal.returns-in_err-make_room-clause-any_moment
@@ -39,6 +42,13 @@ returns-in_err-write_note-clause-causes g c =
     let p = err_from_is_err_and c.from_residual-in_err-write_note.result c.from_residual-in_err-write_note.ensures.1 in
     rw (p.1, p.2, ← c.self.view_is)
     (cause_told c.self.inside.log (note_in c.args.ready.step) (option_copied c.note.result) c.in_err-write_note.field-0.0 c.note.ensures c.in_err-write_note.ensures.causes)
+
+pub returns-in_err-write_note-clause-full : goal.returns-in_err-write_note-clause-full
+returns-in_err-write_note-clause-full g c =
+    let l = c.self.inside.log in
+    let p = err_from_is_err_and c.from_residual-in_err-write_note.result c.from_residual-in_err-write_note.ensures.1 in
+    rw (p.1, p.2, ← c.self.view_is)
+    (λ lacks. inr (same_fault c.in_err-write_note.field-0.0 (fault.Log log.Full) (c.in_err-write_note.ensures.is_full (subst (LacksRoomFor l) (sym c.note.ensures) (lacks_text l (note_in c.args.ready.step) lacks)))))
 
 pub returns-in_err-write_note-clause-refused : goal.returns-in_err-write_note-clause-refused
 returns-in_err-write_note-clause-refused g c =

@@ -3,6 +3,7 @@ use Rattle.stable_record.specs.History.{seen}
 use Rattle.stable_record.specs.Log.{note_of}
 use Rattle.stable_record.specs.Opening.{Opens}
 use Rattle.node.proofs.AtFirst.{not_begun}
+use Rattle.node.proofs.OneNode.{opens_as_one, whichever}
 use Rattle.node.proofs.Opened.{both_err, both_ok, log_refused, log_untouched, notes_refused, notes_untouched, opens_as, told_device}
 use Rattle.node.specs.OnLog.{identity}
 use Rattle.node.proofs.node.Node.open.Goals as goal
@@ -20,6 +21,10 @@ returns-in-Ok-open-clause-notes g c =
     (c.in-Ok-open.ensures.notes (subst (λ l. g.D.Disk.is_kept l.disk) same kept)) in
     opens_as m c.args.tree.now c.args.weights.now c.args.me c.in-Ok.ensures.fresh c.in-Ok.ensures.tree texts n.node is c.owner-owner.result c.owner-owner.ensures.identity file opens)
     c.over.ensures.node c.over.ensures.log
+
+pub returns-in-Ok-open-clause-one_node : goal.returns-in-Ok-open-clause-one_node
+returns-in-Ok-open-clause-one_node g c =
+    whichever c.over.result _ _ (opens_as_one c.args.tree.now c.args.weights.now c.args.me c.owner-owner.result c.owner-owner.ensures.identity c.in-Ok-open.ensures.one_answer)
 
 pub returns-in-Ok-open-clause-refused : goal.returns-in-Ok-open-clause-refused
 returns-in-Ok-open-clause-refused g c =
@@ -42,6 +47,10 @@ returns-in-Ok-open-clause-untouched g c =
     notes_untouched c.args.tree.now c.args.weights.now c.args.me c.owner-owner.result c.owner-owner.ensures.identity c.in-Ok.member.division c.in-Ok.ensures.tree c.in-Ok.ensures.division texts old
     (g.D.Disk.history e.1) opens c.in-Ok-open.ensures.one_answer e.0 bad)
     c.over.ensures.refused c.over.ensures.disk
+
+pub returns-clause-one_node : goal.returns-clause-one_node
+returns-clause-one_node g c = λ other.
+    opens_as_one c.args.tree.now c.args.weights.now c.args.me c.owner-owner.result c.owner-owner.ensures.identity c.in-Err.ensures.one_answer
 
 pub returns-clause-refused : goal.returns-clause-refused
 returns-clause-refused g c = λ kept.
