@@ -89,9 +89,7 @@ impl<D: Disk> Log<D> {
         if !has_room(self.end, len) {
             return Err(LogFault::Full);
         }
-        let bytes = behind_the_gate(self.alloc, note)?;
-        self.disk.reserve(len + 6, 4)?;
-        if let Err(fault) = write_note(&mut self.disk, self.end, &bytes) {
+        if let Err(fault) = add_note(self.alloc, &mut self.disk, self.end, note) {
             self.stopped = fault == DiskFault::Device;
             return Err(fault.into());
         }
@@ -140,6 +138,32 @@ fn behind_the_gate(alloc: Global, note: &[u8]) -> Result<Vec<u8>, Memory>
     bytes.extend_from_slice(note)?;
     bytes.push(0)?;
     Ok(bytes)
+}
+
+/// Writes a note behind the closed gate at a place, and opens the gate, once there is room to do so.
+fn add_note<D: Disk>(alloc: Global, disk: &mut D, gate: u64, note: &[u8]) -> Result<(), DiskFault>
+    requires { gate + 6 + length note.now ≤ MAX_LEN }
+
+    ensures settled { D.is_kept disk.new → (i : Identity) (notes : List Note)
+        → IsSettled (D.history disk.old) i notes gate
+        → OnOk result (IsSettled (D.history disk.new) i (notes ++ note.now ∷ [])
+        (gate + (length note.now + 5))) }
+
+    ensures any_moment { D.is_kept disk.new → (i : Identity) (notes : List Note)
+        → IsSettled (D.history disk.old) i notes gate
+        → AllAlong (HasBeforeOrAfter i notes note.now) (D.history disk.old) (D.history disk.new) }
+
+    ensures refused { D.is_kept disk.new → gate < length (seen (D.history disk.old))
+        → IsErrOf result DiskFault.Memory → D.history disk.new ≡ D.history disk.old }
+
+    ensures kept { D.is_kept disk.new → D.is_kept disk.old }
+    ensures later { D.failures_of disk.old ≤ D.failures_of disk.new }
+    ensures cause { IsErrOf result DiskFault.Device
+        → HasRisen (D.failures_of disk.old) (D.failures_of disk.new) }
+{
+    disk.reserve(note.len() as u64 + 6, 4)?;
+    let bytes = behind_the_gate(alloc, note)?;
+    write_note(disk, gate, &bytes)
 }
 
 /// Writes a note behind the closed gate at a place, and opens the gate.
