@@ -143,7 +143,7 @@ both_stay old new a (Ok r) comes same =
 both_stay old new a (Err f) comes same = tt
 
 -- what a step that only changes the pieces leaves is a node
-waits_leaves : (n : NodeState) (pieces : List Piece) → IsNode n → AreKept pieces → IsNode (after n (record { answer = nothing n.member; pieces = pieces }))
+waits_leaves : (n : NodeState) (pieces : List Piece) → IsNode n → AreKept n.member pieces → IsNode (after n (record { answer = nothing n.member; pieces = pieces }))
 waits_leaves n pieces is kept = subst (λ (s : State). IsNode (record { member = s; notes = n.notes; pieces = pieces; stopped = n.stopped })) (member_stays n is)
     (record {
       member = is.member;
@@ -153,6 +153,7 @@ waits_leaves n pieces is kept = subst (λ (s : State). IsNode (record { member =
       claim = is.claim;
       pieces = kept.each;
       once = kept.once;
+      let_through = kept.let_through;
     })
 
 module _ (n : NodeState) (p : Piece) where
@@ -199,7 +200,7 @@ module _ (n : NodeState) (p : Piece) where
           (λ e. subst (λ (f : NodeFault). ComesAs n n (Strange (foreign.Message refusal) n.pieces) (Err f)) (sym e) (record { ready = record { given = inr refl; safe = tt }; state = refl }))
           is
 
-  waits_ready : (pieces : List Piece) (change : Change) → IsNode n → pieces ≡ changed change n.pieces → AreKept pieces
+  waits_ready : (pieces : List Piece) (change : Change) → IsNode n → pieces ≡ changed change n.pieces → AreKept n.member pieces
       → ComesAs n n (Waits pieces) (Ok (record { step = None; change = change }))
   waits_ready pieces change is e kept = record {
     ready = record {
@@ -214,10 +215,10 @@ module _ (n : NodeState) (p : Piece) where
 
   -- it has come before
   pub comes_again : (o : Option Refusal) → o ≡ None → has_number h n.pieces p.number ≡ true → IsNode n → ComesAs n n (arrival_of_piece n.pieces p o) (Ok (record { step = None; change = change.Stays }))
-  comes_again o e has is = rw (e, has) (waits_ready n.pieces change.Stays is refl (record { each = is.pieces; once = is.once }))
+  comes_again o e has is = rw (e, has) (waits_ready n.pieces change.Stays is refl (record { each = is.pieces; once = is.once; let_through = is.let_through }))
 
   -- it is kept, since others are missing
-  pub comes_kept : (o : Option Refusal) → o ≡ None → has_number h n.pieces p.number ≡ false → are_all h (with_piece n.pieces p) ≡ false → IsNode n → AreKept (with_piece n.pieces p)
+  pub comes_kept : (o : Option Refusal) → o ≡ None → has_number h n.pieces p.number ≡ false → are_all h (with_piece n.pieces p) ≡ false → IsNode n → AreKept n.member (with_piece n.pieces p)
       → ComesAs n n (arrival_of_piece n.pieces p o) (Ok (record { step = None; change = change.Keeps p }))
   comes_kept o e has all is kept = rw (e, has, all) (waits_ready (with_piece n.pieces p) (change.Keeps p) is refl kept)
 

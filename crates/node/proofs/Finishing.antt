@@ -223,6 +223,7 @@ module _ {D : Type 0} (history : D → History) (s : State) (texts : List Text) 
       claim = is.node.claim;
       pieces = is.node.pieces;
       once = is.node.once;
+      let_through = is.node.let_through;
     };
     together = together;
   }

@@ -1,19 +1,15 @@
 -- A file opens as one thing.
 use Rattle.std.proofs.Common.{◌≡◌, inl, inr, ℕ, List, Ok, Err, Result, MatchResult, refl, sym, subst, ap, ◌∙◌}
-use Rattle.std.specs.Prelude.{◌≢◌}
 use Rattle.faults.specs.Bytes.{Text}
-use Rattle.ballots.specs.declared.message.Note.{Note}
 use Rattle.listing.specs.Tree.{Tree}
-use Rattle.protocol.specs.State.{Value}
 use Rattle.stable_record.specs.Log.{Note as Bytes}
 use Rattle.stable_record.specs.Opening.{HasOneAnswer, Opens}
 use Rattle.stable_record.specs.declared.identity.Identity.{Identity}
 use Rattle.stable_record.specs.declared.log_fault.LogFault.{LogFault}
 use Rattle.stable_record.specs.declared.log_fault.LogFault.TheVariants as log
-use Rattle.units.specs.Division.{Division}
 use Rattle.node.proofs.Opened.{one_way}
 use Rattle.node.proofs.Sent.{notes_again}
-use Rattle.node.specs.Calls.{IsOpened, OpensAsOne, OpensNode}
+use Rattle.node.specs.Calls.{OpensAsOne, OpensNode}
 use Rattle.node.specs.Noted.{notes_in}
 use Rattle.node.specs.OnLog.{identity, identity_of, texts_of}
 use Rattle.node.specs.State.{NodeState, opened_node}

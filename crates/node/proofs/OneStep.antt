@@ -1,5 +1,5 @@
 -- A node has one answer, and what follows for a step whose note has no room.
-use Rattle.std.proofs.Common.{◌≡◌, ◌⊎◌, ⊎_elim, Bool, true, false, List, None, Some, Ok, Err, Result, if◌then◌else◌, refl, sym, subst, ap, ◌∙◌}
+use Rattle.std.proofs.Common.{◌≡◌, ⊎_elim, Bool, true, false, None, Ok, Err, Result, if◌then◌else◌, refl, sym, subst, ap, ◌∙◌}
 use Rattle.engine.specs.declared.Letter.{Letter}
 use Rattle.protocol.proofs.OneAnswer.{one_answer}
 use Rattle.protocol.specs.Step.{IsLetterOf, answer, unit_claimed}

@@ -1,5 +1,5 @@
 -- A node that is opened.
-use Rattle.std.proofs.Common.{◌≡◌, ◌⊎◌, inl, inr, ℕ, false, List, [], IfErr, IfOk, Ok, Err, Result, arith, refl, sym, subst, ap, ◌∙◌}
+use Rattle.std.proofs.Common.{◌≡◌, ◌⊎◌, inl, inr, ℕ, false, List, [], IfErr, IfOk, None, Ok, Err, Result, arith, refl, sym, subst, ap, ◌∙◌}
 use Rattle.std.specs.Prelude.{◌≢◌}
 use Rattle.std.proofs.lemmas.List.Elements.{All-nil}
 use Rattle.faults.specs.Bytes.{Text}
@@ -21,6 +21,7 @@ use Rattle.wire.specs.Pieces.{IsPiece}
 use Rattle.wire.specs.declared.datagram.Piece.{Piece}
 use Rattle.node.proofs.Sent.{notes_again}
 use Rattle.node.proofs.ranges.Outcomes.{for_none}
+use Rattle.node.specs.Arrival.{refusal_of}
 use Rattle.node.specs.Calls.{AreNotes, HasBadNotes, IsOpenFault, IsUntouched}
 use Rattle.node.specs.OnLog.{identity, identity_of, texts_of}
 use Rattle.node.specs.Ranges.{IsProgressOf}
@@ -41,6 +42,7 @@ module _ (s : State) (new : IsNew s) (texts : List Text) (notes : List (Note Val
     claim = for_none (λ o. IsProgressOf _ o.progress);
     pieces = All-nil IsPiece;
     once = λ i j d lt within. absurd (omega (arith, within));
+    let_through = All-nil (λ p. refusal_of (restored (fresh s.division s.weights s.me) notes) p.header ≡ None);
   }
 
   -- and these are its fields

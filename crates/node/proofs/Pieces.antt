@@ -9,7 +9,7 @@ use Rattle.ballots.specs.declared.message.Body.TheVariants as bodies
 use Rattle.ballots.specs.declared.message.Message.{Message}
 use Rattle.package_record.proofs.BuildsTaken.{whole_build_taken as build_taken}
 use Rattle.package_record.specs.BuildReading.{whole_build_of}
-use Rattle.protocol.specs.State.{Value}
+use Rattle.protocol.specs.State.{State, Value}
 use Rattle.wire.proofs.FieldTexts.{whole_build_taken}
 use Rattle.wire.proofs.Steps.{bind_ok, ok_is}
 use Rattle.wire.specs.Joining.{is_numbered, same_header}
@@ -20,6 +20,7 @@ use Rattle.wire.specs.declared.datagram.Carrier.{Carrier}
 use Rattle.wire.specs.declared.datagram.Carrier.TheVariants as carriers
 use Rattle.wire.specs.declared.datagram.Header.{Header}
 use Rattle.wire.specs.declared.datagram.Piece.{Piece}
+use Rattle.node.specs.Arrival.{refusal_of}
 use Rattle.node.specs.Kept.{has_number, with_piece, without}
 use Rattle.node.specs.inside.Stepping.{AreKept}
 
@@ -89,9 +90,19 @@ message_good name bodies.Ask is = tt
 message_good name (bodies.Nay c p) is = (is.0.round, is.1.round)
 
 -- those of other messages stay kept
-pub others_kept : (h : Header) (pieces : List Piece) → AreKept pieces → AreKept (without h pieces)
-others_kept h pieces kept = record { each = without_pieces h pieces kept.each; once = without_once h pieces kept.once }
+pub others_kept : (s : State) (h : Header) (pieces : List Piece) → AreKept s pieces → AreKept s (without h pieces)
+others_kept s h pieces kept = record {
+  each = without_pieces h pieces kept.each;
+  once = without_once h pieces kept.once;
+  let_through = All-filter _ (λ p. refusal_of s p.header ≡ None) pieces kept.let_through;
+}
 
 -- and with one that is new they are
-pub new_kept : (pieces : List Piece) (p : Piece) → AreKept pieces → IsPiece p → has_number p.header pieces p.number ≡ false → AreKept (with_piece pieces p)
-new_kept pieces p kept is new = record { each = with_pieces pieces p kept.each is; once = with_once pieces p kept.once new }
+pub new_kept : (s : State) (pieces : List Piece) (p : Piece) → AreKept s pieces → IsPiece p → has_number p.header pieces p.number ≡ false → refusal_of s p.header ≡ None
+    → AreKept s (with_piece pieces p)
+new_kept s pieces p kept is new through = record {
+  each = with_pieces pieces p kept.each is;
+  once = with_once pieces p kept.once new;
+  let_through = All-append (λ p. refusal_of s p.header ≡ None) pieces (p ∷ []) kept.let_through
+      (All-cons (λ p. refusal_of s p.header ≡ None) p [] through (All-nil (λ p. refusal_of s p.header ≡ None)));
+}

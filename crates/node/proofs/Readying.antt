@@ -38,14 +38,14 @@ module _ (n : NodeState) (is : IsNode n) (input : Input) (good : IsGoodInput inp
   step_written = answers_written n.member answered.answers.letter input a is.member (node_in_range n is) good answer_is
 
   -- it may be taken, and leaves a node
-  step_safe : MayBeTaken n.member step → (change : Change) → AreKept (changed change n.pieces) → IsSafe n (record { step = Some step; change = change })
+  step_safe : MayBeTaken n.member step → (change : Change) → AreKept n.member (changed change n.pieces) → IsSafe n (record { step = Some step; change = change })
   step_safe may change kept = record {
     may = λ p e. subst (MayBeTaken n.member) (let same : step ≡ p = cc in same) may;
     leaves = leaves_node n answered.answers.letter input a (changed change n.pieces) is (members_stay n.member may.input a is.member may.in_range may.answers) good answer_is kept;
   }
 
   -- so it is prepared
-  pub step_prepared : MayBeTaken n.member step → (change : Change) → AreKept (changed change n.pieces) → IsPrepared n input change (Ok (record { step = Some step; change = change }))
+  pub step_prepared : MayBeTaken n.member step → (change : Change) → AreKept n.member (changed change n.pieces) → IsPrepared n input change (Ok (record { step = Some step; change = change }))
   step_prepared may change kept = record {
     letter = answered.answers.letter;
     shown = answered.answers.shown;

@@ -1,5 +1,5 @@
 -- What bytes are to a node.
-use Rattle.std.specs.Prelude.{List, ◌∷◌, Option, None, Some, Result, Ok, Err, if◌then◌else◌}
+use Rattle.std.specs.Prelude.{◌≡◌, All, List, ◌∷◌, Option, None, Some, Result, Ok, Err, if◌then◌else◌}
 use Rattle.ballots.specs.declared.message.Message.{Message}
 use Rattle.protocol.specs.State.{State, Value}
 use Rattle.protocol.specs.Step.{header_refusal}
@@ -47,6 +47,10 @@ arrival_of_piece pieces p None =
 -- why the member refuses the fields before the build
 abbrev pub refusal_of : State → Header → Option Refusal
 refusal_of s h = header_refusal s h.tree (h.sender ∷ members_in h.carrier) h.path
+
+-- The member lets the headers of these pieces through: they name its tree, members, and units of it.
+abbrev pub AreLetThrough : State → List Piece → Type 0
+AreLetThrough s pieces = All (λ p. refusal_of s p.header ≡ None) pieces
 
 -- a datagram, or bytes that are none
 abbrev pub arrival_of : State → List Piece → Result Datagram WireFault → Arrival

@@ -4,6 +4,7 @@ use Rattle.ballots.specs.declared.message.Note.{Note}
 use Rattle.protocol.specs.Member.{IsMember}
 use Rattle.protocol.specs.Restoring.{AreOnUnits, restored}
 use Rattle.protocol.specs.State.{State, Value, fresh}
+use Rattle.node.specs.Arrival.{AreLetThrough}
 use Rattle.node.specs.Ranges.{IsClaimOf}
 use Rattle.stable_record.specs.declared.log.Log.{Log}
 use Rattle.units.specs.Division.{Division}
@@ -43,6 +44,7 @@ pub record IsNode (n : NodeState) : Type 0 where
   pub pieces : All IsPiece n.pieces
   -- no piece is kept twice
   pub once : AllPairs (λ p q. is_numbered q.header q.number p ≡ false) n.pieces
+  pub let_through : AreLetThrough n.member n.pieces
 
 -- A node over its log: they stop together.
 pub record IsLogged {D : Type 0} (n : LoggedNode D) : Type 0 where

@@ -130,7 +130,7 @@ impl<'a, D: Disk> Node<'a, D> {
     /// Makes the step on an input ready, which changes the pieces so.
     fn prepare_input(&mut self, input: Input, change: Change) -> Result<Ready, Refusal>
         requires message { IsGoodInput input }
-        requires pieces { AreKept (changed change self.old.node.pieces) }
+        requires pieces { AreKept self.old.node.member (changed change self.old.node.pieces) }
         ensures step { IsPrepared self.old.node input change result }
         ensures same { self.new ≡ self.old }
     {
@@ -142,7 +142,7 @@ impl<'a, D: Disk> Node<'a, D> {
     /// Makes the step on a message that came ready, which changes the pieces so.
     fn prepare_message(&mut self, message: Message, change: Change) -> Result<Ready, NodeFault>
         requires message { IsGoodBody message.path message.body }
-        requires pieces { AreKept (changed change self.old.node.pieces) }
+        requires pieces { AreKept self.old.node.member (changed change self.old.node.pieces) }
         ensures step { MakesReady self.old.node
             (heard (changed change self.old.node.pieces)
             (members.heard self.old.node.member message)) result }

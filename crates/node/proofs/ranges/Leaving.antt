@@ -45,7 +45,7 @@ with_all P notes (Some n) all one = All-append P notes (n ∷ []) all (All-cons 
 
 -- what is left by the answer to such an input is a node
 pub leaves_node : (n : NodeState) (letter : Letter) (input : Input) (a : Answer) (pieces : List Piece) → IsNode n → IsMember (member_after n.member a) → IsGoodInput input
-    → answer n.member letter input ≡ Ok a → AreKept pieces → IsNode (after n (record { answer = a; pieces = pieces }))
+    → answer n.member letter input ≡ Ok a → AreKept n.member pieces → IsNode (after n (record { answer = a; pieces = pieces }))
 leaves_node n letter input a pieces is stays good e kept =
     let s = n.member in
     let written = answers_written s letter input a is.member (node_in_range n is) good e in
@@ -57,10 +57,11 @@ leaves_node n letter input a pieces is stays good e kept =
       claim = written.claim;
       pieces = kept.each;
       once = kept.once;
+      let_through = kept.let_through;
     }
 
 -- other pieces leave a node that is one
-pub other_pieces : (n : NodeState) (pieces : List Piece) → IsNode n → AreKept pieces → IsNode (record n { pieces = pieces })
+pub other_pieces : (n : NodeState) (pieces : List Piece) → IsNode n → AreKept n.member pieces → IsNode (record n { pieces = pieces })
 other_pieces n pieces is kept = record {
   member = is.member;
   restored = is.restored;
@@ -69,4 +70,5 @@ other_pieces n pieces is kept = record {
   claim = is.claim;
   pieces = kept.each;
   once = kept.once;
+  let_through = kept.let_through;
 }

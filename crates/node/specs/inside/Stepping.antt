@@ -25,7 +25,7 @@ use Rattle.wire.specs.declared.WireFault.{WireFault}
 use Rattle.wire.specs.declared.WireFault.TheVariants as wire
 use Rattle.wire.specs.declared.datagram.Header.{Header}
 use Rattle.wire.specs.declared.datagram.Piece.{Piece}
-use Rattle.node.specs.Arrival.{Arrival}
+use Rattle.node.specs.Arrival.{AreLetThrough, Arrival}
 use Rattle.node.specs.Kept.{without}
 use Rattle.node.specs.State.{IsNode, NodeState}
 use Rattle.node.specs.Step.{ReadyStep, Taken, after, answer_then, pieces_left, step_on, taken_by}
@@ -34,10 +34,11 @@ use Rattle.node.specs.declared.fault.NodeFault.{NodeFault}
 use Rattle.node.specs.declared.fault.NodeFault.TheVariants as fault
 use Rattle.node.specs.declared.ready.Change.{Change}
 
--- These are pieces, and none is there twice.
-pub record AreKept (pieces : List Piece) : Type 0 where
+-- These are pieces, none is there twice, and the member lets their headers through.
+pub record AreKept (s : State) (pieces : List Piece) : Type 0 where
   pub each : All IsPiece pieces
   pub once : AllPairs (λ p q. is_numbered q.header q.number p ≡ false) pieces
+  pub let_through : AreLetThrough s pieces
 
 -- what a node answers to an input that its member refuses
 abbrev pub refused_by : Refusal → NodeFault

@@ -6,6 +6,6 @@ pub invariant_of-self : goal.invariant_of-self
 invariant_of-self g c =
     let is = c.self.invariant in
     rw c.drop_pieces.ensures (record {
-      node = other_pieces _ _ is.node (others_kept c.args.header.now _ (record { each = is.node.pieces; once = is.node.once }));
+      node = other_pieces _ _ is.node (others_kept _ c.args.header.now _ (record { each = is.node.pieces; once = is.node.once; let_through = is.node.let_through }));
       together = is.together;
     })

@@ -3,7 +3,7 @@ use Rattle.node.proofs.Readying.{input_may, input_ready, input_refused, stopped_
 use Rattle.node.proofs.node.Node.prepare.Goals as goal
 
 pub prepare_input-requires-clause-pieces : goal.prepare_input-requires-clause-pieces
-prepare_input-requires-clause-pieces g c = rw (← c.self.view_is) (record { each = c.self.invariant.node.pieces; once = c.self.invariant.node.once })
+prepare_input-requires-clause-pieces g c = rw (← c.self.view_is) (record { each = c.self.invariant.node.pieces; once = c.self.invariant.node.once; let_through = c.self.invariant.node.let_through })
 
 pub returns-then-self-clause-step : goal.returns-then-self-clause-step
 returns-then-self-clause-step g c = rw (← c.self.view_is) (stopped_input _ c.args.input c.if-self.true)

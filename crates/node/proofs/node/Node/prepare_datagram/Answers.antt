@@ -15,7 +15,7 @@ prepare_message-requires-clause-message g c =
     message_good m.path m.body good.0.body
 
 pub prepare_message-requires-clause-pieces : goal.prepare_message-requires-clause-pieces
-prepare_message-requires-clause-pieces g c = rw (← c.self.view_is) (record { each = c.self.invariant.node.pieces; once = c.self.invariant.node.once })
+prepare_message-requires-clause-pieces g c = rw (← c.self.view_is) (record { each = c.self.invariant.node.pieces; once = c.self.invariant.node.once; let_through = c.self.invariant.node.let_through })
 
 pub prepare_piece-requires : goal.prepare_piece-requires
 prepare_piece-requires g c = subst IsDatagram c.in-Ok-Piece.field-0-is c.in-Ok-Piece.ensures.datagram.0

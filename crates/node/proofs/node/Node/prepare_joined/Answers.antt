@@ -17,7 +17,7 @@ prepare_message-requires-clause-message g c = joined_good c.args.piece.header _ 
 
 pub prepare_message-requires-clause-pieces : goal.prepare_message-requires-clause-pieces
 prepare_message-requires-clause-pieces g c =
-    rw c.joined.ensures.same (others_kept c.in_ok-header.header c.self.inside.pieces.items (record { each = c.self.invariant.node.pieces; once = c.self.invariant.node.once }))
+    rw c.joined.ensures.same (others_kept c.self.inside.member c.in_ok-header.header c.self.inside.pieces.items (record { each = c.self.invariant.node.pieces; once = c.self.invariant.node.once; let_through = c.self.invariant.node.let_through }))
 
 pub invariant_of-self-in-Err : goal.invariant_of-self-in-Err
 invariant_of-self-in-Err g c = rw c.joined.ensures.same c.self.invariant

@@ -43,4 +43,4 @@ returns-else-is_last-clause-step g c =
     let all = sym (rw c.as_slice-else-has_number.ensures.value at c.if-is_last.ensures) in
     let is = c.self.invariant.node in
     subst (Comes p (Ok c.waiting-else-is_last.result)) c.self.view_is
-    (rw c.waiting-else-is_last.ensures (comes_kept _ p _ c.in_default.ensures.ok has all is (new_kept _ p (record { each = is.pieces; once = is.once }) c.requires has)))
+    (rw c.waiting-else-is_last.ensures (comes_kept _ p _ c.in_default.ensures.ok has all is (new_kept _ _ p (record { each = is.pieces; once = is.once; let_through = is.let_through }) c.requires has c.in_default.ensures.ok)))
