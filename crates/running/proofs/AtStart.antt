@@ -13,10 +13,13 @@ use Rattle.stable_record.specs.declared.mem_disk.MemDisk.{MemDisk}
 use Rattle.units.proofs.Once.{one_division}
 use Rattle.units.specs.Division.{Division, IsDivision}
 use Rattle.units.specs.Units.{AreUnits}
-use Rattle.world.specs.World.{World, WorldNode, fresh_node, node_at, up_node}
+use Rattle.world.specs.World.{IsMade, World, WorldNode, fresh_node, node_at, start, up_node}
+use Rattle.running.specs.History.{IsHistory}
 use Rattle.running.specs.declared.placed.Placed.{Placed}
 use Rattle.running.specs.declared.placed.Placed.TheVariants.{Up, Down}
-use Rattle.running.specs.inside.Placing.{StandsOn, node_view}
+use Rattle.running.specs.declared.scene.Scene.{Scene}
+use Rattle.running.specs.inside.Placing.{IsStanding, StandsOn, node_view, world_of}
+use Rattle.running.specs.inside.Posting.{AreListed, list_in, sent_in}
 use Rattle.running.specs.inside.Starting.{AreFresh, IsFresh, IsUpFresh}
 
 -- ---- an empty file
@@ -88,3 +91,31 @@ fresh_more tree weights nodes n me each count fresh k x at = ⊎_elim
     (λ old. each k x old)
     (λ new. subst (λ y. IsUpFresh tree weights k y) new.1 (subst (λ j. IsFresh tree weights j n) (sym (new.0 ∙ count)) fresh))
     (one_node nodes (Up n) x k at)
+
+-- ---- the world at the start
+
+module _ (s : Scene) (tree : Tree) (weights : List ℕ) (of_tree : s.units.tree ≡ tree) (divided : IsDivision s.units) (weigh : s.weights ≡ weights) (fresh : AreFresh tree weights s.nodes.items) where
+  pub world_starts : sent_in s.posted ≡ [] → list_in s.posted ≡ [] → world_of s ≡ start s.units weights
+  world_starts es el = λ i. record {
+    division = s.units;
+    weights = weigh i;
+    nodes = all_fresh tree weights s.units of_tree divided s.nodes.items fresh i;
+    sent = es i;
+    agreed = el i;
+  }
+
+  pub scene_stands : s.tree.now ≡ tree → AreListed s.posted → IsStanding s
+  scene_stands own listed = record {
+    tree = of_tree ∙ sym own;
+    disks = λ k x at. fresh_stands tree weights s.units of_tree divided (world_of s) refl weigh k x (fresh.each k x at);
+    listed = listed;
+  }
+
+-- no event led to the start
+pub history_starts : (s : Scene) (weights : List ℕ) → world_of s ≡ start s.units weights → IsMade s.units weights → IsHistory (record { world = world_of s; events = [] })
+history_starts s weights starts made =
+    let weigh : s.weights ≡ weights = ap (λ (w : World). w.weights) starts in
+    record {
+      made = subst (IsMade s.units) (sym weigh) made;
+      led = starts ∙ ap (start s.units) (sym weigh);
+    }
