@@ -4,5 +4,4 @@ pub mod Entering
 pub mod AtStart
 pub mod Shown
 pub mod Readied
-pub mod Grown
 pub mod Taking
