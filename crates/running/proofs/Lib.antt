@@ -4,7 +4,6 @@ pub mod Entering
 pub mod AtStart
 pub mod Shown
 pub mod Readied
-pub mod Grown
 pub mod Taking
 pub mod Casting
 pub mod Listing

@@ -1,5 +1,5 @@
 -- A node's step on what an event asks: what it is once it is ready, and what a refusal leaves.
-use Rattle.std.proofs.Common.{◌≡◌, ◌⊎◌, inl, inr, List, Option, None, Some, Ok, Err, Result, refl, sym, ap, subst, ◌∙◌}
+use Rattle.std.proofs.Common.{◌≡◌, ◌⊎◌, inl, inr, ℕ, List, Option, None, Some, Ok, Err, Result, refl, sym, ap, subst, ◌∙◌}
 use Rattle.faults.specs.Bytes.{Text}
 use Rattle.events.specs.Events.{Event}
 use Rattle.ballots.specs.declared.message.Note.{Note}
@@ -69,8 +69,8 @@ pub record StandsReady (sent : List Text) (e : Event) (n m : NodeState) (t : Tak
 
 pub stands_ready : (sent : List Text) (e : Event) (n m : NodeState) (t : Taken)
     → IsReadied sent e n m (Ok t) → StandsReady sent e n m t
-stands_ready sent e n m t (inl (wrong, same)) = absurd (let no : Ok t ≡ Err node_fault.Memory =
-wrong in cc)
+stands_ready sent e n m t (inl (memory, same)) =
+    absurd (let wrong : Ok t ≡ Err node_fault.Memory = memory in cc)
 stands_ready sent e n m t (inr (asked, asks, done)) = record {
   asked = asked;
   asks = asks;

@@ -1,11 +1,13 @@
 -- Votes that were sent, and what a step's vote decides.
-use Rattle.std.proofs.Common.{◌≡◌, ◌+◌, ◌<◌, ◌≤◌, ◌==◌, ◌&&◌, ◌||◌, ℕ, zero, suc, Bool, true, false, not, List, [], ◌∷◌, ◌++◌, length, Option, None, Some, nat_lt, refl, sym, ap, ap₂, subst, ◌∙◌, arith, inl, inr, eqb-true, eq-eqb, ltb-true, lt-ltb, if◌then◌else◌, set-set, slice_set, ltb-false, add-one}
+use Rattle.std.proofs.Common.{◌≡◌, ◌+◌, ◌<◌, ◌≤◌, ◌==◌, ◌&&◌, ◌||◌, ℕ, zero, suc, Bool, true, false, not, List, [], ◌∷◌, ◌++◌, length, map, Option, None, Some, Vec, nat_lt, refl, sym, ap, ap₂, subst, ◌∙◌, arith, inl, inr, eqb-true, eq-eqb, ltb-true, lt-ltb, if◌then◌else◌, set-set, slice_set, bytes_eq, ltb-false, add-one}
 use Rattle.std.proofs.lemmas.Bool.{and_from, and_parts, cases_Bool, cond-true, cond-false, false_from_ne_true, true_from_ne_false, true≢false}
+use Rattle.std.specs.List.{list_any}
 use Rattle.agreement.specs.Quorums.{Members, is_majority, named_in, with_member}
 use Rattle.agreement.proofs.Majorities.{named_more}
 use Rattle.ballots.specs.Support.{Support, joined_by, named_with, set_of}
 use Rattle.faults.specs.Bytes.{Text, is_among}
 use Rattle.headline.proofs.Safe.{majority_within}
+use Rattle.units.proofs.Places.{equal_bytes, same_bytes}
 use Rattle.running.specs.inside.Deciding.{makes_majority, sender_place, voters_in}
 
 -- ---- tests
@@ -14,6 +16,11 @@ same_tests : (a b : Bool) → (a ≡ true → b ≡ true) → (b ≡ true → a 
 same_tests true b f g = sym (f refl)
 same_tests false true f g = g refl
 same_tests false false f g = refl
+
+-- the bytes are compared either way
+eq_turned : (s t : Text) → bytes_eq s t ≡ bytes_eq t s
+eq_turned s t = same_tests (bytes_eq s t) (bytes_eq t s)
+    (λ e. equal_bytes t s (sym (same_bytes s t e))) (λ e. equal_bytes s t (sym (same_bytes t s e)))
 
 -- ---- tallies
 
@@ -117,6 +124,12 @@ voters_same n sent vote none = λ i k. at k i
       where
         a : ℕ → Bool
         a j = is_among sent (slice_set vote sender_place j)
+
+-- what a set of vectors says of bytes, as texts
+pub found_among : {Z : Type 0} (vs : List (Vec ℕ Z)) (t : Text)
+    → list_any (λ v. bytes_eq t v.items) vs ≡ is_among (map (λ v. v.items) vs) t
+found_among [] t = refl
+found_among (v ∷ vs) t = ap₂ (λ a b. a || b) (eq_turned t v.items) (found_among vs t)
 
 -- ---- one turn more
 

@@ -2,8 +2,7 @@ use Rattle.std.proofs.Common.{◌≡◌, ℕ, Bool, true, false, List, Vec, map,
 use Rattle.std.proofs.lemmas.List.{length-set}
 use Rattle.ballots.specs.Support.{Support, set_of}
 use Rattle.faults.specs.Bytes.{Text, is_among}
-use Rattle.running.proofs.Entering.{among_texts}
-use Rattle.running.proofs.Voting.{voters_below, voters_more}
+use Rattle.running.proofs.Voting.{found_among, voters_below, voters_more}
 use Rattle.running.specs.inside.Deciding.{sender_place}
 use Rattle.running.proofs.votes.voters.Goals as goal
 use Rattle.running.proofs.votes.voters.Goals.{then-contains, else-contains}
@@ -15,7 +14,7 @@ loop-member-preserved c =
     let length_is = length-set l.vote.items 5 l.member ∙ l.invariant.length in
     let same = λ (k : ℕ). set-set l.vote.items 5 l.member k ∙ l.invariant.vote k in
     let test : c.contains.result ≡ is_among sent (slice_set c.args.text.now sender_place l.member) =
-    c.contains.ensures ∙ among_texts c.as_slice.result.now c.args.sent.now.keys
+    c.contains.ensures ∙ found_among c.args.sent.now.keys c.as_slice.result.now
     ∙ ap (is_among sent) (c.as_slice.ensures.value ∙ l.invariant.vote l.member) in
     elim c.if-contains.branch [
       | then-contains w ↦ record {
