@@ -1,2 +1,3 @@
 pub mod Voting
 pub mod Votes
+pub mod PutBack
