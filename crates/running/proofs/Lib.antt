@@ -2,3 +2,4 @@ pub mod Voting
 pub mod VoteSent
 pub mod Casting
 pub mod Listing
+pub mod StepHappens
