@@ -1,5 +1,10 @@
 pub mod Voting
 pub mod VoteSent
+pub mod Entering
+pub mod AtStart
+pub mod Shown
+pub mod Readied
+pub mod Taking
 pub mod Casting
 pub mod Listing
 pub mod StepHappens

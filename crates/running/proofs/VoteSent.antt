@@ -1,18 +1,20 @@
--- The vote that a step sends, and its text.
-use Rattle.std.proofs.Common.{◌≡◌, ◌<◌, ◌↔◌, ℕ, List, [], ◌∷◌, ◌++◌, length, map, Option, None, Some, slice_get, refl, sym, ap, subst, ◌∙◌, arith}
+-- The vote that a step sends, its text, and what it decides.
+use Rattle.std.proofs.Common.{◌≡◌, ◌<◌, ◌↔◌, ℕ, true, false, List, [], ◌∷◌, ◌++◌, length, map, Option, None, Some, slice_get, option_and_then, refl, sym, ap, subst, ◌∙◌, arith, if◌then◌else◌}
 use Rattle.faults.specs.Bytes.{Text}
 use Rattle.agreement.specs.declared.claim.Claim.{Claim}
 use Rattle.ballots.specs.declared.message.Body.{Body}
 use Rattle.ballots.specs.declared.message.Body.TheVariants as body
 use Rattle.ballots.specs.declared.message.Message.{Message}
+use Rattle.member.specs.Prepared.{Prepared}
 use Rattle.node.specs.Parcels.{datagrams_to, each_to}
+use Rattle.node.specs.Step.{sends_in}
 use Rattle.protocol.specs.Sends.{receivers_of, sent_to}
-use Rattle.protocol.specs.State.{Value}
+use Rattle.protocol.specs.State.{State, Value}
 use Rattle.protocol.specs.declared.sends.Send.{Send}
 use Rattle.wire.specs.Pieces.{carried_in, split_by}
 use Rattle.wire.specs.Spelling.{datagram_text}
 use Rattle.wire.specs.declared.datagram.Datagram.TheVariants as datagram
-use Rattle.running.specs.inside.Deciding.{claim_voted, message_in, sender_place}
+use Rattle.running.specs.inside.Deciding.{claim_voted, decided_by, decision, makes_majority, message_in, sender_place, voted_by, voters_of}
 
 -- ---- the message
 
@@ -20,12 +22,11 @@ some_same : {X : Type 0} (x y : X) → Some x ≡ Some y → x ≡ y
 some_same x y e = cc
 
 -- what all sends share is in the first
-pub message_is : (sends : List Send) (o : Option (Message Value))
-    → sends ≡ sent_to o (receivers_of sends) → (sends ≡ [] → o ≡ None) → message_in sends ≡ o
-message_is [] o e none = sym (none refl)
-message_is (s ∷ ss) None e none = absurd (let wrong : s ∷ ss ≡ [] = e in cc)
-message_is (s ∷ ss) (Some m) e none =
-    ap message_in e
+pub message_is : (sends : List Send) (m : Message Value)
+    → sends ≡ sent_to (Some m) (receivers_of sends) → (sends ≡ [] → ⊥)
+    → message_in sends ≡ Some m
+message_is [] m e some = absurd (some refl)
+message_is (s ∷ ss) m e some = ap message_in e
 
 -- ---- its text
 
@@ -59,6 +60,58 @@ first_text (s ∷ ss) m c e votes =
           ∙ ap (λ (n : Message Value). Some (s.to, whole_text n)) same,
     )
 
+-- What goes out first in the step of a member that says a vote is that vote's text.
+pub text_of_vote : (step : Option Prepared) (p : Prepared) (sends : List Send) (m : Message Value)
+    (c : Claim) (to : ℕ) (text : Text) → step ≡ Some p → sends ≡ p.sends → message_in sends ≡ Some m
+    → claim_voted m.body ≡ Some c → Some (to, text) ≡ slice_get (datagrams_to (sends_in step)) 0
+    → text ≡ whole_text m
+text_of_vote step p sends m c to text stands sends_are said votes first =
+    let f = first_text sends m c said votes in
+    let all : sends_in step ≡ sends = ap sends_in stands ∙ sym sends_are in
+    let both : (to, text) ≡ (f.0, whole_text m) = some_same (to, text) (f.0, whole_text m)
+    (first ∙ ap (λ (l : List Send). slice_get (datagrams_to l) 0) all ∙ f.1) in
+    ap (λ (x : ℕ × Text). x.1) both
+
 -- and it has a place for the sender's number
 pub has_sender : (m : Message Value) → sender_place < length (whole_text m)
 has_sender m = omega arith
+
+-- ---- what it decides
+
+module _ (weights : List ℕ) (sent : List Text) (s : State) (p : Prepared) where
+  -- no message decides nothing
+  pub nothing_sent : message_in p.sends ≡ None → decision weights sent s (Some p) ≡ None
+  nothing_sent e =
+      ap (option_and_then (λ m. decided_by weights sent s p.note m (claim_voted m.body))) e
+
+  module _ (m : Message Value) (said : message_in p.sends ≡ Some m) where
+    -- what a message decides
+    by_message : decision weights sent s (Some p)
+        ≡ decided_by weights sent s p.note m (claim_voted m.body)
+    by_message =
+        ap (option_and_then (λ n. decided_by weights sent s p.note n (claim_voted n.body))) said
+
+    -- what is no vote decides nothing
+    pub no_vote : claim_voted m.body ≡ None → decision weights sent s (Some p) ≡ None
+    no_vote e = by_message ∙ ap (decided_by weights sent s p.note m) e
+
+    -- what a vote decides
+    by_vote : (c : Claim) → claim_voted m.body ≡ Some c
+        → decision weights sent s (Some p)
+        ≡ (if makes_majority weights (voters_of weights sent m) m.sender
+        then voted_by s p.note m.path c else None)
+    by_vote c e = by_message ∙ ap (decided_by weights sent s p.note m) e
+
+    -- a vote that makes no majority decides nothing
+    pub no_majority : (c : Claim) → claim_voted m.body ≡ Some c
+        → makes_majority weights (voters_of weights sent m) m.sender ≡ false
+        → decision weights sent s (Some p) ≡ None
+    no_majority c e fails = by_vote c e
+        ∙ ap (λ b. if b then voted_by s p.note m.path c else None) fails
+
+    -- one that makes a majority decides the build that is voted for
+    pub a_majority : (c : Claim) → claim_voted m.body ≡ Some c
+        → makes_majority weights (voters_of weights sent m) m.sender ≡ true
+        → decision weights sent s (Some p) ≡ voted_by s p.note m.path c
+    a_majority c e holds = by_vote c e
+        ∙ ap (λ b. if b then voted_by s p.note m.path c else None) holds

@@ -1,5 +1,5 @@
 -- Votes that were sent, and what a step's vote decides.
-use Rattle.std.proofs.Common.{◌≡◌, ◌<◌, ◌≤◌, ◌==◌, ◌&&◌, ◌||◌, ℕ, zero, suc, Bool, true, false, not, List, [], ◌∷◌, ◌++◌, length, map, Option, None, Some, Vec, nat_lt, refl, sym, ap, ap₂, subst, ◌∙◌, arith, inl, inr, eqb-true, eq-eqb, ltb-true, lt-ltb, if◌then◌else◌, set-set, slice_set, bytes_eq, ltb-false}
+use Rattle.std.proofs.Common.{◌≡◌, ◌+◌, ◌<◌, ◌≤◌, ◌==◌, ◌&&◌, ◌||◌, ℕ, zero, suc, Bool, true, false, not, List, [], ◌∷◌, ◌++◌, length, map, Option, None, Some, Vec, nat_lt, refl, sym, ap, ap₂, subst, ◌∙◌, arith, inl, inr, eqb-true, eq-eqb, ltb-true, lt-ltb, if◌then◌else◌, set-set, slice_set, bytes_eq, ltb-false, add-one}
 use Rattle.std.proofs.lemmas.Bool.{and_from, and_parts, cases_Bool, cond-true, cond-false, false_from_ne_true, true_from_ne_false, true≢false}
 use Rattle.std.specs.List.{list_any}
 use Rattle.agreement.specs.Quorums.{Members, is_majority, named_in, with_member}
@@ -81,7 +81,7 @@ none_below sent vote = λ i k. at k i
 pub voters_next : (n : ℕ) (sent : List Text) (vote : Text)
     → is_among sent (slice_set vote sender_place n) ≡ true
     → with_member (voters_below n sent vote) n ≡ voters_below (suc n) sent vote
-voters_next n sent vote yes = λ i k. at k i
+voters_next n sent vote voted = λ i k. at k i
   where
     at : (k : ℕ) → with_member (voters_below n sent vote) n k ≡ voters_below (suc n) sent vote k
     at k = by (k == n) refl
@@ -93,7 +93,7 @@ voters_next n sent vote yes = λ i k. at k i
         by true t =
             let same : k ≡ n = eqb-true k n t in
             sym (and_from (nat_lt k (suc n)) (a k) (lt-ltb k (suc n) (omega (arith, same)))
-            (subst (λ j. a j ≡ true) (sym same) yes))
+            (subst (λ j. a j ≡ true) (sym same) voted))
         by false f = same_tests (nat_lt k n && a k) (nat_lt k (suc n) && a k)
             (λ e. let p = and_parts (nat_lt k n) (a k) e in
             let lt = ltb-true k n p.0 in
@@ -108,7 +108,7 @@ voters_next n sent vote yes = λ i k. at k i
 pub voters_same : (n : ℕ) (sent : List Text) (vote : Text)
     → is_among sent (slice_set vote sender_place n) ≡ false
     → voters_below n sent vote ≡ voters_below (suc n) sent vote
-voters_same n sent vote no = λ i k. at k i
+voters_same n sent vote none = λ i k. at k i
   where
     at : (k : ℕ) → voters_below n sent vote k ≡ voters_below (suc n) sent vote k
     at k = same_tests (nat_lt k n && a k) (nat_lt k (suc n) && a k)
@@ -120,7 +120,7 @@ voters_same n sent vote no = λ i k. at k i
         and_from (nat_lt k n) (a k) (true_from_ne_false (nat_lt k n) (λ g.
         let ge = ltb-false k n g in
         let same : k ≡ n = omega (arith, lt, ge) in
-        true≢false (sym p.1 ∙ ap a same ∙ no))) p.1)
+        true≢false (sym p.1 ∙ ap a same ∙ none))) p.1)
       where
         a : ℕ → Bool
         a j = is_among sent (slice_set vote sender_place j)
@@ -130,3 +130,18 @@ pub found_among : {Z : Type 0} (vs : List (Vec ℕ Z)) (t : Text)
     → list_any (λ v. bytes_eq t v.items) vs ≡ is_among (map (λ v. v.items) vs) t
 found_among [] t = refl
 found_among (v ∷ vs) t = ap₂ (λ a b. a || b) (eq_turned t v.items) (found_among vs t)
+
+-- ---- one turn more
+
+-- Once a member's turn is over, those that voted are the voters below the next, where it joined if
+-- it voted.
+pub voters_more : (n : ℕ) (sent : List Text) (vote : Text) (test : Bool) (old new : Support)
+    → test ≡ is_among sent (slice_set vote sender_place n)
+    → new ≡ (if test then joined_by old n else old)
+    → set_of old ≡ voters_below n sent vote → set_of new ≡ voters_below (n + 1) sent vote
+voters_more n sent vote true old new is joins below =
+    ap set_of joins ∙ joined_set old n ∙ ap (λ (S : Members). with_member S n) below
+    ∙ voters_next n sent vote (sym is) ∙ ap (λ k. voters_below k sent vote) (sym (add-one n))
+voters_more n sent vote false old new is joins below =
+    ap set_of joins ∙ below ∙ voters_same n sent vote (sym is)
+    ∙ ap (λ k. voters_below k sent vote) (sym (add-one n))

@@ -73,10 +73,10 @@ voted_by s None name c = option_and_then (value_under c) (facts_named s name).vo
 -- the build of the claim that the message decides, where a member sends it in a step
 abbrev pub decided_by : List ℕ → List Text → State → Option (Note Value) → Message Value
     → Option Claim → Option Value
-decided_by weights sent s note m None = None
-decided_by weights sent s note m (Some c) =
+decided_by weights sent s noted m None = None
+decided_by weights sent s noted m (Some c) =
     if makes_majority weights (voters_of weights sent m) m.sender
-    then voted_by s note m.path c else None
+    then voted_by s noted m.path c else None
 
 -- the build of the claim that the member's step decides
 abbrev pub decision : List ℕ → List Text → State → Option Prepared → Option Value

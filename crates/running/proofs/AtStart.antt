@@ -1,0 +1,90 @@
+-- Nodes at the start stand on their disks.
+use Rattle.std.proofs.Common.{◌≡◌, ◌⊎◌, inl, inr, ⊎_elim, ◌++◌, ℕ, zero, suc, true, List, [], ◌∷◌, length, map, replicate, Option, None, Some, Ok, slice_get, refl, sym, ap, subst, ◌∙◌, arith}
+use Rattle.ballots.specs.declared.message.Note.{Note}
+use Rattle.listing.specs.Tree.{Tree}
+use Rattle.node.specs.Calls.{IsOpened}
+use Rattle.node.specs.OnLog.{IsOnLog, texts_of}
+use Rattle.node.specs.State.{LoggedNode, NodeState, opened_node}
+use Rattle.protocol.specs.State.{Value}
+use Rattle.stable_record.specs.InMemory.{mem_history}
+use Rattle.stable_record.specs.Opening.{Opens}
+use Rattle.stable_record.specs.declared.identity.Identity.{Identity}
+use Rattle.stable_record.specs.declared.mem_disk.MemDisk.{MemDisk}
+use Rattle.units.proofs.Once.{one_division}
+use Rattle.units.specs.Division.{Division, IsDivision}
+use Rattle.units.specs.Units.{AreUnits}
+use Rattle.world.specs.World.{World, WorldNode, fresh_node, node_at, up_node}
+use Rattle.running.specs.declared.placed.Placed.{Placed}
+use Rattle.running.specs.declared.placed.Placed.TheVariants.{Up, Down}
+use Rattle.running.specs.inside.Placing.{StandsOn, node_view}
+use Rattle.running.specs.inside.Starting.{AreFresh, IsFresh, IsUpFresh}
+
+-- ---- an empty file
+
+-- a file without bytes has no notes
+pub no_notes : (i : Identity) (texts : List (List ℕ)) → Opens i [] (Ok texts) → texts ≡ []
+no_notes i texts (inl blank) = blank.1
+no_notes i texts (inr notes) = absurd (omega (arith, ap length notes.parts))
+
+-- notes without texts are none
+pub none_spelled : (notes : List (Note Value)) → texts_of notes ≡ [] → notes ≡ []
+none_spelled [] e = refl
+none_spelled (n ∷ ns) e = absurd (omega (arith, ap length e))
+
+-- ---- nodes that are fresh
+
+-- a tree is divided in one way
+one_way : (d e : Division) → d.tree ≡ e.tree → IsDivision d → IsDivision e → d ≡ e
+one_way d e same a b =
+    let units : d.units ≡ e.units = one_division d.tree d.units e.units a.units (subst (λ (t : Tree). AreUnits t e.units) (sym same) b.units) in
+    λ i. record { tree = same i; units = units i }
+
+module _ (tree : Tree) (weights : List ℕ) (d : Division) (of_tree : d.tree ≡ tree) (divided : IsDivision d) where
+  -- a fresh node is the one over that division
+  fresh_is : (me : ℕ) (n : LoggedNode MemDisk) → IsFresh tree weights me n → n.node ≡ opened_node d weights me []
+  fresh_is me n is =
+      let o = is.opened in
+      let same : o.division ≡ d = one_way o.division d (o.of_tree ∙ sym of_tree) o.divided divided in
+      o.node ∙ (λ i. opened_node (same i) weights me (is.empty i))
+
+  -- the world sees it as one that is fresh
+  pub seen_fresh : (me : ℕ) (x : Placed) → IsUpFresh tree weights me x → node_view x ≡ fresh_node
+  seen_fresh me (Up n) is = ap up_node (fresh_is me n is)
+  seen_fresh me (Down r) is = absurd is
+
+  -- it stands on its disk
+  pub fresh_stands : (w : World) → w.division ≡ d → w.weights ≡ weights → (me : ℕ) (x : Placed) → IsUpFresh tree weights me x → StandsOn w me x
+  fresh_stands w ed ew me (Up n) is =
+      let right : (m : NodeState) → m ≡ opened_node d weights me [] → m ≡ node_at w me (up_node m) =
+          λ m e. subst (λ (o : NodeState). o ≡ node_at w me (up_node o)) (sym e) (λ i. opened_node (sym ed i) (sym ew i) me []) in
+      (right n.node (fresh_is me n is), is.on_log)
+  fresh_stands w ed ew me (Down r) is = absurd is
+
+-- elements that all show as one
+alike : {X Y : Type 0} (f : X → Y) (y : Y) (xs : List X) → ((k : ℕ) (x : X) → slice_get xs k ≡ Some x → f x ≡ y) → map f xs ≡ replicate (length xs) y
+alike f y [] same = refl
+alike f y (x ∷ xs) same = λ i. same 0 x refl i ∷ alike f y xs (λ k. same (suc k)) i
+
+-- the nodes at the start
+pub all_fresh : (tree : Tree) (weights : List ℕ) (d : Division) → d.tree ≡ tree → IsDivision d → (nodes : List Placed) → AreFresh tree weights nodes
+    → map node_view nodes ≡ replicate (length weights) fresh_node
+all_fresh tree weights d of_tree divided nodes are =
+    alike node_view fresh_node nodes (λ k x at. seen_fresh tree weights d of_tree divided k x (are.each k x at))
+    ∙ ap (λ n. replicate n fresh_node) are.count
+
+-- ---- one node more
+
+one_node : {X : Type 0} (xs : List X) (y x : X) (k : ℕ) → slice_get (xs ++ y ∷ []) k ≡ Some x → (slice_get xs k ≡ Some x) ⊎ ((k ≡ length xs) × (y ≡ x))
+one_node [] y x zero e = inr (refl, (let same : Some y ≡ Some x = e in cc))
+one_node [] y x (suc k) e = absurd (let no : None ≡ Some x = e in cc)
+one_node (z ∷ zs) y x zero e = inl e
+one_node (z ∷ zs) y x (suc k) e = ⊎_elim (λ old. inl old) (λ new. inr (ap suc new.0, new.1)) (one_node zs y x k e)
+
+-- fresh nodes with the next one are fresh
+pub fresh_more : (tree : Tree) (weights : List ℕ) (nodes : List Placed) (n : LoggedNode MemDisk) (me : ℕ)
+    → ((k : ℕ) (x : Placed) → slice_get nodes k ≡ Some x → IsUpFresh tree weights k x) → length nodes ≡ me → IsFresh tree weights me n
+    → (k : ℕ) (x : Placed) → slice_get (nodes ++ Up n ∷ []) k ≡ Some x → IsUpFresh tree weights k x
+fresh_more tree weights nodes n me each count fresh k x at = ⊎_elim
+    (λ old. each k x old)
+    (λ new. subst (λ y. IsUpFresh tree weights k y) new.1 (subst (λ j. IsFresh tree weights j n) (sym (new.0 ∙ count)) fresh))
+    (one_node nodes (Up n) x k at)

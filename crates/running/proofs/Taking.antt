@@ -1,0 +1,169 @@
+-- A node's step on what an event asks: what it is once it is ready, and what a refusal leaves.
+use Rattle.std.proofs.Common.{◌≡◌, ◌⊎◌, inl, inr, List, Option, None, Some, Ok, Err, Result, refl, sym, ap, subst, ◌∙◌}
+use Rattle.faults.specs.Bytes.{Text}
+use Rattle.events.specs.Events.{Event}
+use Rattle.ballots.specs.declared.message.Note.{Note}
+use Rattle.node.proofs.Finishing.{note_is}
+use Rattle.node.specs.Calls.{IsLogCause, left_by}
+use Rattle.node.specs.OnLog.{IsOnLog, LacksRoom, identity_of, texts_of}
+use Rattle.node.specs.State.{LoggedNode, NodeState}
+use Rattle.node.specs.Step.{Asked, ReadyStep, Taken, Takes, after, note_in, taken_by}
+use Rattle.node.specs.declared.fault.NodeFault.{NodeFault}
+use Rattle.node.specs.declared.fault.NodeFault.TheVariants as node_fault
+use Rattle.protocol.specs.State.{Value}
+use Rattle.running.specs.declared.posted.Posted.{Posted}
+use Rattle.running.specs.inside.Asking.{IsReadied, asked_by}
+use Rattle.running.specs.inside.Posting.{sent_in}
+use Rattle.running.specs.inside.Stepping.{HasFinished, HasNoRoom, RefusesStep, TakesNone, TakesStep}
+use Rattle.stable_record.specs.InMemory.{mem_history}
+use Rattle.stable_record.specs.OpenLog.{Holds}
+use Rattle.stable_record.specs.declared.log.Log.{Log}
+use Rattle.stable_record.specs.declared.log_fault.LogFault.TheVariants as log
+use Rattle.stable_record.specs.declared.mem_disk.MemDisk.{MemDisk}
+
+-- ---- refusals
+
+-- a refusal leaves the member
+pub member_left : (n : NodeState) (asked : Asked) (f : NodeFault)
+    → (left_by n asked f).member ≡ n.member
+member_left n asked node_fault.Memory = refl
+member_left n asked (node_fault.Refused r) = refl
+member_left n asked (node_fault.Log log.Device) = refl
+member_left n asked (node_fault.Log log.Full) = refl
+member_left n asked (node_fault.Log log.Memory) = refl
+member_left n asked (node_fault.Log log.MustReopen) = refl
+member_left n asked (node_fault.Log log.NotALog) = refl
+member_left n asked (node_fault.Log log.OtherCluster) = refl
+member_left n asked node_fault.Stopped = refl
+member_left n asked (node_fault.Foreign f) = refl
+
+-- and its notes
+pub notes_left : (n : NodeState) (asked : Asked) (f : NodeFault)
+    → (left_by n asked f).notes ≡ n.notes
+notes_left n asked node_fault.Memory = refl
+notes_left n asked (node_fault.Refused r) = refl
+notes_left n asked (node_fault.Log log.Device) = refl
+notes_left n asked (node_fault.Log log.Full) = refl
+notes_left n asked (node_fault.Log log.Memory) = refl
+notes_left n asked (node_fault.Log log.MustReopen) = refl
+notes_left n asked (node_fault.Log log.NotALog) = refl
+notes_left n asked (node_fault.Log log.OtherCluster) = refl
+notes_left n asked node_fault.Stopped = refl
+notes_left n asked (node_fault.Foreign f) = refl
+
+-- A node with the same log, member and notes is on its log.
+pub stays_on_log : (n m : LoggedNode MemDisk) → IsOnLog mem_history n → m.log ≡ n.log
+    → m.node.member ≡ n.node.member → m.node.notes ≡ n.node.notes → IsOnLog mem_history m
+stays_on_log n m on log_is member notes = record {
+  owner = ap (λ (l : Log MemDisk). l.identity) log_is ∙ on.owner ∙ ap identity_of (sym member);
+  holds = subst (λ (l : Log MemDisk). Holds mem_history l (texts_of m.node.notes)) (sym log_is)
+      (subst (λ notes. Holds mem_history n.log (texts_of notes)) (sym notes) on.holds);
+}
+
+-- What is ready is the step that is right, and the node stays.
+pub record StandsReady (sent : List Text) (e : Event) (n m : NodeState) (t : Taken) : Type 0 where
+  pub asked : Asked
+  pub asks : asked_by sent e ≡ Some asked
+  pub takes : Takes n asked (Ok t)
+  pub stays : m ≡ n
+
+pub stands_ready : (sent : List Text) (e : Event) (n m : NodeState) (t : Taken)
+    → IsReadied sent e n m (Ok t) → StandsReady sent e n m t
+stands_ready sent e n m t (inl (wrong, same)) = absurd (let no : Ok t ≡ Err node_fault.Memory =
+wrong in cc)
+stands_ready sent e n m t (inr (asked, asks, done)) = record {
+  asked = asked;
+  asks = asks;
+  takes = subst (Takes n asked) done.given done.takes;
+  stays = done.state;
+}
+
+-- What is refused is refused as is right.
+pub refused_ready : (sent : List Text) (e : Event) (n m : LoggedNode MemDisk) (f : NodeFault)
+    → IsReadied sent e n.node m.node (Err f) → RefusesStep sent e n m f
+refused_ready sent e n m f (inl (memory, same)) =
+    inl (let is : f ≡ node_fault.Memory = cc in is, same)
+refused_ready sent e n m f (inr (asked, asks, done)) = by done.given
+  where
+    by : (f ≡ node_fault.Memory) ⊎ (done.right ≡ Err f) → RefusesStep sent e n m f
+    by (inl memory) = inl (memory, done.state ∙ ap (left_by n.node asked) memory)
+    by (inr right) = inr (inl (record {
+      asked = asked;
+      asks = asks;
+      refuses = subst (Takes n.node asked) right done.takes;
+      leaves = done.state;
+    }))
+
+-- And the node is still on its log.
+pub refused_on_log : (sent : List Text) (e : Event) (n m : LoggedNode MemDisk) (f : NodeFault)
+    → IsReadied sent e n.node m.node (Err f) → m.log ≡ n.log → IsOnLog mem_history n
+    → IsOnLog mem_history m
+refused_on_log sent e n m f (inl (memory, same)) log_is on =
+    stays_on_log n m on log_is (ap (λ (s : NodeState). s.member) same)
+    (ap (λ (s : NodeState). s.notes) same)
+refused_on_log sent e n m f (inr (asked, asks, done)) log_is on =
+    stays_on_log n m on log_is
+    (ap (λ (s : NodeState). s.member) done.state ∙ member_left n.node asked f)
+    (ap (λ (s : NodeState). s.notes) done.state ∙ notes_left n.node asked f)
+
+-- ---- the step
+
+-- Over a disk in memory a step is not taken for want of memory, or of room in the log.
+pub log_causes : (l : Log MemDisk) (noted : Option (Note Value)) (f : NodeFault)
+    → IsLogCause l noted f → (f ≡ node_fault.Log log.Device → ⊥)
+    → (f ≡ node_fault.Memory) ⊎ ((f ≡ node_fault.Log log.Full) × LacksRoom l noted)
+log_causes l noted node_fault.Memory cause works = inl refl
+log_causes l noted (node_fault.Refused r) cause works = absurd cause
+log_causes l noted (node_fault.Log log.Device) cause works = absurd (works refl)
+log_causes l noted (node_fault.Log log.Full) cause works = inr (refl, cause)
+log_causes l noted (node_fault.Log log.Memory) cause works = absurd cause
+log_causes l noted (node_fault.Log log.MustReopen) cause works = absurd cause
+log_causes l noted (node_fault.Log log.NotALog) cause works = absurd cause
+log_causes l noted (node_fault.Log log.OtherCluster) cause works = absurd cause
+log_causes l noted node_fault.Stopped cause works = absurd cause
+log_causes l noted (node_fault.Foreign f) cause works = absurd cause
+
+-- a node with the same fields
+pub same_node : (n m : LoggedNode MemDisk) → m.node ≡ n.node → m.log ≡ n.log → m ≡ n
+same_node n m node log_is = λ i. record { node = node i; log = log_is i }
+
+-- A step that was made ready and finished is taken.
+pub takes_step : (weights : List ℕ) (e : Event) (old new : Posted) (n m k : LoggedNode MemDisk)
+    (r : ReadyStep) → IsReadied (sent_in old) e n.node m.node (Ok (taken_by n.node r))
+    → m.log ≡ n.log → HasFinished weights old m r new k → TakesStep weights e old n new k
+takes_step weights e old new n m k r ready log_is done =
+    let s = stands_ready (sent_in old) e n.node m.node (taken_by n.node r) ready in record {
+      ready = r;
+      asked = s.asked;
+      asks = s.asks;
+      takes = s.takes;
+      finished = subst (λ (x : LoggedNode MemDisk). HasFinished weights old x r new k)
+          (same_node n m s.stays log_is) done;
+    }
+
+-- One that was made ready and not finished is refused: memory was wanting, or the log is full.
+pub refuses_step : (sent : List Text) (e : Event) (n m k : LoggedNode MemDisk) (r : ReadyStep)
+    (f : NodeFault) → IsReadied sent e n.node m.node (Ok (taken_by n.node r)) → m.log ≡ n.log
+    → k.node ≡ m.node
+    → (f ≡ node_fault.Memory)
+    ⊎ ((f ≡ node_fault.Log log.Full) × LacksRoom m.log (note_in r.step))
+    → RefusesStep sent e n k f
+refuses_step sent e n m k r f ready log_is stays why = by why
+  where
+    s : StandsReady sent e n.node m.node (taken_by n.node r)
+    s = stands_ready sent e n.node m.node (taken_by n.node r) ready
+
+    by : (f ≡ node_fault.Memory)
+        ⊎ ((f ≡ node_fault.Log log.Full) × LacksRoom m.log (note_in r.step))
+        → RefusesStep sent e n k f
+    by (inl memory) = inl (memory, stays ∙ s.stays)
+    by (inr (full, lacks)) = inr (inr (record {
+      asked = s.asked;
+      asks = s.asks;
+      taken = taken_by n.node r;
+      takes = s.takes;
+      lacks = subst (λ (l : Log MemDisk). LacksRoom l (taken_by n.node r).answer.note) log_is
+          (subst (LacksRoom m.log) (sym (note_is n.node.member r.step)) lacks);
+      fault = full;
+      leaves = stays ∙ s.stays;
+    }))
