@@ -5,6 +5,7 @@ pub mod AtStart
 pub mod Shown
 pub mod Readied
 pub mod Taking
+pub mod PutBack
 pub mod Casting
 pub mod Listing
 pub mod StepHappens

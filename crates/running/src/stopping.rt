@@ -1,17 +1,56 @@
 //! Stops, and restarts.
-ghost use Rattle.std.specs.Prelude.{◌≡◌, ◌<◌, ◌⊎◌, IfErr, None, OnErr, OnOk, length};
+ghost use Rattle.std.specs.Prelude.{
+  ◌≡◌,
+  ◌<◌,
+  ◌⊎◌,
+  IfErr,
+  IfOk,
+  List,
+  None,
+  OnErr,
+  OnOk,
+  Some,
+  length,
+  map,
+  true,
+};
 ghost use Rattle.events.specs.Events as events;
 ghost use Rattle.events.specs.Events.{event_view};
+ghost use Rattle.faults.specs.Bytes.{Text};
+ghost use Rattle.node.specs.Step.{Asked, IsAsked};
 ghost use Rattle.world.specs.Happening.{IsRefusedByNode, Restarts, StopsIn, fault_before};
-ghost use Rattle.running.specs.inside.Asking.{refused_by};
-ghost use Rattle.running.specs.inside.Placing.{IsReached, IsStanding, world_of};
-ghost use Rattle.running.specs.inside.Stopping.{IsStopped, IsStoppedTorn};
+ghost use Rattle.running.specs.inside.Asking.{CanBeAsked, asked_by, refused_by};
+ghost use Rattle.running.specs.inside.Placing.{
+  IsReached,
+  IsStanding,
+  disk_of,
+  file_of,
+  node_view,
+  world_of,
+};
+ghost use Rattle.running.specs.inside.Stopping.{
+  HasNotStopped,
+  HasReopened,
+  IsNotStoppedWith,
+  IsReady,
+  IsStopped,
+  IsStoppedBehind,
+  IsStoppedTorn,
+  IsStoppedWith,
+  ReadiesStep,
+  StandsReady,
+  TookNone,
+  TookStep,
+};
 
 use crate::asked::{node_of, ready};
 use crate::placed::{Placed, Rest};
 use crate::scene::Scene;
+use ballots::Weights;
 use events::{Event, Left};
 use faults::Memory;
+use indexmap::IndexSet;
+use listing::Tree;
 use node::{Node, NodeFault, Ready};
 use stable_record::MemDisk;
 use std::alloc::Global;
@@ -43,6 +82,105 @@ fn stop_torn(nodes: &mut Vec<Placed<'_>>, place: usize, torn: &[u8]) -> Result<(
     Ok(())
 }
 
+/// A host that the event names has a number of 16 bits.
+pub(crate) fn host_fits(event: &Event)
+    ensures { (sent : List Text) (asked : Asked)
+        → asked_by sent (event_view event.now) ≡ Some asked → IsAsked asked }
+{
+    if let Event::Claim { host, .. } = event {
+        let _host = *host;
+    }
+}
+
+/// The step of a node that is up on what the event asks, ready.
+fn readied(
+    placed: &mut Placed<'_>,
+    sent: &IndexSet<Vec<u8>>,
+    step: &Event,
+) -> Result<Ready, NodeFault>
+    requires asks { CanBeAsked (map (λ d. d.items) sent.now.keys) (event_view step.now) }
+    requires up { (node_view placed.old).up ≡ true }
+    ensures { ReadiesStep (map (λ d. d.items) sent.now.keys) (event_view step.now) placed.old
+        placed.new result }
+{
+    match placed {
+        Placed::Up(node) => ready(node, sent, step),
+        Placed::Down(_) => unreachable!(),
+    }
+}
+
+/// The node takes the step, and what comes out of it is lost.
+fn take_step(placed: &mut Placed<'_>, ready: Ready) -> Result<(), NodeFault>
+    requires { IsReady placed.old ready }
+    ensures took { OnOk result (TookStep placed.old ready placed.new) }
+    ensures none { IfErr result (TookNone placed.old ready placed.new) }
+{
+    match placed {
+        Placed::Up(node) => {
+            node.finish(ready)?;
+            Ok(())
+        }
+        Placed::Down(_) => unreachable!(),
+    }
+}
+
+/// The node at the place stops once the note of its step is on the log.
+fn stop_behind(nodes: &mut Vec<Placed<'_>>, place: usize, ready: Ready) -> Result<(), NodeFault>
+    requires { StandsReady nodes.old.items place ready }
+    ensures stopped { OnOk result
+        (IsStoppedBehind nodes.old.items nodes.new.items place ready) }
+    ensures none { IfErr result (HasNotStopped nodes.old.items nodes.new.items place ready) }
+{
+    take_step(&mut nodes[place], ready)?;
+    stop(nodes, place);
+    Ok(())
+}
+
+/// The node at the place stops inside the step that is ready, and this is left of its note.
+fn stop_with(
+    nodes: &mut Vec<Placed<'_>>,
+    place: usize,
+    ready: Ready,
+    left: &Left,
+) -> Result<(), NodeFault>
+    requires { StandsReady nodes.old.items place ready }
+    ensures stopped { OnOk result
+        (IsStoppedWith left.now nodes.old.items nodes.new.items place ready) }
+    ensures none { IfErr result
+        (IsNotStoppedWith left.now nodes.old.items nodes.new.items place ready) }
+{
+    match left {
+        Left::None => {
+            stop(nodes, place);
+            Ok(())
+        }
+        Left::Torn(torn) => match stop_torn(nodes, place, torn.as_slice()) {
+            Ok(()) => Ok(()),
+            Err(Memory) => Err(NodeFault::Memory),
+        },
+        Left::Whole => stop_behind(nodes, place, ready),
+    }
+}
+
+/// The node that a copy of its disk restores.
+fn restarted<'a>(
+    alloc: Global,
+    placed: &Placed<'_>,
+    tree: &'a Tree,
+    weights: &Weights,
+    me: u8,
+) -> Result<Node<'a, MemDisk>, Memory>
+    requires { me < length weights.now }
+    ensures { IfOk result (HasReopened tree.entry.now weights.now me
+        (file_of (disk_of placed.now))) }
+{
+    let disk = placed.disk_with(alloc, &[])?;
+    match Node::open(alloc, disk, tree, weights, me) {
+        Ok(node) => Ok(node),
+        Err(_) => Err(Memory),
+    }
+}
+
 impl<'a> Scene<'a> {
     /// The node of the step stops inside it, and this is left of its note. Nothing is sent.
     pub(crate) fn stop_in(&mut self, step: &Event, left: &Left) -> Result<(), NodeFault>
@@ -58,32 +196,12 @@ impl<'a> Scene<'a> {
             (refused_by f)) }
         ensures standing { IsStanding self.new }
     {
+        host_fits(step);
         let place = node_of(step) as usize;
-        let ready = self.readied(place, step)?;
-        match left {
-            Left::None => stop(&mut self.nodes, place),
-            Left::Torn(torn) => stop_torn(&mut self.nodes, place, torn.as_slice())?,
-            Left::Whole => self.stop_behind(place, ready)?,
+        match readied(&mut self.nodes[place], &self.posted.sent, step) {
+            Ok(ready) => stop_with(&mut self.nodes, place, ready, left),
+            Err(fault) => Err(fault),
         }
-        Ok(())
-    }
-
-    /// The node's step on what the event asks, ready.
-    fn readied(&mut self, place: usize, step: &Event) -> Result<Ready, NodeFault> {
-        match &mut self.nodes[place] {
-            Placed::Up(node) => ready(node, &self.posted.sent, step),
-            Placed::Down(_) => Err(NodeFault::Stopped),
-        }
-    }
-
-    /// The node at the place stops once the note of its step is on the log.
-    fn stop_behind(&mut self, place: usize, ready: Ready) -> Result<(), NodeFault> {
-        let Placed::Up(node) = &mut self.nodes[place] else {
-            return Err(NodeFault::Stopped);
-        };
-        node.finish(ready)?;
-        stop(&mut self.nodes, place);
-        Ok(())
     }
 
     /// The node starts again, with what its notes restore. Until it is up its disk stays as it is.
@@ -96,18 +214,13 @@ impl<'a> Scene<'a> {
         ensures refused { IfErr result (λ f. f ≡ NodeFault.Memory) }
         ensures standing { IsStanding self.new }
     {
-        let node = self.restarted(me)?;
-        self.nodes[me as usize] = Placed::Up(node);
-        Ok(())
-    }
-
-    /// The node that a copy of its disk restores.
-    fn restarted(&self, me: u8) -> Result<Node<'a, MemDisk>, NodeFault> {
         let alloc: Global = *self.nodes.allocator();
-        let disk = self.nodes[me as usize].disk_with(alloc, &[])?;
-        match Node::open(alloc, disk, self.tree, &self.weights, me) {
-            Ok(node) => Ok(node),
-            Err((fault, _disk)) => Err(fault),
+        match restarted(alloc, &self.nodes[me as usize], self.tree, &self.weights, me) {
+            Ok(node) => {
+                self.nodes[me as usize] = Placed::Up(node);
+                Ok(())
+            }
+            Err(Memory) => Err(NodeFault::Memory),
         }
     }
 }

@@ -1,0 +1,37 @@
+use Rattle.std.proofs.Common.{arith, refl}
+use Rattle.std.proofs.lemmas.List.{length-set}
+use Rattle.std.proofs.lemmas.Option.{slice_get_within}
+use Rattle.std.proofs.lemmas.Result.{err_from_is_err_and}
+use Rattle.running.proofs.PutBack.{stands_at}
+use Rattle.running.proofs.stopping.stop_behind.Goals as goal
+
+pub returns-in_err-take_step-clause-none : goal.returns-in_err-take_step-clause-none
+returns-in_err-take_step-clause-none c =
+    let nodes = c.args.nodes.now.items in
+    let within = slice_get_within nodes c.args.place c.requires.node c.requires.stands in
+    let p = err_from_is_err_and c.from_residual.result c.from_residual.ensures.1 in
+    rw (p.1, p.2) (record {
+      node = c.index_mut.result.now;
+      stood = stands_at nodes c.args.place c.index_mut.result.now c.index_mut.ensures.value within;
+      then = c.take_step.new.placed;
+      none = c.in_err-take_step.ensures.none;
+      nodes = refl;
+    })
+
+pub stop-requires : goal.stop-requires
+stop-requires c =
+    let nodes = c.args.nodes.now.items in
+    let within = slice_get_within nodes c.args.place c.requires.node c.requires.stands in
+    omega (arith, within, length-set nodes c.args.place c.take_step.new.placed)
+
+pub returns-clause-stopped : goal.returns-clause-stopped
+returns-clause-stopped c =
+    let nodes = c.args.nodes.now.items in
+    let within = slice_get_within nodes c.args.place c.requires.node c.requires.stands in
+    record {
+      node = c.index_mut.result.now;
+      stood = stands_at nodes c.args.place c.index_mut.result.now c.index_mut.ensures.value within;
+      then = c.take_step.new.placed;
+      took = c.in_ok-take_step.ensures.took;
+      stopped = c.stop.ensures;
+    }
