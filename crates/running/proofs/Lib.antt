@@ -9,3 +9,4 @@ pub mod Casting
 pub mod Listing
 pub mod Votes
 pub mod PutBack
+pub mod StepHappens

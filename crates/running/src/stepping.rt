@@ -25,7 +25,7 @@ use crate::asked::{node_of, ready, refused};
 use crate::placed::Placed;
 use crate::posted::Posted;
 use crate::scene::Scene;
-use crate::stopping::stop;
+use crate::stopping::{host_fits, stop};
 use crate::votes::decided;
 use ballots::Weights;
 use events::Event;
@@ -122,6 +122,7 @@ impl<'a> Scene<'a> {
             ⊎ IsRefusedByNode (world_of self.old) (event_view event.now) (refused_by f)) }
         ensures standing { IsStanding self.new }
     {
+        host_fits(event);
         match &mut self.nodes[node_of(event) as usize] {
             Placed::Up(node) => take(&self.weights, &mut self.posted, node, event),
             Placed::Down(_) => Err(NodeFault::Stopped),

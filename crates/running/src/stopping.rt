@@ -83,7 +83,7 @@ fn stop_torn(nodes: &mut Vec<Placed<'_>>, place: usize, torn: &[u8]) -> Result<(
 }
 
 /// A host that the event names has a number of 16 bits.
-fn host_fits(event: &Event)
+pub(crate) fn host_fits(event: &Event)
     ensures { (sent : List Text) (asked : Asked)
         → asked_by sent (event_view event.now) ≡ Some asked → IsAsked asked }
 {

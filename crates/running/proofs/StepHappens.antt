@@ -1,0 +1,417 @@
+-- The step of a node in its scene is one of the world.
+use Rattle.std.proofs.Common.{◌≡◌, ◌⊎◌, ◌<◌, ◌&&◌, ℕ, Bool, true, false, not, nat_le, List, length, map, Option, None, Some, Result, Ok, Err, IfErr, OnErr, OnOk, slice_get, slice_set, slice_index_or, refl, sym, ap, subst, ◌∙◌, arith, inl, inr, ⊎_elim, true≢false}
+use Rattle.std.proofs.lemmas.Bool.{leb-false}
+use Rattle.std.proofs.lemmas.List.{length-map, map-set}
+use Rattle.std.proofs.lemmas.Option.{slice_get-get_or}
+use Rattle.agreement.proofs.Nodes.{get_set}
+use Rattle.ballots.specs.declared.message.Note.{Note}
+use Rattle.events.specs.Events as events
+use Rattle.events.specs.Events.{Event, is_step}
+use Rattle.faults.specs.Bytes.{Text}
+use Rattle.headline.proofs.OneList.{each_run_is_acts}
+use Rattle.headline.proofs.Runs.{none_is_foreign}
+use Rattle.member.specs.Prepared.{Prepared}
+use Rattle.node.specs.Arrival.{Arrival, Strange, Waits, Whole, arrival_of}
+use Rattle.node.specs.Calls.{left_by}
+use Rattle.node.specs.OnLog.{IsFull, IsOnLog, LacksRoom}
+use Rattle.node.specs.State.{LoggedNode, NodeState}
+use Rattle.node.specs.Step.{Asked, Comes, Does, IsAsked, ReadyStep, Taken, Takes, after, answer_then, heard, note_in, sends_in, step, step_on, taken, taken_by}
+use Rattle.node.specs.declared.fault.Foreign.{Foreign}
+use Rattle.node.specs.declared.fault.NodeFault.{NodeFault}
+use Rattle.node.specs.declared.fault.NodeFault.TheVariants as fault
+use Rattle.package_record.proofs.BuildsRead.{build_is_read}
+use Rattle.package_record.specs.Content.{Content}
+use Rattle.protocol.specs.Answers.{Answer}
+use Rattle.protocol.specs.State.{State, Value}
+use Rattle.protocol.specs.Step as members
+use Rattle.protocol.specs.declared.refusal.Refusal.{Refusal}
+use Rattle.stable_record.specs.InMemory.{mem_history}
+use Rattle.stable_record.specs.declared.mem_disk.MemDisk.{MemDisk}
+use Rattle.wire.specs.Reading.{datagram_of}
+use Rattle.wire.specs.declared.datagram.Piece.{Piece}
+use Rattle.world.specs.Happening.{Acts, Happens, IsRefusedByNode, IsUp, Steps, Stops, fault_before, is_bad_stop, is_restart, is_up, lacks_datagram, leaves_note, stepped, up_of}
+use Rattle.world.specs.Lists.{IsListAfter}
+use Rattle.world.specs.Sent.{with_sends}
+use Rattle.world.specs.World.{World, WorldNode, member_at, node_at, up_node, with_node}
+use Rattle.world.specs.declared.fault.WorldFault.{WorldFault}
+use Rattle.world.specs.declared.fault.WorldFault.TheVariants as worlds
+use Rattle.running.specs.declared.placed.Placed.{Placed}
+use Rattle.running.specs.declared.placed.Placed.TheVariants.{Down, Up}
+use Rattle.running.specs.declared.posted.Posted.{Posted}
+use Rattle.running.specs.declared.scene.Scene.{Scene}
+use Rattle.running.specs.inside.Asking.{CanBeAsked, asked_by, refused_by}
+use Rattle.running.specs.inside.Deciding.{decision}
+use Rattle.running.specs.inside.Placing.{IsReached, IsStanding, StandsOn, disk_of, node_view, world_of}
+use Rattle.running.specs.inside.Posting.{AreListed, AreSame, list_in, sent_in}
+use Rattle.running.specs.inside.Stepping.{RefusesStep, TakesStep, with_decision}
+use Rattle.running.specs.inside.Stopping.{IsStopped}
+use Rattle.running.proofs.Listing.{step_lists}
+use Rattle.running.proofs.NodeStands.{same_so, stopped_so, took_so}
+use Rattle.running.proofs.SceneWith.{IsBut, put_again, standing_with, stands_there, world_with}
+use Rattle.running.proofs.StopsInside.{NoneApplies, asks_so, can_be_asked, full_of_lack, get_mapped, get_some, lack_of_full, none_applies, one_value}
+
+was_true : (b : Bool) → not b ≡ false → b ≡ true
+was_true true e = refl
+was_true false e = absurd (true≢false e)
+
+-- a step is no restart, and leaves its note
+pub no_restart : (e : Event) → is_step e ≡ true → is_restart e ≡ false
+no_restart (events.Claim n path host above) is = refl
+no_restart (events.Built n path files) is = refl
+no_restart (events.Failed n path) is = refl
+no_restart (events.Nudge n) is = refl
+no_restart (events.Ask n path) is = refl
+no_restart (events.Deliver d n) is = refl
+no_restart (events.Stop n) is = absurd (true≢false (sym is))
+no_restart (events.StopIn e l) is = absurd (true≢false (sym is))
+no_restart (events.Restart n) is = absurd (true≢false (sym is))
+
+leaves_its_note : (e : Event) → is_step e ≡ true → leaves_note e ≡ true
+leaves_its_note (events.Claim n path host above) is = refl
+leaves_its_note (events.Built n path files) is = refl
+leaves_its_note (events.Failed n path) is = refl
+leaves_its_note (events.Nudge n) is = refl
+leaves_its_note (events.Ask n path) is = refl
+leaves_its_note (events.Deliver d n) is = refl
+leaves_its_note (events.Stop n) is = absurd (true≢false (sym is))
+leaves_its_note (events.StopIn e l) is = absurd (true≢false (sym is))
+leaves_its_note (events.Restart n) is = absurd (true≢false (sym is))
+
+-- ---- what a step refuses
+
+-- A step never wants memory, nor does it ask the log.
+abbrev IsByStep : Result Taken NodeFault → Type 0
+IsByStep (Ok t) = Prim.Unit {0}
+IsByStep (Err fault.Memory) = ⊥
+IsByStep (Err (fault.Refused r)) = Prim.Unit {0}
+IsByStep (Err (fault.Log f)) = ⊥
+IsByStep (Err fault.Stopped) = Prim.Unit {0}
+IsByStep (Err (fault.Foreign f)) = Prim.Unit {0}
+
+taken_by_step : (pieces : List Piece) (r : Result Answer Refusal) → IsByStep (taken pieces r)
+taken_by_step pieces (Ok a) = tt
+taken_by_step pieces (Err r) = tt
+
+heard_by_step : (pieces : List Piece) (r : Result Answer Refusal) → IsByStep (heard pieces r)
+heard_by_step pieces (Ok a) = tt
+heard_by_step pieces (Err r) = tt
+
+arrived_by_step : (s : State) (a : Arrival) → IsByStep (step_on s a)
+arrived_by_step s (Strange f pieces) = tt
+arrived_by_step s (Waits pieces) = tt
+arrived_by_step s (Whole m pieces) = heard_by_step pieces (members.heard s m)
+
+by_step : (w : World) (k : ℕ) (x : WorldNode) (asked : Asked) (f : NodeFault)
+    → Takes (node_at w k x) asked (Err f) → IsByStep (Err f)
+by_step w k x (Does input) f takes = subst IsByStep (sym takes.right_is)
+    (taken_by_step x.pieces (members.answer (member_at w k x) takes.letter input))
+by_step w k x (Comes text) f takes = subst IsByStep (sym takes.right_is)
+    (arrived_by_step (member_at w k x) (arrival_of (member_at w k x) x.pieces (datagram_of text)))
+
+-- ---- what is noted and sent
+
+note_answered : (s : State) (p : Option Prepared) → (answer_then s p).note ≡ note_in p
+note_answered s None = refl
+note_answered s (Some p) = refl
+
+sends_answered : (s : State) (p : Option Prepared) → (answer_then s p).sends ≡ sends_in p
+sends_answered s None = refl
+sends_answered s (Some p) = refl
+
+-- ---- a scene with another node at a place, and other tables
+
+pub record IsWith (s t : Scene) (k : ℕ) (x : Placed) : Type 0 where
+  pub tree : t.tree.now ≡ s.tree.now
+  pub units : t.units ≡ s.units
+  pub weights : t.weights ≡ s.weights
+  pub nodes : t.nodes.items ≡ slice_set s.nodes.items k x
+
+module _ (s t : Scene) (k : ℕ) (x : Placed) (is : IsWith s t k x) where
+  views : map node_view t.nodes.items ≡ slice_set (map node_view s.nodes.items) k (node_view x)
+  views = ap (map node_view) is.nodes ∙ map-set node_view s.nodes.items k x
+
+  -- the world
+  abbrev with_tables : World → List WorldNode → List Text → List Content → World
+  with_tables w nodes texts packages =
+      record w { nodes = nodes; sent = texts; agreed = packages }
+
+  world_is : world_of t ≡ with_tables (world_of s)
+      (slice_set (map node_view s.nodes.items) k (node_view x)) (sent_in t.posted)
+      (list_in t.posted)
+  world_is =
+      let nodes = views in
+      λ i. record {
+        division = is.units i;
+        weights = is.weights i;
+        nodes = nodes i;
+        sent = sent_in t.posted;
+        agreed = list_in t.posted;
+      }
+
+  -- where the node looks as it did, and the tables are the same, so is the world
+  stays : (y : Placed) → slice_get s.nodes.items k ≡ Some y → node_view x ≡ node_view y
+      → AreSame s.posted t.posted → world_of t ≡ world_of s
+  stays y there looks same =
+      let nodes : slice_set (map node_view s.nodes.items) k (node_view x)
+          ≡ map node_view s.nodes.items =
+      ap (slice_set (map node_view s.nodes.items) k) looks
+      ∙ put_again (map node_view s.nodes.items) k (node_view y)
+      (get_mapped node_view s.nodes.items k y there) in
+      let sent = same.sent in
+      let list = same.list in
+      world_is ∙ (λ i. with_tables (world_of s) (nodes i) (sent i) (list i))
+
+  -- each node stands, where this one does
+  stands : IsStanding s → StandsOn (world_of s) k x → AreListed t.posted → IsStanding t
+  stands standing here listed = record {
+    tree = ap (λ (d : _). d.tree) is.units ∙ standing.tree ∙ sym is.tree;
+    disks = λ j y e. stands_there (world_of s) (world_of t) j y is.units is.weights
+        (⊎_elim
+        (λ p. subst (λ i. StandsOn (world_of s) i y) (sym p.0)
+        (subst (StandsOn (world_of s) k) (sym p.1) here))
+        (λ p. standing.disks j y p.1)
+        (get_set s.nodes.items k j x y
+        (subst (λ (l : List Placed). slice_get l j ≡ Some y) is.nodes e)));
+    listed = listed;
+  }
+
+-- what a step leaves, taken or not
+pub record IsLeft (s : Scene) (e : Event) (t : Scene) (r : Result (Unit {0}) NodeFault) : Type 0
+  where
+    pub taken : OnOk r (Steps (world_of s) e (world_of t))
+    pub same : OnErr r (world_of t ≡ world_of s)
+    pub refused : IfErr r
+        (λ f. (f ≡ fault.Memory) ⊎ IsRefusedByNode (world_of s) e (refused_by f))
+    pub standing : IsStanding t
+
+-- ---- an event that may happen at a node that is up
+
+module _ (s : Scene) (e : Event) (may : fault_before (world_of s) e ≡ None)
+    (none : is_restart e ≡ false) where
+  there : NoneApplies (is_bad_stop e) (nat_le (length (world_of s).nodes) (events.node_of e))
+      (not (is_restart e) && not (is_up (world_of s) (events.node_of e)))
+      (is_restart e && is_up (world_of s) (events.node_of e)) (lacks_datagram (world_of s) e)
+  there = none_applies (is_bad_stop e) (nat_le (length (world_of s).nodes) (events.node_of e))
+      (not (is_restart e) && not (is_up (world_of s) (events.node_of e)))
+      (is_restart e && is_up (world_of s) (events.node_of e)) (lacks_datagram (world_of s) e)
+      (worlds.BadTrace 0) worlds.NoSuchNode worlds.NodeDown worlds.NodeUp worlds.NoSuchDatagram may
+
+  -- there is such a node
+  pub within : events.node_of e < length s.nodes.items
+  within = omega (arith, leb-false (length (world_of s).nodes) (events.node_of e) there.second,
+      length-map s.nodes.items node_view)
+
+  -- that stands at the place
+  pub at_place : (place : ℕ) → place ≡ events.node_of e → (x y : Placed)
+      → x ≡ slice_index_or s.nodes.items place x → x ≡ y
+      → slice_get s.nodes.items (events.node_of e) ≡ Some y
+  at_place place same x y value is =
+      slice_get-get_or s.nodes.items (events.node_of e) x within
+      ∙ ap (λ z. Some z)
+      (ap (λ p. slice_index_or s.nodes.items p x) (sym same) ∙ sym value ∙ is)
+
+  -- and is up
+  up_there : is_up (world_of s) (events.node_of e) ≡ true
+  up_there = was_true (is_up (world_of s) (events.node_of e))
+      (ap (λ b. not b && not (is_up (world_of s) (events.node_of e))) (sym none) ∙ there.third)
+
+  pub never_down : (x : Placed) → slice_get s.nodes.items (events.node_of e) ≡ Some x
+      → (node_view x).up ≡ false → ⊥
+  never_down x at off = true≢false
+      (sym up_there ∙ ap up_of (get_mapped node_view s.nodes.items (events.node_of e) x at) ∙ off)
+
+-- ---- a stop between two steps
+
+-- What a stop leaves.
+pub record IsDown (s : Scene) (n : ℕ) (t : Scene) : Type 0 where
+  pub stops : Stops (world_of s) n (world_of t)
+  pub standing : IsStanding t
+
+pub is_down : (s : Scene) (n : ℕ) → IsStanding s → fault_before (world_of s) (events.Stop n) ≡ None
+    → (t : Scene) → IsBut s t → IsStopped s.nodes.items t.nodes.items n → IsDown s n t
+is_down s n standing may t but stopped = by stopped.node refl
+  where
+    by : (y : Placed) → stopped.node ≡ y → IsDown s n t
+    by (Down r) is = absurd (never_down s (events.Stop n) may refl (Down r)
+        (stopped.stood ∙ ap (λ z. Some z) is) refl)
+    by (Up m) is =
+        let at : slice_get s.nodes.items n ≡ Some (Up m) = stopped.stood ∙ ap (λ z. Some z) is in
+        let left = stopped_so (world_of s) n m (standing.disks n (Up m) at) stopped.rest
+        (stopped.disk ∙ ap disk_of is) (stopped.notes ∙ ap (λ z. (node_view z).notes) is)
+        (stopped.behind (ap (λ z. (node_view z).up) is)) in
+        record {
+          stops = record {
+            node = up_node m.node;
+            is_up = record {
+              stands = get_mapped node_view s.nodes.items n (Up m) at;
+              up = refl;
+            };
+            leaves = world_with s t but n (Down stopped.rest) stopped.nodes
+                ∙ ap (with_node (world_of s) n) left.view;
+          };
+          standing = standing_with s t but n (Down stopped.rest) stopped.nodes standing left.left;
+        }
+
+-- ---- a step that may be taken
+
+-- which happens so
+pub steps_happen : (w v : World) (e : Event) → is_step e ≡ true → Steps w e v → Happens w e v
+steps_happen w v (events.Claim n path host above) is s = s
+steps_happen w v (events.Built n path files) is s = s
+steps_happen w v (events.Failed n path) is s = s
+steps_happen w v (events.Nudge n) is s = s
+steps_happen w v (events.Ask n path) is s = s
+steps_happen w v (events.Deliver d n) is s = s
+steps_happen w v (events.Stop n) is s = absurd (true≢false (sym is))
+steps_happen w v (events.StopIn e l) is s = absurd (true≢false (sym is))
+steps_happen w v (events.Restart n) is s = absurd (true≢false (sym is))
+
+module _ (s : Scene) (e : Event) (standing : IsStanding s) (reached : IsReached (world_of s))
+    (may : fault_before (world_of s) e ≡ None) (is_a_step : is_step e ≡ true) where
+  abbrev w : World
+  w = world_of s
+
+  abbrev k : ℕ
+  k = events.node_of e
+
+  abbrev nodes : List Placed
+  nodes = s.nodes.items
+
+  -- it can be asked
+  pub can : CanBeAsked w.sent e
+  can = can_be_asked w e is_a_step (there s e may (no_restart e is_a_step)).fifth
+
+  module _ (n : LoggedNode MemDisk) (at : slice_get nodes k ≡ Some (Up n)) where
+    -- it stands on its log
+    pub on_log : StandsOn w k (Up n)
+    on_log = standing.disks k (Up n) at
+
+    abbrev x : WorldNode
+    x = up_node n.node
+
+    is_up_there : IsUp w e x
+    is_up_there = record { stands = get_mapped node_view nodes k (Up n) at; up = refl }
+
+    takes_there : (asked : Asked) (r : Result Taken NodeFault) → Takes n.node asked r
+        → Takes (node_at w k x) asked r
+    takes_there asked r = subst (λ (z : NodeState). Takes z asked r) on_log.0
+
+    -- ---- refused
+
+    refuses : (asked : Asked) → asked_by w.sent e ≡ Some asked → (f : NodeFault)
+        → Takes n.node asked (Err f) → IsRefusedByNode w e (worlds.Node f)
+    refuses asked asks f takes = inl (
+      f,
+      record {
+        node = x;
+        is_up = is_up_there;
+        asked = asked;
+        asks = asks_so w e asked asks;
+        refuses = takes_there asked (Err f) takes;
+      },
+      refl,
+    )
+
+    -- a refusal changes nothing: no datagram that was sent is foreign
+    refused_so : (f : NodeFault) → IsByStep (Err f) → (asked : Asked)
+        → asked_by w.sent e ≡ Some asked → Takes n.node asked (Err f)
+        → (m : NodeState) → m ≡ left_by n.node asked f
+        → (m ≡ n.node) × IsRefusedByNode w e (refused_by f)
+    refused_so fault.Memory kind asked asks takes m state = absurd kind
+    refused_so (fault.Refused r) kind asked asks takes m state =
+        (state, refuses asked asks (fault.Refused r) takes)
+    refused_so (fault.Log f) kind asked asks takes m state = absurd kind
+    refused_so fault.Stopped kind asked asks takes m state =
+        (state, refuses asked asks fault.Stopped takes)
+    refused_so (fault.Foreign f) kind asked asks takes m state =
+        absurd (none_is_foreign build_is_read each_run_is_acts w.division w.weights reached.events
+        w e f reached.made reached.led (inr (may, refuses asked asks (fault.Foreign f) takes)))
+
+    module _ (fits : (asked : Asked) → asked_by w.sent e ≡ Some asked → IsAsked asked)
+        (m : LoggedNode MemDisk) where
+      acts : (asked : Asked) → asked_by w.sent e ≡ Some asked → (t : Taken)
+          → Takes n.node asked (Ok t) → Acts w e x t
+      acts asked asks t takes = record {
+        is_up = is_up_there;
+        asked = asked;
+        asks = asks_so w e asked asks;
+        can_be = fits asked asks;
+        takes = takes_there asked (Ok t) takes;
+      }
+
+      pub is_refused : (f : NodeFault) → RefusesStep w.sent e n m f
+          → (m.node ≡ n.node) × ((f ≡ fault.Memory) ⊎ IsRefusedByNode w e (refused_by f))
+      is_refused f (inl memory) = (memory.1, inl memory.0)
+      is_refused f (inr (inl none)) =
+          let r = refused_so f (by_step w k x none.asked f (takes_there none.asked (Err f)
+          none.refuses)) none.asked none.asks none.refuses m.node none.leaves in
+          (r.0, inr r.1)
+      is_refused f (inr (inr full)) = (
+        full.leaves,
+        inr (inr (
+          record {
+            node = x;
+            taken = full.taken;
+            acts = acts full.asked full.asks full.taken full.takes;
+            noted = leaves_its_note e is_a_step;
+            full = full_of_lack w k n on_log full.taken.answer.note full.lacks;
+          },
+          ap refused_by full.fault,
+        )),
+      )
+
+      -- ---- taken
+
+      module _ (t : Scene) (is : IsWith s t k (Up m)) where
+        pub is_taken : TakesStep s.weights e s.posted n t.posted m → Steps w e (world_of t)
+        is_taken took =
+            let took_now = taken_by n.node took.ready in
+            let here = taken_by (node_at w k x) took.ready in
+            let same : took_now ≡ here =
+            ap (λ (z : NodeState). taken_by z took.ready) on_log.0 in
+            let acted = acts took.asked took.asks took_now took.takes in
+            let note : took_now.answer.note ≡ note_in took.ready.step =
+            note_answered n.node.member took.ready.step in
+            let sends : took_now.answer.sends ≡ sends_in took.ready.step =
+            sends_answered n.node.member took.ready.step in
+            let list : list_in t.posted ≡ with_decision w.agreed (decision w.weights w.sent
+            (member_at w k x) took.ready.step) =
+            took.finished.list ∙ ap (λ (z : NodeState). with_decision w.agreed
+            (decision w.weights w.sent z.member took.ready.step)) on_log.0 in
+            let sent : sent_in t.posted ≡ with_sends w.sent took_now.answer.sends =
+            took.finished.sent ∙ ap (with_sends w.sent) (sym sends) in
+            let left : m.node ≡ after (node_at w k x) took_now =
+            took.finished.node ∙ ap (λ (z : NodeState). after z took_now) on_log.0 in
+            record {
+              node = x;
+              taken = took_now;
+              acts = acted;
+              room = λ full. took.finished.room (subst (LacksRoom n.log) note
+                  (lack_of_full w k n on_log took_now.answer.note full));
+              list = subst (IsListAfter w (with_sends w.sent took_now.answer.sends)) (sym list)
+                  (step_lists w reached e is_a_step x took_now acted took.ready same);
+              leaves = world_is s t k (Up m) is
+                  ∙ (λ i. with_tables s t k (Up m) is w
+                  (slice_set (map node_view nodes) k (up_node (left i)))
+                  (sent i) (list_in t.posted));
+            }
+
+        pub is_left : (r : Result (Unit {0}) NodeFault)
+            → OnOk r (TakesStep s.weights e s.posted n t.posted m)
+            → OnErr r (AreSame s.posted t.posted) → IfErr r (RefusesStep w.sent e n m)
+            → IsOnLog mem_history m → AreListed t.posted → IsLeft s e t r
+        is_left (Ok u) took same refused log listed = record {
+          taken = is_taken took;
+          same = tt;
+          refused = tt;
+          standing = stands s t k (Up m) is standing
+              (took_so w k n on_log (taken_by n.node took.ready) m took.finished.node log) listed;
+        }
+        is_left (Err f) took same refused log listed =
+            let r = is_refused f refused in
+            record {
+              taken = tt;
+              same = stays s t k (Up m) is (Up n) at (ap up_node r.0) same;
+              refused = r.1;
+              standing = stands s t k (Up m) is standing (same_so w k n on_log m r.0 log) listed;
+            }

@@ -1,0 +1,69 @@
+use Rattle.std.proofs.Common.{ap, refl, slice_set}
+use Rattle.std.specs.Vec.{with_item}
+use Rattle.events.specs.Events.{event_view}
+use Rattle.running.specs.declared.placed.Placed.TheVariants.{Down, Up}
+use Rattle.running.specs.declared.scene.Scene.{Scene}
+use Rattle.running.specs.inside.Posting.{sent_in}
+use Rattle.running.proofs.StepHappens.{IsLeft, at_place, can, is_left, never_down, no_restart, on_log}
+use Rattle.running.proofs.scene.Scene.take.Goals as goal
+
+pub take-requires-clause-asks : goal.take-requires-clause-asks
+take-requires-clause-asks c =
+    can c.args.self.now (event_view c.args.event.now) c.requires.standing c.requires.reached
+    c.requires.may c.requires.step
+
+pub take-requires-clause-on_log : goal.take-requires-clause-on_log
+take-requires-clause-on_log c =
+    (on_log c.args.self.now (event_view c.args.event.now) c.requires.standing c.requires.reached
+    c.requires.may c.requires.step c.in-Up.node
+    (at_place c.args.self.now (event_view c.args.event.now) c.requires.may
+    (no_restart (event_view c.args.event.now) c.requires.step) c.node_of.result c.node_of.ensures c.index_mut.result.now
+    (Up c.in-Up.node) c.index_mut.ensures.value c.in-Up.is)).1
+
+-- the scene that the call leaves
+abbrev scene_then : goal.After-self-1 → Scene
+scene_then c = record {
+  tree = c.args.self.now.tree;
+  units = c.args.self.now.units;
+  weights = c.args.self.now.weights;
+  nodes = with_item c.args.self.now.nodes c.node_of.result (Up c.take.new.node);
+  posted = c.take.new.posted;
+}
+
+left : (c : goal.After-self-1)
+    → IsLeft c.args.self.now (event_view c.args.event.now) (scene_then c) c.take.result
+left c =
+    is_left c.args.self.now (event_view c.args.event.now) c.requires.standing c.requires.reached
+    c.requires.may c.requires.step c.in-Up.node
+    (at_place c.args.self.now (event_view c.args.event.now) c.requires.may
+    (no_restart (event_view c.args.event.now) c.requires.step) c.node_of.result c.node_of.ensures c.index_mut.result.now
+    (Up c.in-Up.node) c.index_mut.ensures.value c.in-Up.is)
+    (c.host_fits.ensures (sent_in c.args.self.now.posted)) c.take.new.node (scene_then c)
+    (record {
+      tree = refl;
+      units = refl;
+      weights = refl;
+      nodes = ap (λ p. slice_set c.args.self.now.nodes.items p (Up c.take.new.node))
+          c.node_of.ensures;
+    }) c.take.result c.take.ensures.taken c.take.ensures.same c.take.ensures.refused
+    c.take.ensures.on_log c.take.ensures.listed
+
+pub returns-in-Up-clause-taken : goal.returns-in-Up-clause-taken
+returns-in-Up-clause-taken c = (left c).taken
+
+pub returns-in-Up-clause-same : goal.returns-in-Up-clause-same
+returns-in-Up-clause-same c = (left c).same
+
+pub returns-in-Up-clause-refused : goal.returns-in-Up-clause-refused
+returns-in-Up-clause-refused c = (left c).refused
+
+pub returns-in-Up-clause-standing : goal.returns-in-Up-clause-standing
+returns-in-Up-clause-standing c = (left c).standing
+
+pub returns-in-Down-clause-refused : goal.returns-in-Down-clause-refused
+returns-in-Down-clause-refused c =
+    absurd (never_down c.args.self.now (event_view c.args.event.now) c.requires.may
+    (no_restart (event_view c.args.event.now) c.requires.step) (Down c.in-Down.field-0)
+    (at_place c.args.self.now (event_view c.args.event.now) c.requires.may
+    (no_restart (event_view c.args.event.now) c.requires.step) c.node_of.result c.node_of.ensures c.index_mut.result.now
+    (Down c.in-Down.field-0) c.index_mut.ensures.value c.in-Down.is) refl)
