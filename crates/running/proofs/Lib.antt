@@ -7,6 +7,5 @@ pub mod Readied
 pub mod Taking
 pub mod Casting
 pub mod Listing
-pub mod Votes
 pub mod PutBack
 pub mod StepHappens

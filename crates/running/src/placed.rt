@@ -1,6 +1,6 @@
 //! A node of a world, up or down.
 ghost use Rattle.std.specs.Prelude.{◌≡◌, ◌++◌, ◌∷◌, [], IfOk, true};
-ghost use Rattle.node.specs.inside.Noted.{notes_in};
+ghost use Rattle.node.specs.Noted.{notes_in};
 ghost use Rattle.stable_record.specs.History.{stands};
 ghost use Rattle.stable_record.specs.InMemory.{mem_history};
 ghost use Rattle.running.specs.inside.Placing.{disk_of, file_of, node_view};

@@ -2,7 +2,7 @@
 use Rattle.std.specs.Prelude.{◌≡◌, ◌-◌, ℕ, List, Some, drop, length, map, slice_get}
 use Rattle.events.specs.Events.{Event}
 use Rattle.node.specs.OnLog.{IsOnLog, identity, texts_of}
-use Rattle.node.specs.inside.Noted.{notes_in}
+use Rattle.node.specs.Noted.{notes_in}
 use Rattle.running.specs.History.{History, IsHistory}
 use Rattle.running.specs.declared.placed.Placed.{Placed}
 use Rattle.running.specs.declared.placed.Placed.TheVariants.{Up, Down}
