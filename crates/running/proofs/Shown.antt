@@ -1,5 +1,5 @@
 -- What a world shows of a node.
-use Rattle.std.proofs.Common.{◌≡◌, ◌+◌, ◌<◌, ◌≤◌, ℕ, true, false, List, [], ◌∷◌, length, map, Option, None, Some, option_map, slice_get, refl, sym, ap, subst, ◌∙◌, arith, length-append, ⊎_elim}
+use Rattle.std.proofs.Common.{◌≡◌, ◌+◌, ◌<◌, ◌≤◌, ℕ, true, false, List, [], ◌∷◌, ◌++◌, length, map, Option, None, Some, option_map, slice_get, refl, sym, ap, subst, ◌∙◌, arith, length-append, ⊎_elim}
 use Rattle.std.proofs.lemmas.Bool.{cases_lt}
 use Rattle.std.proofs.lemmas.List.{length-map, length-replicate}
 use Rattle.claims.specs.Claim.{most_members}
@@ -7,7 +7,7 @@ use Rattle.headline.proofs.Safe.{few_members}
 use Rattle.std.proofs.lemmas.Option.{slice_get-map, slice_get_past}
 use Rattle.node.specs.OnLog.{identity, identity_of, texts_of}
 use Rattle.node.specs.State.{LoggedNode, NodeState}
-use Rattle.stable_record.specs.Log.{HasNotes, gate_place}
+use Rattle.stable_record.specs.Log.{HasNotes, entries, gate_place, header}
 use Rattle.stable_record.specs.declared.identity.Identity.{Identity}
 use Rattle.stable_record.specs.declared.mem_disk.MemDisk.{MemDisk}
 use Rattle.world.specs.Happening.{up_of}
@@ -22,7 +22,8 @@ use Rattle.running.specs.inside.Placing.{IsStanding, StandsOn, disk_of, file_of,
 
 -- how long a file with these notes is
 notes_long : (i : Identity) (notes : List (List ℕ)) (file : List ℕ) (has : HasNotes i notes file) → length file ≡ gate_place i notes + 1 + length has.behind
-notes_long i notes file has = omega (arith, ap length has.parts, length-append {A = ℕ})
+notes_long i notes file has =
+    omega (arith, ap length has.parts, length-append (header i ++ entries notes) (has.gate ∷ has.behind), length-append (header i) (entries notes))
 
 -- The file of a node that stands on its disk is as long as the world says.
 pub file_long : (w : World) (k : ℕ) (p : Placed) → StandsOn w k p → length (file_of (disk_of p)) ≡ file_length w k (node_view p)
