@@ -9,3 +9,7 @@ pub mod Casting
 pub mod Listing
 pub mod PutBack
 pub mod StepHappens
+pub mod NodeStands
+pub mod SceneWith
+pub mod Restarting
+pub mod StopsInside
