@@ -5,7 +5,7 @@ use Rattle.faults.specs.Bytes.{Text}
 use Rattle.node.specs.OnLog.{IsOnLog, identity, identity_of, texts_of}
 use Rattle.node.specs.State.{LoggedNode, NodeState, with_note}
 use Rattle.node.specs.Step.{Taken, after}
-use Rattle.node.specs.inside.Noted.{notes_in}
+use Rattle.node.specs.Noted.{notes_in}
 use Rattle.stable_record.specs.Crash.{IsOnDisk}
 use Rattle.stable_record.specs.History.{seen, stands}
 use Rattle.stable_record.specs.InMemory.{mem_history}

@@ -14,7 +14,7 @@ use Rattle.listing.specs.Tree.{Tree}
 use Rattle.node.proofs.Sent.{notes_again}
 use Rattle.node.specs.OnLog.{identity, identity_of, texts_of}
 use Rattle.node.specs.State.{LoggedNode, NodeState, opened_node}
-use Rattle.node.specs.inside.Noted.{notes_in}
+use Rattle.node.specs.Noted.{notes_in}
 use Rattle.protocol.specs.State.{Value}
 use Rattle.stable_record.specs.Log.{HasNotes}
 use Rattle.stable_record.specs.Opening.{Opens}
