@@ -4,7 +4,7 @@ import re
 import shutil
 import tempfile
 
-from topics.tally import EXAMPLES, answer, built_shim, difference
+from topics.tally import EXAMPLES, TESTS, answer, built_shim, difference
 
 
 def refusing(folder, number):
@@ -65,3 +65,6 @@ def run(tally):
         refusals(tally, folder, ["audit", "listing", "BAD"], "memory for a refused list")
         refusals(tally, folder, ["run", "listing", "trace"], "memory for a take-over")
         refusals(tally, folder, ["run", "listing", "BAD"], "memory for a refused trace")
+        for case in ("a_build_in_pieces", "a_torn_vote_is_cast_again"):
+            files = [f"{TESTS}/traces/{case}/{name}" for name in ("LISTING", "TRACE")]
+            refusals(tally, folder, ["run", *files], f"memory for {case}")

@@ -1,4 +1,5 @@
 // The answer to a line.
+use crate::steps;
 use events::Event;
 use faults::Fault;
 use listing::Tree;
@@ -10,6 +11,9 @@ use traces::{Trace, read_trace};
 static LISTING: &[u8] = b"a/b.FULLPKGNAME=b-1.0\n";
 
 pub fn answer(alloc: Global, line: &[u8]) -> Result<String, AllocError> {
+    if let Some(words) = line.strip_prefix(b"steps ") {
+        return steps::answer(alloc, words);
+    }
     match read_trace(alloc, line) {
         Ok(trace) => of_trace(alloc, &trace),
         Err(_) => String::from_str(alloc, "no trace"),

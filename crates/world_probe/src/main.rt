@@ -2,9 +2,15 @@
 // are given to a world, one after the other. The answer says what each refused event is refused
 // with, after which the rest goes on, and then the lengths of the logs and of the datagrams, and
 // how many packages are agreed.
+//
+// A line that begins with `steps` has a listing and a trace in hexadecimal digits behind it. The
+// answer then has an item for each event: a point, and behind it a digit for each datagram that it
+// sent and that is new, the kind of its message, and each path that it brought to the list, with +
+// before it; or ! and the number of its refusal.
 #![tactic(auto)]
 
 mod answers;
+mod steps;
 
 use std::io;
 
