@@ -1,7 +1,9 @@
 pub mod Voting
 pub mod Votes
+pub mod Following
 pub mod PutBack
 pub mod NodeStands
 pub mod SceneWith
-pub mod Restarting
 pub mod StopsInside
+pub mod Restarting
+pub mod EventByEvent
