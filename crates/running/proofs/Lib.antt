@@ -7,9 +7,12 @@ pub mod Readied
 pub mod Taking
 pub mod Casting
 pub mod Listing
+pub mod Votes
+pub mod Following
 pub mod PutBack
 pub mod StepHappens
 pub mod NodeStands
 pub mod SceneWith
-pub mod Restarting
 pub mod StopsInside
+pub mod Restarting
+pub mod EventByEvent

@@ -76,8 +76,13 @@ module _ (s : Scene) (me : ℕ) (standing : IsStanding s) (reached : IsReached (
   pub member_within : me < length s.weights
   member_within =
       let later = leads_later (start w.division w.weights) w reached.events reached.led in
-      omega (arith, place_within, later.nodes, length-map nodes node_view,
-      length-replicate (length w.weights) fresh_node)
+      omega (
+        arith,
+        place_within,
+        later.nodes,
+        length-map nodes node_view,
+        length-replicate (length w.weights) fresh_node,
+      )
 
   -- the node is down
   only_down : (x : Placed) → slice_get nodes me ≡ Some x → (r : Rest)

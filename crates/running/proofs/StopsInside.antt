@@ -435,10 +435,10 @@ module _ (s : Scene) (e : Event) (l : Left) (standing : IsStanding s)
 
 -- a node that stood at the place stopped there
 record HasStoppedAt (w : World) (k : ℕ) (n : LoggedNode MemDisk) (old new : List Placed) : Type 0
-    where
-  rest : Rest
-  nodes : new ≡ slice_set old k (Down rest)
-  left : IsLeftAs w k rest (down_node n.node.notes [])
+  where
+    rest : Rest
+    nodes : new ≡ slice_set old k (Down rest)
+    left : IsLeftAs w k rest (down_node n.node.notes [])
 
 stopped_at : (w : World) (k : ℕ) (n : LoggedNode MemDisk) → StandsOn w k (Up n)
     → (old new : List Placed)
@@ -544,8 +544,7 @@ module _ (s : Scene) (e : Event) (standing : IsStanding s) (reached : IsReached 
           ⊎ IsRefusedByNode (world_of s) (events.StopIn e left.Whole) (refused_by f))
       by (Down d) stays put = absurd stays
       by (Up m) stays put =
-          let u = up_again s e left.Whole standing reached may t but m put stays.node stays.on_log in
-          (
+          let u = up_again s e left.Whole standing reached may t but m put stays.node stays.on_log in (
             u.0,
             u.1,
             ⊎_elim (λ memory. inl memory)

@@ -215,7 +215,13 @@ impl<'a> Scene<'a> {
         ensures standing { IsStanding self.new }
     {
         let alloc: Global = *self.nodes.allocator();
-        match restarted(alloc, &self.nodes[me as usize], self.tree, &self.weights, me) {
+        match restarted(
+            alloc,
+            &self.nodes[me as usize],
+            self.tree,
+            &self.weights,
+            me,
+        ) {
             Ok(node) => {
                 self.nodes[me as usize] = Placed::Up(node);
                 Ok(())

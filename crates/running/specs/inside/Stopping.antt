@@ -67,10 +67,10 @@ IsReady (Down d) r = ⊥
 
 -- The node took the step: its log had room for the note.
 pub record HasTakenOnLog (n : LoggedNode MemDisk) (r : ReadyStep) (m : LoggedNode MemDisk) : Type 0
-    where
-  pub node : m.node ≡ after n.node (taken_by n.node r)
-  pub room : ¬ (LacksRoom n.log (note_in r.step))
-  pub on_log : IsOnLog mem_history m
+  where
+    pub node : m.node ≡ after n.node (taken_by n.node r)
+    pub room : ¬ (LacksRoom n.log (note_in r.step))
+    pub on_log : IsOnLog mem_history m
 
 abbrev pub TookStep : Placed → ReadyStep → Placed → Type 0
 TookStep (Up n) r (Up m) = HasTakenOnLog n r m

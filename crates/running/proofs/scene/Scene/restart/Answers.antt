@@ -12,8 +12,11 @@ restarted-requires c =
 
 pub index_mut-requires : goal.index_mut-requires
 index_mut-requires c =
-    omega (arith, place_within c.args.self.now c.args.me c.requires.standing c.requires.reached c.requires.may,
-    c.args.self.now.nodes.ok.0)
+    omega (
+      arith,
+      place_within c.args.self.now c.args.me c.requires.standing c.requires.reached c.requires.may,
+      c.args.self.now.nodes.ok.0,
+    )
 
 pub returns-in-Ok-clause-taken : goal.returns-in-Ok-clause-taken
 returns-in-Ok-clause-taken c =
