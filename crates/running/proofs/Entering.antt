@@ -1,25 +1,25 @@
 -- What is entered in a world's tables stands behind what was there.
 use Rattle.std.proofs.Common.{◌≡◌, ◌≢◌, ◌<◌, ◌≤◌, ◌+◌, ℕ, zero, suc, Bool, true, false, cond, List, [], ◌∷◌, ◌++◌, length, map, take, get_or, fold, refl, sym, ap, subst, ◌∙◌, arith, append_assoc, ◌||◌, Vec}
-use Rattle.std.specs.Prelude.{All, AllPairs, flat_map}
+use Rattle.std.specs.Prelude.{AllPairs, flat_map}
 use Rattle.std.specs.List.{list_any}
 use Rattle.std.specs.Str.{bytes_eq}
 use Rattle.std.specs.Cmp.Lexicographic.{nat_list_eq_equiv}
 use Rattle.std.specs.declared.alloc.Global.{Global}
-use Rattle.std.proofs.lemmas.Bool.{cond_both, or_parts}
+use Rattle.std.proofs.lemmas.Bool.{or_parts}
 use Rattle.std.proofs.lemmas.List.{append-nil, get_or-map, get_or-take, get_or_default, length-map, length-take, map-append, take-map, take-take, take_all, take_at, take_more}
 use Rattle.std.proofs.lemmas.List.Folds.{list_any-append, list_any_none}
-use Rattle.std.proofs.lemmas.List.Sums.{fold-append, fold_push}
+use Rattle.std.proofs.lemmas.List.Sums.{fold-append}
 use Rattle.faults.specs.Bytes.{Text, is_among}
 use Rattle.indexmap.specs.IndexSet.{insert_key}
-use Rattle.node.specs.Parcels.{each_to, parcels_to, texts_in}
+use Rattle.node.specs.Parcels.{each_to, parcels_to}
 use Rattle.package_record.specs.Build.{IsBuild, paths_of, unit_path}
 use Rattle.package_record.specs.Content.{Content}
-use Rattle.units.proofs.Places.{equal_bytes, same_bytes}
+use Rattle.units.proofs.Places.{same_bytes}
 use Rattle.world.proofs.Distinct.{build_paths_differ}
 use Rattle.world.specs.Lists.{has_path, with_build}
 use Rattle.world.specs.Sent.{with_datagram}
 use Rattle.running.specs.declared.posted.Posted.{Posted}
-use Rattle.running.specs.inside.Posting.{AreListed, HasGrown, list_in, sent_in}
+use Rattle.running.specs.inside.Posting.{HasGrown, list_in, sent_in}
 
 -- ---- tables that grow
 

@@ -1,5 +1,5 @@
 -- What a world shows of a node.
-use Rattle.std.proofs.Common.{◌≡◌, ◌+◌, ◌<◌, ◌≤◌, ℕ, true, false, List, [], ◌∷◌, ◌++◌, length, map, Option, None, Some, option_map, slice_get, refl, sym, ap, subst, ◌∙◌, arith, length-append, ⊎_elim}
+use Rattle.std.proofs.Common.{◌≡◌, ◌+◌, ◌<◌, ◌≤◌, ℕ, true, false, List, [], ◌∷◌, ◌++◌, length, map, Option, Some, option_map, slice_get, sym, ap, subst, ◌∙◌, arith, length-append, ⊎_elim}
 use Rattle.std.proofs.lemmas.Bool.{cases_lt}
 use Rattle.std.proofs.lemmas.List.{length-map, length-replicate}
 use Rattle.claims.specs.Claim.{most_members}
@@ -12,7 +12,7 @@ use Rattle.stable_record.specs.declared.identity.Identity.{Identity}
 use Rattle.stable_record.specs.declared.mem_disk.MemDisk.{MemDisk}
 use Rattle.world.specs.Happening.{up_of}
 use Rattle.world.proofs.Growing.{leads_later}
-use Rattle.world.specs.World.{World, WorldNode, fresh_node, node_at, start, up_node}
+use Rattle.world.specs.World.{World, WorldNode, fresh_node, node_at, start}
 use Rattle.running.specs.History.{History, IsHistory, file_length, taken}
 use Rattle.running.specs.declared.placed.Placed.{Placed}
 use Rattle.running.specs.declared.placed.Placed.TheVariants.{Up, Down}

@@ -1,4 +1,4 @@
-use Rattle.std.proofs.Common.{◌≡◌, ◌<◌, ◌∙◌, ap, sym, subst, length, arith}
+use Rattle.std.proofs.Common.{◌<◌, ◌∙◌, sym, subst, length, arith}
 use Rattle.package_record.specs.Build.{IsBuild}
 use Rattle.running.proofs.Entering.{grown_on, path_entered}
 use Rattle.running.specs.inside.Posting.{list_in}
