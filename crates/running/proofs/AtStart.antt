@@ -57,7 +57,7 @@ module _ (tree : Tree) (weights : List ℕ) (d : Division) (of_tree : d.tree ≡
   pub fresh_stands : (w : World) → w.division ≡ d → w.weights ≡ weights → (me : ℕ) (x : Placed) → IsUpFresh tree weights me x → StandsOn w me x
   fresh_stands w ed ew me (Up n) is =
       let right : (m : NodeState) → m ≡ opened_node d weights me [] → m ≡ node_at w me (up_node m) =
-          λ m e. subst (λ (o : NodeState). o ≡ node_at w me (up_node o)) (sym e) (λ i. opened_node (sym ed i) (sym ew i) me []) in
+      λ m e. subst (λ (o : NodeState). o ≡ node_at w me (up_node o)) (sym e) (λ i. opened_node (sym ed i) (sym ew i) me []) in
       (right n.node (fresh_is me n is), is.on_log)
   fresh_stands w ed ew me (Down r) is = absurd is
 

@@ -150,8 +150,8 @@ next_is_new list build is none i r within here =
     let long : length (paths_of build) ≡ length build = length-map build (λ (c : Content). c.path) in
     let old : has_path list r.path ≡ false = ap (λ (c : Content). has_path list c.path) here ∙ none_at (λ c. has_path list c.path) build i r within none in
     let new : list_any (bytes_eq r.path) (take i (paths_of build)) ≡ false =
-        subst (λ p. list_any (bytes_eq p) (take i (paths_of build)) ≡ false) path
-        (not_before (paths_of build) (build_paths_differ (unit_path build) build (record { build_is = is; unit = refl })) i (omega (arith, within, long))) in
+    subst (λ p. list_any (bytes_eq p) (take i (paths_of build)) ≡ false) path
+    (not_before (paths_of build) (build_paths_differ (unit_path build) build (record { build_is = is; unit = refl })) i (omega (arith, within, long))) in
     ap (list_any (bytes_eq r.path)) (map-append (λ (c : Content). c.path) list (take i build))
     ∙ list_any-append (bytes_eq r.path) (paths_of list) (paths_of (take i build))
     ∙ ap (λ b. b || list_any (bytes_eq r.path) (paths_of (take i build))) (paths_have list r.path ∙ old)
@@ -163,7 +163,7 @@ pub path_entered : (list build : List Content) → IsBuild build → list_any (�
     → now ≡ insert_key bytes_eq keys r.path → new ≡ old ++ r ∷ [] → (now ≡ paths_of new) × (new ≡ list ++ take (i + 1) build)
 path_entered list build is none i r within here keys now old new listed before entered appended =
     let absent : list_any (bytes_eq r.path) keys ≡ false =
-        ap (list_any (bytes_eq r.path)) (listed ∙ ap paths_of before) ∙ next_is_new list build is none i r within here in
+    ap (list_any (bytes_eq r.path)) (listed ∙ ap paths_of before) ∙ next_is_new list build is none i r within here in
     let last : now ≡ keys ++ r.path ∷ [] = entered ∙ ap (λ b. cond b keys (keys ++ r.path ∷ [])) absent in
     let more : take i build ++ r ∷ [] ≡ take (i + 1) build = ap (λ x. take i build ++ x ∷ []) here ∙ sym (take_more build i r within) in (
       last ∙ ap (λ l. l ++ r.path ∷ []) listed ∙ sym (map-append (λ (c : Content). c.path) old (r ∷ [])) ∙ ap paths_of (sym appended),

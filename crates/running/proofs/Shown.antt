@@ -32,7 +32,7 @@ file_long w k (Up n) stands =
     let texts = texts_of n.node.notes in
     let own : n.log.identity ≡ identity w.division.tree w.weights k = stands.1.owner ∙ ap (λ (m : NodeState). identity_of m.member) stands.0 in
     let long : length (file_of (disk_of (Up n))) ≡ gate_place n.log.identity texts + 1 + 0 =
-        notes_long n.log.identity texts (file_of n.log.disk) (record { gate = s.gate; behind = []; parts = s.file; closed = s.closed; lengths = s.lengths }) in
+    notes_long n.log.identity texts (file_of n.log.disk) (record { gate = s.gate; behind = []; parts = s.file; closed = s.closed; lengths = s.lengths }) in
     long ∙ ap (λ (i : Identity). gate_place i texts + 1 + 0) own
 file_long w k (Down r) stands =
     let i = identity w.division.tree w.weights k in
