@@ -1,5 +1,5 @@
 -- What a world shows of a node.
-use Rattle.std.proofs.Common.{◌≡◌, ◌+◌, ◌<◌, ◌≤◌, ℕ, true, false, List, [], ◌∷◌, ◌++◌, length, map, Option, None, Some, option_map, slice_get, refl, sym, ap, subst, ◌∙◌, arith, length-append, ⊎_elim}
+use Rattle.std.proofs.Common.{◌≡◌, ◌+◌, ◌<◌, ◌≤◌, ℕ, true, false, List, [], ◌∷◌, ◌++◌, length, map, Option, Some, option_map, slice_get, sym, ap, subst, ◌∙◌, arith, length-append, ⊎_elim}
 use Rattle.std.proofs.lemmas.Bool.{cases_lt}
 use Rattle.std.proofs.lemmas.List.{length-map, length-replicate}
 use Rattle.claims.specs.Claim.{most_members}
@@ -12,7 +12,7 @@ use Rattle.stable_record.specs.declared.identity.Identity.{Identity}
 use Rattle.stable_record.specs.declared.mem_disk.MemDisk.{MemDisk}
 use Rattle.world.specs.Happening.{up_of}
 use Rattle.world.proofs.Growing.{leads_later}
-use Rattle.world.specs.World.{World, WorldNode, fresh_node, node_at, start, up_node}
+use Rattle.world.specs.World.{World, WorldNode, fresh_node, node_at, start}
 use Rattle.running.specs.History.{History, IsHistory, file_length, taken}
 use Rattle.running.specs.declared.placed.Placed.{Placed}
 use Rattle.running.specs.declared.placed.Placed.TheVariants.{Up, Down}
@@ -32,7 +32,7 @@ file_long w k (Up n) stands =
     let texts = texts_of n.node.notes in
     let own : n.log.identity ≡ identity w.division.tree w.weights k = stands.1.owner ∙ ap (λ (m : NodeState). identity_of m.member) stands.0 in
     let long : length (file_of (disk_of (Up n))) ≡ gate_place n.log.identity texts + 1 + 0 =
-        notes_long n.log.identity texts (file_of n.log.disk) (record { gate = s.gate; behind = []; parts = s.file; closed = s.closed; lengths = s.lengths }) in
+    notes_long n.log.identity texts (file_of n.log.disk) (record { gate = s.gate; behind = []; parts = s.file; closed = s.closed; lengths = s.lengths }) in
     long ∙ ap (λ (i : Identity). gate_place i texts + 1 + 0) own
 file_long w k (Down r) stands =
     let i = identity w.division.tree w.weights k in

@@ -1,4 +1,4 @@
-use Rattle.std.proofs.Common.{ap, arith, length, slice_get, sym, ◌∙◌}
+use Rattle.std.proofs.Common.{ap, arith, length}
 use Rattle.std.proofs.lemmas.List.{length_push}
 use Rattle.running.specs.declared.placed.Placed.TheVariants.{Up}
 use Rattle.running.proofs.AtStart.{fresh_more}
@@ -11,7 +11,6 @@ loop-me-preserved c =
     let more = c.in_ok-push.ensures.items in
     record {
       count = omega (arith, c.loop-me.invariant.count, ap length more, length_push nodes (Up n));
-      each = λ k x at.
-          fresh_more c.args.tree.now c.args.weights.now nodes n c.loop-me.me c.loop-me.invariant.each c.loop-me.invariant.count c.in_ok-fresh.ensures k x
-          (ap (λ l. slice_get l k) (sym more) ∙ at);
+      each = fresh_more c.args.tree.now c.args.weights.now nodes c.push.new.self.items n c.loop-me.me c.loop-me.invariant.each c.loop-me.invariant.count
+          c.in_ok-fresh.ensures more;
     }
