@@ -1,22 +1,23 @@
 -- Nodes at the start stand on their disks.
-use Rattle.std.proofs.Common.{◌≡◌, ◌⊎◌, inl, inr, ⊎_elim, ◌++◌, ℕ, zero, suc, true, List, [], ◌∷◌, length, map, replicate, Option, None, Some, Ok, slice_get, refl, sym, ap, subst, ◌∙◌, arith}
+use Rattle.std.proofs.Common.{◌≡◌, ◌⊎◌, inl, inr, ⊎_elim, ◌++◌, ℕ, zero, suc, List, [], ◌∷◌, length, map, replicate, None, Some, Ok, slice_get, refl, sym, ap, subst, ◌∙◌, arith}
 use Rattle.ballots.specs.declared.message.Note.{Note}
 use Rattle.listing.specs.Tree.{Tree}
-use Rattle.node.specs.Calls.{IsOpened}
-use Rattle.node.specs.OnLog.{IsOnLog, texts_of}
+use Rattle.node.specs.OnLog.{texts_of}
 use Rattle.node.specs.State.{LoggedNode, NodeState, opened_node}
 use Rattle.protocol.specs.State.{Value}
-use Rattle.stable_record.specs.InMemory.{mem_history}
 use Rattle.stable_record.specs.Opening.{Opens}
 use Rattle.stable_record.specs.declared.identity.Identity.{Identity}
 use Rattle.stable_record.specs.declared.mem_disk.MemDisk.{MemDisk}
 use Rattle.units.proofs.Once.{one_division}
 use Rattle.units.specs.Division.{Division, IsDivision}
 use Rattle.units.specs.Units.{AreUnits}
-use Rattle.world.specs.World.{World, WorldNode, fresh_node, node_at, up_node}
+use Rattle.world.specs.World.{IsMade, World, fresh_node, node_at, start, up_node}
+use Rattle.running.specs.History.{IsHistory}
 use Rattle.running.specs.declared.placed.Placed.{Placed}
 use Rattle.running.specs.declared.placed.Placed.TheVariants.{Up, Down}
-use Rattle.running.specs.inside.Placing.{StandsOn, node_view}
+use Rattle.running.specs.declared.scene.Scene.{Scene}
+use Rattle.running.specs.inside.Placing.{IsStanding, StandsOn, node_view, world_of}
+use Rattle.running.specs.inside.Posting.{AreListed, list_in, sent_in}
 use Rattle.running.specs.inside.Starting.{AreFresh, IsFresh, IsUpFresh}
 
 -- ---- an empty file
@@ -56,7 +57,7 @@ module _ (tree : Tree) (weights : List ℕ) (d : Division) (of_tree : d.tree ≡
   pub fresh_stands : (w : World) → w.division ≡ d → w.weights ≡ weights → (me : ℕ) (x : Placed) → IsUpFresh tree weights me x → StandsOn w me x
   fresh_stands w ed ew me (Up n) is =
       let right : (m : NodeState) → m ≡ opened_node d weights me [] → m ≡ node_at w me (up_node m) =
-          λ m e. subst (λ (o : NodeState). o ≡ node_at w me (up_node o)) (sym e) (λ i. opened_node (sym ed i) (sym ew i) me []) in
+      λ m e. subst (λ (o : NodeState). o ≡ node_at w me (up_node o)) (sym e) (λ i. opened_node (sym ed i) (sym ew i) me []) in
       (right n.node (fresh_is me n is), is.on_log)
   fresh_stands w ed ew me (Down r) is = absurd is
 
@@ -81,10 +82,38 @@ one_node (z ∷ zs) y x zero e = inl e
 one_node (z ∷ zs) y x (suc k) e = ⊎_elim (λ old. inl old) (λ new. inr (ap suc new.0, new.1)) (one_node zs y x k e)
 
 -- fresh nodes with the next one are fresh
-pub fresh_more : (tree : Tree) (weights : List ℕ) (nodes : List Placed) (n : LoggedNode MemDisk) (me : ℕ)
-    → ((k : ℕ) (x : Placed) → slice_get nodes k ≡ Some x → IsUpFresh tree weights k x) → length nodes ≡ me → IsFresh tree weights me n
-    → (k : ℕ) (x : Placed) → slice_get (nodes ++ Up n ∷ []) k ≡ Some x → IsUpFresh tree weights k x
-fresh_more tree weights nodes n me each count fresh k x at = ⊎_elim
+pub fresh_more : (tree : Tree) (weights : List ℕ) (nodes now : List Placed) (n : LoggedNode MemDisk) (me : ℕ)
+    → ((k : ℕ) (x : Placed) → slice_get nodes k ≡ Some x → IsUpFresh tree weights k x) → length nodes ≡ me → IsFresh tree weights me n → now ≡ nodes ++ Up n ∷ []
+    → (k : ℕ) (x : Placed) → slice_get now k ≡ Some x → IsUpFresh tree weights k x
+fresh_more tree weights nodes now n me each count fresh is k x at = ⊎_elim
     (λ old. each k x old)
     (λ new. subst (λ y. IsUpFresh tree weights k y) new.1 (subst (λ j. IsFresh tree weights j n) (sym (new.0 ∙ count)) fresh))
-    (one_node nodes (Up n) x k at)
+    (one_node nodes (Up n) x k (ap (λ l. slice_get l k) (sym is) ∙ at))
+
+-- ---- the world at the start
+
+module _ (s : Scene) (tree : Tree) (weights : List ℕ) (of_tree : s.units.tree ≡ tree) (divided : IsDivision s.units) (weigh : s.weights ≡ weights) (fresh : AreFresh tree weights s.nodes.items) where
+  pub world_starts : sent_in s.posted ≡ [] → list_in s.posted ≡ [] → world_of s ≡ start s.units weights
+  world_starts es el = λ i. record {
+    division = s.units;
+    weights = weigh i;
+    nodes = all_fresh tree weights s.units of_tree divided s.nodes.items fresh i;
+    sent = es i;
+    agreed = el i;
+  }
+
+  pub scene_stands : s.tree.now ≡ tree → AreListed s.posted → IsStanding s
+  scene_stands own listed = record {
+    tree = of_tree ∙ sym own;
+    disks = λ k x at. fresh_stands tree weights s.units of_tree divided (world_of s) refl weigh k x (fresh.each k x at);
+    listed = listed;
+  }
+
+-- no event led to the start
+pub history_starts : (s : Scene) (weights : List ℕ) → world_of s ≡ start s.units weights → IsMade s.units weights → IsHistory (record { world = world_of s; events = [] })
+history_starts s weights starts made =
+    let weigh : s.weights ≡ weights = ap (λ (w : World). w.weights) starts in
+    record {
+      made = subst (IsMade s.units) (sym weigh) made;
+      led = starts ∙ ap (start s.units) (sym weigh);
+    }

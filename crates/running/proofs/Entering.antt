@@ -1,25 +1,25 @@
 -- What is entered in a world's tables stands behind what was there.
 use Rattle.std.proofs.Common.{◌≡◌, ◌≢◌, ◌<◌, ◌≤◌, ◌+◌, ℕ, zero, suc, Bool, true, false, cond, List, [], ◌∷◌, ◌++◌, length, map, take, get_or, fold, refl, sym, ap, subst, ◌∙◌, arith, append_assoc, ◌||◌, Vec}
-use Rattle.std.specs.Prelude.{All, AllPairs, flat_map}
+use Rattle.std.specs.Prelude.{AllPairs, flat_map}
 use Rattle.std.specs.List.{list_any}
 use Rattle.std.specs.Str.{bytes_eq}
 use Rattle.std.specs.Cmp.Lexicographic.{nat_list_eq_equiv}
 use Rattle.std.specs.declared.alloc.Global.{Global}
-use Rattle.std.proofs.lemmas.Bool.{cond_both, or_parts}
+use Rattle.std.proofs.lemmas.Bool.{or_parts}
 use Rattle.std.proofs.lemmas.List.{append-nil, get_or-map, get_or-take, get_or_default, length-map, length-take, map-append, take-map, take-take, take_all, take_at, take_more}
 use Rattle.std.proofs.lemmas.List.Folds.{list_any-append, list_any_none}
-use Rattle.std.proofs.lemmas.List.Sums.{fold-append, fold_push}
+use Rattle.std.proofs.lemmas.List.Sums.{fold-append}
 use Rattle.faults.specs.Bytes.{Text, is_among}
 use Rattle.indexmap.specs.IndexSet.{insert_key}
-use Rattle.node.specs.Parcels.{each_to, parcels_to, texts_in}
+use Rattle.node.specs.Parcels.{each_to, parcels_to}
 use Rattle.package_record.specs.Build.{IsBuild, paths_of, unit_path}
 use Rattle.package_record.specs.Content.{Content}
-use Rattle.units.proofs.Places.{equal_bytes, same_bytes}
+use Rattle.units.proofs.Places.{same_bytes}
 use Rattle.world.proofs.Distinct.{build_paths_differ}
 use Rattle.world.specs.Lists.{has_path, with_build}
 use Rattle.world.specs.Sent.{with_datagram}
 use Rattle.running.specs.declared.posted.Posted.{Posted}
-use Rattle.running.specs.inside.Posting.{AreListed, HasGrown, list_in, sent_in}
+use Rattle.running.specs.inside.Posting.{HasGrown, list_in, sent_in}
 
 -- ---- tables that grow
 
@@ -150,8 +150,8 @@ next_is_new list build is none i r within here =
     let long : length (paths_of build) ≡ length build = length-map build (λ (c : Content). c.path) in
     let old : has_path list r.path ≡ false = ap (λ (c : Content). has_path list c.path) here ∙ none_at (λ c. has_path list c.path) build i r within none in
     let new : list_any (bytes_eq r.path) (take i (paths_of build)) ≡ false =
-        subst (λ p. list_any (bytes_eq p) (take i (paths_of build)) ≡ false) path
-        (not_before (paths_of build) (build_paths_differ (unit_path build) build (record { build_is = is; unit = refl })) i (omega (arith, within, long))) in
+    subst (λ p. list_any (bytes_eq p) (take i (paths_of build)) ≡ false) path
+    (not_before (paths_of build) (build_paths_differ (unit_path build) build (record { build_is = is; unit = refl })) i (omega (arith, within, long))) in
     ap (list_any (bytes_eq r.path)) (map-append (λ (c : Content). c.path) list (take i build))
     ∙ list_any-append (bytes_eq r.path) (paths_of list) (paths_of (take i build))
     ∙ ap (λ b. b || list_any (bytes_eq r.path) (paths_of (take i build))) (paths_have list r.path ∙ old)
@@ -163,7 +163,7 @@ pub path_entered : (list build : List Content) → IsBuild build → list_any (�
     → now ≡ insert_key bytes_eq keys r.path → new ≡ old ++ r ∷ [] → (now ≡ paths_of new) × (new ≡ list ++ take (i + 1) build)
 path_entered list build is none i r within here keys now old new listed before entered appended =
     let absent : list_any (bytes_eq r.path) keys ≡ false =
-        ap (list_any (bytes_eq r.path)) (listed ∙ ap paths_of before) ∙ next_is_new list build is none i r within here in
+    ap (list_any (bytes_eq r.path)) (listed ∙ ap paths_of before) ∙ next_is_new list build is none i r within here in
     let last : now ≡ keys ++ r.path ∷ [] = entered ∙ ap (λ b. cond b keys (keys ++ r.path ∷ [])) absent in
     let more : take i build ++ r ∷ [] ≡ take (i + 1) build = ap (λ x. take i build ++ x ∷ []) here ∙ sym (take_more build i r within) in (
       last ∙ ap (λ l. l ++ r.path ∷ []) listed ∙ sym (map-append (λ (c : Content). c.path) old (r ∷ [])) ∙ ap paths_of (sym appended),

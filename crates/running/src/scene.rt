@@ -1,7 +1,7 @@
 //! The nodes of a world, what they sent, and what is agreed.
 ghost use Rattle.std.specs.Prelude.{◌≡◌, ◌<◌, IfOk, Some, length, slice_get, true};
 ghost use Rattle.world.specs.Happening.{fault_before, is_up};
-ghost use Rattle.world.specs.World.{node_at, start};
+ghost use Rattle.world.specs.World.{IsMade, node_at, start};
 ghost use Rattle.events.specs.Events.{event_view};
 ghost use Rattle.running.specs.inside.Placing.{IsStanding, world_of};
 ghost use Rattle.running.specs.inside.Starting.{AreFresh, IsFresh};
@@ -37,11 +37,15 @@ impl<'a> Scene<'a> {
     pub(crate) fn new(alloc: Global, tree: &'a Tree, weights: &Weights) -> Result<Scene<'a>, Memory>
         ensures world { IfOk result (λ s. world_of s ≡ start s.units weights.now) }
         ensures tree { IfOk result (λ s. s.units.tree ≡ tree.entry.now) }
+        ensures made { IfOk result (λ s. IsMade s.units weights.now) }
         ensures standing { IfOk result IsStanding }
     {
+        let units = Units::new(alloc, tree)?;
+        let _count = units.len();
+        let _weights = weights.as_slice();
         Ok(Scene {
             tree,
-            units: Units::new(alloc, tree)?,
+            units,
             weights: weights.copy(),
             nodes: fresh_nodes(alloc, tree, weights)?,
             posted: Posted::new(alloc),

@@ -1,5 +1,5 @@
 -- Nodes at the start.
-use Rattle.std.specs.Prelude.{◌≡◌, ◌<◌, ℕ, List, [], Some, length, slice_get}
+use Rattle.std.specs.Prelude.{◌≡◌, ℕ, List, [], Some, length, slice_get}
 use Rattle.listing.specs.Tree.{Tree}
 use Rattle.node.specs.Calls.{IsOpened}
 use Rattle.node.specs.OnLog.{IsOnLog}
