@@ -1,5 +1,5 @@
 -- A node's step on what an event asks: what it is once it is ready, and what a refusal leaves.
-use Rattle.std.proofs.Common.{◌≡◌, ◌⊎◌, inl, inr, List, Option, None, Some, Ok, Err, Result, refl, sym, ap, subst, ◌∙◌}
+use Rattle.std.proofs.Common.{◌≡◌, ◌⊎◌, inl, inr, ℕ, List, Option, Some, Ok, Err, refl, sym, ap, subst, ◌∙◌}
 use Rattle.faults.specs.Bytes.{Text}
 use Rattle.events.specs.Events.{Event}
 use Rattle.ballots.specs.declared.message.Note.{Note}
@@ -7,14 +7,14 @@ use Rattle.node.proofs.Finishing.{note_is}
 use Rattle.node.specs.Calls.{IsLogCause, left_by}
 use Rattle.node.specs.OnLog.{IsOnLog, LacksRoom, identity_of, texts_of}
 use Rattle.node.specs.State.{LoggedNode, NodeState}
-use Rattle.node.specs.Step.{Asked, ReadyStep, Taken, Takes, after, note_in, taken_by}
+use Rattle.node.specs.Step.{Asked, ReadyStep, Taken, Takes, note_in, taken_by}
 use Rattle.node.specs.declared.fault.NodeFault.{NodeFault}
 use Rattle.node.specs.declared.fault.NodeFault.TheVariants as node_fault
 use Rattle.protocol.specs.State.{Value}
 use Rattle.running.specs.declared.posted.Posted.{Posted}
 use Rattle.running.specs.inside.Asking.{IsReadied, asked_by}
 use Rattle.running.specs.inside.Posting.{sent_in}
-use Rattle.running.specs.inside.Stepping.{HasFinished, HasNoRoom, RefusesStep, TakesNone, TakesStep}
+use Rattle.running.specs.inside.Stepping.{HasFinished, RefusesStep, TakesStep}
 use Rattle.stable_record.specs.InMemory.{mem_history}
 use Rattle.stable_record.specs.OpenLog.{Holds}
 use Rattle.stable_record.specs.declared.log.Log.{Log}
@@ -69,8 +69,8 @@ pub record StandsReady (sent : List Text) (e : Event) (n m : NodeState) (t : Tak
 
 pub stands_ready : (sent : List Text) (e : Event) (n m : NodeState) (t : Taken)
     → IsReadied sent e n m (Ok t) → StandsReady sent e n m t
-stands_ready sent e n m t (inl (wrong, same)) = absurd (let no : Ok t ≡ Err node_fault.Memory =
-wrong in cc)
+stands_ready sent e n m t (inl (memory, same)) =
+    absurd (let wrong : Ok t ≡ Err node_fault.Memory = memory in cc)
 stands_ready sent e n m t (inr (asked, asks, done)) = record {
   asked = asked;
   asks = asks;

@@ -1,5 +1,5 @@
--- The vote that a step sends, its text, and what it decides.
-use Rattle.std.proofs.Common.{◌≡◌, ◌<◌, ◌↔◌, ℕ, true, false, List, [], ◌∷◌, ◌++◌, length, map, Option, None, Some, slice_get, option_and_then, refl, sym, ap, subst, ◌∙◌, arith, if◌then◌else◌}
+-- The vote that a step sends, and its text.
+use Rattle.std.proofs.Common.{◌≡◌, ◌<◌, ℕ, List, [], ◌∷◌, ◌++◌, length, map, Option, None, Some, slice_get, refl, sym, ap, ◌∙◌, arith}
 use Rattle.faults.specs.Bytes.{Text}
 use Rattle.agreement.specs.declared.claim.Claim.{Claim}
 use Rattle.ballots.specs.declared.message.Body.{Body}
@@ -9,12 +9,12 @@ use Rattle.member.specs.Prepared.{Prepared}
 use Rattle.node.specs.Parcels.{datagrams_to, each_to}
 use Rattle.node.specs.Step.{sends_in}
 use Rattle.protocol.specs.Sends.{receivers_of, sent_to}
-use Rattle.protocol.specs.State.{State, Value}
+use Rattle.protocol.specs.State.{Value}
 use Rattle.protocol.specs.declared.sends.Send.{Send}
 use Rattle.wire.specs.Pieces.{carried_in, split_by}
 use Rattle.wire.specs.Spelling.{datagram_text}
 use Rattle.wire.specs.declared.datagram.Datagram.TheVariants as datagram
-use Rattle.running.specs.inside.Deciding.{claim_voted, decided_by, decision, makes_majority, message_in, sender_place, voted_by, voters_of}
+use Rattle.running.specs.inside.Deciding.{claim_voted, message_in, sender_place}
 
 -- ---- the message
 
@@ -31,7 +31,7 @@ message_is (s ∷ ss) m e some = ap message_in e
 -- ---- its text
 
 -- what is voted for is in a vote
-pub vote_is : (b : Body Value) (c : Claim) → claim_voted b ≡ Some c → b ≡ body.Vote c
+vote_is : (b : Body Value) (c : Claim) → claim_voted b ≡ Some c → b ≡ body.Vote c
 vote_is (body.Offer d) c e = absurd (let wrong : None ≡ Some c = e in cc)
 vote_is (body.Promise d r) c e = absurd (let wrong : None ≡ Some c = e in cc)
 vote_is (body.Propose d v) c e = absurd (let wrong : None ≡ Some c = e in cc)
@@ -45,7 +45,7 @@ abbrev pub whole_text : Message Value → Text
 whole_text m = datagram_text (datagram.Whole m)
 
 -- a vote goes out in whole, so that its text is the first that does
-pub first_text : (sends : List Send) (m : Message Value) (c : Claim) → message_in sends ≡ Some m
+first_text : (sends : List Send) (m : Message Value) (c : Claim) → message_in sends ≡ Some m
     → claim_voted m.body ≡ Some c
     → (to : ℕ) × (slice_get (datagrams_to sends) 0 ≡ Some (to, whole_text m))
 first_text [] m c e votes = absurd (let wrong : None ≡ Some m = e in cc)
@@ -75,43 +75,3 @@ text_of_vote step p sends m c to text stands sends_are said votes first =
 -- and it has a place for the sender's number
 pub has_sender : (m : Message Value) → sender_place < length (whole_text m)
 has_sender m = omega arith
-
--- ---- what it decides
-
-module _ (weights : List ℕ) (sent : List Text) (s : State) (p : Prepared) where
-  -- no message decides nothing
-  pub nothing_sent : message_in p.sends ≡ None → decision weights sent s (Some p) ≡ None
-  nothing_sent e =
-      ap (option_and_then (λ m. decided_by weights sent s p.note m (claim_voted m.body))) e
-
-  module _ (m : Message Value) (said : message_in p.sends ≡ Some m) where
-    -- what a message decides
-    by_message : decision weights sent s (Some p)
-        ≡ decided_by weights sent s p.note m (claim_voted m.body)
-    by_message =
-        ap (option_and_then (λ n. decided_by weights sent s p.note n (claim_voted n.body))) said
-
-    -- what is no vote decides nothing
-    pub no_vote : claim_voted m.body ≡ None → decision weights sent s (Some p) ≡ None
-    no_vote e = by_message ∙ ap (decided_by weights sent s p.note m) e
-
-    -- what a vote decides
-    by_vote : (c : Claim) → claim_voted m.body ≡ Some c
-        → decision weights sent s (Some p)
-        ≡ (if makes_majority weights (voters_of weights sent m) m.sender
-        then voted_by s p.note m.path c else None)
-    by_vote c e = by_message ∙ ap (decided_by weights sent s p.note m) e
-
-    -- a vote that makes no majority decides nothing
-    pub no_majority : (c : Claim) → claim_voted m.body ≡ Some c
-        → makes_majority weights (voters_of weights sent m) m.sender ≡ false
-        → decision weights sent s (Some p) ≡ None
-    no_majority c e fails = by_vote c e
-        ∙ ap (λ b. if b then voted_by s p.note m.path c else None) fails
-
-    -- one that makes a majority decides the build that is voted for
-    pub a_majority : (c : Claim) → claim_voted m.body ≡ Some c
-        → makes_majority weights (voters_of weights sent m) m.sender ≡ true
-        → decision weights sent s (Some p) ≡ voted_by s p.note m.path c
-    a_majority c e holds = by_vote c e
-        ∙ ap (λ b. if b then voted_by s p.note m.path c else None) holds

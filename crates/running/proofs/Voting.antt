@@ -1,6 +1,6 @@
 -- Votes that were sent, and what a step's vote decides.
-use Rattle.std.proofs.Common.{◌≡◌, ◌+◌, ◌<◌, ◌≤◌, ◌==◌, ◌&&◌, ◌||◌, ℕ, zero, suc, Bool, true, false, not, List, [], ◌∷◌, ◌++◌, length, map, Option, None, Some, Vec, nat_lt, refl, sym, ap, ap₂, subst, ◌∙◌, arith, inl, inr, eqb-true, eq-eqb, ltb-true, lt-ltb, if◌then◌else◌, set-set, slice_set, bytes_eq, ltb-false, add-one}
-use Rattle.std.proofs.lemmas.Bool.{and_from, and_parts, cases_Bool, cond-true, cond-false, false_from_ne_true, true_from_ne_false, true≢false}
+use Rattle.std.proofs.Common.{◌≡◌, ◌+◌, ◌<◌, ◌≤◌, ◌==◌, ◌&&◌, ◌||◌, ℕ, suc, Bool, true, false, not, List, [], ◌∷◌, ◌++◌, length, map, Vec, nat_lt, refl, sym, ap, ap₂, subst, ◌∙◌, arith, eqb-true, eq-eqb, ltb-true, lt-ltb, if◌then◌else◌, slice_set, bytes_eq, ltb-false, add-one}
+use Rattle.std.proofs.lemmas.Bool.{and_from, and_parts, false_from_ne_true, true_from_ne_false, true≢false}
 use Rattle.std.specs.List.{list_any}
 use Rattle.agreement.specs.Quorums.{Members, is_majority, named_in, with_member}
 use Rattle.agreement.proofs.Majorities.{named_more}
@@ -8,7 +8,7 @@ use Rattle.ballots.specs.Support.{Support, joined_by, named_with, set_of}
 use Rattle.faults.specs.Bytes.{Text, is_among}
 use Rattle.headline.proofs.Safe.{majority_within}
 use Rattle.units.proofs.Places.{equal_bytes, same_bytes}
-use Rattle.running.specs.inside.Deciding.{makes_majority, sender_place, voters_in}
+use Rattle.running.specs.inside.Deciding.{makes_majority, sender_place}
 
 -- ---- tests
 

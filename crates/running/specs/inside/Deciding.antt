@@ -1,5 +1,5 @@
 -- What the vote of a step decides.
-use Rattle.std.specs.Prelude.{◌≡◌, ◌&&◌, ◌==◌, ℕ, Bool, List, [], ◌∷◌, Option, None, Some, length, nat_lt, not, option_and_then, slice_set, if◌then◌else◌}
+use Rattle.std.specs.Prelude.{◌&&◌, ◌==◌, ℕ, Bool, List, [], ◌∷◌, Option, None, Some, length, nat_lt, not, option_and_then, slice_set, if◌then◌else◌}
 use Rattle.faults.specs.Bytes.{Text, is_among}
 use Rattle.agreement.specs.Quorums.{Members, is_majority, with_member}
 use Rattle.agreement.specs.Votes.{Ballot}

@@ -1,6 +1,6 @@
-use Rattle.std.proofs.Common.{◌≡◌, ℕ, Bool, true, false, List, Vec, map, length, slice_set, refl, sym, ap, ◌∙◌, arith, set-set}
+use Rattle.std.proofs.Common.{◌≡◌, ℕ, true, false, List, map, length, slice_set, sym, ap, ◌∙◌, arith, set-set}
 use Rattle.std.proofs.lemmas.List.{length-set}
-use Rattle.ballots.specs.Support.{Support, set_of}
+use Rattle.ballots.specs.Support.{Support}
 use Rattle.faults.specs.Bytes.{Text, is_among}
 use Rattle.running.proofs.Voting.{found_among, voters_below, voters_more}
 use Rattle.running.specs.inside.Deciding.{sender_place}
