@@ -6,6 +6,10 @@ pub mod Shown
 pub mod Readied
 pub mod Taking
 pub mod PutBack
+pub mod NodeStands
+pub mod SceneWith
+pub mod Restarting
+pub mod StopsInside
 pub mod Casting
 pub mod Listing
 pub mod StepHappens

@@ -1,0 +1,166 @@
+-- A node that starts again is the one that its notes restore.
+use Rattle.std.proofs.Common.{◌≡◌, ◌<◌, ℕ, true, false, nat_le, List, length, None, Some, Result, Ok, Err, slice_get, slice_index_or, slice_set, refl, sym, ap, ap₂, subst, ◌∙◌, arith, inr}
+use Rattle.std.specs.Prelude.{All}
+use Rattle.std.proofs.lemmas.Bool.{leb-false, true≢false}
+use Rattle.std.proofs.lemmas.List.{length-map, length-replicate}
+use Rattle.std.proofs.lemmas.List.Elements.{All-weaker}
+use Rattle.std.proofs.lemmas.Option.{slice_get_within}
+use Rattle.faults.specs.Bytes.{Text}
+use Rattle.ballots.specs.declared.message.Note.{Note}
+use Rattle.events.specs.Events as events
+use Rattle.headline.proofs.OneList.{each_run_is_acts}
+use Rattle.headline.specs.Local.{AreLocal, IsOfUnit}
+use Rattle.listing.specs.Tree.{Tree}
+use Rattle.node.proofs.Sent.{notes_again}
+use Rattle.node.specs.OnLog.{identity, identity_of, texts_of}
+use Rattle.node.specs.State.{LoggedNode, NodeState, opened_node}
+use Rattle.node.specs.inside.Noted.{notes_in}
+use Rattle.protocol.specs.State.{Value}
+use Rattle.stable_record.specs.Log.{HasNotes}
+use Rattle.stable_record.specs.Opening.{Opens}
+use Rattle.stable_record.specs.declared.identity.Identity.{Identity}
+use Rattle.stable_record.specs.declared.log_fault.LogFault.{LogFault}
+use Rattle.stable_record.specs.declared.mem_disk.MemDisk.{MemDisk}
+use Rattle.units.proofs.Once.{one_division}
+use Rattle.units.specs.Division.{Division, IsDivision}
+use Rattle.units.specs.Units.{AreUnits}
+use Rattle.wire.specs.Messages.{IsNote}
+use Rattle.world.proofs.Growing.{leads_later}
+use Rattle.world.specs.Happening.{Restarts, fault_before, is_up, up_of}
+use Rattle.world.specs.World.{World, WorldNode, fresh_node, node_at, restarted_node, start, up_node, with_node}
+use Rattle.world.specs.declared.fault.WorldFault.TheVariants as worlds
+use Rattle.running.specs.declared.placed.Placed.{Placed}
+use Rattle.running.specs.declared.placed.Placed.TheVariants.{Down, Up}
+use Rattle.running.specs.declared.placed.Rest.{Rest}
+use Rattle.running.specs.declared.scene.Scene.{Scene}
+use Rattle.running.specs.inside.Placing.{HasLeft, IsReached, IsStanding, StandsOn, disk_of, file_of, node_view, rest_view, world_of}
+use Rattle.running.specs.inside.Stopping.{HasReopened}
+use Rattle.running.proofs.PutBack.{stands_at}
+use Rattle.running.proofs.SceneWith.{IsBut, standing_with, world_with}
+use Rattle.running.proofs.StopsInside.{NoneApplies, get_mapped, get_some, none_applies, one_value}
+
+-- a tree is divided in one way
+one_way : (d e : Division) → d.tree ≡ e.tree → IsDivision d → IsDivision e → d ≡ e
+one_way d e same a b =
+    let units : d.units ≡ e.units = one_division d.tree d.units e.units a.units
+    (subst (λ (t : Tree). AreUnits t e.units) (sym same) b.units) in
+    λ i. record { tree = same i; units = units i }
+
+-- what a file opens as
+abbrev opens_with : List Text → Result (List Text) LogFault
+opens_with texts = Ok texts
+
+same_texts : (a b : List Text) → opens_with a ≡ opens_with b → a ≡ b
+same_texts a b e = cc
+
+module _ (s : Scene) (me : ℕ) (standing : IsStanding s) (reached : IsReached (world_of s))
+    (may : fault_before (world_of s) (events.Restart me) ≡ None) where
+  abbrev w : World
+  w = world_of s
+
+  abbrev nodes : List Placed
+  nodes = s.nodes.items
+
+  there : NoneApplies false (nat_le (length w.nodes) me) false (is_up w me) false
+  there = none_applies false (nat_le (length w.nodes) me) false (is_up w me) false
+      (worlds.BadTrace 0) worlds.NoSuchNode worlds.NodeDown worlds.NodeUp worlds.NoSuchDatagram may
+
+  its_place : (x : Placed) × (slice_get nodes me ≡ Some x)
+  its_place = get_some nodes me
+      (omega (arith, leb-false (length w.nodes) me there.second, length-map nodes node_view))
+
+  pub place_within : me < length nodes
+  place_within = slice_get_within nodes me its_place.0 its_place.1
+
+  -- there is a node for each weight
+  pub member_within : me < length s.weights
+  member_within =
+      let later = leads_later (start w.division w.weights) w reached.events reached.led in
+      omega (arith, place_within, later.nodes, length-map nodes node_view,
+      length-replicate (length w.weights) fresh_node)
+
+  -- the node is down
+  only_down : (x : Placed) → slice_get nodes me ≡ Some x → (r : Rest)
+      × (slice_get nodes me ≡ Some (Down r))
+  only_down (Up n) g = absurd (true≢false (sym (ap up_of (get_mapped node_view nodes me (Up n) g))
+      ∙ there.fourth))
+  only_down (Down r) g = (r, g)
+
+  pub its_rest : (r : Rest) × (slice_get nodes me ≡ Some (Down r))
+  its_rest = only_down its_place.0 its_place.1
+
+  abbrev r : Rest
+  r = its_rest.0
+
+  -- what stands at the place is what is left of it
+  pub at_place : (x : Placed) → slice_get nodes me ≡ Some x → x ≡ Down r
+  at_place x g = one_value x (Down r) (sym g ∙ its_rest.1)
+
+  left : HasLeft w me (rest_view r) r.disk
+  left = standing.disks me (Down r) its_rest.1
+
+  local : AreLocal w
+  local = (each_run_is_acts w.division w.weights reached.events w reached.made reached.led).3
+
+  are_notes : All IsNote (rest_view r).notes
+  are_notes = All-weaker (IsOfUnit w) IsNote (λ n is. is.note) (rest_view r).notes
+      (local.each me (rest_view r) (get_mapped node_view nodes me (Down r) its_rest.1)).notes
+
+  module _ (n : LoggedNode MemDisk) (h : HasReopened s.tree.now s.weights me (file_of r.disk) n) where
+    owner : identity_of n.node.member ≡ identity s.tree.now s.weights me
+    owner = ap (λ (x : NodeState). identity_of x.member) h.opened.node
+        ∙ ap (λ t. identity t s.weights me) h.opened.of_tree
+
+    -- the notes are those that it left
+    texts : texts_of n.node.notes ≡ texts_of (rest_view r).notes
+    texts = same_texts (texts_of n.node.notes) (texts_of (rest_view r).notes)
+        (h.one_answer.no_second (file_of r.disk) (Ok (texts_of n.node.notes))
+        (Ok (texts_of (rest_view r).notes))
+        (subst (λ (i : Identity). Opens i (file_of r.disk) (Ok (texts_of n.node.notes))) owner h.notes)
+        (inr (subst (λ (t : Tree). HasNotes (identity t s.weights me) (texts_of (rest_view r).notes)
+        (file_of r.disk)) standing.tree left.notes)))
+
+    notes : n.node.notes ≡ (rest_view r).notes
+    notes = sym (notes_again n.node.notes h.opened.notes_are) ∙ ap notes_in texts
+        ∙ notes_again (rest_view r).notes are_notes
+
+    division : h.opened.division ≡ w.division
+    division = one_way h.opened.division w.division (h.opened.of_tree ∙ sym standing.tree)
+        h.opened.divided reached.made.divided
+
+    -- so it is the node that they restore
+    opened : n.node ≡ opened_node w.division w.weights me (rest_view r).notes
+    opened = h.opened.node
+        ∙ ap₂ (λ (d : Division) (ns : List (Note Value)). opened_node d w.weights me ns) division
+        notes
+
+    stands_again : StandsOn w me (Up n)
+    stands_again = (
+      subst (λ (x : NodeState). x ≡ node_at w me (up_node x)) (sym opened) refl,
+      h.on_log,
+    )
+
+    pub restarts : (t : Scene) → IsBut s t → t.nodes.items ≡ slice_set nodes me (Up n)
+        → Restarts w me (world_of t) × IsStanding t
+    restarts t but put = (
+      record {
+        node = rest_view r;
+        stands = get_mapped node_view nodes me (Down r) its_rest.1;
+        down = refl;
+        leaves = world_with s t but me (Up n) put
+            ∙ ap (λ (x : NodeState). with_node w me (up_node x)) opened;
+      },
+      standing_with s t but me (Up n) put standing stands_again,
+    )
+
+  -- what is read at the place
+  module _ (old : Placed) (read : old ≡ slice_index_or nodes me old) where
+    old_is : old ≡ Down r
+    old_is = at_place old (stands_at nodes me old read place_within)
+
+    pub restarts_there : (n : LoggedNode MemDisk)
+        → HasReopened s.tree.now s.weights me (file_of (disk_of old)) n
+        → (t : Scene) → IsBut s t → t.nodes.items ≡ slice_set nodes me (Up n)
+        → Restarts w me (world_of t) × IsStanding t
+    restarts_there n h t but put = restarts n
+        (subst (λ x. HasReopened s.tree.now s.weights me (file_of (disk_of x)) n) old_is h) t but put

@@ -1,0 +1,643 @@
+-- A stop inside a step, and why it may be refused.
+use Rattle.std.proofs.Common.{◌≡◌, ◌⊎◌, ◌<◌, ◌++◌, ℕ, zero, suc, Bool, true, false, not, ◌&&◌, nat_le, List, [], ◌∷◌, length, map, Option, None, Some, option_map, Result, Ok, Err, IfErr, IfOk, OnErr, OnOk, slice_get, slice_index_or, slice_set, refl, sym, ap, subst, ◌∙◌, arith, inl, inr, ⊎_elim}
+use Rattle.std.proofs.lemmas.Bool.{leb-false, true≢false}
+use Rattle.std.proofs.lemmas.Option.{slice_get_within}
+use Rattle.std.proofs.lemmas.List.{length-map, set-set}
+use Rattle.faults.specs.Answers.{first_that_applies, map_ok}
+use Rattle.faults.specs.Bytes.{Text}
+use Rattle.ballots.specs.declared.message.Note.{Note}
+use Rattle.engine.specs.declared.Letter.{Letter}
+use Rattle.events.specs.Events as events
+use Rattle.events.specs.Events.{Event, is_step}
+use Rattle.events.specs.declared.event.Left.{Left}
+use Rattle.events.specs.declared.event.Left.TheVariants as left
+use Rattle.headline.proofs.OneList.{each_run_is_acts}
+use Rattle.headline.proofs.Runs.{none_is_foreign}
+use Rattle.member.specs.Prepared.{Prepared}
+use Rattle.node.specs.Arrival.{Arrival, Strange, Waits, Whole, arrival_of}
+use Rattle.node.specs.Calls.{HasPrepared, left_by}
+use Rattle.node.specs.OnLog.{IsFull, IsOnLog, LacksRoom, identity_of, texts_of}
+use Rattle.node.specs.State.{LoggedNode, NodeState, with_note}
+use Rattle.node.specs.Step.{Asked, Comes, Does, IsAsked, IsReadyFor, ReadyStep, Taken, Takes, after, answer_then, heard, note_in, running_step, step, step_on, taken, taken_by}
+use Rattle.node.specs.declared.fault.Foreign.{Foreign}
+use Rattle.node.specs.declared.fault.NodeFault.{NodeFault}
+use Rattle.node.specs.declared.fault.NodeFault.TheVariants as fault
+use Rattle.package_record.proofs.BuildsRead.{build_is_read}
+use Rattle.protocol.specs.Answers.{Answer}
+use Rattle.protocol.specs.State.{State, Value}
+use Rattle.protocol.specs.Step as members
+use Rattle.protocol.specs.declared.input.Input.TheVariants as inputs
+use Rattle.protocol.specs.declared.refusal.Refusal.{Refusal}
+use Rattle.stable_record.specs.History.{stands}
+use Rattle.stable_record.specs.InMemory.{mem_history}
+use Rattle.stable_record.specs.Log.{gate_place, most_bytes}
+use Rattle.stable_record.specs.declared.identity.Identity.{Identity}
+use Rattle.stable_record.specs.declared.log_fault.LogFault.TheVariants.{Full}
+use Rattle.stable_record.specs.declared.mem_disk.MemDisk.{MemDisk}
+use Rattle.units.specs.Division.{Division}
+use Rattle.wire.specs.Reading.{datagram_of}
+use Rattle.wire.specs.Spelling.{note_text}
+use Rattle.wire.specs.declared.datagram.Piece.{Piece}
+use Rattle.world.specs.Happening.{Acts, Asks, HasRoomFor, IsRefusedByNode, IsUp, LogIsFull, StopsIn, fault_before, is_up, lacks_datagram, left_node, leaves_note, up_of}
+use Rattle.world.specs.World.{World, WorldNode, down_node, node_at, up_node, with_node}
+use Rattle.world.specs.declared.fault.WorldFault.{WorldFault}
+use Rattle.world.specs.declared.fault.WorldFault.TheVariants as worlds
+use Rattle.running.specs.declared.placed.Placed.{Placed}
+use Rattle.running.specs.declared.placed.Placed.TheVariants.{Down, Up}
+use Rattle.running.specs.declared.placed.Rest.{Rest}
+use Rattle.running.specs.declared.scene.Scene.{Scene}
+use Rattle.running.specs.inside.Asking.{CanBeAsked, IsReadied, asked_by, refused_by}
+use Rattle.running.specs.inside.Placing.{IsReached, IsStanding, StandsOn, disk_of, file_of, node_view, rest_view, world_of}
+use Rattle.running.specs.inside.Posting.{sent_in}
+use Rattle.running.specs.inside.Stopping.{HasNotStopped, HasReadied, HasTakenOnLog, IsNotStoppedWith, IsReady, IsStopped, IsStoppedBehind, IsStoppedTorn, IsStoppedWith, ReadiesStep, StandsReady, StaysOnLog, TookNone, TookStep}
+use Rattle.running.proofs.NodeStands.{IsLeftAs, owner, runs, same_so, stopped_so, took_so, torn_so}
+use Rattle.running.proofs.PutBack.{stands_at}
+use Rattle.running.proofs.SceneWith.{IsBut, put_again, put_there, standing_with, world_with}
+
+-- ---- tests
+
+pub record NoneApplies (a b c d e : Bool) : Type 0 where
+  pub first : a ≡ false
+  pub second : b ≡ false
+  pub third : c ≡ false
+  pub fourth : d ≡ false
+  pub fifth : e ≡ false
+
+pub none_applies : (a b c d e : Bool) (x y z u v : WorldFault)
+    → first_that_applies ((a, x) ∷ (b, y) ∷ (c, z) ∷ (d, u) ∷ (e, v) ∷ []) ≡ None
+    → NoneApplies a b c d e
+none_applies true b c d e x y z u v h = absurd (let wrong : Some x ≡ None = h in cc)
+none_applies false true c d e x y z u v h = absurd (let wrong : Some y ≡ None = h in cc)
+none_applies false false true d e x y z u v h = absurd (let wrong : Some z ≡ None = h in cc)
+none_applies false false false true e x y z u v h =
+    absurd (let wrong : Some u ≡ None = h in cc)
+none_applies false false false false true x y z u v h =
+    absurd (let wrong : Some v ≡ None = h in cc)
+none_applies false false false false false x y z u v h =
+    record { first = refl; second = refl; third = refl; fourth = refl; fifth = refl }
+
+-- what stands at a place within a list
+pub get_some : {X : Type 0} (xs : List X) (k : ℕ) → k < length xs → (x : X)
+    × (slice_get xs k ≡ Some x)
+get_some [] k lt = absurd (omega (arith, lt))
+get_some (x ∷ xs) zero lt = (x, refl)
+get_some (x ∷ xs) (suc k) lt = get_some xs k (omega (arith, lt))
+
+not_false : (b : Bool) → not b ≡ false → b ≡ true
+not_false true e = refl
+not_false false e = absurd (true≢false e)
+
+-- an element of a mapped list is one of the list, mapped
+pub get_mapped : {X Y : Type 0} (f : X → Y) (xs : List X) (k : ℕ) (x : X)
+    → slice_get xs k ≡ Some x → slice_get (map f xs) k ≡ Some (f x)
+get_mapped f [] k x e = absurd (let wrong : None ≡ Some x = e in cc)
+get_mapped f (y ∷ ys) zero x e = ap (option_map f) e
+get_mapped f (y ∷ ys) (suc k) x e = get_mapped f ys k x e
+
+pub one_value : {X : Type 0} (x y : X) → Some x ≡ Some y → x ≡ y
+one_value x y e = cc
+
+-- a refusal
+abbrev refuses_with : NodeFault → Result Taken NodeFault
+refuses_with f = Err f
+
+refused_same : (f g : NodeFault) → refuses_with f ≡ refuses_with g → f ≡ g
+refused_same f g e = cc
+
+-- ---- what an event asks
+
+-- a step asks for something, and what it delivers was sent
+pub can_be_asked : (w : World) (e : Event) → is_step e ≡ true → lacks_datagram w e ≡ false
+    → CanBeAsked w.sent e
+can_be_asked w (events.Claim n path host above) is there =
+    (Does (inputs.Claim path host above), refl)
+can_be_asked w (events.Built n path files) is there = (Does (inputs.Built path files), refl)
+can_be_asked w (events.Failed n path) is there = (Does (inputs.Failed path), refl)
+can_be_asked w (events.Nudge n) is there = (Does inputs.Nudge, refl)
+can_be_asked w (events.Ask n path) is there = (Does (inputs.Ask path), refl)
+can_be_asked w (events.Deliver d n) is there =
+    let t = get_some w.sent d (leb-false (length w.sent) d there) in
+    (Comes t.0, ap (option_map Comes) t.1)
+can_be_asked w (events.Stop n) is there = absurd (true≢false (sym is))
+can_be_asked w (events.StopIn e l) is there = absurd (true≢false (sym is))
+can_be_asked w (events.Restart n) is there = absurd (true≢false (sym is))
+
+-- and that is what the world's event asks
+pub asks_so : (w : World) (e : Event) (asked : Asked) → asked_by w.sent e ≡ Some asked
+    → Asks w e asked
+asks_so w (events.Claim n path host above) asked h =
+    sym (one_value (Does (inputs.Claim path host above)) asked h)
+asks_so w (events.Built n path files) asked h =
+    sym (one_value (Does (inputs.Built path files)) asked h)
+asks_so w (events.Failed n path) asked h = sym (one_value (Does (inputs.Failed path)) asked h)
+asks_so w (events.Nudge n) asked h = sym (one_value (Does inputs.Nudge) asked h)
+asks_so w (events.Ask n path) asked h = sym (one_value (Does (inputs.Ask path)) asked h)
+asks_so w (events.Deliver d n) asked h = by (slice_get w.sent d) refl
+  where
+    by : (o : Option Text) → slice_get w.sent d ≡ o → Asks w (events.Deliver d n) asked
+    by None e = absurd (let wrong : None ≡ Some asked = sym (ap (option_map Comes) e) ∙ h in cc)
+    by (Some text) e =
+        (text, e, sym (one_value (Comes text) asked (sym (ap (option_map Comes) e) ∙ h)))
+asks_so w (events.Stop n) asked h = absurd (let wrong : None ≡ Some asked = h in cc)
+asks_so w (events.StopIn e l) asked h = absurd (let wrong : None ≡ Some asked = h in cc)
+asks_so w (events.Restart n) asked h = absurd (let wrong : None ≡ Some asked = h in cc)
+
+-- ---- what a step refuses
+
+-- A step never wants memory, nor does it ask the log.
+abbrev IsByStep : Result Taken NodeFault → Type 0
+IsByStep (Ok t) = Prim.Unit {0}
+IsByStep (Err fault.Memory) = ⊥
+IsByStep (Err (fault.Refused r)) = Prim.Unit {0}
+IsByStep (Err (fault.Log f)) = ⊥
+IsByStep (Err fault.Stopped) = Prim.Unit {0}
+IsByStep (Err (fault.Foreign f)) = Prim.Unit {0}
+
+taken_by_step : (pieces : List Piece) (r : Result Answer Refusal) → IsByStep (taken pieces r)
+taken_by_step pieces (Ok a) = tt
+taken_by_step pieces (Err r) = tt
+
+heard_by_step : (pieces : List Piece) (r : Result Answer Refusal) → IsByStep (heard pieces r)
+heard_by_step pieces (Ok a) = tt
+heard_by_step pieces (Err r) = tt
+
+arrived_by_step : (s : State) (a : Arrival) → IsByStep (step_on s a)
+arrived_by_step s (Strange f pieces) = tt
+arrived_by_step s (Waits pieces) = tt
+arrived_by_step s (Whole m pieces) = heard_by_step pieces (members.heard s m)
+
+by_step : (n : NodeState) (letter : Letter) (asked : Asked) → n.stopped ≡ false
+    → IsByStep (step n letter asked)
+by_step n letter (Does input) runs = rw runs
+    (taken_by_step n.pieces (members.answer n.member letter input))
+by_step n letter (Comes text) runs = rw runs
+    (arrived_by_step n.member (arrival_of n.member n.pieces (datagram_of text)))
+
+-- ---- notes that lack room
+
+note_answered : (s : State) (p : Option Prepared) → (answer_then s p).note ≡ note_in p
+note_answered s None = refl
+note_answered s (Some p) = refl
+
+module _ (w : World) (k : ℕ) (n : LoggedNode MemDisk) (is : StandsOn w k (Up n)) where
+  place_is : n.log.end ≡ gate_place (identity_of (node_at w k (up_node n.node)).member)
+      (texts_of n.node.notes)
+  place_is = is.1.holds.settled.place ∙ ap (λ (j : Identity). gate_place j (texts_of n.node.notes))
+      (owner w k n is)
+
+  -- the log is full where the notes say so
+  pub lack_of_full : (o : Option (Note Value)) → IsFull (node_at w k (up_node n.node)) o
+      → LacksRoom n.log o
+  lack_of_full None full = full
+  lack_of_full (Some note) full = omega (arith, full, place_is)
+
+  pub full_of_lack : (o : Option (Note Value)) → LacksRoom n.log o
+      → IsFull (node_at w k (up_node n.node)) o
+  full_of_lack None lacks = lacks
+  full_of_lack (Some note) lacks = omega (arith, lacks, place_is)
+
+-- ---- a stop inside a step
+
+module _ (s : Scene) (e : Event) (l : Left) (standing : IsStanding s)
+    (reached : IsReached (world_of s))
+    (may : fault_before (world_of s) (events.StopIn e l) ≡ None) where
+  abbrev w : World
+  w = world_of s
+
+  abbrev k : ℕ
+  k = events.node_of e
+
+  abbrev nodes : List Placed
+  nodes = s.nodes.items
+
+  there : NoneApplies (not (is_step e)) (nat_le (length w.nodes) k) (not (is_up w k)) false
+      (lacks_datagram w e)
+  there = none_applies (not (is_step e)) (nat_le (length w.nodes) k) (not (is_up w k)) false
+      (lacks_datagram w e) (worlds.BadTrace 0) worlds.NoSuchNode worlds.NodeDown worlds.NodeUp
+      worlds.NoSuchDatagram may
+
+  pub is_a_step : is_step e ≡ true
+  is_a_step = not_false (is_step e) there.first
+
+  pub can : CanBeAsked w.sent e
+  can = can_be_asked w e is_a_step there.fifth
+
+  its_place : (x : Placed) × (slice_get nodes k ≡ Some x)
+  its_place = get_some nodes k
+      (omega (arith, leb-false (length w.nodes) k there.second, length-map nodes node_view))
+
+  pub within : k < length nodes
+  within = slice_get_within nodes k its_place.0 its_place.1
+
+  -- a node that is up
+  only_up : (x : Placed) → slice_get nodes k ≡ Some x → (n : LoggedNode MemDisk)
+      × (slice_get nodes k ≡ Some (Up n))
+  only_up (Up n) g = (n, g)
+  only_up (Down r) g = absurd (true≢false (sym (not_false (is_up w k) there.third)
+      ∙ ap up_of (get_mapped node_view nodes k (Down r) g)))
+
+  pub its_node : (n : LoggedNode MemDisk) × (slice_get nodes k ≡ Some (Up n))
+  its_node = only_up its_place.0 its_place.1
+
+  abbrev n : LoggedNode MemDisk
+  n = its_node.0
+
+  is : StandsOn w k (Up n)
+  is = standing.disks k (Up n) its_node.1
+
+  -- what stands at the place is that node
+  pub at_place : (x : Placed) → slice_get nodes k ≡ Some x → x ≡ Up n
+  at_place x g = one_value x (Up n) (sym g ∙ its_node.1)
+
+  up_there : IsUp w e (up_node n.node)
+  up_there = record { stands = get_mapped node_view nodes k (Up n) its_node.1; up = refl }
+
+  takes_there : (asked : Asked) (r : Result Taken NodeFault) → Takes n.node asked r
+      → Takes (node_at w k (up_node n.node)) asked r
+  takes_there asked r = subst (λ (x : NodeState). Takes x asked r) is.0
+
+  -- ---- readied
+
+  -- a step that is ready leaves the node as it was
+  record IsSameReady (x : Placed) (r : ReadyStep) : Type 0 where
+    same : x ≡ Up n
+    is_ready : IsReadyFor n.node r
+    asked : Asked
+    asks : asked_by w.sent e ≡ Some asked
+    takes : Takes n.node asked (Ok (taken_by n.node r))
+
+  ready_same : (x : Placed) (r : ReadyStep) → ReadiesStep w.sent e (Up n) x (Ok r)
+      → IsSameReady x r
+  ready_same (Down d) r h = absurd h
+  ready_same (Up m) r h = by h.step
+    where
+      by : IsReadied w.sent e n.node m.node (Ok (taken_by n.node r)) → IsSameReady (Up m) r
+      by (inl p) = absurd (let wrong : Ok (taken_by n.node r) ≡ Err fault.Memory = p.0 in cc)
+      by (inr (asked, asks, p)) = record {
+        same = λ i. Up (record { node = p.state i; log = h.log i });
+        is_ready = subst (λ (x : NodeState). IsReadyFor x r) p.state h.ready;
+        asked = asked;
+        asks = asks;
+        takes = subst (Takes n.node asked) p.given p.takes;
+      }
+
+  -- why a node refuses a step
+  refuses : (asked : Asked) → asked_by w.sent e ≡ Some asked → (f : NodeFault)
+      → Takes n.node asked (Err f)
+      → IsRefusedByNode w (events.StopIn e l) (worlds.Node f)
+  refuses asked asks f takes = inl (
+    f,
+    record {
+      node = up_node n.node;
+      is_up = record { stands = up_there.stands; up = refl };
+      asked = asked;
+      asks = asks_so w e asked asks;
+      refuses = takes_there asked (Err f) takes;
+    },
+    refl,
+  )
+
+  refused_so : (f : NodeFault) → IsByStep (Err f) → (asked : Asked)
+      → asked_by w.sent e ≡ Some asked
+      → Takes n.node asked (Err f) → (m : NodeState) → m ≡ left_by n.node asked f
+      → (m ≡ n.node) × IsRefusedByNode w (events.StopIn e l) (refused_by f)
+  refused_so fault.Memory kind asked asks takes m state = absurd kind
+  refused_so (fault.Refused r) kind asked asks takes m state =
+      (state, refuses asked asks (fault.Refused r) takes)
+  refused_so (fault.Log f) kind asked asks takes m state = absurd kind
+  refused_so fault.Stopped kind asked asks takes m state =
+      (state, refuses asked asks fault.Stopped takes)
+  refused_so (fault.Foreign f) kind asked asks takes m state =
+      absurd (none_is_foreign build_is_read each_run_is_acts w.division w.weights reached.events w
+      (events.StopIn e l) f reached.made reached.led
+      (inr (may, refuses asked asks (fault.Foreign f) takes)))
+
+  kind_of : (asked : Asked) (f : NodeFault) → Takes n.node asked (Err f) → IsByStep (Err f)
+  kind_of asked f takes = subst IsByStep (sym takes.right_is)
+      (by_step n.node takes.letter asked (runs w k n is))
+
+  pub readied_refused : (x : Placed) (f : NodeFault) → ReadiesStep w.sent e (Up n) x (Err f)
+      → (x ≡ Up n)
+      × ((f ≡ fault.Memory) ⊎ IsRefusedByNode w (events.StopIn e l) (refused_by f))
+  readied_refused (Down d) f h = absurd h
+  readied_refused (Up m) f h = by h.step
+    where
+      same : m.node ≡ n.node → Up m ≡ Up n
+      same e = λ i. Up (record { node = e i; log = h.log i })
+
+      by : IsReadied w.sent e n.node m.node (Err f)
+          → (Up m ≡ Up n)
+          × ((f ≡ fault.Memory) ⊎ IsRefusedByNode w (events.StopIn e l) (refused_by f))
+      by (inl p) = (same p.1, inl (refused_same f fault.Memory p.0))
+      by (inr (asked, asks, p)) = ⊎_elim
+          (λ memory. (same (p.state ∙ ap (left_by n.node asked) memory), inl memory))
+          (λ right.
+          let takes = subst (Takes n.node asked) right p.takes in
+          let r = refused_so f (kind_of asked f takes) asked asks takes m.node p.state in
+          (same r.0, inr r.1))
+          p.given
+
+  -- ---- what is left
+
+  -- the node is up again
+  up_again : (t : Scene) → IsBut s t → (m : LoggedNode MemDisk)
+      → t.nodes.items ≡ slice_set nodes k (Up m) → m.node ≡ n.node → IsOnLog mem_history m
+      → (world_of t ≡ w) × IsStanding t
+  up_again t but m put same on_log = (
+    world_with s t but k (Up m) put
+        ∙ ap (λ (x : NodeState). with_node w k (up_node x)) same
+        ∙ ap (λ (ns : List WorldNode). record w { nodes = ns })
+        (put_again w.nodes k (up_node n.node) up_there.stands),
+    standing_with s t but k (Up m) put standing (same_so w k n is m same on_log),
+  )
+
+  -- the step was not made ready
+  pub not_readied : (t : Scene) → IsBut s t → (x : Placed) (f : NodeFault)
+      → t.nodes.items ≡ slice_set nodes k x
+      → ReadiesStep w.sent e (Up n) x (Err f)
+      → (world_of t ≡ w) × IsStanding t
+      × ((f ≡ fault.Memory) ⊎ IsRefusedByNode w (events.StopIn e l) (refused_by f))
+  not_readied t but x f put h =
+      let r = readied_refused x f h in
+      let u = up_again t but n (put ∙ ap (slice_set nodes k) r.0) refl is.1 in
+      (u.0, u.1, r.1)
+
+  -- the step was made ready, and the nodes are as they were
+  pub readied_nodes : (x : Placed) (r : ReadyStep) → ReadiesStep w.sent e (Up n) x (Ok r)
+      → slice_set nodes k x ≡ nodes
+  readied_nodes x r h = ap (slice_set nodes k) (ready_same x r h).same
+      ∙ put_again nodes k (Up n) its_node.1
+
+  pub readied_stands : (x : Placed) (r : ReadyStep) → ReadiesStep w.sent e (Up n) x (Ok r)
+      → StandsReady nodes k r
+  readied_stands x r h = record {
+    node = Up n;
+    stands = its_node.1;
+    ready = ((ready_same x r h).is_ready, is.1);
+  }
+
+  module _ (x : Placed) (r : ReadyStep) (h : ReadiesStep w.sent e (Up n) x (Ok r))
+      (fits : (asked : Asked) → asked_by w.sent e ≡ Some asked → IsAsked asked) where
+    abbrev took : Taken
+    took = taken_by n.node r
+
+    acts : Acts w e (up_node n.node) took
+    acts =
+        let t = ready_same x r h in
+        record {
+          is_up = up_there;
+          asked = t.asked;
+          asks = asks_so w e t.asked t.asks;
+          can_be = fits t.asked t.asks;
+          takes = takes_there t.asked (Ok took) t.takes;
+        }
+
+    note_is : took.answer.note ≡ note_in r.step
+    note_is = note_answered n.node.member r.step
+
+    -- the node is down, and this is left of it
+    pub down_so : (t : Scene) → IsBut s t → (rest : Rest)
+        → t.nodes.items ≡ slice_set nodes k (Down rest)
+        → IsLeftAs w k rest (left_node l n.node.notes took.answer.note)
+        → HasRoomFor w k (up_node n.node) l took.answer.note
+        → StopsIn w e l (world_of t) × IsStanding t
+    down_so t but rest put left room = (
+      record {
+        node = up_node n.node;
+        taken = took;
+        step = is_a_step;
+        acts = acts;
+        room = room;
+        leaves = world_with s t but k (Down rest) put ∙ ap (with_node w k) left.view;
+      },
+      standing_with s t but k (Down rest) put standing left.left,
+    )
+
+    -- the log has no room for the note
+    pub full_so : leaves_note (events.StopIn e l) ≡ true → LacksRoom n.log (note_in r.step)
+        → LogIsFull w (events.StopIn e l)
+    full_so noted lacks = record {
+      node = up_node n.node;
+      taken = took;
+      acts = record {
+        is_up = record { stands = up_there.stands; up = refl };
+        asked = acts.asked;
+        asks = acts.asks;
+        can_be = acts.can_be;
+        takes = acts.takes;
+      };
+      noted = noted;
+      full = full_of_lack w k n is took.answer.note
+          (subst (LacksRoom n.log) (sym note_is) lacks);
+    }
+
+-- ---- by what is left
+
+-- a node that stood at the place stopped there
+record HasStoppedAt (w : World) (k : ℕ) (n : LoggedNode MemDisk) (old new : List Placed) : Type 0
+    where
+  rest : Rest
+  nodes : new ≡ slice_set old k (Down rest)
+  left : IsLeftAs w k rest (down_node n.node.notes [])
+
+stopped_at : (w : World) (k : ℕ) (n : LoggedNode MemDisk) → StandsOn w k (Up n)
+    → (old new : List Placed)
+    → slice_get old k ≡ Some (Up n) → IsStopped old new k → HasStoppedAt w k n old new
+stopped_at w k n is old new here h =
+    let same : h.node ≡ Up n = one_value h.node (Up n) (sym h.stood ∙ here) in
+    record {
+      rest = h.rest;
+      nodes = h.nodes;
+      left = stopped_so w k n is h.rest (h.disk ∙ ap disk_of same)
+          (h.notes ∙ ap (λ x. (node_view x).notes) same)
+          (h.behind (ap (λ x. (node_view x).up) same));
+    }
+
+module _ (s : Scene) (e : Event) (standing : IsStanding s) (reached : IsReached (world_of s)) where
+  pub stops_in : (l : Left) (may : fault_before (world_of s) (events.StopIn e l) ≡ None)
+      → (x : Placed) (r : ReadyStep)
+      → ReadiesStep (world_of s).sent e (Up (its_node s e l standing reached may).0) x (Ok r)
+      → ((asked : Asked) → asked_by (world_of s).sent e ≡ Some asked → IsAsked asked)
+      → (t : Scene) → IsBut s t
+      → IsStoppedWith l s.nodes.items t.nodes.items (events.node_of e) r
+      → StopsIn (world_of s) e l (world_of t) × IsStanding t
+  stops_in left.None may x r h fits t but stopped =
+      let n = its_node s e left.None standing reached may in
+      let is = standing.disks (events.node_of e) (Up n.0) n.1 in
+      let d = stopped_at (world_of s) (events.node_of e) n.0 is s.nodes.items t.nodes.items n.1
+      stopped in
+      down_so s e left.None standing reached may x r h fits t but d.rest d.nodes d.left tt
+  stops_in (left.Torn torn) may x r h fits t but stopped =
+      let n = its_node s e (left.Torn torn) standing reached may in
+      let is = standing.disks (events.node_of e) (Up n.0) n.1 in
+      let same : stopped.node ≡ Up n.0 = one_value stopped.node (Up n.0) (sym stopped.stood ∙ n.1) in
+      down_so s e (left.Torn torn) standing reached may x r h fits t but stopped.rest stopped.nodes
+      (torn_so (world_of s) (events.node_of e) n.0 is torn stopped.rest
+      (stopped.disk ∙ ap (λ y. stands (file_of (disk_of y) ++ torn) ∷ []) same)
+      (stopped.notes ∙ ap (λ y. (node_view y).notes) same) stopped.behind) tt
+  stops_in left.Whole may x r h fits t but stopped =
+      by stopped.then
+      (subst (λ y. TookStep y r stopped.then) same stopped.took) stopped.stopped
+    where
+      n : (n : LoggedNode MemDisk) × (slice_get s.nodes.items (events.node_of e) ≡ Some (Up n))
+      n = its_node s e left.Whole standing reached may
+
+      is : StandsOn (world_of s) (events.node_of e) (Up n.0)
+      is = standing.disks (events.node_of e) (Up n.0) n.1
+
+      same : stopped.node ≡ Up n.0
+      same = one_value stopped.node (Up n.0) (sym stopped.stood ∙ n.1)
+
+      by : (y : Placed) → TookStep (Up n.0) r y
+          → IsStopped (slice_set s.nodes.items (events.node_of e) y) t.nodes.items (events.node_of e)
+          → StopsIn (world_of s) e left.Whole (world_of t) × IsStanding t
+      by (Down d) took stop = absurd took
+      by (Up m) took stop =
+          let is_then = took_so (world_of s) (events.node_of e) n.0 is (taken_by n.0.node r) m
+          took.node took.on_log in
+          let d = stopped_at (world_of s) (events.node_of e) m is_then
+          (slice_set s.nodes.items (events.node_of e) (Up m)) t.nodes.items
+          (put_there s.nodes.items (events.node_of e) (Up m)
+          (within s e left.Whole standing reached may))
+          stop in
+          let notes : m.node.notes ≡ with_note n.0.node.notes (taken_by n.0.node r).answer.note =
+          ap (λ (x : NodeState). x.notes) took.node in
+          down_so s e left.Whole standing reached may x r h fits t but d.rest
+          (d.nodes ∙ set-set s.nodes.items (events.node_of e) (Up m) (Down d.rest))
+          (record {
+            view = d.left.view ∙ ap (λ ns. down_node ns []) notes;
+            left = d.left.left;
+          })
+          (λ full. took.room (subst (LacksRoom n.0.log)
+          (note_answered n.0.node.member r.step)
+          (lack_of_full (world_of s) (events.node_of e) n.0 is (taken_by n.0.node r).answer.note
+          full)))
+
+  pub stops_not : (l : Left) (may : fault_before (world_of s) (events.StopIn e l) ≡ None)
+      → (x : Placed) (r : ReadyStep)
+      → ReadiesStep (world_of s).sent e (Up (its_node s e l standing reached may).0) x (Ok r)
+      → ((asked : Asked) → asked_by (world_of s).sent e ≡ Some asked → IsAsked asked)
+      → (t : Scene) → IsBut s t → (f : NodeFault)
+      → IsNotStoppedWith l s.nodes.items t.nodes.items (events.node_of e) r f
+      → (world_of t ≡ world_of s) × IsStanding t
+      × ((f ≡ fault.Memory) ⊎ IsRefusedByNode (world_of s) (events.StopIn e l) (refused_by f))
+  stops_not left.None may x r h fits t but f none = absurd none
+  stops_not (left.Torn torn) may x r h fits t but f none =
+      let n = its_node s e (left.Torn torn) standing reached may in
+      let is = standing.disks (events.node_of e) (Up n.0) n.1 in
+      let u = up_again s e (left.Torn torn) standing reached may t but n.0
+      (none.0 ∙ sym (put_again s.nodes.items (events.node_of e) (Up n.0) n.1)) refl is.1 in
+      (u.0, u.1, inl none.1)
+  stops_not left.Whole may x r h fits t but f none =
+      by none.then (subst (λ y. TookNone y r none.then f) same none.none) none.nodes
+    where
+      n : (n : LoggedNode MemDisk) × (slice_get s.nodes.items (events.node_of e) ≡ Some (Up n))
+      n = its_node s e left.Whole standing reached may
+
+      same : none.node ≡ Up n.0
+      same = one_value none.node (Up n.0) (sym none.stood ∙ n.1)
+
+      by : (y : Placed) → TookNone (Up n.0) r y f
+          → t.nodes.items ≡ slice_set s.nodes.items (events.node_of e) y
+          → (world_of t ≡ world_of s) × IsStanding t
+          × ((f ≡ fault.Memory)
+          ⊎ IsRefusedByNode (world_of s) (events.StopIn e left.Whole) (refused_by f))
+      by (Down d) stays put = absurd stays
+      by (Up m) stays put =
+          let u = up_again s e left.Whole standing reached may t but m put stays.node stays.on_log in
+          (
+            u.0,
+            u.1,
+            ⊎_elim (λ memory. inl memory)
+                (λ full. inr (inr (
+                  full_so s e left.Whole standing reached may x r h fits refl full.1,
+                  ap refused_by full.0,
+                )))
+                stays.cause,
+          )
+
+-- ---- by the calls that do it
+
+pub on_ok : {T E : Type 0} (r : Result T E) (P Q : Type 0) → (P → Q) → OnOk r P → OnOk r Q
+on_ok (Ok x) P Q f p = f p
+on_ok (Err g) P Q f p = tt
+
+pub on_err : {T E : Type 0} (r : Result T E) (P : E → Type 0) (Q : Type 0) → ((g : E) → P g → Q)
+    → IfErr r P → OnErr r Q
+on_err (Ok x) P Q f p = tt
+on_err (Err g) P Q f p = f g p
+
+pub if_err : {T E : Type 0} (r : Result T E) (P Q : E → Type 0) → ((g : E) → P g → Q g)
+    → IfErr r P → IfErr r Q
+if_err (Ok x) P Q f p = tt
+if_err (Err g) P Q f p = f g p
+
+pub either : {T E : Type 0} (r : Result T E) (P : Type 0) (Q : E → Type 0) (R : Type 0) → (P → R)
+    → ((g : E) → Q g → R) → OnOk r P → IfErr r Q → R
+either (Ok x) P Q R f g p q = f p
+either (Err h) P Q R f g p q = g h q
+
+module _ (s : Scene) (e : Event) (l : Left) (standing : IsStanding s)
+    (reached : IsReached (world_of s))
+    (may : fault_before (world_of s) (events.StopIn e l) ≡ None)
+    (place : ℕ) (place_is : place ≡ events.node_of e) (old : Placed)
+    (read : old ≡ slice_index_or s.nodes.items place old) where
+  abbrev its : (n : LoggedNode MemDisk) × (slice_get s.nodes.items (events.node_of e) ≡ Some (Up n))
+  its = its_node s e l standing reached may
+
+  pub in_nodes : place < length s.nodes.items
+  in_nodes = subst (λ i. i < length s.nodes.items) (sym place_is)
+      (within s e l standing reached may)
+
+  old_is : old ≡ Up its.0
+  old_is = at_place s e l standing reached may old
+      (subst (λ i. slice_get s.nodes.items i ≡ Some old) place_is
+      (stands_at s.nodes.items place old read in_nodes))
+
+  pub is_on : (node_view old).up ≡ true
+  is_on = ap (λ x. (node_view x).up) old_is
+
+  module _ (x : Placed) where
+    abbrev Readied : Result ReadyStep NodeFault → Type 0
+    Readied result = ReadiesStep (world_of s).sent e old x result
+
+    of_its : (result : Result ReadyStep NodeFault) → Readied result
+        → ReadiesStep (world_of s).sent e (Up its.0) x result
+    of_its result = subst (λ y. ReadiesStep (world_of s).sent e y x result) old_is
+
+    abbrev then_nodes : List Placed
+    then_nodes = slice_set s.nodes.items place x
+
+    nodes_are : (r : ReadyStep) → Readied (Ok r) → then_nodes ≡ s.nodes.items
+    nodes_are r h = ap (λ i. slice_set s.nodes.items i x) place_is
+        ∙ readied_nodes s e l standing reached may x r (of_its (Ok r) h)
+
+    pub refused_there : (f : NodeFault) → Readied (Err f) → (t : Scene) → IsBut s t
+        → t.nodes.items ≡ then_nodes
+        → (world_of t ≡ world_of s) × IsStanding t
+        × ((f ≡ fault.Memory) ⊎ IsRefusedByNode (world_of s) (events.StopIn e l) (refused_by f))
+    refused_there f h t but put = not_readied s e l standing reached may t but x f
+        (put ∙ ap (λ i. slice_set s.nodes.items i x) place_is) (of_its (Err f) h)
+
+    pub ready_there : (r : ReadyStep) → Readied (Ok r) → StandsReady then_nodes place r
+    ready_there r h = subst (λ (ns : List Placed). StandsReady ns place r) (sym (nodes_are r h))
+        (subst (λ i. StandsReady s.nodes.items i r) (sym place_is)
+        (readied_stands s e l standing reached may x r (of_its (Ok r) h)))
+
+    module _ (r : ReadyStep) (h : Readied (Ok r))
+        (fits : (asked : Asked) → asked_by (world_of s).sent e ≡ Some asked → IsAsked asked)
+        (t : Scene) (but : IsBut s t) where
+      pub stops_there : IsStoppedWith l then_nodes t.nodes.items place r
+          → StopsIn (world_of s) e l (world_of t) × IsStanding t
+      stops_there stopped = stops_in s e standing reached l may x r (of_its (Ok r) h) fits t but
+          (subst (λ (ns : List Placed). IsStoppedWith l ns t.nodes.items (events.node_of e) r)
+          (nodes_are r h)
+          (subst (λ i. IsStoppedWith l then_nodes t.nodes.items i r) place_is stopped))
+
+      pub not_there : (f : NodeFault) → IsNotStoppedWith l then_nodes t.nodes.items place r f
+          → (world_of t ≡ world_of s) × IsStanding t
+          × ((f ≡ fault.Memory) ⊎ IsRefusedByNode (world_of s) (events.StopIn e l) (refused_by f))
+      not_there f none = stops_not s e standing reached l may x r (of_its (Ok r) h) fits t but f
+          (subst (λ (ns : List Placed). IsNotStoppedWith l ns t.nodes.items (events.node_of e) r f)
+          (nodes_are r h)
+          (subst (λ i. IsNotStoppedWith l then_nodes t.nodes.items i r f) place_is none))
