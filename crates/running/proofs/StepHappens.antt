@@ -1,12 +1,14 @@
 -- The step of a node in its scene is one of the world.
-use Rattle.std.proofs.Common.{◌≡◌, ◌⊎◌, ◌<◌, ◌&&◌, ℕ, Bool, true, false, not, nat_le, List, length, map, Option, None, Some, Result, Ok, Err, IfErr, OnErr, OnOk, slice_get, slice_set, slice_index_or, refl, sym, ap, subst, ◌∙◌, arith, inl, inr, ⊎_elim, true≢false}
+use Rattle.std.proofs.Common.{◌≡◌, ◌⊎◌, ◌<◌, ◌&&◌, ℕ, Bool, true, false, not, nat_le, List, length, map, Option, None, Some, Result, Ok, Err, Vec, IfErr, OnErr, OnOk, slice_get, slice_set, slice_index_or, refl, sym, ap, subst, ◌∙◌, arith, inl, inr, ⊎_elim, true≢false}
+use Rattle.std.specs.declared.alloc.Global.{Global}
 use Rattle.std.proofs.lemmas.Bool.{leb-false}
 use Rattle.std.proofs.lemmas.List.{length-map, map-set}
 use Rattle.std.proofs.lemmas.Option.{slice_get-get_or}
 use Rattle.agreement.proofs.Nodes.{get_set}
 use Rattle.ballots.specs.declared.message.Note.{Note}
 use Rattle.events.specs.Events as events
-use Rattle.events.specs.Events.{Event, is_step}
+use Rattle.events.specs.Events.{Event, event_view, is_step}
+use Rattle.events.specs.declared.event.Event as declared
 use Rattle.faults.specs.Bytes.{Text}
 use Rattle.headline.proofs.OneList.{each_run_is_acts}
 use Rattle.headline.proofs.Runs.{none_is_foreign}
@@ -251,6 +253,26 @@ is_down s n standing may t but stopped = by stopped.node refl
           };
           standing = standing_with s t but n (Down stopped.rest) stopped.nodes standing left.left;
         }
+
+-- so it happens where the event says so
+abbrev pub with_nodes : Scene → Vec Placed Global → Scene
+with_nodes s nodes = record s { nodes = nodes }
+
+pub stop_is_down : (s : Scene) (e : declared.Event) (n : ℕ) → e ≡ declared.Stop n → IsStanding s
+    → fault_before (world_of s) (event_view e) ≡ None → (nodes : Vec Placed Global)
+    → IsStopped s.nodes.items nodes.items n → IsDown s n (with_nodes s nodes)
+stop_is_down s e n is standing may nodes stopped =
+    is_down s n standing (subst (λ z. fault_before (world_of s) (event_view z) ≡ None) is may)
+    (with_nodes s nodes) (record { tree = refl; units = refl; weights = refl; posted = refl })
+    stopped
+
+pub stop_happens : (s : Scene) (e : declared.Event) (n : ℕ) → e ≡ declared.Stop n → IsStanding s
+    → fault_before (world_of s) (event_view e) ≡ None → (nodes : Vec Placed Global)
+    → IsStopped s.nodes.items nodes.items n
+    → Happens (world_of s) (event_view e) (world_of (with_nodes s nodes))
+stop_happens s e n is standing may nodes stopped =
+    subst (λ z. Happens (world_of s) (event_view z) (world_of (with_nodes s nodes))) (sym is)
+    (stop_is_down s e n is standing may nodes stopped).stops
 
 -- ---- a step that may be taken
 
