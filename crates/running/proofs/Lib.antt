@@ -7,7 +7,6 @@ pub mod Readied
 pub mod Taking
 pub mod Casting
 pub mod Listing
-pub mod Votes
 pub mod Following
 pub mod PutBack
 pub mod StepHappens
@@ -16,3 +15,4 @@ pub mod SceneWith
 pub mod StopsInside
 pub mod Restarting
 pub mod EventByEvent
+pub mod StepHistory
