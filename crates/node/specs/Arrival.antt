@@ -48,7 +48,7 @@ arrival_of_piece pieces p None =
 abbrev pub refusal_of : State → Header → Option Refusal
 refusal_of s h = header_refusal s h.tree (h.sender ∷ members_in h.carrier) h.path
 
--- The member lets the headers of these pieces through: they name its tree, members, and units of it.
+-- The member lets the headers of these pieces through: they name its tree, members, and its units.
 abbrev pub AreLetThrough : State → List Piece → Type 0
 AreLetThrough s pieces = All (λ p. refusal_of s p.header ≡ None) pieces
 

@@ -49,8 +49,8 @@ abbrev pub HasRoomForNote : {D : Type 0} → Log D → Option (Note Value) → T
 HasRoomForNote log None = ⊥
 HasRoomForNote log (Some note) = ¬ (WouldPassLimit log (note_text note))
 
--- The same as LacksRoom, read off the notes. With one more note the node's log would have more bytes than it
--- may.
+-- The same as LacksRoom, read off the notes. With one more note the node's log would have more
+-- bytes than it may.
 abbrev pub IsFull : NodeState → Option (Note Value) → Type 0
 IsFull n None = ⊥
 IsFull n (Some note) =

@@ -41,8 +41,8 @@ impl Parcels {
         Parcels { texts, receivers }
     }
 
-    /// The members that get the datagrams, in order of number, and the datagrams, each of which goes
-    /// to each of these.
+    /// The members that get the datagrams, in order of number, and the datagrams, each of which
+    /// goes to each of these.
     pub fn parts(&self) -> (&[u8], &[Vec<u8>])
         ensures { self.now ≡ parcels_to result.0.now (texts_in result.1.now) }
     {

@@ -140,7 +140,7 @@ fn behind_the_gate(alloc: Global, note: &[u8]) -> Result<Vec<u8>, Memory>
     Ok(bytes)
 }
 
-/// Writes a note behind the closed gate at a place, and opens the gate, once there is room to do so.
+/// Writes a note behind the closed gate at a place and opens the gate, once there is room for it.
 fn add_note<D: Disk>(alloc: Global, disk: &mut D, gate: u64, note: &[u8]) -> Result<(), DiskFault>
     requires { gate + 6 + length note.now ≤ MAX_LEN }
 
