@@ -3,4 +3,3 @@ pub mod VoteSent
 pub mod Entering
 pub mod AtStart
 pub mod Shown
-pub mod Readied
