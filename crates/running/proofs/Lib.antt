@@ -10,6 +10,8 @@ pub mod NodeStands
 pub mod SceneWith
 pub mod Restarting
 pub mod StopsInside
+pub mod Following
 pub mod Casting
 pub mod Listing
 pub mod StepHappens
+pub mod StepHistory
