@@ -288,6 +288,11 @@ steps_happen w v (events.Stop n) is s = absurd (true≢false (sym is))
 steps_happen w v (events.StopIn e l) is s = absurd (true≢false (sym is))
 steps_happen w v (events.Restart n) is s = absurd (true≢false (sym is))
 
+pub ok_steps_happen : (w v : World) (e : Event) → is_step e ≡ true
+    → (r : Result (Unit {0}) NodeFault) → OnOk r (Steps w e v) → OnOk r (Happens w e v)
+ok_steps_happen w v e is (Ok u) s = steps_happen w v e is s
+ok_steps_happen w v e is (Err f) s = tt
+
 module _ (s : Scene) (e : Event) (standing : IsStanding s) (reached : IsReached (world_of s))
     (may : fault_before (world_of s) e ≡ None) (is_a_step : is_step e ≡ true) where
   abbrev w : World

@@ -5,7 +5,7 @@ ghost use Rattle.headline.specs.Laws.{IsSafe};
 ghost use Rattle.node.specs.OnLog.{IsOnLog, LacksRoom};
 ghost use Rattle.node.specs.Step.{IsReadyFor, note_in, sends_in};
 ghost use Rattle.stable_record.specs.InMemory.{mem_history};
-ghost use Rattle.world.specs.Happening.{Happens, IsRefused, IsRefusedByNode, Steps, fault_before};
+ghost use Rattle.world.specs.Happening.{Happens, IsRefused, IsRefusedByNode, fault_before};
 ghost use Rattle.world.specs.Headline.{HasOneList};
 ghost use Rattle.world.specs.Sent.{with_sends};
 ghost use Rattle.running.specs.History.{taken};
@@ -116,7 +116,7 @@ impl<'a> Scene<'a> {
         requires may { fault_before (world_of self.old) (event_view event.now) ≡ None }
         requires step { is_step (event_view event.now) ≡ true }
         ensures taken { OnOk result
-            (Steps (world_of self.old) (event_view event.now) (world_of self.new)) }
+            (Happens (world_of self.old) (event_view event.now) (world_of self.new)) }
         ensures same { OnErr result (world_of self.new ≡ world_of self.old) }
         ensures refused { IfErr result (λ f. (f ≡ NodeFault.Memory)
             ⊎ IsRefusedByNode (world_of self.old) (event_view event.now) (refused_by f)) }

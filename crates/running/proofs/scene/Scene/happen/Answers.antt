@@ -12,4 +12,4 @@ returns-in-Stop-clause-standing c =
     c.requires.may c.stop.new.nodes c.stop.ensures).standing
 
 pub returns-in_default : goal.returns-in_default
-returns-in_default c = ?
+returns-in_default c = c.take.ensures

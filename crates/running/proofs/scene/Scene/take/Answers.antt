@@ -3,8 +3,9 @@ use Rattle.std.specs.Vec.{with_item}
 use Rattle.events.specs.Events.{event_view}
 use Rattle.running.specs.declared.placed.Placed.TheVariants.{Down, Up}
 use Rattle.running.specs.declared.scene.Scene.{Scene}
+use Rattle.running.specs.inside.Placing.{world_of}
 use Rattle.running.specs.inside.Posting.{sent_in}
-use Rattle.running.proofs.StepHappens.{IsLeft, at_place, can, is_left, never_down, no_restart, on_log}
+use Rattle.running.proofs.StepHappens.{IsLeft, at_place, can, is_left, never_down, no_restart, ok_steps_happen, on_log}
 use Rattle.running.proofs.scene.Scene.take.Goals as goal
 
 pub take-requires-clause-asks : goal.take-requires-clause-asks
@@ -49,7 +50,9 @@ left c =
     c.take.ensures.on_log c.take.ensures.listed
 
 pub returns-in-Up-clause-taken : goal.returns-in-Up-clause-taken
-returns-in-Up-clause-taken c = (left c).taken
+returns-in-Up-clause-taken c =
+    ok_steps_happen (world_of c.args.self.now) (world_of (scene_then c))
+    (event_view c.args.event.now) c.requires.step c.take.result (left c).taken
 
 pub returns-in-Up-clause-same : goal.returns-in-Up-clause-same
 returns-in-Up-clause-same c = (left c).same
