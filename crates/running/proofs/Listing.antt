@@ -411,8 +411,7 @@ module _ (w : World) (made : IsMade w.division w.weights) (acts : List (Act Valu
         let h = noted_then n.note n.is (d.is.noted n.note n.is) n.votes in
         let sound = (in_order w.division w.weights
         (with_act acts (Some (act w.division w.weights acts w made (refl, refl) local m
-        build_is_read e s a))) world_then made (refl, refl) match_then).sound d.unit in
-        (
+        build_is_read e s a))) world_then made (refl, refl) match_then).sound d.unit in (
           b.claim.member,
           match_then.proposals d.unit b.claim b.value d.within
               (sound.noted (record { member = k; ballot = b }) h).proposed,
@@ -426,8 +425,7 @@ module _ (w : World) (made : IsMade w.division w.weights) (acts : List (Act Valu
         ap (λ (z : members.Member Value). z.voted) (m.members k d.unit x s.acts.is_up.stands
         d.within) ∙ last in
         let log = (subst (λ o. IsVoted ((here.at d.unit).logs k) o
-        ((here.at d.unit).members k).promised) voted (sound.voted k)).0 in
-        (
+        ((here.at d.unit).members k).promised) voted (sound.voted k)).0 in (
           b.claim.member,
           sent_more w.sent answer.sends _ (m.proposals d.unit b.claim b.value d.within
               (sound.noted (record { member = k; ballot = b }) log).proposed),

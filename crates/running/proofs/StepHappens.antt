@@ -155,7 +155,7 @@ module _ (s t : Scene) (k : ℕ) (x : Placed) (is : IsWith s t k x) where
       → AreSame s.posted t.posted → world_of t ≡ world_of s
   stays y there looks same =
       let nodes : slice_set (map node_view s.nodes.items) k (node_view x)
-          ≡ map node_view s.nodes.items =
+      ≡ map node_view s.nodes.items =
       ap (slice_set (map node_view s.nodes.items) k) looks
       ∙ put_again (map node_view s.nodes.items) k (node_view y)
       (get_mapped node_view s.nodes.items k y there) in
@@ -200,8 +200,11 @@ module _ (s : Scene) (e : Event) (may : fault_before (world_of s) e ≡ None)
 
   -- there is such a node
   pub within : events.node_of e < length s.nodes.items
-  within = omega (arith, leb-false (length (world_of s).nodes) (events.node_of e) there.second,
-      length-map s.nodes.items node_view)
+  within = omega (
+    arith,
+    leb-false (length (world_of s).nodes) (events.node_of e) there.second,
+    length-map s.nodes.items node_view,
+  )
 
   -- that stands at the place
   pub at_place : (place : ℕ) → place ≡ events.node_of e → (x y : Placed)
