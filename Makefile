@@ -26,5 +26,6 @@ bench: all
 	bench/wire
 	tools/prove member_probe
 	bench/member
+	bench/run
 
 .PHONY: all check install dist bench
