@@ -23,10 +23,11 @@ def long_listing(paths):
     return "".join(lines), "".join(f"ports/p{n}\n" for n in range(paths // 3))
 
 
-def is_want_of_memory(got):
+def is_want_of_memory(words, got):
     """Nothing is printed but fault 1, which a run tells of the event at which it came up, once there is one."""
     out, error, status = got
-    return (out, status) == (b"", 1) and re.fullmatch(rb"dpbr: fault 1( at [1-9][0-9]*)?\n", error)
+    place = rb"( at [1-9][0-9]*)?" if words[0] == "run" else b""
+    return (out, status) == (b"", 1) and re.fullmatch(rb"dpbr: fault 1" + place + rb"\n", error)
 
 
 def refusals(tally, folder, words, name):
@@ -40,7 +41,7 @@ def refusals(tally, folder, words, name):
         if not os.path.exists(mark):
             break
         os.remove(mark)
-        if got != right and not is_want_of_memory(got):
+        if got != right and not is_want_of_memory(words, got):
             tally.add(f"{name}, allocation {number} refused", difference(got, (b"", b"dpbr: fault 1\n", 1)))
             return
     print(f"tests/run: {name}: {number - 1} allocations, each refused once", flush=True)

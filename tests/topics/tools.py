@@ -40,7 +40,7 @@ def pictures(tally):
         return
     picture = xml.dom.minidom.parseString(done.stdout).documentElement
     bars, height = done.stdout.count(b">agreed: "), int(picture.getAttribute("height"))
-    tally.add("draw-trace of a long trace", "" if bars == 84 and height < 6000 else f"{bars} bars on {height} lines")
+    tally.add("draw-trace of a long trace", "" if bars == 84 and height < 6000 else f"{bars} bars in {height} pixels")
 
 
 def run(tally):

@@ -5,7 +5,7 @@
 //
 // A line that begins with `steps` has a listing and a trace in hexadecimal digits behind it. The
 // answer then has an item for each event: a point, and behind it a digit for each datagram that it
-// sent and that is new, the kind of its message, and each path that it brought to the list, with +
+// sent and that is new, the kind of its message, and each path that it brought to the list, with =
 // before it; or ! and the number of its refusal.
 #![tactic(auto)]
 

@@ -95,7 +95,7 @@ fn paths(alloc: Global, world: &World<'_>, agreed: usize) -> Result<String, Allo
     for (place, package) in world.agreed().iter().enumerate() {
         if place >= agreed {
             let path = String::from_utf8_lossy(alloc, package.path().as_bytes())?;
-            text.push_str("+")?;
+            text.push_str("=")?;
             text.push_str(path.as_str())?;
         }
     }

@@ -72,6 +72,7 @@ pub record HasTakenOnLog (n : LoggedNode MemDisk) (r : ReadyStep) (m : LoggedNod
     pub room : ¬ (LacksRoom n.log (note_in r.step))
     pub on_log : IsOnLog mem_history m
 
+-- A node that is up took the step, and is up then.
 abbrev pub TookStep : Placed → ReadyStep → Placed → Type 0
 TookStep (Up n) r (Up m) = HasTakenOnLog n r m
 TookStep (Up n) r (Down d) = ⊥
@@ -86,6 +87,7 @@ pub record StaysOnLog (n : LoggedNode MemDisk) (r : ReadyStep) (m : LoggedNode M
   pub cause : (f ≡ node_fault.Memory)
       ⊎ ((f ≡ node_fault.Log Full) × LacksRoom n.log (note_in r.step))
 
+-- A node that is up took none, and stays.
 abbrev pub TookNone : Placed → ReadyStep → Placed → NodeFault → Type 0
 TookNone (Up n) r (Up m) f = StaysOnLog n r m f
 TookNone (Up n) r (Down d) f = ⊥
