@@ -49,8 +49,8 @@ impl<'a, D: Disk> Node<'a, D> {
         // A file of bytes has one answer, so these notes are all that it opens as.
         ensures one_answer { OnOk result (HasOneAnswer (identity tree.entry.now weights.now me)) }
 
-        // Nor is there a second one for a node: a file that is refused opens as no node, and is
-        // refused in one way.
+        // Nor is there a second one for a node: a file that is no log, or another's, opens as no
+        // node, and is refused in one way.
         ensures one_node { MatchResult result
             (λ _. OpensAsOne tree.entry.now weights.now me)
             (λ e. e.0 ≢ NodeFault.Memory → OpensAsOne tree.entry.now weights.now me) }

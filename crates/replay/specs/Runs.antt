@@ -40,7 +40,8 @@ pub record IsOutcome (w : World) (text : Text) : Type 0 where
   pub are_lines : (k : ℕ) (line : Text) → slice_get lines k ≡ Some line → IsNodeLine w k line
   pub parts : text ≡ flat_map (λ line. line) lines ++ list_text w.agreed
 
--- The text is a trace, its events lead from the start over the tree to a world, and that is told.
+-- The first text is a trace, its events lead from the start over the tree to a world, and the
+-- other text tells that world.
 pub record IsRunOf (tree : Tree) (trace text : Text) : Type 0 where
   pub read : Trace
   pub is_trace : trace_of trace ≡ Ok read

@@ -20,7 +20,7 @@ pub record History : Type 0 where
 abbrev pub taken : History → List Event
 taken h = map event_view h.events
 
--- The events led from the start to the world.
+-- The events led to the world from the start, over units of a tree and weights that are right.
 pub record IsHistory (h : History) : Type 0 where
   pub made : IsMade h.world.division h.world.weights
   pub led : Leads (start h.world.division h.world.weights) (taken h) h.world
@@ -49,8 +49,7 @@ pub record StoppedAt (tree : Tree) (weights : List ℕ) (events : List Event) (p
   pub number : place ≡ length (taken history) + 1
   pub refused : (fault ≡ Memory) ⊎ IsRefused history.world event fault
 
--- A run's fault has the number of the event at which it stopped, or none, where memory was wanting
--- before the first.
+-- A run's fault has the number of the event at which it stopped, or none, where memory was wanting.
 abbrev pub IsRunFault : Tree → List ℕ → List Event → Option ℕ → WorldFault → Type 0
 IsRunFault tree weights events None fault = fault ≡ Memory
 IsRunFault tree weights events (Some place) fault = StoppedAt tree weights events place fault

@@ -107,6 +107,7 @@ impl Posted {
         ensures grown { HasGrown self.old self.new }
         ensures sent { self.new.sent ≡ self.old.sent }
     {
+        // Its path says that it is the build of a unit.
         let _unit = build.unit_path();
         let packages = build.packages();
         if self.has_any(packages) {
@@ -128,7 +129,7 @@ impl Posted {
             .any(|package| self.listed.contains(package.path()))
     }
 
-    /// Appends the package, which the list has not.
+    /// Appends the package, and enters its path.
     fn append_package(&mut self, content: &Record) -> Result<(), Memory>
         ensures ok { OnOk result (list_in self.new ≡ list_in self.old ++ content.now ∷ []) }
         ensures listed { OnOk result (self.new.listed.keys

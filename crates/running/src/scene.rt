@@ -19,7 +19,7 @@ use std::alloc::Global;
 use units::Units;
 use world::WorldFault;
 
-/// The nodes of a world, what they sent, and what is agreed.
+/// What stands of a world: its tree, what members weigh, their nodes, and what was sent and agreed.
 #[derive(Drop)]
 pub(crate) struct Scene<'a> {
     pub(crate) tree: &'a Tree,
@@ -41,6 +41,7 @@ impl<'a> Scene<'a> {
         ensures standing { IfOk result IsStanding }
     {
         let units = Units::new(alloc, tree)?;
+        // These say that the units divide the tree, and what weights may be.
         let _count = units.len();
         let _weights = weights.as_slice();
         Ok(Scene {
