@@ -71,23 +71,23 @@ none_from_is_some (Some x) e = cc
 
 -- ---- a dependency that was read before
 
-entry_at : (es : List Entry) (word : Text) (n : ℕ) (d : Entry) → position (λ (k : Bor Text). bytes_eq word k.now) (keys_of es) ≡ Some n
-    → (n < length es) × (word ≡ (get_or es n d).0.now)
+entry_at : (es : List Entry) (word : Text) (n : ℕ) (d : Entry) → position (bytes_eq word) (keys_of es) ≡ Some n
+    → (n < length es) × (word ≡ (get_or es n d).0)
 entry_at es word n d e =
-    let h = position-Some (λ (k : Bor Text). bytes_eq word k.now) (keys_of es) n d.0 e in
+    let h = position-Some (bytes_eq word) (keys_of es) n d.0 e in
     let within : n < length es = omega (arith, h.0, length-map es (λ (x : Entry). x.0)) in
     let key : get_or (keys_of es) n d.0 ≡ (get_or es n d).0 = get_or-map (λ (x : Entry). x.0) es n d d.0 within in
-    (within, (bytes_eq-Decides word (get_or es n d).0.now).0 (ap (λ (k : Bor Text). bytes_eq word k.now) (sym key) ∙ h.1))
+    (within, (bytes_eq-Decides word (get_or es n d).0).0 (ap (bytes_eq word) (sym key) ∙ h.1))
 
 pub number_there : (line : ℕ) (es : List Entry) (word : Text) (n : ℕ) → All IsReadEntry es
-    → position (λ (k : Bor Text). bytes_eq word k.now) (keys_of es) ≡ Some n
+    → position (bytes_eq word) (keys_of es) ≡ Some n
     → (word_fault names_and_specs line word ≡ None) × IsNumberOf (words_of_entries es) n word
 number_there line [] word n good e = cc
 number_there line (x ∷ xs) word n good e =
     let h = entry_at (x ∷ xs) word n x e in
     let entry = All-get_or IsReadEntry (x ∷ xs) n x h.0 good in (
       no_word_fault line word (get_or (x ∷ xs) n x).1 (subst (λ w. IsRead w (get_or (x ∷ xs) n x).1) (sym h.1) entry),
-      (omega (arith, h.0, length-map (x ∷ xs) (λ (y : Entry). y.0.now)), get_or-map (λ (y : Entry). y.0.now) (x ∷ xs) n x [] h.0 ∙ sym h.1),
+      (omega (arith, h.0, length-map (x ∷ xs) (λ (y : Entry). y.0)), get_or-map (λ (y : Entry). y.0) (x ∷ xs) n x [] h.0 ∙ sym h.1),
     )
 
 -- ---- one more dependency
@@ -108,20 +108,21 @@ place_of_new p xs e =
 
 pub entries_grow : (es new : List Entry) (words : List Text) (e : Entry) → words_of_entries es ≡ words → new ≡ es ++ e ∷ [] → Grows words (words_of_entries new)
 entries_grow es new words e seen is = record {
-  more = e.0.now ∷ [];
-  is = ap words_of_entries is ∙ map_push (λ (x : Entry). x.0.now) es e ∙ ap (λ ws. ws ++ e.0.now ∷ []) seen;
+  more = e.0 ∷ [];
+  is = ap words_of_entries is ∙ map_push (λ (x : Entry). x.0) es e ∙ ap (λ ws. ws ++ e.0 ∷ []) seen;
 }
 
-pub number_of_new : (es new : List Entry) (n : ℕ) (e : Entry) → new ≡ es ++ e ∷ [] → n ≡ length es → IsNumberOf (words_of_entries new) n e.0.now
-number_of_new es new n e is place =
-    let words = ap words_of_entries is ∙ map_push (λ (x : Entry). x.0.now) es e in
+pub number_of_new : (es new : List Entry) (n : ℕ) (word : Text) (e : Entry) → new ≡ es ++ e ∷ [] → n ≡ length es → e.0 ≡ word
+    → IsNumberOf (words_of_entries new) n word
+number_of_new es new n word e is place same =
+    let words = ap words_of_entries is ∙ map_push (λ (x : Entry). x.0) es e in
     let size : length (words_of_entries new) ≡ length es + 1 =
-    ap length words ∙ length_push (words_of_entries es) e.0.now ∙ ap (λ m. m + 1) (length-map es (λ (x : Entry). x.0.now)) in (
+    ap length words ∙ length_push (words_of_entries es) e.0 ∙ ap (λ m. m + 1) (length-map es (λ (x : Entry). x.0)) in (
       omega (arith, size, place),
-      ap (λ ws. get_or ws n []) words ∙ get_or_push (words_of_entries es) e.0.now [] n (length-map es (λ (x : Entry). x.0.now) ∙ sym place),
+      ap (λ ws. get_or ws n []) words ∙ get_or_push (words_of_entries es) e.0 [] n (length-map es (λ (x : Entry). x.0) ∙ sym place) ∙ same,
     )
 
-pub entries_good : (es new : List Entry) (e : Entry) → new ≡ es ++ e ∷ [] → All IsReadEntry es → IsRead e.0.now e.1 → All IsReadEntry new
+pub entries_good : (es new : List Entry) (e : Entry) → new ≡ es ++ e ∷ [] → All IsReadEntry es → IsRead e.0 e.1 → All IsReadEntry new
 entries_good es new e is good read = subst (All IsReadEntry) (sym is) (All-push IsReadEntry es e good read)
 
 -- ---- the numbers of a value's dependencies
@@ -242,7 +243,7 @@ pub resolutions_are : (listed : List Text) (rows : List Row) (es : List Entry) �
     → map (λ (e : Entry). resolution_of listed rows e.1) es ≡ map (resolution_of_word listed rows) (words_of_entries es)
 resolutions_are listed rows [] good = refl
 resolutions_are listed rows (e ∷ es) good =
-    let head = resolution_is listed rows e.0.now e.1 (All-head IsReadEntry e es good) in
+    let head = resolution_is listed rows e.0 e.1 (All-head IsReadEntry e es good) in
     let tail = resolutions_are listed rows es (All-tail IsReadEntry e es good) in
     λ i. head i ∷ tail i
 

@@ -18,6 +18,7 @@ ghost use Rattle.listing.specs.Tree.{most_paths};
 use crate::ListingFault;
 use crate::line::first_word;
 use crate::table::Row;
+use crate::word::Word;
 use indexmap::{IndexMap, IndexSet};
 use pkgname::{PkgName, first_piece};
 use pkgpath::{PathFault, PkgPath};
@@ -27,6 +28,9 @@ use std::marker::Model;
 
 /// The most dependencies in one value.
 const MOST_DEPENDENCIES: usize = 512;
+
+/// How many bytes of a value a word mostly has at least: room is made for a value's words at once.
+const ROOM_FOR_WORD: usize = 16;
 
 /// Whether the text has a slash.
 fn has_slash(text: &[u8]) -> bool
@@ -217,7 +221,7 @@ impl Dependency {
 /// The different dependencies that were read, in the order in which they first came.
 #[derive(Drop)]
 pub struct Dependencies<'a> {
-    read: IndexMap<&'a [u8], Dependency>,
+    read: IndexMap<Word<'a>, Dependency>,
 }
 
 impl<'a> Model for Dependencies<'a> {
@@ -255,7 +259,8 @@ impl<'a> Dependencies<'a> {
             ⊎ (dependencies_fault names_and_specs line value.now ≡ Some e)) }
         ensures grows { Grows self.old self.new }
     {
-        let mut numbers = Vec::new(alloc);
+        let room = (value.len() / ROOM_FOR_WORD + 1).min(MOST_DEPENDENCIES);
+        let mut numbers = Vec::with_capacity(alloc, room)?;
         let mut left = value;
         'words: while let Some((word, behind)) = first_word(left) {
             if numbers.len() >= MOST_DEPENDENCIES {
@@ -275,11 +280,12 @@ impl<'a> Dependencies<'a> {
             (λ e. (e ≡ ListingFault.Memory) ⊎ (word_fault names_and_specs line word.now ≡ Some e)) }
         ensures grows { Grows self.old self.new }
     {
-        match self.read.get_index_of(word) {
+        let key = Word::new(word);
+        match self.read.get_index_of(&key) {
             Some(number) => Ok(number),
             None => {
                 let dependency = Dependency::read(alloc, line, word)?;
-                let (number, _) = self.read.insert_full(word, dependency)?;
+                let (number, _) = self.read.insert_full(key, dependency)?;
                 Ok(number)
             }
         }

@@ -16,6 +16,7 @@ mod line;
 mod node;
 mod table;
 mod tree;
+mod word;
 
 pub use crate::laws::lone_packages_have_no_groups;
 pub use crate::tree::Tree;

@@ -124,7 +124,7 @@ fn positions_of(
         ++ listed_positions resolutions.now second.now))
         (λ e. e ≡ ListingFault.Memory) }
 {
-    let mut found = Vec::new(alloc);
+    let mut found = Vec::with_capacity(alloc, first.len() + second.len())?;
     add_positions(&mut found, first, resolutions)?;
     add_positions(&mut found, second, resolutions)?;
     found.sort_unstable();

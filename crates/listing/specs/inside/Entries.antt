@@ -5,15 +5,14 @@ use Rattle.pkgpath.specs.PkgPath.{path_of}
 use Rattle.pkgspec.specs.Spec.{spec_of}
 use Rattle.listing.specs.Dependencies.{dependency_path_text, is_shaped, specs_of}
 use Rattle.listing.specs.declared.dependency.Dependency.{Dependency}
-use denote.Ref.{Bor}
 
 -- a dependency as it stands in the listing, and as it was read
 abbrev pub Entry : Type 0
-Entry = Bor Text × Dependency
+Entry = Text × Dependency
 
 -- the dependencies as they stand in the listing
 abbrev pub words_of_entries : List Entry → List Text
-words_of_entries entries = map (λ e. e.0.now) entries
+words_of_entries entries = map (λ e. e.0) entries
 
 -- the word has the shape of a dependency, its specs are these, and it spells this path
 pub record IsRead (word : Text) (d : Dependency) : Type 0 where
@@ -23,4 +22,4 @@ pub record IsRead (word : Text) (d : Dependency) : Type 0 where
 
 -- the entry's word was read as its dependency
 abbrev pub IsReadEntry : Entry → Type 0
-IsReadEntry e = IsRead e.0.now e.1
+IsReadEntry e = IsRead e.0 e.1

@@ -14,7 +14,7 @@ returns c =
     let unsorted = c.add_positions-2.new.found.items in
     let sorted = c.sort_unstable.new.self.items in
     let once = dedup_is _ sorted c.dedup.new.self.items c.dedup.ensures.filtered in
-    let front = c.in_ok-add_positions.ensures ∙ ap (λ xs. xs ++ listed_positions c.args.resolutions.now c.args.first.now) c.new-found.ensures.items in
+    let front = c.in_ok-add_positions.ensures ∙ ap (λ xs. xs ++ listed_positions c.args.resolutions.now c.args.first.now) c.in_ok-found.ensures.items in
     let whole = c.in_ok-add_positions-2.ensures ∙ ap (λ xs. xs ++ listed_positions c.args.resolutions.now c.args.second.now) front in
     record {
       rising = subst IsStrictlyIncreasing (sym once) (IsStrictlyIncreasing-dedup sorted c.sort_unstable.ensures.sorted);

@@ -37,7 +37,7 @@ returns-in_err-number-clause-answer c =
     let k = length numbers in
     let next = next_left (words_of c.args.value.now) k c.in-Some.word.now (words_of c.in-Some.behind.now) (c.words.invariant.left ∙ c.in-Some.ensures.words) in
     let few : k < most_dependencies = omega (arith, c.len.ensures, c.words.numbers.ok.0, c.if-len-ge-MOST_DEPENDENCIES.false) in
-    let p = err_from_is_err_and c.from_residual.result c.from_residual.ensures.1 in
+    let p = err_from_is_err_and c.from_residual-in_err-number.result c.from_residual-in_err-number.ensures.1 in
     rw (p.1, p.2) (elim c.in_err-number.ensures.answer [
       | inl m ↦ inl m
       | inr bad ↦ inr (faulty_word c.args.line c.args.value.now c.args.self.now c.words.self numbers k

@@ -1,4 +1,4 @@
-use Rattle.std.proofs.Common.{◌≡◌, ap, map, length, refl, sym, subst, ◌∙◌, arith, inl, inr}
+use Rattle.std.proofs.Common.{ap, map, length, refl, sym, subst, ◌∙◌, arith, inl, inr}
 use Rattle.std.proofs.lemmas.Result.{err_from_is_err_and}
 use Rattle.listing.specs.inside.Nodes.{resolutions_in}
 use Rattle.listing.specs.Rules.{group_by}
