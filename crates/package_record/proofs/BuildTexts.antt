@@ -6,7 +6,7 @@ use Rattle.faults.specs.Bytes.{Text}
 use Rattle.package_record.specs.Build.{build_text, records_text, several_lines}
 use Rattle.package_record.specs.BuildReading.{is_several}
 use Rattle.package_record.specs.Content.{Content, ended, record_text}
-use Rattle.package_record.specs.inside.BuildLines.{lines_before}
+use Rattle.package_record.specs.Parts.{lines_before}
 use Rattle.package_record.proofs.ReadFields.{where_false}
 
 -- lines stand before two or more

@@ -7,7 +7,7 @@ ghost use Rattle.package_record.specs.Build.{build_text};
 ghost use Rattle.package_record.specs.Content.{AreFileNames, IsRecord, names_of, record_text};
 ghost use Rattle.package_record.specs.Making.{names_fault, too_large};
 ghost use Rattle.package_record.specs.Packages.{content_from, contents_of};
-ghost use Rattle.package_record.specs.inside.BuildLines.{lines_before};
+ghost use Rattle.package_record.specs.Parts.{lines_before};
 
 use crate::build::Package;
 use crate::build_writing::put_lines;

@@ -9,7 +9,7 @@ use Rattle.package_record.specs.Build.{build_text, records_text}
 use Rattle.package_record.specs.Content.{Content, IsRecord, most_bytes, record_text}
 use Rattle.package_record.specs.Making.{too_large}
 use Rattle.package_record.specs.Packages.{content_from, contents_of}
-use Rattle.package_record.specs.inside.BuildLines.{lines_before}
+use Rattle.package_record.specs.Parts.{lines_before}
 use Rattle.package_record.specs.declared.RecordFault.{RecordFault}
 use Rattle.package_record.specs.declared.RecordFault.TheVariants.{Memory}
 use Rattle.package_record.proofs.BuildTexts.{text_length, text_push}
