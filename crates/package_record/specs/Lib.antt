@@ -4,7 +4,6 @@ pub mod Content
 pub mod Laws
 pub mod Making
 pub mod Packages
-pub mod Parts
 pub mod Reading
 pub mod Refusals
 pub mod Views

@@ -3,11 +3,10 @@ ghost use Rattle.std.specs.Prelude.{◌≡◌, ◌≤◌, ◌<◌, ◌++◌, All
 ghost use Rattle.faults.specs.Answers.{IsRightUnless, map_ok, unless_fault};
 ghost use Rattle.claims.specs.Claim.{IsClaim};
 ghost use Rattle.claims.specs.Deps.{AreInOrder, is_ascending};
-ghost use Rattle.package_record.specs.Build.{IsBuild, build_text, most_packages, paths_of, unit_path};
+ghost use Rattle.package_record.specs.Build.{IsBuild, build_text, lines_before, most_packages, paths_of, unit_path};
 ghost use Rattle.package_record.specs.BuildReading.{first_build_of, whole_build_of};
 ghost use Rattle.package_record.specs.Making.{build_fault};
 ghost use Rattle.package_record.specs.Packages.{AreOfOneGroup, contents_of};
-ghost use Rattle.package_record.specs.Parts.{lines_before};
 
 use crate::gathering::{gather, test_all_names};
 use crate::{Files, Record, RecordFault, build_writing, several};

@@ -4,9 +4,8 @@ ghost use Rattle.sha2.specs.Sha256.{sha256};
 ghost use Rattle.faults.specs.Answers.{IsRightUnless, map_ok, unless_fault};
 ghost use Rattle.claims.specs.Claim.{IsClaim};
 ghost use Rattle.claims.specs.Deps.{AreInOrder, is_ascending};
-ghost use Rattle.package_record.specs.Content.{AreFileNames, Content, IsRecord, names_of, record_text};
+ghost use Rattle.package_record.specs.Content.{AreFileNames, Content, IsRecord, header_text, names_of, record_text};
 ghost use Rattle.package_record.specs.Making.{make_fault, too_large};
-ghost use Rattle.package_record.specs.Parts.{header_text};
 ghost use Rattle.package_record.specs.Views.{content_of, file_view};
 ghost use Rattle.package_record.specs.Reading.{first_of, whole_of};
 

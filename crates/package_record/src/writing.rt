@@ -4,8 +4,7 @@ ghost use Rattle.hex.specs.Hex.{IsBytes, encode_lower};
 ghost use Rattle.sha2.specs.Sha256.{sha256};
 ghost use Rattle.pkgname.specs.PkgName.{IsName};
 ghost use Rattle.pkgpath.specs.PkgPath.{IsPath};
-ghost use Rattle.package_record.specs.Content.{HasNames, IsDep, built_line, claim_line, ended, file_lines, front_lines, name_lines, record_text, run_line};
-ghost use Rattle.package_record.specs.Parts.{header_text};
+ghost use Rattle.package_record.specs.Content.{HasNames, IsDep, built_line, claim_line, ended, file_lines, front_lines, header_text, name_lines, record_text, run_line};
 ghost use Rattle.package_record.specs.Views.{content_of, file_view};
 
 use crate::File;

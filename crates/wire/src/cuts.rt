@@ -1,8 +1,7 @@
 //! A text that is cut into pieces while it comes: no byte of it stands anywhere but in its piece.
-ghost use Rattle.std.specs.Prelude.{◌≡◌, ◌++◌, ◌<◌, ◌≤◌, [], IfOk, OnOk, length};
+ghost use Rattle.std.specs.Prelude.{◌≡◌, ◌++◌, ◌∷◌, ◌<◌, ◌≤◌, [], IfOk, OnOk, flat_map, length};
 ghost use Rattle.package_record.specs.Build.{build_text};
-ghost use Rattle.package_record.specs.Content.{most_bytes, record_text};
-ghost use Rattle.package_record.specs.Parts.{header_text};
+ghost use Rattle.package_record.specs.Content.{header_text, most_bytes, record_text};
 
 use crate::datagram::{Bytes, PIECE_SIZE};
 use faults::Memory;
@@ -20,7 +19,7 @@ pub struct Cuts {
 }
 
 impl Cuts {
-    ghost use Rattle.wire.specs.inside.Cuts.{IsCut, cuts_of, text_in};
+    ghost use Rattle.wire.specs.inside.Cuts.{AreCuts, IsCut, text_in};
 
     /// Those of an empty text.
     fn new(alloc: Global) -> Result<Cuts, Memory>
@@ -49,7 +48,7 @@ impl Cuts {
     /// Appends as many bytes as the last piece has room for, and answers the others.
     fn fill<'a>(&mut self, alloc: Global, text: &'a [u8]) -> Result<&'a [u8], Memory>
         requires cut { IsCut self.old }
-        requires some { 1 ≤ length text.entry.now }
+        requires some { 1 ≤ length text.now }
         ensures cut { OnOk result (IsCut self.new) }
         ensures text { IfOk result (λ rest.
             text_in self.new ++ rest.now ≡ text_in self.old ++ text.entry.now) }
@@ -78,23 +77,23 @@ impl Cuts {
     }
 
     /// Appends the record's header.
-    fn put_header(&mut self, alloc: Global, record: &Record) -> Result<(), Memory>
+    fn put_header(&mut self, alloc: Global, source: &Record) -> Result<(), Memory>
         requires { IsCut self.old }
         ensures cut { OnOk result (IsCut self.new) }
-        ensures text { OnOk result (text_in self.new ≡ text_in self.old ++ header_text record.now) }
+        ensures text { OnOk result (text_in self.new ≡ text_in self.old ++ header_text source.now) }
     {
-        let header = record.header()?;
+        let header = source.header()?;
         self.put(alloc, header.as_slice())
     }
 
     /// Appends the record's text.
-    fn put_record(&mut self, alloc: Global, record: &Record) -> Result<(), Memory>
+    fn put_record(&mut self, alloc: Global, source: &Record) -> Result<(), Memory>
         requires { IsCut self.old }
         ensures cut { OnOk result (IsCut self.new) }
-        ensures text { OnOk result (text_in self.new ≡ text_in self.old ++ record_text record.now) }
+        ensures text { OnOk result (text_in self.new ≡ text_in self.old ++ record_text source.now) }
     {
-        self.put_header(alloc, record)?;
-        for file in record.files() {
+        self.put_header(alloc, source)?;
+        for file in source.files() {
             self.put(alloc, file.bytes.as_slice())?;
         }
         Ok(())
@@ -127,7 +126,9 @@ impl Cuts {
     pub fn into_bytes(self, alloc: Global) -> Result<Vec<Bytes>, Memory>
         requires cut { IsCut self }
         requires few { length (text_in self) ≤ most_bytes }
-        ensures { IfOk result (λ pieces. pieces.items ≡ cuts_of (text_in self)) }
+        ensures cuts { IfOk result (λ pieces. AreCuts pieces.items) }
+        ensures text { IfOk result (λ pieces.
+            flat_map (λ bytes. bytes) pieces.items ≡ text_in self) }
     {
         let Cuts { mut full, last } = self;
         if !last.is_empty() {

@@ -15,3 +15,7 @@ IsCut c = All (λ bytes. length bytes ≡ piece_size) c.full.items × (length c.
 -- the bytes of the pieces of a text, in order of number
 abbrev pub cuts_of : Text → List Text
 cuts_of text = map (λ k. take piece_size (drop (piece_size * k) text)) (numbers_of (length text))
+
+-- these are the bytes of the pieces of the text that they make
+abbrev pub AreCuts : List Text → Type 0
+AreCuts pieces = pieces ≡ cuts_of (flat_map (λ bytes. bytes) pieces)
