@@ -144,8 +144,8 @@ cut_here pieces p k cuts below here =
     let numbers = numbers_again pieces cuts in
     let text = joined pieces in (
       here ∙ ap (λ (ps : List Text). get_or ps k p) cuts
-      ∙ ap (λ (ks : List ℕ). get_or (map (cut_at text) ks) k p) numbers.0
-      ∙ get_or-map-range_with_len (cut_at text) 0 (length pieces) k k p below (omega arith),
+          ∙ ap (λ (ks : List ℕ). get_or (map (cut_at text) ks) k p) numbers.0
+          ∙ get_or-map-range_with_len (cut_at text) 0 (length pieces) k k p below (omega arith),
       omega (arith, numbers.1, below),
     )
 

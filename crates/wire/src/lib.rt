@@ -92,7 +92,8 @@ fn alone(alloc: Global, datagram: Datagram) -> Result<Vec<Datagram>, Memory>
 }
 
 /// The datagrams in which the message goes out: one, or its pieces in order of number if it carries
-/// a build. The message is taken apart, and its build is let go before the first piece is made.
+/// a build. The message is taken apart: the bytes of its build are written into the pieces and
+/// nowhere else, beside the build itself and the header of one of its records.
 pub fn split(alloc: Global, message: Message) -> Result<Vec<Datagram>, Memory>
     requires { IsMessage message }
     ensures { IfOk result (λ datagrams. datagrams.items ≡ split_of message) }

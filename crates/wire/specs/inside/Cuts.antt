@@ -1,5 +1,5 @@
 -- A text that is cut into pieces while it comes.
-use Rattle.std.specs.Prelude.{◌≡◌, ◌<◌, ◌*◌, ◌++◌, ℕ, All, List, drop, flat_map, length, map, take}
+use Rattle.std.specs.Prelude.{◌≡◌, ◌<◌, ◌*◌, ◌++◌, All, List, drop, flat_map, length, map, take}
 use Rattle.faults.specs.Bytes.{Text}
 use Rattle.wire.specs.Pieces.{numbers_of, piece_size}
 use Rattle.wire.specs.declared.cuts.Cuts.{Cuts}

@@ -1,4 +1,4 @@
-use Rattle.std.proofs.Common.{◌++◌, ◌∷◌, [], List, ap, sym, map, arith, length, ℕ, ◌∙◌, rules, map-id}
+use Rattle.std.proofs.Common.{◌++◌, ◌∷◌, [], List, ap, sym, arith, length, ℕ, ◌∙◌, rules, map-id}
 use Rattle.std.proofs.lemmas.Iterator.Adapters.{YieldsList-from_vec}
 use Rattle.std.proofs.lemmas.Iterator.Consumers.{YieldsList-end, YieldsList-turn}
 use Rattle.std.proofs.lemmas.List.{length-append}

@@ -1,4 +1,4 @@
-use Rattle.std.proofs.Common.{◌≡◌, ◌+◌, ◌*◌, length, arith, ◌∙◌}
+use Rattle.std.proofs.Common.{arith}
 use Rattle.std.proofs.lemmas.List.{length-append}
 use Rattle.wire.proofs.CutTexts.{full_length, joined}
 use Rattle.wire.proofs.cuts.Cuts.len.Goals as goal
