@@ -3,10 +3,9 @@ use Rattle.std.proofs.Common.{◌≡◌, ℕ, zero, suc, ◌+◌, ◌<◌, ◌�
 use Rattle.std.proofs.lemmas.Bool.{le-ltb}
 use Rattle.std.proofs.lemmas.List.{append-nil, length-append, take_more}
 use Rattle.faults.specs.Bytes.{Text}
-use Rattle.package_record.specs.Build.{build_text, records_text, several_lines}
+use Rattle.package_record.specs.Build.{build_text, lines_before, records_text, several_lines}
 use Rattle.package_record.specs.BuildReading.{is_several}
 use Rattle.package_record.specs.Content.{Content, ended, record_text}
-use Rattle.package_record.specs.inside.BuildLines.{lines_before}
 use Rattle.package_record.proofs.ReadFields.{where_false}
 
 -- lines stand before two or more

@@ -1,4 +1,3 @@
-pub mod BuildLines
 pub mod Cursor
 pub mod Given
 pub mod Heads

@@ -3,7 +3,7 @@ ghost use Rattle.std.specs.Prelude.{◌≡◌, ◌≤◌, ◌<◌, ◌++◌, All
 ghost use Rattle.faults.specs.Answers.{IsRightUnless, map_ok, unless_fault};
 ghost use Rattle.claims.specs.Claim.{IsClaim};
 ghost use Rattle.claims.specs.Deps.{AreInOrder, is_ascending};
-ghost use Rattle.package_record.specs.Build.{IsBuild, build_text, most_packages, unit_path};
+ghost use Rattle.package_record.specs.Build.{IsBuild, build_text, lines_before, most_packages, paths_of, unit_path};
 ghost use Rattle.package_record.specs.BuildReading.{first_build_of, whole_build_of};
 ghost use Rattle.package_record.specs.Making.{build_fault};
 ghost use Rattle.package_record.specs.Packages.{AreOfOneGroup, contents_of};
@@ -133,6 +133,15 @@ impl Build {
         Ok(())
     }
 
+    /// The lines that stand before the records' texts in the text of two or more; none of one.
+    pub fn lines(&self) -> Result<Vec<u8>, Memory>
+        ensures { IfOk result (λ lines. lines.items ≡ lines_before (length self.now)) }
+    {
+        let mut lines = Vec::new(*self.records.allocator());
+        build_writing::put_lines(&mut lines, self.records.len())?;
+        Ok(lines)
+    }
+
     /// The name of the unit that was built: its only package's path, or the path without subpackage
     /// that its packages share.
     pub fn unit_path(&self) -> &PkgPath
@@ -144,7 +153,8 @@ impl Build {
 
     /// The records, ascending by path.
     pub fn packages(&self) -> &[Record]
-        ensures { result.now ≡ self.now }
+        ensures records { result.now ≡ self.now }
+        ensures ascending { is_ascending (paths_of result.now) ≡ true }
     {
         self.records.as_slice()
     }

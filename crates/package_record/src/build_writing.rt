@@ -1,7 +1,6 @@
 //! The text of a build.
 ghost use Rattle.std.specs.Prelude.{◌≡◌, ◌++◌, IfOk, OnOk};
-ghost use Rattle.package_record.specs.Build.{build_text};
-ghost use Rattle.package_record.specs.inside.BuildLines.{lines_before};
+ghost use Rattle.package_record.specs.Build.{build_text, lines_before};
 
 use crate::Record;
 use crate::writing::put_field;

@@ -3,11 +3,10 @@ ghost use Rattle.std.specs.Prelude.{◌≡◌, ◌+◌, All, IfOk, OnOk, length,
 ghost use Rattle.faults.specs.Answers.{IsRightUnless, first_given, map_ok, unless_fault};
 ghost use Rattle.claims.specs.Claim.{IsClaim};
 ghost use Rattle.claims.specs.Deps.{AreInOrder, is_ascending};
-ghost use Rattle.package_record.specs.Build.{build_text};
+ghost use Rattle.package_record.specs.Build.{build_text, lines_before};
 ghost use Rattle.package_record.specs.Content.{AreFileNames, IsRecord, names_of, record_text};
 ghost use Rattle.package_record.specs.Making.{names_fault, too_large};
 ghost use Rattle.package_record.specs.Packages.{content_from, contents_of};
-ghost use Rattle.package_record.specs.inside.BuildLines.{lines_before};
 
 use crate::build::Package;
 use crate::build_writing::put_lines;

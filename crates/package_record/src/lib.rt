@@ -39,6 +39,9 @@ pub use crate::laws::{
 };
 pub use crate::package::{Record, make};
 
+/// Hosts are numbered from 0 up to this.
+pub const GREATEST_HOST: u16 = 65_535;
+
 /// The most bytes that the text of a record, and of a whole build, may have.
 pub const LIMIT: usize = 4_194_304;
 

@@ -4,9 +4,9 @@ ghost use Rattle.sha2.specs.Sha256.{sha256};
 ghost use Rattle.faults.specs.Answers.{IsRightUnless, map_ok, unless_fault};
 ghost use Rattle.claims.specs.Claim.{IsClaim};
 ghost use Rattle.claims.specs.Deps.{AreInOrder, is_ascending};
-ghost use Rattle.package_record.specs.Content.{AreFileNames, Content, IsRecord, names_of, record_text};
-ghost use Rattle.package_record.specs.Views.{content_of, file_view};
+ghost use Rattle.package_record.specs.Content.{AreFileNames, Content, IsRecord, header_text, names_of, record_text};
 ghost use Rattle.package_record.specs.Making.{make_fault, too_large};
+ghost use Rattle.package_record.specs.Views.{content_of, file_view};
 ghost use Rattle.package_record.specs.Reading.{first_of, whole_of};
 
 use crate::fields::Fields;
@@ -145,6 +145,13 @@ impl Record {
         let text = writing::text(self.allocator(), &self.fields)?;
         out.extend_from_slice(text.as_slice())?;
         Ok(())
+    }
+
+    /// The header with the empty line at its end. In the text the files' bytes follow it.
+    pub fn header(&self) -> Result<Vec<u8>, Memory>
+        ensures { IfOk result (λ text. text.items ≡ header_text self.now) }
+    {
+        writing::header(self.allocator(), &self.fields)
     }
 
     /// The SHA-256 (FIPS 180-4) of the text.

@@ -16,11 +16,11 @@ ghost use Rattle.package_record.specs.Reading.{
   version_at,
 };
 
-use crate::RecordFault;
 use crate::cursor::{Cursor, split};
 use crate::fault::ReadError;
 use crate::number::number_within;
 use crate::writing::digest_text;
+use crate::{GREATEST_HOST, RecordFault};
 use claims::{Claim, Dep, GREATEST_ROUND, MEMBERS};
 use pkgname::{NameFault, PkgName};
 use pkgpath::{PathFault, PkgPath};
@@ -131,7 +131,7 @@ pub fn host_line(place: Cursor<'_>) -> Result<(u16, Cursor<'_>), ReadError>
     ensures { Gives (λ x. (x.0, cursor_view x.1)) result (host_at (cursor_view place.entry)) }
 {
     let (text, after) = place.field(b"@host ")?;
-    let host = number_within(0, 65_535, after.passed, text)?;
+    let host = number_within(0, u64::from(GREATEST_HOST), after.passed, text)?;
     Ok((host as u16, after))
 }
 

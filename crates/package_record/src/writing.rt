@@ -2,10 +2,9 @@
 ghost use Rattle.std.specs.Prelude.{◌≡◌, ◌++◌, [], ◌∷◌, All, OnOk, IfOk, codes, decimal, flat_map, length, map};
 ghost use Rattle.hex.specs.Hex.{IsBytes, encode_lower};
 ghost use Rattle.sha2.specs.Sha256.{sha256};
-ghost use Rattle.faults.specs.Bytes.{line_feed};
 ghost use Rattle.pkgname.specs.PkgName.{IsName};
 ghost use Rattle.pkgpath.specs.PkgPath.{IsPath};
-ghost use Rattle.package_record.specs.Content.{HasNames, IsDep, built_line, claim_line, ended, file_lines, front_lines, header_lines, name_lines, record_text, run_line};
+ghost use Rattle.package_record.specs.Content.{HasNames, IsDep, built_line, claim_line, ended, file_lines, front_lines, header_text, name_lines, record_text, run_line};
 ghost use Rattle.package_record.specs.Views.{content_of, file_view};
 
 use crate::File;
@@ -171,7 +170,7 @@ fn put_files(out: &mut Vec<u8>, files: &[File]) -> Result<(), Memory>
 /// The header with the empty line at its end.
 pub fn header(alloc: Global, fields: &Fields) -> Result<Vec<u8>, Memory>
     ensures text { IfOk result (λ text.
-        text.items ≡ ended (header_lines (content_of fields.now)) ++ line_feed ∷ []) }
+        text.items ≡ header_text (content_of fields.now)) }
     ensures names { OnOk result (HasNames (content_of fields.now)) }
 {
     let mut text = Vec::new(alloc);

@@ -9,6 +9,7 @@ pub mod WholeTexts
 pub mod PieceTexts
 pub mod DatagramTexts
 pub mod PieceNumbers
+pub mod CutTexts
 pub mod Cutting
 pub mod Refused
 mod Rows

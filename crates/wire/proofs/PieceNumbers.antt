@@ -90,6 +90,7 @@ first_numbers (suc n) size =
 -- The numbers of all pieces of a text of so many bytes, and how many they are. All of it is in them, if it isn't too long.
 pub record AreAll (size count : ℕ) : Type 0 where
   pub same : numbers_of size ≡ range_with_len 0 count
+  pub most : count ≤ most_pieces
   pub within : (k : ℕ) → k < count → piece_size * k < size
   pub enough : size ≤ most_bytes → size ≤ piece_size * count
 
@@ -102,6 +103,7 @@ all_numbers size =
       count,
       record {
         same = sym (numbers_all size) ∙ are.same;
+        most = most;
         within = are.within;
         enough = λ (few : size ≤ 4194304). elim (cases_lt count 128) [
           | inl fewer ↦ are.all fewer

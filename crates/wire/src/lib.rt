@@ -3,7 +3,6 @@
 
 ghost use Rattle.std.specs.Prelude.{◌≡◌, ◌++◌, [], ◌∷◌, None, IfOk, OnErr, OnOk};
 ghost use Rattle.faults.specs.Answers.{IsRightUnless};
-ghost use Rattle.package_record.specs.Build.{build_text};
 ghost use Rattle.wire.specs.Joining.{bytes_of};
 ghost use Rattle.wire.specs.Messages.{IsMessage, IsNote};
 ghost use Rattle.wire.specs.Pieces.{IsDatagram, split_of};
@@ -12,12 +11,13 @@ ghost use Rattle.wire.specs.Refusals.{number_of};
 ghost use Rattle.wire.specs.declared.WireFault.TheVariants.{Memory as out_of_memory};
 ghost use Rattle.wire.specs.Spelling.{datagram_text, note_text};
 
+use crate::cuts::Cuts;
 use ballots::{Message, Note};
 use faults::{Fault, Memory, WantOfMemory};
-use package_record::Build;
 use std::alloc::Global;
 use thiserror::Error;
 
+mod cuts;
 mod datagram;
 mod datagrams;
 mod fault;
@@ -91,17 +91,9 @@ fn alone(alloc: Global, datagram: Datagram) -> Result<Vec<Datagram>, Memory>
     Ok(datagrams)
 }
 
-/// The text of a build, which is let go.
-fn text_of(alloc: Global, build: Build) -> Result<Vec<u8>, Memory>
-    ensures { IfOk result (λ text. text.items ≡ build_text build) }
-{
-    let mut text = Vec::new(alloc);
-    build.write_to(&mut text)?;
-    Ok(text)
-}
-
 /// The datagrams in which the message goes out: one, or its pieces in order of number if it carries
-/// a build. The message is taken apart, and its build is let go before the first piece is made.
+/// a build. The message is taken apart: the bytes of its build are written into the pieces and
+/// nowhere else, beside the build itself and the header of one of its records.
 pub fn split(alloc: Global, message: Message) -> Result<Vec<Datagram>, Memory>
     requires { IsMessage message }
     ensures { IfOk result (λ datagrams. datagrams.items ≡ split_of message) }
@@ -124,15 +116,15 @@ pub fn split(alloc: Global, message: Message) -> Result<Vec<Datagram>, Memory>
             return alone(alloc, Datagram::Whole(message));
         }
     };
-    let text = text_of(alloc, build)?;
+    let cuts = Cuts::of(alloc, build)?;
     let header = Header {
         sender,
         tree,
         path,
         carrier,
-        length: text.len() as u32,
+        length: cuts.len() as u32,
     };
-    pieces::cut(alloc, &header, text.as_slice())
+    pieces::numbered(alloc, &header, cuts.into_bytes(alloc)?)
 }
 
 /// The message that these pieces make: those with the header, in order of number, in whichever

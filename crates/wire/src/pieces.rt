@@ -1,9 +1,8 @@
 //! A message in the datagrams in which it goes out, and pieces as the message that they make.
-ghost use Rattle.std.specs.Prelude.{◌≡◌, ◌++◌, ◌≤◌, IfOk, OnOk, length};
-ghost use Rattle.package_record.specs.Build.{build_text};
-ghost use Rattle.package_record.specs.Content.{most_bytes};
-ghost use Rattle.wire.specs.inside.Parts.{TakenApart};
+ghost use Rattle.std.specs.Prelude.{◌≡◌, ◌++◌, IfOk, OnOk, flat_map};
+ghost use Rattle.wire.specs.inside.Cuts.{AreCuts};
 ghost use Rattle.wire.specs.inside.Given.{Gives};
+ghost use Rattle.wire.specs.inside.Parts.{TakenApart};
 ghost use Rattle.wire.specs.Joining.{bytes_numbered, bytes_of};
 ghost use Rattle.wire.specs.Pieces.{body_with, pieces_of};
 ghost use Rattle.wire.specs.Reading.{joined};
@@ -65,12 +64,11 @@ pub fn message(alloc: Global, header: Header, text: &[u8]) -> Result<Message, Re
 }
 
 /// The piece of this number, with these bytes.
-fn piece(alloc: Global, header: &Header, number: u16, bytes: &[u8]) -> Result<Datagram, Memory>
+fn piece(header: &Header, number: u16, bytes: Bytes) -> Result<Datagram, Memory>
     ensures { IfOk result (λ d. d
-        ≡ Datagram.Piece (record { header = header.now; number = number; bytes = bytes.now })) }
+        ≡ Datagram.Piece (record { header = header.now; number = number; bytes = bytes })) }
 {
     let header = header.copy()?;
-    let bytes = Bytes::new(Vec::from_slice(alloc, bytes)?);
     Ok(Datagram::Piece(Piece {
         header,
         number,
@@ -78,19 +76,17 @@ fn piece(alloc: Global, header: &Header, number: u16, bytes: &[u8]) -> Result<Da
     }))
 }
 
-/// The pieces of a build's text, in order of number.
-pub fn cut(alloc: Global, header: &Header, text: &[u8]) -> Result<Vec<Datagram>, Memory>
-    requires { length text.now ≤ most_bytes }
-    ensures { IfOk result (λ pieces. pieces.items ≡ pieces_of header.now text.now) }
+/// The header's pieces with these bytes, in order of number.
+pub fn numbered(alloc: Global, header: &Header, cuts: Vec<Bytes>) -> Result<Vec<Datagram>, Memory>
+    requires { AreCuts cuts.items }
+    ensures { IfOk result (λ pieces. pieces.items
+        ≡ pieces_of header.now (flat_map (λ bytes. bytes) cuts.items)) }
 {
-    let mut pieces = Vec::new(alloc);
+    let mut pieces = Vec::with_capacity(alloc, cuts.len())?;
     let mut number: u16 = 0;
-    let mut rest = text;
-    while !rest.is_empty() {
-        let (front, behind) = rest.split_at(rest.len().min(PIECE_SIZE));
-        pieces.push(piece(alloc, header, number, front)?)?;
+    for bytes in cuts {
+        pieces.push(piece(header, number, bytes)?)?;
         number += 1;
-        rest = behind;
     }
     Ok(pieces)
 }

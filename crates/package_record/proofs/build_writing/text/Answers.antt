@@ -1,8 +1,7 @@
 use Rattle.std.proofs.Common.{List, ◌++◌, length, sym, ap, ◌∙◌, arith}
 use Rattle.std.proofs.lemmas.List.{take_all}
-use Rattle.package_record.specs.Build.{records_text}
+use Rattle.package_record.specs.Build.{lines_before, records_text}
 use Rattle.package_record.specs.Content.{Content}
-use Rattle.package_record.specs.inside.BuildLines.{lines_before}
 use Rattle.package_record.proofs.BuildTexts.{text_next, text_parts}
 use Rattle.package_record.proofs.build_writing.text.Goals as goal
 

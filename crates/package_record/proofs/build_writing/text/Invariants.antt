@@ -1,6 +1,5 @@
 use Rattle.std.proofs.Common.{◌≡◌, ◌++◌, length, take}
-use Rattle.package_record.specs.Build.{records_text}
-use Rattle.package_record.specs.inside.BuildLines.{lines_before}
+use Rattle.package_record.specs.Build.{lines_before, records_text}
 use Rattle.package_record.proofs.build_writing.text.Given as goal
 
 abbrev pub invariant-loop-record : goal.invariant-loop-record

@@ -5,11 +5,10 @@ use Rattle.std.proofs.lemmas.Iterator.Adapters.{YieldsList-from_vec}
 use Rattle.std.proofs.lemmas.Iterator.Consumers.{YieldsList-end, YieldsList-so_far, YieldsList-turn}
 use Rattle.std.proofs.lemmas.Result.{err_from_is_err_and}
 use Rattle.faults.specs.Answers.{unless_fault}
-use Rattle.package_record.specs.Build.{build_text, records_text}
+use Rattle.package_record.specs.Build.{build_text, lines_before, records_text}
 use Rattle.package_record.specs.Content.{Content, IsRecord, most_bytes, record_text}
 use Rattle.package_record.specs.Making.{too_large}
 use Rattle.package_record.specs.Packages.{content_from, contents_of}
-use Rattle.package_record.specs.inside.BuildLines.{lines_before}
 use Rattle.package_record.specs.declared.RecordFault.{RecordFault}
 use Rattle.package_record.specs.declared.RecordFault.TheVariants.{Memory}
 use Rattle.package_record.proofs.BuildTexts.{text_length, text_push}

@@ -11,7 +11,7 @@ loop-package-preserved c =
     let r = c.package-item.result in
     let before = c.loop-package.self in
     let after = c.append_package.new.self in
-    let is = subst IsBuild (sym c.packages-packages.ensures) c.unit_path-unit.ensures.build in
+    let is = subst IsBuild (sym c.packages-packages.ensures.records) c.unit_path-unit.ensures.build in
     let within : i < length build = omega arith in
     let both = path_entered (list_in c.args.self.now) build is (sym c.has_any.ensures ∙ c.if-has_any.false) i r within c.package-item.is
     before.listed.keys after.listed.keys (list_in before) (list_in after)
