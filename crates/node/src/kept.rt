@@ -16,10 +16,10 @@ use protocol::Refusal;
 use std::alloc::Global;
 use wire::{Carrier, Header, Piece, WireFault};
 
-/// The bytes of each piece but the last.
+/// The bytes of each piece but the last: what `is_last` says of it ties it to the definition.
 const PIECE_SIZE: u32 = 32_768;
 
-/// The most pieces that a message has.
+/// The most pieces that a message has, tied to the definition alike.
 const MOST_PIECES: u16 = 128;
 
 /// Why the member refuses what the header says, if it does.

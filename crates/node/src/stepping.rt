@@ -94,6 +94,7 @@ impl<'a, D: Disk> Node<'a, D> {
             (map_ok (taken_by self.old.node) result) }
         ensures ready { IfOk result (IsReadyFor self.new.node) }
         ensures same { self.new ≡ self.old }
+        ensures stopped { self.old.node.stopped ≡ true → IsErrOf result NodeFault.Stopped }
     {
         if self.stopped {
             return Err(NodeFault::Stopped);
@@ -116,6 +117,8 @@ impl<'a, D: Disk> Node<'a, D> {
         ensures ready { IfOk result (IsReadyFor self.new.node) }
         ensures log { self.new.log ≡ self.old.log }
         ensures same { OnOk result (self.new ≡ self.old) }
+        ensures stopped { self.old.node.stopped ≡ true
+            → IsErrOf result NodeFault.Stopped × (self.new ≡ self.old) }
     {
         if self.stopped {
             return Err(NodeFault::Stopped);
@@ -291,7 +294,7 @@ impl<'a, D: Disk> Node<'a, D> {
         ensures device { IsErrOf result (NodeFault.Log LogFault.Device)
             → HasRisen (D.failures_of self.old.log.disk) (D.failures_of self.new.log.disk) }
         ensures stopped { self.old.node.stopped ≡ true
-            → (self.new.log ≡ self.old.log) × OnOk result ⊥ }
+            → IsErrOf result NodeFault.Stopped × (self.new ≡ self.old) }
     {
         let ready = self.prepare(input)?;
         self.finish(ready)
@@ -331,7 +334,7 @@ impl<'a, D: Disk> Node<'a, D> {
         ensures device { IsErrOf result (NodeFault.Log LogFault.Device)
             → HasRisen (D.failures_of self.old.log.disk) (D.failures_of self.new.log.disk) }
         ensures stopped { self.old.node.stopped ≡ true
-            → (self.new.log ≡ self.old.log) × OnOk result ⊥ }
+            → IsErrOf result NodeFault.Stopped × (self.new ≡ self.old) }
     {
         let ready = self.prepare_datagram(bytes)?;
         self.finish(ready)
