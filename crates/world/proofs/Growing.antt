@@ -9,7 +9,7 @@ use Rattle.package_record.specs.Content.{Content}
 use Rattle.protocol.specs.State.{Value}
 use Rattle.units.specs.Division.{Division}
 use Rattle.world.specs.Happening.{Happens, Leads, Restarts, Steps, Stops, StopsIn}
-use Rattle.world.specs.Headline.{AtEachMoment, IsBeginningOf}
+use Rattle.world.specs.Headline.{AtEachMoment, IsBeginningOf, IsLater}
 use Rattle.world.specs.Lists.{IsListAfter, has_path, with_build}
 use Rattle.world.specs.World.{World, WorldNode, start, with_node}
 use Rattle.world.proofs.Leading.{leads_in_parts}
@@ -33,15 +33,6 @@ by_kind P step within stop restart w v (Deliver d n) h = step w v (Deliver d n) 
 by_kind P step within stop restart w v (Stop n) h = stop w v n h
 by_kind P step within stop restart w v (StopIn e l) h = within w v e l h
 by_kind P step within stop restart w v (Restart n) h = restart w v n h
-
--- The later world has the tree, the units, the weights and the number of nodes of the earlier one;
--- and what was sent and agreed comes behind what was.
-pub record IsLater (w v : World) : Type 0 where
-  pub division : v.division ≡ w.division
-  pub weights : v.weights ≡ w.weights
-  pub nodes : length v.nodes ≡ length w.nodes
-  pub sent : (more : List Text) × (v.sent ≡ w.sent ++ more)
-  pub agreed : IsBeginningOf w.agreed v.agreed
 
 -- the list after an event begins with the list before it
 with_build_longer : (list : List Content) (build : Value)
