@@ -77,7 +77,7 @@ event_later = by_kind IsLater step_later
     (λ w v n s. one_other w v n _ s.leaves)
 
 -- and so it is with events in turn
-same_later : (w v : World) → v ≡ w → IsLater w v
+pub same_later : (w v : World) → v ≡ w → IsLater w v
 same_later w v e = record {
   division = ap (λ u. u.division) e;
   weights = ap (λ u. u.weights) e;
@@ -116,6 +116,14 @@ each_moment division weights P each events last led early late e =
     let parts = leads_in_parts (start division weights) last early late
     (subst (λ es. Leads (start division weights) es last) e led) in
     (parts.0, parts.1, parts.2, each early parts.0 parts.1)
+
+-- What holds at each moment holds at the end.
+pub at_end : (division : Division) (weights : List ℕ) (P : List Event → World → Type 0)
+    (events : List Event) (last : World) → AtEachMoment division weights events last P
+    → P events last
+at_end division weights P events last each =
+    let there = each events [] (sym (append-nil events)) in
+    subst (P events) (sym there.2) there.3
 
 -- what is kept by each event is kept by events in turn
 pub kept_on : (P : World → Type 0) → ((w v : World) (e : Event) → Happens w e v → P w → P v)
