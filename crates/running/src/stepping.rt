@@ -89,7 +89,10 @@ impl<'a> World<'a> {
                 self.events.push_reserved(kept);
                 Ok(())
             }
-            Err(fault) => Err(refused(fault)),
+            Err(fault) => {
+                drop(kept);
+                Err(refused(fault))
+            }
         }
     }
 }

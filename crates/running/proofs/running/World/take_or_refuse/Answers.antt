@@ -4,7 +4,6 @@ use Rattle.running.specs.declared.running.World.TheInside.{Inside}
 use Rattle.running.specs.inside.Placing.{history_of}
 use Rattle.running.proofs.StepHistory.{goes_so, stays_so}
 use Rattle.running.proofs.running.World.take_or_refuse.Goals as goal
-use Rattle.running.proofs.running.World.take_or_refuse.Goals.{in-Claim-1, in-Built-1, in-Failed-1, in-Ask-1, in-StopIn+in-Torn-1, in-StopIn+in-None-1, in-Nudge-1}
 
 -- ---- refused before the node is asked
 
@@ -42,23 +41,9 @@ returns-in-Ok-happen-clause-history c =
 
 -- ---- refused
 
-unchanged : (c : goal.Joined-kept-2)
-    → IsHistory (history_of (record { scene = c.happen.new.self; events = c.kept.new.events }))
-unchanged c = stays_so c.self.inside
-    (record { scene = c.happen.new.self; events = c.kept.new.events }) c.self.invariant.history
-    c.in-Err.ensures.same c.kept.ensures.same
-
-left : (c : goal.Joined-kept-2) → IsHistory c.match-kept-2.self
-left c = elim c.match-kept-2.branch [
-  | in-Claim-1 w ↦ rw w.self-is (unchanged c)
-  | in-Built-1 w ↦ rw w.self-is (unchanged c)
-  | in-Failed-1 w ↦ rw w.self-is (unchanged c)
-  | in-Ask-1 w ↦ rw w.self-is (unchanged c)
-  | in-StopIn+in-Torn-1 w ↦ rw w.self-is (unchanged c)
-  | in-StopIn+in-None-1 w ↦ rw w.self-is (unchanged c)
-  | in-Nudge-1 w ↦ rw w.self-is (unchanged c)
-]
-
 pub returns-in-Err-clause-history : goal.returns-in-Err-clause-history
-returns-in-Err-clause-history c =
-    (subst IsHistory c.self.view_is c.self.invariant.history, left c)
+returns-in-Err-clause-history c = (
+  subst IsHistory c.self.view_is c.self.invariant.history,
+  stays_so c.self.inside (record { scene = c.happen.new.self; events = c.kept.new.events })
+      c.self.invariant.history c.in-Err.ensures.same c.kept.ensures.same,
+)
