@@ -1,5 +1,5 @@
 -- Each run has one list, and is safe; and it goes one way.
-use Rattle.std.proofs.Common.{◌≡◌, ◌<◌, ℕ, List, length, sym, subst}
+use Rattle.std.proofs.Common.{◌≡◌, ◌<◌, ◌++◌, ◌∷◌, [], ◌∙◌, ℕ, List, length, refl, sym, subst}
 use Rattle.agreement.specs.AgreedList.{Act}
 use Rattle.auditing.specs.Allowed as audit
 use Rattle.events.specs.Events.{Event}
@@ -11,13 +11,14 @@ use Rattle.std.proofs.lemmas.List.Elements.{All-contains_itself}
 use Rattle.units.specs.Division.{Division}
 use Rattle.auditing.specs.Fits.{Fits}
 use Rattle.world.specs.Happening.{Leads}
-use Rattle.world.specs.Headline.{AllFit, AtEachMoment, AuditSaysYes, HasOneList, InstallableIsHeld, WasBuilt, entry_of}
-use Rattle.world.specs.Laws.{EachHappensOrIsRefused, EachStepHasAList, OneAnswer, OneWorldFollows}
-use Rattle.world.specs.Safety.{JobsStood}
+use Rattle.world.specs.Headline.{AllFit, AtEachMoment, AuditSaysYes, HasOneAPath, HasOneList, HeldIsListed, HoldAlike, InstallableIsHeld, IsBeginningOf, WasBuilt, entry_of}
+use Rattle.world.specs.Laws.{EachHappensOrIsRefused, EachStepHasAList, EventsLeadToOneWorld, OneAnswer, OneWorldFollows}
+use Rattle.world.specs.Safety.{EachIsOfAMessage, EqualHeaders, JobsStood, LaterRepeats, OneProposal, PromisesBound}
 use Rattle.world.specs.World.{IsMade, World, start}
 use Rattle.world.proofs.Distinct.{one_a_path, one_there}
 use Rattle.world.proofs.Growing.{each_moment, leads_later, list_grows}
-use Rattle.headline.specs.Laws.{EachRunHasOneList, EachRunIsActs, IsSafe}
+use Rattle.world.proofs.Leading.{leads_together}
+use Rattle.headline.specs.Laws.{EachRunHasOneList, EachRunIsActs, InEachRun, IsSafe}
 use Rattle.headline.specs.Matches.{Matches, packages_of}
 use Rattle.headline.specs.Mirrored.{after_all_acts}
 use Rattle.headline.proofs.Auditing.{audit_says_yes}
@@ -28,7 +29,7 @@ use Rattle.headline.proofs.Headers.{in_order}
 use Rattle.headline.proofs.Installed.{installable_is_held}
 use Rattle.headline.proofs.Listed.{list_fits}
 use Rattle.headline.proofs.Mirroring.{event_is_act, step_has_list, step_has_one_list}
-use Rattle.headline.proofs.Runs.{always_bound, always_listed, always_one_proposal, always_repeated, always_told_apart, at_each, runs_are_acts}
+use Rattle.headline.proofs.Runs.{always_alike, always_bound, always_listed, always_one_proposal, always_repeated, always_told_apart, at_each, runs_are_acts}
 use Rattle.headline.proofs.Signed.{jobs_stood}
 use Rattle.headline.proofs.Staying.{event_keeps}
 use Rattle.package_record.proofs.BuildsRead.{build_is_read}
@@ -128,6 +129,73 @@ each_has_one_list runs again division weights events w made led = (
       made events w led,
 )
 
+-- ---- part by part
+
+module _ (runs : EachRunIsActs) (again : BuildTextIsReadAgain) where
+  pub always_grows : InEachRun (λ last early w. IsBeginningOf w.agreed last.agreed)
+  always_grows division weights events last made led =
+      list_grows division weights events last led
+
+  pub one_always : InEachRun (λ last early w. HasOneAPath w)
+  one_always division weights events last made led = one_a_path division weights events last led
+
+  pub built_always : InEachRun
+      (λ last early w. All (WasBuilt last.division last.weights early) w.agreed)
+  built_always division weights events last made led =
+      let later = leads_later (start division weights) last events led in
+      subst (λ (d : Division). AtEachMoment division weights events last
+      (λ early w. All (WasBuilt d last.weights early) w.agreed)) (sym later.division)
+      (subst (λ ws. AtEachMoment division weights events last
+      (λ early w. All (WasBuilt division ws early) w.agreed)) (sym later.weights)
+      (always_built runs again division weights made events last led))
+
+  pub fits_always : InEachRun (λ last early w. AllFit w)
+  fits_always division weights events last made led =
+      always_fits runs again division weights made events last led
+
+  pub held_always : InEachRun (λ last early w. HeldIsListed w)
+  held_always division weights events last made led =
+      always_listed runs again division weights made events last led
+
+  pub alike_always : InEachRun (λ last early w. HoldAlike w last)
+  alike_always division weights events last made led =
+      always_alike runs again division weights made events last led
+
+  pub installable_always : InEachRun (λ last early w. InstallableIsHeld w)
+  installable_always division weights events last made led =
+      always_installable runs again division weights made events last led
+
+  pub allowed_always : InEachRun (λ last early w. AuditSaysYes w)
+  allowed_always division weights events last made led =
+      always_allowed runs again division weights made events last led
+
+  pub one_proposal_always : InEachRun (λ last early w. OneProposal w)
+  one_proposal_always division weights events last made led =
+      always_one_proposal runs again division weights made events last led
+
+  pub bound_always : InEachRun (λ last early w. PromisesBound w)
+  bound_always division weights events last made led =
+      always_bound runs again division weights made events last led
+
+  pub repeated_always : InEachRun (λ last early w. LaterRepeats w)
+  repeated_always division weights events last made led =
+      always_repeated runs again division weights made events last led
+
+  pub jobs_always : InEachRun (λ last early w. JobsStood last.division last.weights early w)
+  jobs_always division weights events last made led =
+      let later = leads_later (start division weights) last events led in
+      subst (λ (d : Division). AtEachMoment division weights events last
+      (λ early w. JobsStood d last.weights early w)) (sym later.division)
+      (subst (λ ws. AtEachMoment division weights events last
+      (λ early w. JobsStood division ws early w)) (sym later.weights)
+      (always_jobs runs again division weights made events last led))
+
+  pub told_apart_always : InEachRun (λ last early w. EqualHeaders w × EachIsOfAMessage w)
+  told_apart_always division weights events last made led =
+      always_told_apart runs again division weights made events last led
+
+-- ---- answers
+
 -- One world follows an event, and an event has one answer.
 pub one_world : EachRunIsActs → BuildTextIsReadAgain → OneWorldFollows
 one_world runs again division weights events w a b e made led first second =
@@ -135,6 +203,22 @@ one_world runs again division weights events w a b e made led first second =
     let later = leads_later (start division weights) w events led in
     one_follows w a b e (λ v step s. step_has_one_list division weights r.0 w made
     (later.division, later.weights) r.3 r.2 again e v step s) first second
+
+-- So events lead to one world.
+one_end : OneWorldFollows → (division : Division) (weights : List ℕ) → IsMade division weights
+    → (before events : List Event) (w a b : World) → Leads (start division weights) before w
+    → Leads w events a → Leads w events b → a ≡ b
+one_end one division weights made before [] w a b led first second = first ∙ sym second
+one_end one division weights made before (e ∷ es) w a b led first second =
+    let same = one division weights before w second.0 first.0 e made led second.1 first.1 in
+    one_end one division weights made (before ++ e ∷ []) es first.0 a b
+    (leads_together (start division weights) w first.0 before (e ∷ []) led
+    (first.0, first.1, refl))
+    first.2 (subst (λ v. Leads v es b) same second.2)
+
+pub one_world_at_end : OneWorldFollows → EventsLeadToOneWorld
+one_world_at_end one division weights events v w made first second =
+    one_end one division weights made [] events (start division weights) v w refl first second
 
 -- And some list stands after each step.
 pub each_has_list : EachRunIsActs → BuildTextIsReadAgain → EachStepHasAList
@@ -146,10 +230,10 @@ each_has_list runs again division weights events w e x t made led step acts =
 
 -- So each event happens, or is refused.
 pub each_happens_or_not : EachRunIsActs → BuildTextIsReadAgain → EachHappensOrIsRefused
-each_happens_or_not runs again division weights events w e made led letters can =
-    either_way w letters
+each_happens_or_not runs again division weights events w e made led letter can =
+    either_way w
     (λ e step x t acts. each_has_list runs again division weights events w e x t made led step acts)
-    e can
+    e letter can
 
 pub one_answer : OneAnswer
 one_answer division weights events w e made led =

@@ -13,7 +13,7 @@ use Rattle.headline.specs.Matches.{Matches, WasSaid}
 use Rattle.headline.specs.Mirrored.{IsActOf, Mirrors, after_all_acts, with_act}
 use Rattle.headline.specs.Needs.{may_build}
 use Rattle.world.specs.Happening.{Happens, IsRefused, Leads}
-use Rattle.world.specs.Headline.{AtEachMoment, HasOneList, HeldIsListed, HoldAlike}
+use Rattle.world.specs.Headline.{AtEachMoment, HasOneList, HeldIsListed}
 use Rattle.world.specs.Sent.{WasSent}
 use Rattle.world.specs.Safety.{EachIsOfAMessage, EqualHeaders, JobsStood, LaterRepeats, OneProposal, PromisesBound}
 use Rattle.world.specs.World.{IsMade, World, start}
@@ -115,13 +115,14 @@ pub record IsSafe (division : Division) (weights : List ℕ) (events : List Even
   pub equal_headers : AtEachMoment division weights events last
       (λ early w. EqualHeaders w × EachIsOfAMessage w)
 
--- Two nodes of a run never hold different packages for one path: not at one moment, and not one at
--- an earlier moment than the other.
-abbrev pub NodesNeverDiffer : Type 0
-NodesNeverDiffer =
-    (division : Division) (weights : List ℕ) (events : List Event) (w : World)
-    → IsMade division weights → Leads (start division weights) events w
-    → AtEachMoment division weights events w (λ early v. HoldAlike v w)
+-- P holds at each moment of each run: of the world at its end, of the events up to that moment, and
+-- of the world that stood then.
+abbrev pub InEachRun : (World → List Event → World → Type 0) → Type 0
+InEachRun P =
+    (division : Division) (weights : List ℕ) (events : List Event) (last : World)
+    → IsMade division weights
+    → Leads (start division weights) events last
+    → AtEachMoment division weights events last (P last)
 
 -- Each run has one list, and is safe.
 abbrev pub EachRunHasOneList : Type 0

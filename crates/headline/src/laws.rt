@@ -1,24 +1,44 @@
 //! What the events of a world are in the agreement theory, and what follows for a world that
 //! matches what acts of it leave.
+ghost use Rattle.std.specs.Prelude.{All};
 ghost use Rattle.headline.specs.Laws.{
   EachEventIsAnAct,
   EachEventKeepsLocal,
   EachRunHasOneList,
   EachRunIsActs,
+  InEachRun,
   MatchedHeadersAreEqual,
   MatchedHeldIsListed,
   MatchedIsNotForeign,
   MatchedVotesAreLawful,
   NeedsAreMonotone,
-  NodesNeverDiffer,
   SentWasSaid,
+};
+ghost use Rattle.world.specs.Headline.{
+  AllFit,
+  AuditSaysYes,
+  HasOneAPath,
+  HeldIsListed,
+  HoldAlike,
+  InstallableIsHeld,
+  IsBeginningOf,
+  WasBuilt,
 };
 ghost use Rattle.world.specs.Laws.{
   EachHappensOrIsRefused,
   EachStepHasAList,
+  EventsLeadToOneWorld,
   NothingSentIsForeign,
   OneAnswer,
   OneWorldFollows,
+};
+ghost use Rattle.world.specs.Safety.{
+  EachIsOfAMessage,
+  EqualHeaders,
+  JobsStood,
+  LaterRepeats,
+  OneProposal,
+  PromisesBound,
 };
 
 /// What a build needs is spoiled by nothing that is held besides.
@@ -48,11 +68,13 @@ pub fn matched_worlds_are_safe()
     ensures held { MatchedHeldIsListed }
 {}
 
-/// In a world that is reached, where units show letters, each event happens or is refused. It
-/// leaves one world at most, one that happens is not refused, and none is refused with two faults,
-/// nor as foreign. Some list stands after each step that a node takes.
+/// In a world that is reached each event happens or is refused, where a unit that it claims shows a
+/// letter. It leaves one world at most, one that happens is not refused, and none is refused with
+/// two faults, nor as foreign. Some list stands after each step that a node takes. So from the
+/// start events lead to one world.
 pub fn events_have_one_answer()
     ensures world { OneWorldFollows }
+    ensures run { EventsLeadToOneWorld }
     ensures list { EachStepHasAList }
     ensures either { EachHappensOrIsRefused }
     ensures answer { OneAnswer }
@@ -65,6 +87,24 @@ pub fn events_have_one_answer()
 /// holds is in it, and a path a node shows installable has its run closure held there.
 /// So two nodes never hold different packages for one path, at one moment or at two.
 pub fn worlds_have_one_list()
-    ensures one { EachRunHasOneList }
-    ensures alike { NodesNeverDiffer }
+    ensures grows { InEachRun (λ last early w. IsBeginningOf w.agreed last.agreed) }
+    ensures one_a_path { InEachRun (λ last early w. HasOneAPath w) }
+    ensures built { InEachRun
+        (λ last early w. All (WasBuilt last.division last.weights early) w.agreed) }
+    ensures fits { InEachRun (λ last early w. AllFit w) }
+    ensures held { InEachRun (λ last early w. HeldIsListed w) }
+    ensures alike { InEachRun (λ last early w. HoldAlike w last) }
+    ensures installable { InEachRun (λ last early w. InstallableIsHeld w) }
+    ensures allowed { InEachRun (λ last early w. AuditSaysYes w) }
+
+    // Why that is so.
+    ensures one_proposal { InEachRun (λ last early w. OneProposal w) }
+    ensures promises_bound { InEachRun (λ last early w. PromisesBound w) }
+    ensures later_repeats { InEachRun (λ last early w. LaterRepeats w) }
+    ensures jobs_stood { InEachRun
+        (λ last early w. JobsStood last.division last.weights early w) }
+    ensures equal_headers { InEachRun (λ last early w. EqualHeaders w × EachIsOfAMessage w) }
+
+    // All of it but `alike`, by the names of two definitions.
+    ensures together { EachRunHasOneList }
 {}

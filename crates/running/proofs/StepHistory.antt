@@ -1,15 +1,19 @@
--- What was taken stays, and an event that happens leads on.
-use Rattle.std.proofs.Common.{◌≡◌, ◌++◌, List, [], ◌∷◌, map, refl, sym, ap, subst, ◌∙◌}
+-- What was taken stays, and an event that happens leads on; and what holds then of the world before
+-- and of the one after.
+use Rattle.std.proofs.Common.{◌≡◌, ◌++◌, List, [], ◌∷◌, Result, Ok, Err, map, refl, sym, ap, subst, ◌∙◌}
+use Rattle.std.specs.Prelude.{OnErr, OnOk}
 use Rattle.std.proofs.lemmas.List.{map-append}
-use Rattle.events.specs.Events.{event_view}
+use Rattle.events.specs.Events.{Event, event_view}
 use Rattle.events.specs.declared.event.Event as declared
-use Rattle.headline.specs.Laws.{IsSafe}
 use Rattle.world.specs.Happening.{Happens}
-use Rattle.world.specs.Headline.{HasOneList}
-use Rattle.running.specs.History.{IsHistory, taken}
+use Rattle.world.specs.Headline.{HasOneAPath, HeldIsListed, HoldAlike, IsBeginningOf, IsLater}
+use Rattle.world.specs.declared.fault.WorldFault.{WorldFault}
+use Rattle.world.proofs.Alike.{held_alike}
+use Rattle.world.proofs.Growing.{at_end, event_later, same_later}
+use Rattle.running.specs.History.{History, IsHistory, taken}
 use Rattle.running.specs.declared.running.World.TheInside.{Inside}
-use Rattle.running.specs.inside.Placing.{IsStanding, StandsSo, history_of, world_of}
-use Rattle.running.proofs.Following.{goes_on, has_one_list, is_safe}
+use Rattle.running.specs.inside.Placing.{history_of, world_of}
+use Rattle.running.proofs.Following.{goes_on, has_one_list}
 
 -- where the world is the same, and no event was kept
 pub stays_so : (w v : Inside) → IsHistory (history_of w) → world_of v.scene ≡ world_of w.scene
@@ -26,3 +30,28 @@ goes_so w v e k is happens kept same =
     goes_on (history_of w) (history_of v) (event_view e) is happens
     (ap (map event_view) kept ∙ map-append event_view w.events.items (k ∷ [])
     ∙ ap (λ z. map event_view w.events.items ++ z ∷ []) same)
+
+-- ---- before and after
+
+-- an event that happens leads to a later world, and so does one that is refused
+pub later_so : (old new : History) (e : Event) (r : Result (Prim.Unit {0}) WorldFault)
+    → OnOk r (Happens old.world e new.world) → OnErr r (new ≡ old) → IsLater old.world new.world
+later_so old new e (Ok u) happens same = event_later old.world new.world e happens
+later_so old new e (Err f) happens same =
+    same_later old.world new.world (ap (λ (h : History). h.world) same)
+
+-- what nodes hold is in the list, which has one package a path
+listed_there : (h : History) → IsHistory h → HeldIsListed h.world
+listed_there h is = at_end h.world.division h.world.weights (λ early w. HeldIsListed w) (taken h)
+    h.world (has_one_list h is).held
+
+one_there : (h : History) → IsHistory h → HasOneAPath h.world
+one_there h is = at_end h.world.division h.world.weights (λ early w. HasOneAPath w) (taken h)
+    h.world (has_one_list h is).one
+
+-- so where the list only grew, nodes before and after hold alike
+pub alike_so : (old new : History) → IsHistory old → IsHistory new
+    → IsBeginningOf old.world.agreed new.world.agreed → HoldAlike old.world new.world
+alike_so old new before after grows =
+    held_alike old.world new.world (listed_there old before) (listed_there new after) grows
+    (one_there new after)

@@ -67,9 +67,11 @@ impl<'a> World<'a> {
         self.scene.posted.agreed.as_slice()
     }
 
-    /// The events that were taken, in turn.
+    /// The events that were taken, in turn. They led to this world from its start, so that all holds
+    /// of it that holds of each run.
     pub fn events(&self) -> &[Event]
-        ensures { result.now ≡ self.now.events }
+        ensures events { result.now ≡ self.now.events }
+        ensures history { IsHistory self.now }
     {
         self.events.as_slice()
     }

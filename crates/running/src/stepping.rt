@@ -6,9 +6,9 @@ ghost use Rattle.node.specs.OnLog.{IsOnLog, LacksRoom};
 ghost use Rattle.node.specs.Step.{IsReadyFor, note_in, sends_in};
 ghost use Rattle.stable_record.specs.InMemory.{mem_history};
 ghost use Rattle.world.specs.Happening.{Happens, IsRefused, IsRefusedByNode, fault_before};
-ghost use Rattle.world.specs.Headline.{HasOneList};
+ghost use Rattle.world.specs.Headline.{HasOneList, HoldAlike, IsBeginningOf};
 ghost use Rattle.world.specs.Sent.{with_sends};
-ghost use Rattle.running.specs.History.{taken};
+ghost use Rattle.running.specs.History.{IsHistory, taken};
 ghost use Rattle.running.specs.inside.Asking.{CanBeAsked, refused_by};
 ghost use Rattle.running.specs.inside.Deciding.{decision};
 ghost use Rattle.running.specs.inside.Placing.{IsReached, IsStanding, world_of};
@@ -36,8 +36,8 @@ use std::alloc::Global;
 use world::WorldFault;
 
 impl<'a> World<'a> {
-    /// Takes the event, or refuses it and changes nothing. Whatever was taken, the world has one
-    /// list.
+    /// Takes the event, or refuses it and changes nothing. Whichever it was, the list only grew, and
+    /// at each moment of all that was taken so far the world has one list.
     ///
     /// # Errors
     ///
@@ -51,12 +51,32 @@ impl<'a> World<'a> {
         ensures refused { IfErr result (λ f. (f ≡ WorldFault.Memory)
             ⊎ IsRefused self.old.world (event_view event.now) f) }
 
-        // At each moment of all that was taken so far there is one list of packages, and this is
-        // why.
+        // Whichever it was, of the world before and the one after.
+        ensures fixed { (self.new.world.division ≡ self.old.world.division)
+            × (self.new.world.weights ≡ self.old.world.weights) }
+        ensures grows { IsBeginningOf self.old.world.agreed self.new.world.agreed }
+        ensures alike { HoldAlike self.old.world self.new.world }
+
+        // The events that were taken led to the world from its start; at each moment of them there
+        // is one list of packages; and this is why.
+        ensures history { IsHistory self.new }
         ensures one_list { HasOneList self.new.world.division self.new.world.weights
             (taken self.new) self.new.world }
         ensures safe { IsSafe self.new.world.division self.new.world.weights (taken self.new)
             self.new.world }
+    {
+        self.take_or_refuse(event)
+    }
+
+    /// Takes the event and keeps it, or refuses it and changes nothing.
+    fn take_or_refuse(&mut self, event: &Event) -> Result<(), WorldFault>
+        ensures taken { OnOk result
+            (Happens self.old.world (event_view event.now) self.new.world) }
+        ensures kept { OnOk result (taken self.new ≡ taken self.old ++ event_view event.now ∷ []) }
+        ensures same { OnErr result (self.new ≡ self.old) }
+        ensures refused { IfErr result (λ f. (f ≡ WorldFault.Memory)
+            ⊎ IsRefused self.old.world (event_view event.now) f) }
+        ensures history { IsHistory self.old × IsHistory self.new }
     {
         if let Some(fault) = self.scene.fault_before(event) {
             return Err(fault);
@@ -69,7 +89,10 @@ impl<'a> World<'a> {
                 self.events.push_reserved(kept);
                 Ok(())
             }
-            Err(fault) => Err(refused(fault)),
+            Err(fault) => {
+                drop(kept);
+                Err(refused(fault))
+            }
         }
     }
 }

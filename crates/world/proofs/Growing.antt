@@ -9,7 +9,7 @@ use Rattle.package_record.specs.Content.{Content}
 use Rattle.protocol.specs.State.{Value}
 use Rattle.units.specs.Division.{Division}
 use Rattle.world.specs.Happening.{Happens, Leads, Restarts, Steps, Stops, StopsIn}
-use Rattle.world.specs.Headline.{AtEachMoment, IsBeginningOf}
+use Rattle.world.specs.Headline.{AtEachMoment, IsBeginningOf, IsLater}
 use Rattle.world.specs.Lists.{IsListAfter, has_path, with_build}
 use Rattle.world.specs.World.{World, WorldNode, start, with_node}
 use Rattle.world.proofs.Leading.{leads_in_parts}
@@ -33,15 +33,6 @@ by_kind P step within stop restart w v (Deliver d n) h = step w v (Deliver d n) 
 by_kind P step within stop restart w v (Stop n) h = stop w v n h
 by_kind P step within stop restart w v (StopIn e l) h = within w v e l h
 by_kind P step within stop restart w v (Restart n) h = restart w v n h
-
--- The later world has the tree, the units, the weights and the number of nodes of the earlier one;
--- and what was sent and agreed comes behind what was.
-pub record IsLater (w v : World) : Type 0 where
-  pub division : v.division ≡ w.division
-  pub weights : v.weights ≡ w.weights
-  pub nodes : length v.nodes ≡ length w.nodes
-  pub sent : (more : List Text) × (v.sent ≡ w.sent ++ more)
-  pub agreed : IsBeginningOf w.agreed v.agreed
 
 -- the list after an event begins with the list before it
 with_build_longer : (list : List Content) (build : Value)
@@ -86,7 +77,7 @@ event_later = by_kind IsLater step_later
     (λ w v n s. one_other w v n _ s.leaves)
 
 -- and so it is with events in turn
-same_later : (w v : World) → v ≡ w → IsLater w v
+pub same_later : (w v : World) → v ≡ w → IsLater w v
 same_later w v e = record {
   division = ap (λ u. u.division) e;
   weights = ap (λ u. u.weights) e;
@@ -125,6 +116,14 @@ each_moment division weights P each events last led early late e =
     let parts = leads_in_parts (start division weights) last early late
     (subst (λ es. Leads (start division weights) es last) e led) in
     (parts.0, parts.1, parts.2, each early parts.0 parts.1)
+
+-- What holds at each moment holds at the end.
+pub at_end : (division : Division) (weights : List ℕ) (P : List Event → World → Type 0)
+    (events : List Event) (last : World) → AtEachMoment division weights events last P
+    → P events last
+at_end division weights P events last each =
+    let there = each events [] (sym (append-nil events)) in
+    subst (P events) (sym there.2) there.3
 
 -- what is kept by each event is kept by events in turn
 pub kept_on : (P : World → Type 0) → ((w v : World) (e : Event) → Happens w e v → P w → P v)

@@ -1,7 +1,7 @@
 -- One agreed list: what stands at each moment of a run.
 use Rattle.units.specs.Division.{Division, number_found, unit_at}
 use Rattle.listing.specs.Tree.{position_of}
-use Rattle.std.specs.Prelude.{◌≡◌, ◌≢◌, ◌++◌, ℕ, Bool, true, List, ◌∷◌, Option, Some, All, AllPairs, Contains, is_some, map, slice_get}
+use Rattle.std.specs.Prelude.{◌≡◌, ◌≢◌, ◌++◌, ℕ, Bool, true, List, ◌∷◌, Option, Some, All, AllPairs, Contains, is_some, length, map, slice_get}
 use Rattle.sha2.specs.Sha256.{sha256}
 use Rattle.faults.specs.Bytes.{Text}
 use Rattle.agreement.specs.declared.claim.Claim.{Claim}
@@ -98,6 +98,15 @@ AtEachMoment division weights events last P =
 -- The list is a beginning of the longer one.
 abbrev pub IsBeginningOf : List Content → List Content → Type 0
 IsBeginningOf list longer = (more : List Content) × (longer ≡ list ++ more)
+
+-- The later world has the division, the weights and the number of nodes of the earlier one, and
+-- what was sent and what is agreed there comes behind what was.
+pub record IsLater (w later : World) : Type 0 where
+  pub division : later.division ≡ w.division
+  pub weights : later.weights ≡ w.weights
+  pub nodes : length later.nodes ≡ length w.nodes
+  pub sent : (more : List Text) × (later.sent ≡ w.sent ++ more)
+  pub agreed : IsBeginningOf w.agreed later.agreed
 
 -- The list has at most one package a path.
 abbrev pub HasOneAPath : World → Type 0

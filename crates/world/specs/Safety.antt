@@ -100,18 +100,19 @@ JobsStood division weights events w =
     (name : Text) (c : Claim) (build : Value) → WasProposed w w.sent name c build
     → JobWasGiven division weights events name build
 
--- The piece was sent, and it is one of the message's.
+-- The message was sent, with all its datagrams, and the piece is one of its.
 pub record WasSentOf (sent : List Text) (m : Message Value) (p : Piece) : Type 0 where
   pub is_sent : WasSent sent m
   pub piece : Contains (split_of m) (datagram.Piece p)
 
--- Equal headers of sent pieces belong to equal messages.
+-- Two messages that were sent, each with all its datagrams, are one where a piece of the one and a
+-- piece of the other have equal headers.
 abbrev pub EqualHeaders : World → Type 0
 EqualHeaders w =
     (m n : Message Value) (p q : Piece) → WasSentOf w.sent m p → WasSentOf w.sent n q
     → p.header ≡ q.header → m ≡ n
 
--- Each datagram that was sent is one of a message that was.
+-- Each datagram that was sent is one of a message that was sent, with all its datagrams.
 abbrev pub EachIsOfAMessage : World → Type 0
 EachIsOfAMessage w =
     (text : Text) → Contains w.sent text

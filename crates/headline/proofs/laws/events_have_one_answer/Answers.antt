@@ -1,10 +1,13 @@
-use Rattle.headline.proofs.OneList.{each_happens_or_not, each_has_list, each_run_is_acts, one_answer, one_world}
+use Rattle.headline.proofs.OneList.{each_happens_or_not, each_has_list, each_run_is_acts, one_answer, one_world, one_world_at_end}
 use Rattle.headline.proofs.Runs.{none_is_foreign}
 use Rattle.headline.proofs.laws.events_have_one_answer.Goals as goal
 use Rattle.package_record.proofs.BuildsRead.{build_is_read}
 
 pub returns-clause-world : goal.returns-clause-world
 returns-clause-world c = one_world each_run_is_acts build_is_read
+
+pub returns-clause-run : goal.returns-clause-run
+returns-clause-run c = one_world_at_end (one_world each_run_is_acts build_is_read)
 
 pub returns-clause-list : goal.returns-clause-list
 returns-clause-list c = each_has_list each_run_is_acts build_is_read

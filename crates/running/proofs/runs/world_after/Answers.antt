@@ -2,10 +2,8 @@ use Rattle.std.proofs.Common.{◌≤◌, ◌∙◌, ap, arith, length, map}
 use Rattle.std.proofs.lemmas.List.{take_all}
 use Rattle.events.specs.Events.{event_view}
 use Rattle.units.specs.Division.{Division}
-use Rattle.world.proofs.Growing.{event_later}
 use Rattle.world.specs.World.{World}
 use Rattle.running.proofs.EventByEvent.{one_more, stopped_there}
-use Rattle.running.proofs.Following.{goes_on}
 use Rattle.running.proofs.runs.world_after.Goals as goal
 use Rattle.running.specs.History.{taken}
 
@@ -14,12 +12,11 @@ loop-before-preserved c =
     let old = c.loop-before.world in
     let new = c.step.new.self in
     let e = c.index-events-before.result in
-    let later = event_later old.world new.world (event_view e) c.in_default-step.ensures.taken in
+    let fixed = c.in_default-step.ensures.fixed in
     record {
-      history = goes_on old new (event_view e) c.loop-before.invariant.history
-          c.in_default-step.ensures.taken c.in_default-step.ensures.kept;
-      tree = ap (λ (d : Division). d.tree) later.division ∙ c.loop-before.invariant.tree;
-      weights = later.weights ∙ c.loop-before.invariant.weights;
+      history = c.in_default-step.ensures.history;
+      tree = ap (λ (d : Division). d.tree) fixed.0 ∙ c.loop-before.invariant.tree;
+      weights = fixed.1 ∙ c.loop-before.invariant.weights;
       kept = one_more c.args.events.now c.loop-before.before e c.loop-before-test.true
           c.index-events-before.is (taken old) (taken new) c.loop-before.invariant.kept
           c.in_default-step.ensures.kept;
