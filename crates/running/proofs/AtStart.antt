@@ -1,21 +1,21 @@
 -- Nodes at the start stand on their disks.
-use Rattle.std.proofs.Common.{◌≡◌, ◌⊎◌, inl, inr, ⊎_elim, ◌++◌, ℕ, zero, suc, List, [], ◌∷◌, length, map, replicate, None, Some, Ok, slice_get, refl, sym, ap, subst, ◌∙◌, arith}
+use Rattle.std.proofs.Common.{◌≡◌, ◌⊎◌, inl, inr, ⊎_elim, ◌++◌, ℕ, zero, suc, List, [], ◌∷◌, length, map, replicate, None, Some, Ok, Err, Result, IfOk, slice_get, refl, sym, ap, subst, ◌∙◌, arith}
 use Rattle.ballots.specs.declared.message.Note.{Note}
+use Rattle.faults.specs.Bytes.{Text}
 use Rattle.listing.specs.Tree.{Tree}
-use Rattle.node.specs.OnLog.{texts_of}
+use Rattle.node.proofs.Opened.{one_way}
+use Rattle.node.specs.OnLog.{identity_of, texts_of}
 use Rattle.node.specs.State.{LoggedNode, NodeState, opened_node}
 use Rattle.protocol.specs.State.{Value}
 use Rattle.stable_record.specs.Opening.{Opens}
 use Rattle.stable_record.specs.declared.identity.Identity.{Identity}
 use Rattle.stable_record.specs.declared.mem_disk.MemDisk.{MemDisk}
-use Rattle.units.proofs.Once.{one_division}
 use Rattle.units.specs.Division.{Division, IsDivision}
-use Rattle.units.specs.Units.{AreUnits}
-use Rattle.world.specs.World.{IsMade, World, fresh_node, node_at, start, up_node}
-use Rattle.running.specs.History.{IsHistory}
+use Rattle.world.specs.World.{World, fresh_node, node_at, start, up_node}
 use Rattle.running.specs.declared.placed.Placed.{Placed}
 use Rattle.running.specs.declared.placed.Placed.TheVariants.{Up, Down}
 use Rattle.running.specs.declared.scene.Scene.{Scene}
+use Rattle.running.specs.inside.Opening.{IsNodeOf}
 use Rattle.running.specs.inside.Placing.{IsStanding, StandsOn, node_view, world_of}
 use Rattle.running.specs.inside.Posting.{AreListed, list_in, sent_in}
 use Rattle.running.specs.inside.Starting.{AreFresh, IsFresh, IsUpFresh}
@@ -23,22 +23,33 @@ use Rattle.running.specs.inside.Starting.{AreFresh, IsFresh, IsUpFresh}
 -- ---- an empty file
 
 -- a file without bytes has no notes
-pub no_notes : (i : Identity) (texts : List (List ℕ)) → Opens i [] (Ok texts) → texts ≡ []
+no_notes : (i : Identity) (texts : List (List ℕ)) → Opens i [] (Ok texts) → texts ≡ []
 no_notes i texts (inl blank) = blank.1
 no_notes i texts (inr notes) = absurd (omega (arith, ap length notes.parts))
 
 -- notes without texts are none
-pub none_spelled : (notes : List (Note Value)) → texts_of notes ≡ [] → notes ≡ []
+none_spelled : (notes : List (Note Value)) → texts_of notes ≡ [] → notes ≡ []
 none_spelled [] e = refl
 none_spelled (n ∷ ns) e = absurd (omega (arith, ap length e))
 
 -- ---- nodes that are fresh
 
--- a tree is divided in one way
-one_way : (d e : Division) → d.tree ≡ e.tree → IsDivision d → IsDivision e → d ≡ e
-one_way d e same a b =
-    let units : d.units ≡ e.units = one_division d.tree d.units e.units a.units (subst (λ (t : Tree). AreUnits t e.units) (sym same) b.units) in
-    λ i. record { tree = same i; units = units i }
+-- the node of a file without bytes
+is_fresh : (tree : Tree) (weights : List ℕ) (me : ℕ) (n : LoggedNode MemDisk)
+    → IsNodeOf tree weights me [] n → IsFresh tree weights me n
+is_fresh tree weights me n is = record {
+  opened = is.opened;
+  empty = none_spelled n.node.notes
+      (no_notes (identity_of n.node.member) (texts_of n.node.notes) is.notes);
+  on_log = is.on_log;
+}
+
+pub fresh_of : {E : Type 0} (tree : Tree) (weights : List ℕ) (me : ℕ) (file : Text) → file ≡ []
+    → (result : Result (LoggedNode MemDisk) E) → IfOk result (IsNodeOf tree weights me file)
+    → IfOk result (IsFresh tree weights me)
+fresh_of tree weights me file empty (Ok n) is =
+    is_fresh tree weights me n (subst (λ (f : Text). IsNodeOf tree weights me f n) empty is)
+fresh_of tree weights me file empty (Err e) is = tt
 
 module _ (tree : Tree) (weights : List ℕ) (d : Division) (of_tree : d.tree ≡ tree) (divided : IsDivision d) where
   -- a fresh node is the one over that division
@@ -108,12 +119,3 @@ module _ (s : Scene) (tree : Tree) (weights : List ℕ) (of_tree : s.units.tree 
     disks = λ k x at. fresh_stands tree weights s.units of_tree divided (world_of s) refl weigh k x (fresh.each k x at);
     listed = listed;
   }
-
--- no event led to the start
-pub history_starts : (s : Scene) (weights : List ℕ) → world_of s ≡ start s.units weights → IsMade s.units weights → IsHistory (record { world = world_of s; events = [] })
-history_starts s weights starts made =
-    let weigh : s.weights ≡ weights = ap (λ (w : World). w.weights) starts in
-    record {
-      made = subst (IsMade s.units) (sym weigh) made;
-      led = starts ∙ ap (start s.units) (sym weigh);
-    }

@@ -2,6 +2,7 @@ pub mod Voting
 pub mod VoteSent
 pub mod Entering
 pub mod AtStart
+pub mod OnlyMemory
 pub mod Shown
 pub mod Taking
 pub mod PutBack

@@ -11,6 +11,7 @@ use Rattle.events.specs.Events as events
 use Rattle.headline.proofs.OneList.{each_run_is_acts}
 use Rattle.headline.specs.Local.{AreLocal, IsOfUnit}
 use Rattle.listing.specs.Tree.{Tree}
+use Rattle.node.proofs.Opened.{one_way}
 use Rattle.node.proofs.Sent.{notes_again}
 use Rattle.node.specs.OnLog.{identity, identity_of, texts_of}
 use Rattle.node.specs.State.{LoggedNode, NodeState, opened_node}
@@ -21,9 +22,7 @@ use Rattle.stable_record.specs.Opening.{Opens}
 use Rattle.stable_record.specs.declared.identity.Identity.{Identity}
 use Rattle.stable_record.specs.declared.log_fault.LogFault.{LogFault}
 use Rattle.stable_record.specs.declared.mem_disk.MemDisk.{MemDisk}
-use Rattle.units.proofs.Once.{one_division}
-use Rattle.units.specs.Division.{Division, IsDivision}
-use Rattle.units.specs.Units.{AreUnits}
+use Rattle.units.specs.Division.{Division, number_named}
 use Rattle.wire.specs.Messages.{IsNote}
 use Rattle.world.proofs.Growing.{leads_later}
 use Rattle.world.specs.Happening.{Restarts, fault_before, is_up, up_of}
@@ -33,18 +32,12 @@ use Rattle.running.specs.declared.placed.Placed.{Placed}
 use Rattle.running.specs.declared.placed.Placed.TheVariants.{Down, Up}
 use Rattle.running.specs.declared.placed.Rest.{Rest}
 use Rattle.running.specs.declared.scene.Scene.{Scene}
+use Rattle.running.specs.inside.Opening.{HasNode, IsNodeOf}
 use Rattle.running.specs.inside.Placing.{HasLeft, IsReached, IsStanding, StandsOn, disk_of, file_of, node_view, rest_view, world_of}
-use Rattle.running.specs.inside.Stopping.{HasReopened}
+use Rattle.running.proofs.OnlyMemory.{notes_have_node}
 use Rattle.running.proofs.PutBack.{stands_at}
 use Rattle.running.proofs.SceneWith.{IsBut, standing_with, world_with}
 use Rattle.running.proofs.StopsInside.{NoneApplies, get_mapped, get_some, none_applies, one_value}
-
--- a tree is divided in one way
-one_way : (d e : Division) → d.tree ≡ e.tree → IsDivision d → IsDivision e → d ≡ e
-one_way d e same a b =
-    let units : d.units ≡ e.units = one_division d.tree d.units e.units a.units
-    (subst (λ (t : Tree). AreUnits t e.units) (sym same) b.units) in
-    λ i. record { tree = same i; units = units i }
 
 -- what a file opens as
 abbrev opens_with : List Text → Result (List Text) LogFault
@@ -107,11 +100,22 @@ module _ (s : Scene) (me : ℕ) (standing : IsStanding s) (reached : IsReached (
   local : AreLocal w
   local = (each_run_is_acts w.division w.weights reached.events w reached.made reached.led).3
 
-  are_notes : All IsNote (rest_view r).notes
-  are_notes = All-weaker (IsOfUnit w) IsNote (λ n is. is.note) (rest_view r).notes
+  of_units : All (IsOfUnit w) (rest_view r).notes
+  of_units =
       (local.each me (rest_view r) (get_mapped node_view nodes me (Down r) its_rest.1)).notes
 
-  module _ (n : LoggedNode MemDisk) (h : HasReopened s.tree.now s.weights me (file_of r.disk) n) where
+  are_notes : All IsNote (rest_view r).notes
+  are_notes = All-weaker (IsOfUnit w) IsNote (λ n is. is.note) (rest_view r).notes of_units
+
+  -- so its file has a node
+  has_node : HasNode s.tree.now s.weights me (file_of r.disk)
+  has_node = subst (λ (t : Tree). HasNode t s.weights me (file_of r.disk)) standing.tree
+      (notes_have_node w.division reached.made.divided s.weights me (file_of r.disk)
+      (rest_view r).notes left.notes are_notes
+      (All-weaker (IsOfUnit w) (λ n. (u : ℕ) × (number_named w.division n.path ≡ Some u))
+      (λ n is. (is.unit, is.of_unit)) (rest_view r).notes of_units))
+
+  module _ (n : LoggedNode MemDisk) (h : IsNodeOf s.tree.now s.weights me (file_of r.disk) n) where
     owner : identity_of n.node.member ≡ identity s.tree.now s.weights me
     owner = ap (λ (x : NodeState). identity_of x.member) h.opened.node
         ∙ ap (λ t. identity t s.weights me) h.opened.of_tree
@@ -163,9 +167,13 @@ module _ (s : Scene) (me : ℕ) (standing : IsStanding s) (reached : IsReached (
     old_is : old ≡ Down r
     old_is = at_place old (stands_at nodes me old read place_within)
 
+    pub has_node_there : HasNode s.tree.now s.weights me (file_of (disk_of old))
+    has_node_there =
+        subst (λ x. HasNode s.tree.now s.weights me (file_of (disk_of x))) (sym old_is) has_node
+
     pub restarts_there : (n : LoggedNode MemDisk)
-        → HasReopened s.tree.now s.weights me (file_of (disk_of old)) n
+        → IsNodeOf s.tree.now s.weights me (file_of (disk_of old)) n
         → (t : Scene) → IsBut s t → t.nodes.items ≡ slice_set nodes me (Up n)
         → Restarts w me (world_of t) × IsStanding t
     restarts_there n h t but put = restarts n
-        (subst (λ x. HasReopened s.tree.now s.weights me (file_of (disk_of x)) n) old_is h) t but put
+        (subst (λ x. IsNodeOf s.tree.now s.weights me (file_of (disk_of x)) n) old_is h) t but put

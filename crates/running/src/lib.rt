@@ -2,6 +2,7 @@
 #![tactic(auto)]
 
 mod asked;
+mod opening;
 mod placed;
 mod posted;
 mod running;

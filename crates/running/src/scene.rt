@@ -3,10 +3,12 @@ ghost use Rattle.std.specs.Prelude.{◌≡◌, ◌<◌, IfOk, Some, length, slic
 ghost use Rattle.world.specs.Happening.{fault_before, is_up};
 ghost use Rattle.world.specs.World.{IsMade, node_at, start};
 ghost use Rattle.events.specs.Events.{event_view};
+ghost use Rattle.running.specs.inside.Opening.{HasUnits};
 ghost use Rattle.running.specs.inside.Placing.{IsStanding, world_of};
 ghost use Rattle.running.specs.inside.Starting.{AreFresh, IsFresh};
 
 use crate::asked::{is_bad_stop, is_restart, lacks_datagram, node_of};
+use crate::opening::opened;
 use crate::placed::Placed;
 use crate::posted::Posted;
 use ballots::Weights;
@@ -103,6 +105,7 @@ fn fresh_nodes<'a>(
     tree: &'a Tree,
     weights: &Weights,
 ) -> Result<Vec<Placed<'a>>, Memory>
+    requires { HasUnits tree.now }
     ensures { IfOk result (λ nodes. AreFresh tree.entry.now weights.now nodes.items) }
 {
     let mut nodes = Vec::with_capacity(alloc, weights.len())?;
@@ -119,12 +122,10 @@ fn fresh<'a>(
     weights: &Weights,
     me: u8,
 ) -> Result<Node<'a, MemDisk>, Memory>
-    requires { me < length weights.now }
+    requires member { me < length weights.now }
+    requires units { HasUnits tree.now }
     ensures { IfOk result (IsFresh tree.entry.now weights.now me) }
 {
     let disk = MemDisk::new(alloc, &[])?;
-    match Node::open(alloc, disk, tree, weights, me) {
-        Ok(node) => Ok(node),
-        Err(_) => Err(Memory),
-    }
+    opened(alloc, disk, tree, weights, me)
 }

@@ -148,7 +148,7 @@ impl<'a> Scene<'a> {
         host_fits(event);
         match &mut self.nodes[node_of(event) as usize] {
             Placed::Up(node) => take(&self.weights, &mut self.posted, node, event),
-            Placed::Down(_) => Err(NodeFault::Stopped),
+            Placed::Down(_) => unreachable!(),
         }
     }
 }

@@ -20,6 +20,7 @@ ghost use Rattle.faults.specs.Bytes.{Text};
 ghost use Rattle.node.specs.Step.{Asked, IsAsked};
 ghost use Rattle.world.specs.Happening.{IsRefusedByNode, Restarts, StopsIn, fault_before};
 ghost use Rattle.running.specs.inside.Asking.{CanBeAsked, asked_by, refused_by};
+ghost use Rattle.running.specs.inside.Opening.{HasNode, IsNodeOf};
 ghost use Rattle.running.specs.inside.Placing.{
   IsReached,
   IsStanding,
@@ -30,7 +31,6 @@ ghost use Rattle.running.specs.inside.Placing.{
 };
 ghost use Rattle.running.specs.inside.Stopping.{
   HasNotStopped,
-  HasReopened,
   IsNotStoppedWith,
   IsReady,
   IsStopped,
@@ -44,6 +44,7 @@ ghost use Rattle.running.specs.inside.Stopping.{
 };
 
 use crate::asked::{node_of, ready};
+use crate::opening::opened;
 use crate::placed::{Placed, Rest};
 use crate::scene::Scene;
 use ballots::Weights;
@@ -170,15 +171,13 @@ fn restarted<'a>(
     weights: &Weights,
     me: u8,
 ) -> Result<Node<'a, MemDisk>, Memory>
-    requires { me < length weights.now }
-    ensures { IfOk result (HasReopened tree.entry.now weights.now me
+    requires member { me < length weights.now }
+    requires node { HasNode tree.now weights.now me (file_of (disk_of placed.now)) }
+    ensures { IfOk result (IsNodeOf tree.entry.now weights.now me
         (file_of (disk_of placed.now))) }
 {
     let disk = placed.disk_with(alloc, &[])?;
-    match Node::open(alloc, disk, tree, weights, me) {
-        Ok(node) => Ok(node),
-        Err(_) => Err(Memory),
-    }
+    opened(alloc, disk, tree, weights, me)
 }
 
 impl<'a> Scene<'a> {

@@ -1,13 +1,11 @@
 -- What stops and restarts leave of nodes.
-use Rattle.std.specs.Prelude.{◌≡◌, ◌⊎◌, ◌++◌, ◌∷◌, ℕ, List, [], IfOk, Ok, Result, Some, length, slice_get, slice_set, true}
+use Rattle.std.specs.Prelude.{◌≡◌, ◌⊎◌, ◌++◌, ◌∷◌, ℕ, List, [], IfOk, Result, Some, length, slice_get, slice_set, true}
 use Rattle.events.specs.Events.{Event}
 use Rattle.events.specs.declared.event.Left.{Left}
 use Rattle.events.specs.declared.event.Left.TheVariants as left
 use Rattle.faults.specs.Answers.{map_ok}
 use Rattle.faults.specs.Bytes.{Text}
-use Rattle.listing.specs.Tree.{Tree}
-use Rattle.node.specs.Calls.{IsOpened}
-use Rattle.node.specs.OnLog.{IsOnLog, LacksRoom, identity, identity_of, texts_of}
+use Rattle.node.specs.OnLog.{IsOnLog, LacksRoom}
 use Rattle.node.specs.State.{LoggedNode}
 use Rattle.node.specs.Step.{IsReadyFor, ReadyStep, after, note_in, taken_by}
 use Rattle.node.specs.declared.fault.NodeFault.{NodeFault}
@@ -20,7 +18,6 @@ use Rattle.running.specs.inside.Asking.{IsReadied}
 use Rattle.running.specs.inside.Placing.{disk_of, file_of, node_view}
 use Rattle.stable_record.specs.History.{stands}
 use Rattle.stable_record.specs.InMemory.{mem_history}
-use Rattle.stable_record.specs.Opening.{HasOneAnswer, Opens}
 use Rattle.stable_record.specs.declared.log_fault.LogFault.TheVariants.{Full}
 use Rattle.stable_record.specs.declared.mem_disk.MemDisk.{MemDisk}
 
@@ -127,13 +124,3 @@ abbrev pub IsNotStoppedWith : Left → List Placed → List Placed → ℕ → R
 IsNotStoppedWith left.None old new place r f = ⊥
 IsNotStoppedWith (left.Torn torn) old new place r f = (new ≡ old) × (f ≡ node_fault.Memory)
 IsNotStoppedWith left.Whole old new place r f = HasNotStopped old new place r f
-
--- ---- a restart
-
--- The node is one of the file's notes, and on its log.
-pub record HasReopened (tree : Tree) (weights : List ℕ) (me : ℕ) (file : Text)
-    (n : LoggedNode MemDisk) : Type 0 where
-  pub opened : IsOpened tree weights me n.node
-  pub notes : Opens (identity_of n.node.member) file (Ok (texts_of n.node.notes))
-  pub one_answer : HasOneAnswer (identity tree weights me)
-  pub on_log : IsOnLog mem_history n

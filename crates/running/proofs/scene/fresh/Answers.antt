@@ -1,17 +1,18 @@
-use Rattle.std.proofs.Common.{Ok, subst}
-use Rattle.node.specs.OnLog.{identity_of, texts_of}
-use Rattle.stable_record.specs.History.{seen}
-use Rattle.stable_record.specs.Opening.{Opens}
-use Rattle.running.proofs.AtStart.{no_notes, none_spelled}
+use Rattle.std.proofs.Common.{ap, subst, sym}
+use Rattle.running.proofs.AtStart.{fresh_of}
+use Rattle.running.proofs.OnlyMemory.{nothing_has_node}
 use Rattle.running.proofs.scene.fresh.Goals as goal
+use Rattle.running.specs.inside.Opening.{HasNode}
+use Rattle.running.specs.inside.Placing.{file_of}
+use Rattle.stable_record.specs.History.{seen}
 
-pub returns-in-Ok : goal.returns-in-Ok
-returns-in-Ok c =
-    let n = c.in-Ok.node.node in
-    let owner = identity_of n.member in
-    let opens = subst (λ h. Opens owner (seen h) (Ok (texts_of n.notes))) c.in_ok-disk.ensures (c.in-Ok.ensures.notes tt) in
-    record {
-      opened = c.in-Ok.ensures.node;
-      empty = none_spelled n.notes (no_notes owner (texts_of n.notes) opens);
-      on_log = c.in-Ok.ensures.on_log tt;
-    }
+pub opened-requires-clause-node : goal.opened-requires-clause-node
+opened-requires-clause-node c =
+    subst (HasNode c.args.tree.now c.args.weights.now c.args.me)
+    (sym (ap seen c.in_ok-disk.ensures))
+    (nothing_has_node c.args.tree.now c.requires.units c.args.weights.now c.args.me)
+
+pub returns : goal.returns
+returns c =
+    fresh_of c.args.tree.now c.args.weights.now c.args.me (file_of c.in_ok-disk.disk)
+    (ap seen c.in_ok-disk.ensures) c.opened.result c.opened.ensures

@@ -1,18 +1,16 @@
-use Rattle.std.proofs.Common.{◌∙◌, Ok, append-nil, ap, subst}
-use Rattle.node.specs.OnLog.{identity_of, texts_of}
+use Rattle.std.proofs.Common.{◌∙◌, IfOk, append-nil, ap, subst, sym}
 use Rattle.running.proofs.stopping.restarted.Goals as goal
+use Rattle.running.specs.inside.Opening.{HasNode, IsNodeOf}
 use Rattle.running.specs.inside.Placing.{disk_of, file_of}
 use Rattle.stable_record.specs.History.{seen}
-use Rattle.stable_record.specs.Opening.{Opens}
 
-pub returns-in-Ok : goal.returns-in-Ok
-returns-in-Ok c =
-    let n = c.in-Ok.node in
+pub opened-requires-clause-node : goal.opened-requires-clause-node
+opened-requires-clause-node c =
     let file = ap seen c.in_ok-disk.ensures ∙ append-nil (file_of (disk_of c.args.placed.now)) in
-    record {
-      opened = c.in-Ok.ensures.node;
-      notes = subst (λ f. Opens (identity_of n.node.member) f (Ok (texts_of n.node.notes))) file
-          (c.in-Ok.ensures.notes tt);
-      one_answer = c.in-Ok.ensures.one_answer;
-      on_log = c.in-Ok.ensures.on_log tt;
-    }
+    subst (HasNode c.args.tree.now c.args.weights.now c.args.me) (sym file) c.requires.node
+
+pub returns : goal.returns
+returns c =
+    let file = ap seen c.in_ok-disk.ensures ∙ append-nil (file_of (disk_of c.args.placed.now)) in
+    subst (λ f. IfOk c.opened.result (IsNodeOf c.args.tree.now c.args.weights.now c.args.me f)) file
+    c.opened.ensures

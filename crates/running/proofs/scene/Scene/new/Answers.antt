@@ -3,6 +3,13 @@ use Rattle.running.proofs.AtStart.{scene_stands, world_starts}
 use Rattle.running.specs.declared.scene.Scene.{Scene}
 use Rattle.running.proofs.scene.Scene.new.Goals as goal
 
+pub fresh_nodes-requires : goal.fresh_nodes-requires
+fresh_nodes-requires c = (
+  c.in_ok-units.units,
+  c.in_ok-units.ensures,
+  c.len-count.ensures.division,
+)
+
 pub returns-clause-world : goal.returns-clause-world
 returns-clause-world c =
     let s : Scene = record { tree = c.args.tree; units = c.in_ok-units.units; weights = c.copy.result; nodes = c.in_ok-fresh_nodes.field-0; posted = c.new-2.result } in

@@ -1,14 +1,19 @@
 use Rattle.std.proofs.Common.{arith, refl}
 use Rattle.std.specs.Vec.{with_item}
-use Rattle.running.proofs.Restarting.{member_within, place_within, restarts_there}
+use Rattle.running.proofs.Restarting.{has_node_there, member_within, place_within, restarts_there}
 use Rattle.running.proofs.SceneWith.{IsBut}
 use Rattle.running.proofs.scene.Scene.restart.Goals as goal
 use Rattle.running.specs.declared.placed.Placed.TheVariants.{Up}
 use Rattle.running.specs.declared.scene.Scene.{Scene}
 
-pub restarted-requires : goal.restarted-requires
-restarted-requires c =
+pub restarted-requires-clause-member : goal.restarted-requires-clause-member
+restarted-requires-clause-member c =
     member_within c.args.self.now c.args.me c.requires.standing c.requires.reached c.requires.may
+
+pub restarted-requires-clause-node : goal.restarted-requires-clause-node
+restarted-requires-clause-node c =
+    has_node_there c.args.self.now c.args.me c.requires.standing c.requires.reached c.requires.may
+    c.index.result.now c.index.ensures
 
 pub index_mut-requires : goal.index_mut-requires
 index_mut-requires c =

@@ -49,24 +49,24 @@ left c =
     }) c.take.result c.take.ensures.taken c.take.ensures.same c.take.ensures.refused
     c.take.ensures.on_log c.take.ensures.listed
 
-pub returns-in-Up-clause-taken : goal.returns-in-Up-clause-taken
-returns-in-Up-clause-taken c =
+pub returns-clause-taken : goal.returns-clause-taken
+returns-clause-taken c =
     ok_steps_happen (world_of c.args.self.now) (world_of (scene_then c))
     (event_view c.args.event.now) c.requires.step c.take.result (left c).taken
 
-pub returns-in-Up-clause-same : goal.returns-in-Up-clause-same
-returns-in-Up-clause-same c = (left c).same
+pub returns-clause-same : goal.returns-clause-same
+returns-clause-same c = (left c).same
 
-pub returns-in-Up-clause-refused : goal.returns-in-Up-clause-refused
-returns-in-Up-clause-refused c = (left c).refused
+pub returns-clause-refused : goal.returns-clause-refused
+returns-clause-refused c = (left c).refused
 
-pub returns-in-Up-clause-standing : goal.returns-in-Up-clause-standing
-returns-in-Up-clause-standing c = (left c).standing
+pub returns-clause-standing : goal.returns-clause-standing
+returns-clause-standing c = (left c).standing
 
-pub returns-in-Down-clause-refused : goal.returns-in-Down-clause-refused
-returns-in-Down-clause-refused c =
-    absurd (never_down c.args.self.now (event_view c.args.event.now) c.requires.may
+pub unreachable-requires : goal.unreachable-requires
+unreachable-requires c =
+    never_down c.args.self.now (event_view c.args.event.now) c.requires.may
     (no_restart (event_view c.args.event.now) c.requires.step) (Down c.in-Down.field-0)
     (at_place c.args.self.now (event_view c.args.event.now) c.requires.may
-    (no_restart (event_view c.args.event.now) c.requires.step) c.node_of.result c.node_of.ensures c.index_mut.result.now
-    (Down c.in-Down.field-0) c.index_mut.ensures.value c.in-Down.is) refl)
+    (no_restart (event_view c.args.event.now) c.requires.step) c.node_of.result c.node_of.ensures
+    c.index_mut.result.now (Down c.in-Down.field-0) c.index_mut.ensures.value c.in-Down.is) refl

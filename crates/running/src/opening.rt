@@ -1,0 +1,33 @@
+//! Nodes over disks in memory.
+ghost use Rattle.std.specs.Prelude.{◌≡◌, ◌<◌, IfOk, length};
+ghost use Rattle.running.specs.inside.Opening.{HasNode, IsNodeOf};
+ghost use Rattle.running.specs.inside.Placing.{file_of};
+
+use ballots::Weights;
+use faults::Memory;
+use listing::Tree;
+use node::{Node, NodeFault};
+use stable_record::MemDisk;
+use std::alloc::Global;
+
+/// The node that the disk's notes restore. Such a disk never fails, and there is a node of its
+/// file, so nothing but memory may be wanting.
+pub(crate) fn opened<'a>(
+    alloc: Global,
+    disk: MemDisk,
+    tree: &'a Tree,
+    weights: &Weights,
+    me: u8,
+) -> Result<Node<'a, MemDisk>, Memory>
+    requires member { me < length weights.now }
+    requires node { HasNode tree.now weights.now me (file_of disk) }
+    ensures { IfOk result (IsNodeOf tree.entry.now weights.now me (file_of disk)) }
+{
+    match Node::open(alloc, disk, tree, weights, me) {
+        Ok(node) => Ok(node),
+        Err((fault, _)) => match fault {
+            NodeFault::Memory => Err(Memory),
+            _ => unreachable!(),
+        },
+    }
+}
