@@ -8,7 +8,7 @@ ghost use Rattle.traces.specs.Trace.{trace_of};
 
 use crate::refusal::Refusal;
 use crate::report::counts_text;
-use crate::writing::list_text;
+use crate::writing::put_list;
 use faults::Memory;
 use listing::Tree;
 use running::{World, run};
@@ -55,8 +55,7 @@ pub fn run_text(alloc: Global, world: &World<'_>) -> Result<Vec<u8>, Memory>
         let line = node_text(alloc, world, node)?;
         text.extend_from_slice(line.as_bytes())?;
     }
-    let list = list_text(alloc, world.agreed())?;
-    text.extend_from_slice(list.as_slice())?;
+    put_list(&mut text, world.agreed())?;
     Ok(text)
 }
 
