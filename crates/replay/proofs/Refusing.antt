@@ -8,15 +8,17 @@ use Rattle.listing.specs.declared.ListingFault.TheVariants.{Memory as ListingMem
 use Rattle.replay.specs.Held.{IsFirstFault}
 use Rattle.replay.specs.List.{IsFirstBadLine}
 use Rattle.replay.specs.Printed.{IsDescribed}
-use Rattle.replay.specs.Refusals.{RefusesHeld, RefusesList, RefusesListing, held_refusal, list_refusal, listing_refusal, memory_refusal}
+use Rattle.replay.specs.Refusals.{RefusesHeld, RefusesList, RefusesListing, held_refusal, list_refusal, listing_refusal, memory_refusal, trace_refusal}
 use Rattle.replay.specs.Rules.{rules_for}
-use Rattle.replay.specs.Runs.{RefusesRun, RefusesTrace}
-use Rattle.replay.specs.Stopped.{RefusesAuditFiles, RefusesListingFile, RefusesRunFiles, RefusesStatusFiles}
+use Rattle.replay.specs.Runs.{RefusesEvent, RefusesRun, RefusesTrace}
+use Rattle.replay.specs.Stopped.{RefusesAuditFiles, RefusesListingFile, RefusesRunFiles, RefusesStatusFiles, RefusesTraceFile}
 use Rattle.replay.specs.declared.held.HeldFault.{HeldFault}
 use Rattle.replay.specs.declared.held.HeldFault.TheVariants.{Memory as HeldMemory}
 use Rattle.replay.specs.declared.list.ListFault.{ListFault}
 use Rattle.replay.specs.declared.list.ListFault.TheVariants.{Memory as ListMemory}
 use Rattle.replay.specs.declared.refusal.Refusal.{Refusal}
+use Rattle.traces.specs.Faults.{IsTraceFault}
+use Rattle.traces.specs.declared.TraceFault.{TraceFault}
 
 -- want of memory, or a listing's fault
 pub listing_refused : (rules : Rules) (listing : Text) (e : ListingFault) (r : Refusal) → (e ≡ ListingMemory) ⊎ (tree_of rules listing ≡ Err e) → r ≡ listing_refusal e
@@ -41,6 +43,12 @@ pub trace_refused : (rules : Rules) (listing trace : Text) (tree : Tree) (r : Re
     → (r ≡ memory_refusal) ⊎ RefusesTrace tree trace r → (r ≡ memory_refusal) ⊎ RefusesRun rules listing trace r
 trace_refused rules listing trace tree r described (inl memory) = inl memory
 trace_refused rules listing trace tree r described (inr refused) = inr (inr (tree, described, refused))
+
+-- want of memory, or what is told of an event
+pub event_refused : (tree : Tree) (trace : Text) (r : Refusal) → (r ≡ memory_refusal) ⊎ RefusesEvent tree trace r
+    → (r ≡ memory_refusal) ⊎ RefusesTrace tree trace r
+event_refused tree trace r (inl memory) = inl memory
+event_refused tree trace r (inr refused) = inr (inr refused)
 
 -- the first of two texts is refused, or else the second
 pub first_refused : {A B C : Type 0} → A ⊎ B → A ⊎ (B ⊎ C)
@@ -69,10 +77,20 @@ pub list_in_file : (is_single : Bool) (list : Text) (tree : Tree) (e : ListFault
 list_in_file is_single list tree e described (inl memory) = inl (inl (ap list_refusal memory))
 list_in_file is_single list tree e (listing, described) (inr fault) = inr (listing, list, inr (tree, described, e, fault, refl))
 
-pub trace_in_file : (is_single : Bool) (trace : Text) (tree : Tree) (r : Refusal) → IsDescribed is_single tree → (r ≡ memory_refusal) ⊎ RefusesTrace tree trace r
+-- want of memory, or a fault of the text of a trace
+pub trace_by_text : (trace : Text) (e : TraceFault) → IsTraceFault trace e → RefusesTraceFile (trace_refusal e)
+trace_by_text trace e is_fault = inr (trace, (e, is_fault, refl))
+
+-- no trace is in the file
+pub trace_in_file : (is_single : Bool) (tree : Tree) (r : Refusal) → IsDescribed is_single tree → RefusesTraceFile r → RefusesRunFiles is_single r
+trace_in_file is_single tree r described (inl system) = inl system
+trace_in_file is_single tree r (listing, described) (inr (trace, refused)) = inr (listing, trace, inr (tree, described, inl refused))
+
+-- an event of the trace in the file is refused
+pub events_in_file : (is_single : Bool) (trace : Text) (tree : Tree) (r : Refusal) → IsDescribed is_single tree → (r ≡ memory_refusal) ⊎ RefusesEvent tree trace r
     → RefusesRunFiles is_single r
-trace_in_file is_single trace tree r described (inl memory) = inl (inl memory)
-trace_in_file is_single trace tree r (listing, described) (inr refused) = inr (listing, trace, inr (tree, described, refused))
+events_in_file is_single trace tree r described (inl memory) = inl (inl memory)
+events_in_file is_single trace tree r (listing, described) (inr refused) = inr (listing, trace, inr (tree, described, inr refused))
 
 -- what is told of the first file is told of both
 pub status_by_listing : (is_single : Bool) (r : Refusal) → RefusesListingFile is_single r → RefusesStatusFiles is_single r

@@ -8,7 +8,7 @@ use Rattle.faults.specs.Bytes.{Text}
 use Rattle.replay.specs.Printed.{HasBegun}
 use Rattle.replay.specs.Refusals.{IsSystemRefusal, RefusesAudit, RefusesListing, RefusesStatus, memory_refusal}
 use Rattle.replay.specs.Rules.{rules_for}
-use Rattle.replay.specs.Runs.{RefusesRun}
+use Rattle.replay.specs.Runs.{RefusesRun, RefusesText}
 use Rattle.replay.specs.declared.refusal.Refusal.{Refusal}
 use Rattle.replay.specs.declared.stop.Stop.{Stop}
 use Rattle.replay.specs.declared.stop.Stop.TheVariants.{Refused, Unwritten, WrongWords}
@@ -32,6 +32,10 @@ StopsBy e stop =
 abbrev pub RefusesListingFile : Bool → Refusal → Type 0
 RefusesListingFile is_single r =
     IsSystemRefusal r ⊎ ((listing : Text) × RefusesListing (rules_for is_single) listing r)
+
+-- the file of a trace can't be read, or this is told of a text that is no trace
+abbrev pub RefusesTraceFile : Refusal → Type 0
+RefusesTraceFile r = IsSystemRefusal r ⊎ ((trace : Text) × RefusesText trace r)
 
 -- one of the two files can't be read, or this is told of the texts in them
 abbrev pub RefusesStatusFiles : Bool → Refusal → Type 0

@@ -1,16 +1,19 @@
 //! The text of `dpbr run`.
-ghost use Rattle.std.specs.Prelude.{◌≡◌, ◌⊎◌, IfErr, IfOk, string_bytes};
+ghost use Rattle.std.specs.Prelude.{◌≡◌, ◌⊎◌, IfErr, IfOk, Ok, string_bytes};
+ghost use Rattle.faults.specs.Bytes.{Text};
 ghost use Rattle.replay.specs.Refusals.{memory_refusal};
-ghost use Rattle.replay.specs.Runs.{IsNodeLine, IsOutcome, IsRunOf, RefusesTrace};
+ghost use Rattle.replay.specs.Runs.{IsNodeLine, IsOutcome, IsRunOf, RefusesEvent, RefusesTrace};
+ghost use Rattle.traces.specs.Faults.{trace_view};
+ghost use Rattle.traces.specs.Trace.{trace_of};
 
 use crate::refusal::Refusal;
 use crate::report::counts_text;
-use crate::writing::list_text;
+use crate::writing::put_list;
 use faults::Memory;
 use listing::Tree;
 use running::{World, run};
 use std::alloc::{AllocError, Global};
-use traces::read_trace;
+use traces::{Trace, read_trace};
 
 /// What is printed once the trace was run: for each node how many packages have each letter, or
 /// that it is down, a line each; and then the agreed list.
@@ -24,6 +27,20 @@ pub fn run_of_trace(alloc: Global, tree: &Tree, trace: &[u8]) -> Result<Vec<u8>,
         (λ r. (r ≡ memory_refusal) ⊎ RefusesTrace tree.now trace.now r) }
 {
     let trace = read_trace(alloc, trace)?;
+    run_of_events(alloc, tree, &trace)
+}
+
+/// The same of a trace that was read.
+///
+/// # Errors
+///
+/// Memory; else that of its first event that is refused.
+pub(crate) fn run_of_events(alloc: Global, tree: &Tree, trace: &Trace) -> Result<Vec<u8>, Refusal>
+    ensures ok { (read : Text) → trace_of read ≡ Ok (trace_view trace.now)
+        → IfOk result (λ text. IsRunOf tree.now read text.items) }
+    ensures refused { (read : Text) → trace_of read ≡ Ok (trace_view trace.now)
+        → IfErr result (λ r. (r ≡ memory_refusal) ⊎ RefusesEvent tree.now read r) }
+{
     let world = run(alloc, tree, &trace.weights, trace.events.as_slice())?;
     let text = run_text(alloc, &world)?;
     Ok(text)
@@ -38,8 +55,7 @@ pub fn run_text(alloc: Global, world: &World<'_>) -> Result<Vec<u8>, Memory>
         let line = node_text(alloc, world, node)?;
         text.extend_from_slice(line.as_bytes())?;
     }
-    let list = list_text(alloc, world.agreed())?;
-    text.extend_from_slice(list.as_slice())?;
+    put_list(&mut text, world.agreed())?;
     Ok(text)
 }
 

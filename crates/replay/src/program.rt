@@ -1,11 +1,12 @@
 //! The program `dpbr`.
 ghost use Rattle.std.specs.Prelude.{◌≡◌, ◌≤◌, ◌⊎◌, Bool, IfErr, IfOk, map, string_bytes};
 ghost use Rattle.std.specs.Io.KnownBytes.{Keeps};
-ghost use Rattle.replay.specs.Printed.{HasCarriedOut, HasPrinted, IsAudit, IsDescribed, IsOutputOf, IsRun, IsStatus};
-ghost use Rattle.replay.specs.Stopped.{CannotCarryOut, HasFailed, HasStopped, RefusesAuditFiles, RefusesCall, RefusesListingFile, RefusesRunFiles, RefusesStatusFiles};
+ghost use Rattle.replay.specs.Printed.{HasCarriedOut, HasPrinted, IsAudit, IsDescribed, IsOutputOf, IsRun, IsSpelled, IsStatus};
+ghost use Rattle.replay.specs.Stopped.{CannotCarryOut, HasFailed, HasStopped, RefusesAuditFiles, RefusesCall, RefusesListingFile, RefusesRunFiles, RefusesStatusFiles, RefusesTraceFile};
+ghost use Rattle.traces.specs.Faults.{trace_view};
 ghost use Rattle.words.specs.Calls.{AreTaken};
 
-use crate::outcome::run_of_trace;
+use crate::outcome::run_of_events;
 use crate::printing::print;
 use crate::refusal::Refusal;
 use crate::report::status;
@@ -16,6 +17,7 @@ use listing::Tree;
 use std::fs;
 use std::io::Write;
 use std::rt::Files;
+use traces::{Trace, read_trace};
 use words::{Call, dpbr_words};
 
 /// Carries out the call that the words make, and gives the status with which the program ends: 0; 3
@@ -217,7 +219,17 @@ fn run_in_file<R: Files + AllocGlobal>(rt: &R, tree: &Tree, trace: &str) -> Resu
     ensures refused { (is_single : Bool) → IsDescribed is_single tree.now
         → IfErr result (RefusesRunFiles is_single) }
 {
-    let trace = fs::read(rt, trace)?;
-    let text = run_of_trace(rt.alloc(), tree, trace.as_slice())?;
+    let trace = trace_of_file(rt, trace)?;
+    let text = run_of_events(rt.alloc(), tree, &trace)?;
     Ok(Answer { text, status: 0 })
+}
+
+/// The trace in a file. Its text is let go of before the trace is run.
+fn trace_of_file<R: Files + AllocGlobal>(rt: &R, trace: &str) -> Result<Trace, Refusal>
+    ensures ok { IfOk result (λ trace. IsSpelled (trace_view trace)) }
+    ensures refused { IfErr result RefusesTraceFile }
+{
+    let text = fs::read(rt, trace)?;
+    let trace = read_trace(rt.alloc(), text.as_slice())?;
+    Ok(trace)
 }

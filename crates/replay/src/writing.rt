@@ -15,10 +15,18 @@ pub fn list_text(alloc: Global, list: &[Record]) -> Result<Vec<u8>, Memory>
     ensures { IfOk result (λ text. text.items ≡ list_text list.now) }
 {
     let mut text = Vec::new(alloc);
-    for package in list {
-        put_package(&mut text, package)?;
-    }
+    put_list(&mut text, list)?;
     Ok(text)
+}
+
+/// Appends the text of the list.
+pub(crate) fn put_list(text: &mut Vec<u8>, list: &[Record]) -> Result<(), Memory>
+    ensures { OnOk result (text.new.items ≡ text.old.items ++ list_text list.now) }
+{
+    for package in list {
+        put_package(text, package)?;
+    }
+    Ok(())
 }
 
 /// Appends the lines of a package.

@@ -36,13 +36,16 @@ audit_command = command (codes "audit") (word (codes "LISTING") ∷ word (codes 
 abbrev pub run_command : Shape
 run_command = command (codes "run") (word (codes "LISTING") ∷ word (codes "TRACE") ∷ single ∷ [])
 
--- the program with its subcommands on lists alone; it has to be given a subcommand
-abbrev pub list_app : App
-list_app =
+-- the program with its subcommand on letters alone; it has to be given a subcommand
+abbrev pub letters_app : App
+letters_app =
     let program = new_app (codes "dpbr") in
-    fold with_subcommand
-    (record program { top = record program.top { subcommand_required = true } })
-    (status_command ∷ audit_command ∷ [])
+    with_subcommand
+    (record program { top = record program.top { subcommand_required = true } }) status_command
+
+-- the program with its subcommands on lists alone
+abbrev pub list_app : App
+list_app = with_subcommand letters_app audit_command
 
 -- the program
 unfoldable pub dpbr_app : App

@@ -3,7 +3,7 @@
 
 ghost use Rattle.std.specs.Prelude.{◌≡◌, IfNone, IfOk, IfSome, map};
 ghost use Rattle.clap.specs.Words.{FailsBy, app_of, subcommand_rows_of};
-ghost use Rattle.words.specs.Calls.{IsCallOf, NamesCall, dpbr_app, faults_of, list_app, matched};
+ghost use Rattle.words.specs.Calls.{IsCallOf, NamesCall, dpbr_app, faults_of, letters_app, list_app, matched};
 
 mod arguments;
 mod audit;
@@ -94,9 +94,16 @@ fn dpbr_command<'a>(alloc: Global) -> Result<Command<'a>, AllocError>
 fn with_lists<'a>(alloc: Global) -> Result<Command<'a>, AllocError>
     ensures { IfOk result (λ command. app_of command ≡ list_app) }
 {
+    with_letters(alloc)?.subcommand(audit::command(alloc)?)
+}
+
+/// The same of its subcommand on letters alone.
+fn with_letters<'a>(alloc: Global) -> Result<Command<'a>, AllocError>
+    ensures { IfOk result (λ command. app_of command ≡ letters_app) }
+{
+    let status = status::command(alloc)?;
     Command::new(alloc, "dpbr")
         .about("Letters, audits and runs of a bulk build of ports.")
         .subcommand_required(true)
-        .subcommand(status::command(alloc)?)?
-        .subcommand(audit::command(alloc)?)
+        .subcommand(status)
 }

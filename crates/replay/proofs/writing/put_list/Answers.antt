@@ -1,6 +1,6 @@
 use Rattle.replay.specs.ListText.{record_lines}
 use Rattle.replay.proofs.FlatLines.{flat_next}
-use Rattle.replay.proofs.writing.list_text.Goals as goal
+use Rattle.replay.proofs.writing.put_list.Goals as goal
 
 pub loop-package-preserved : goal.loop-package-preserved
 loop-package-preserved c =
