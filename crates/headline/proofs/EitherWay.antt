@@ -1,5 +1,5 @@
 -- Each event happens, or is refused.
-use Rattle.std.proofs.Common.{◌≡◌, ◌⊎◌, ◌<◌, ℕ, zero, suc, Bool, true, false, not, ◌&&◌, nat_le, List, [], ◌∷◌, length, Option, None, Some, Result, Ok, Err, slice_get, refl, sym, ap, subst, ◌∙◌, arith, inl, inr, ⊎_elim}
+use Rattle.std.proofs.Common.{◌≡◌, ◌⊎◌, ℕ, Bool, true, false, not, ◌&&◌, nat_le, List, [], ◌∷◌, length, Option, None, Some, Result, Ok, Err, slice_get, refl, sym, ap, subst, ◌∙◌, arith, inl, inr, ⊎_elim}
 use Rattle.std.proofs.lemmas.Bool.{cases_lt, leb-false, true≢false}
 use Rattle.faults.specs.Answers.{first_that_applies}
 use Rattle.ballots.specs.declared.message.Note.{Note}
@@ -23,6 +23,7 @@ use Rattle.stable_record.specs.declared.log_fault.LogFault.TheVariants.{Full}
 use Rattle.units.specs.Division.{number_found}
 use Rattle.world.specs.Happening.{Acts, Asks, Happens, HasRoomFor, IsRefused, IsUp, Steps, fault_before, is_bad_stop, is_restart, is_up, lacks_datagram, left_node, leaves_note, stepped, up_of}
 use Rattle.world.specs.Laws.{ClaimedShowsALetter}
+use Rattle.world.proofs.Growing.{get_some}
 use Rattle.world.specs.Lists.{IsListAfter}
 use Rattle.world.specs.Sent.{with_sends}
 use Rattle.world.specs.World.{World, WorldNode, down_node, member_at, node_at, restarted_node, with_node}
@@ -51,13 +52,6 @@ none_applies false false false false true x y z u v h =
     absurd (let wrong : Some v ≡ None = h in cc)
 none_applies false false false false false x y z u v h =
     record { first = refl; second = refl; third = refl; fourth = refl; fifth = refl }
-
--- what stands at a place within a list
-get_some : {X : Type 0} (xs : List X) (k : ℕ) → k < length xs → (x : X)
-    × (slice_get xs k ≡ Some x)
-get_some [] k lt = absurd (omega (arith, lt))
-get_some (x ∷ xs) zero lt = (x, refl)
-get_some (x ∷ xs) (suc k) lt = get_some xs k (omega (arith, lt))
 
 not_false : (b : Bool) → not b ≡ false → b ≡ true
 not_false true e = refl

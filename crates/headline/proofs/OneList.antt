@@ -104,7 +104,7 @@ module _ (runs : EachRunIsActs) (again : BuildTextIsReadAgain) (division : Divis
   has_one_list : HasOneList division weights events last
   has_one_list = record {
     grows = list_grows division weights events last led;
-    one = one_a_path division weights events last led;
+    one_a_path = one_a_path division weights events last led;
     built = always_built;
     fits = always_fits;
     held = always_listed runs again division weights made events last led;

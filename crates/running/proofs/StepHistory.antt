@@ -47,7 +47,7 @@ listed_there h is = at_end h.world.division h.world.weights (λ early w. HeldIsL
 
 one_there : (h : History) → IsHistory h → HasOneAPath h.world
 one_there h is = at_end h.world.division h.world.weights (λ early w. HasOneAPath w) (taken h)
-    h.world (has_one_list h is).one
+    h.world (has_one_list h is).one_a_path
 
 -- so where the list only grew, nodes before and after hold alike
 pub alike_so : (old new : History) → IsHistory old → IsHistory new

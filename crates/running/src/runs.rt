@@ -89,7 +89,7 @@ pub fn run<'a>(
     // At each moment of the run.
     ensures grows { IfOk result
         (λ w. AlongRun w (λ early v. IsBeginningOf v.agreed w.world.agreed)) }
-    ensures one { IfOk result (λ w. AlongRun w (λ early v. HasOneAPath v)) }
+    ensures one_a_path { IfOk result (λ w. AlongRun w (λ early v. HasOneAPath v)) }
     ensures built { IfOk result (λ w. AlongRun w (λ early v.
         All (WasBuilt w.world.division w.world.weights early) v.agreed)) }
     ensures fits { IfOk result (λ w. AlongRun w (λ early v. AllFit v)) }

@@ -1,17 +1,23 @@
 -- What stays as it was whatever happens, and what is only added to.
-use Rattle.std.proofs.Common.{◌≡◌, ℕ, Bool, true, false, cond, List, [], ◌∷◌, ◌++◌, length, refl, sym, ap, subst, ◌∙◌, append_assoc, append-nil, inl, inr}
+use Rattle.std.proofs.Common.{◌≡◌, ◌<◌, ℕ, zero, suc, Bool, true, false, cond, List, [], ◌∷◌, ◌++◌, length, Option, None, Some, slice_get, slice_set, refl, sym, ap, subst, ◌∙◌, append_assoc, append-nil, arith, inl, inr, ⊎_elim}
 use Rattle.std.specs.List.{list_any}
 use Rattle.std.proofs.lemmas.List.{length-set}
+use Rattle.std.proofs.lemmas.Option.{same_Some, slice_get_within}
 use Rattle.faults.specs.Bytes.{Text}
-use Rattle.events.specs.Events.{Event, Claim, Built, Failed, Nudge, Ask, Deliver, Stop, StopIn, Restart}
+use Rattle.events.specs.Events.{Event, Claim, Built, Failed, Nudge, Ask, Deliver, Stop, StopIn, Restart, node_of}
 use Rattle.events.specs.declared.event.Left.{Left}
+use Rattle.events.specs.declared.event.Left.TheVariants as left
+use Rattle.agreement.proofs.Nodes.{get_set}
+use Rattle.ballots.specs.declared.message.Note.{Note}
+use Rattle.node.specs.State.{with_note}
+use Rattle.node.specs.Step.{after}
 use Rattle.package_record.specs.Content.{Content}
 use Rattle.protocol.specs.State.{Value}
 use Rattle.units.specs.Division.{Division}
-use Rattle.world.specs.Happening.{Happens, Leads, Restarts, Steps, Stops, StopsIn}
+use Rattle.world.specs.Happening.{Happens, Leads, Restarts, Steps, Stops, StopsIn, left_node}
 use Rattle.world.specs.Headline.{AtEachMoment, IsBeginningOf, IsLater}
 use Rattle.world.specs.Lists.{IsListAfter, has_path, with_build}
-use Rattle.world.specs.World.{World, WorldNode, start, with_node}
+use Rattle.world.specs.World.{World, WorldNode, down_node, node_at, restarted_node, start, up_node, with_node}
 use Rattle.world.proofs.Leading.{leads_in_parts}
 use Rattle.world.proofs.Sending.{sends_behind}
 
@@ -49,12 +55,78 @@ list_longer w after list (inl (build, decided, e)) =
     let g = with_build_longer w.agreed build in (g.0, e ∙ g.1)
 list_longer w after list (inr (none, e)) = ([], e ∙ sym (append-nil w.agreed))
 
+-- ---- notes
+
+-- the notes of each node come behind what it had noted
+abbrev NotesStay : World → World → Type 0
+NotesStay w v =
+    (k : ℕ) (x y : WorldNode) → slice_get w.nodes k ≡ Some x → slice_get v.nodes k ≡ Some y
+    → (more : List (Note Value)) × (y.notes ≡ x.notes ++ more)
+
+-- what stands at a place within a list
+pub get_some : {X : Type 0} (xs : List X) (k : ℕ) → k < length xs → (x : X)
+    × (slice_get xs k ≡ Some x)
+get_some [] k lt = absurd (omega (arith, lt))
+get_some (x ∷ xs) zero lt = (x, refl)
+get_some (x ∷ xs) (suc k) lt = get_some xs k (omega (arith, lt))
+
+same_notes : (w v : World) → v ≡ w → NotesStay w v
+same_notes w v e k x y before after =
+    let same = same_Some y x (sym after ∙ ap (λ (u : World). slice_get u.nodes k) e ∙ before) in
+    ([], ap (λ (z : WorldNode). z.notes) same ∙ sym (append-nil x.notes))
+
+-- one node noted more, or not
+one_notes : (w v : World) (n : ℕ) (x y : WorldNode) → slice_get w.nodes n ≡ Some x
+    → v.nodes ≡ slice_set w.nodes n y
+    → (more : List (Note Value)) × (y.notes ≡ x.notes ++ more) → NotesStay w v
+one_notes w v n x y at nodes more k a b before after = ⊎_elim
+    (λ h.
+    let same = same_Some a x (sym before ∙ ap (slice_get w.nodes) h.0 ∙ at) in (
+      more.0,
+      ap (λ (z : WorldNode). z.notes) h.1 ∙ more.1
+          ∙ ap (λ (z : WorldNode). z.notes ++ more.0) (sym same),
+    ))
+    (λ h.
+    let same = same_Some b a (sym h.1 ∙ before) in
+    ([], ap (λ (z : WorldNode). z.notes) same ∙ sym (append-nil a.notes)))
+    (get_set w.nodes n k y b (ap (λ l. slice_get l k) (sym nodes) ∙ after))
+
+with_note_longer : (notes : List (Note Value)) (noted : Option (Note Value))
+    → (more : List (Note Value)) × (with_note notes noted ≡ notes ++ more)
+with_note_longer notes None = ([], sym (append-nil notes))
+with_note_longer notes (Some n) = (n ∷ [], refl)
+
+left_longer : (l : Left) (notes : List (Note Value)) (noted : Option (Note Value))
+    → (more : List (Note Value)) × ((left_node l notes noted).notes ≡ notes ++ more)
+left_longer left.None notes noted = ([], sym (append-nil notes))
+left_longer (left.Torn bytes) notes noted = ([], sym (append-nil notes))
+left_longer left.Whole notes noted = with_note_longer notes noted
+
+-- what comes behind what came behind
+behind_again : {X : Type 0} (a b c : List X) → (more : List X) × (b ≡ a ++ more) → (more : List X)
+    × (c ≡ b ++ more)
+    → (more : List X) × (c ≡ a ++ more)
+behind_again a b c f s = (f.0 ++ s.0, s.1 ∙ ap (λ l. l ++ s.0) f.1 ∙ append_assoc a f.0 s.0)
+
+notes_again : (w u v : World) → length u.nodes ≡ length w.nodes → NotesStay w u → NotesStay u v
+    → NotesStay w v
+notes_again w u v long f s k x y before after =
+    let lt = slice_get_within w.nodes k x before in
+    let between = get_some u.nodes k (omega (arith, lt, long)) in
+    behind_again x.notes (between.0).notes y.notes (f k x between.0 before between.1)
+    (s k between.0 y between.1 after)
+
+-- ---- an event
+
 -- another node is in its place, and nothing was sent
-one_other : (w v : World) (n : ℕ) (x : WorldNode) → v ≡ with_node w n x → IsLater w v
-one_other w v n x e = record {
+one_other : (w v : World) (n : ℕ) (x y : WorldNode) → slice_get w.nodes n ≡ Some x
+    → (more : List (Note Value)) × (y.notes ≡ x.notes ++ more) → v ≡ with_node w n y
+    → IsLater w v
+one_other w v n x y at more e = record {
   division = ap (λ u. u.division) e;
   weights = ap (λ u. u.weights) e;
-  nodes = ap (λ u. length u.nodes) e ∙ length-set w.nodes n x;
+  nodes = ap (λ u. length u.nodes) e ∙ length-set w.nodes n y;
+  notes = one_notes w v n x y at (ap (λ u. u.nodes) e) more;
   sent = ([], ap (λ u. u.sent) e ∙ sym (append-nil w.sent));
   agreed = ([], ap (λ u. u.agreed) e ∙ sym (append-nil w.agreed));
 }
@@ -66,15 +138,21 @@ step_later w v e s =
       division = ap (λ u. u.division) s.leaves;
       weights = ap (λ u. u.weights) s.leaves;
       nodes = ap (λ u. length u.nodes) s.leaves ∙ length-set w.nodes _ _;
+      notes = one_notes w v (node_of e) s.node
+          (up_node (after (node_at w (node_of e) s.node) s.taken)) s.acts.is_up.stands
+          (ap (λ u. u.nodes) s.leaves) (with_note_longer s.node.notes s.taken.answer.note);
       sent = (more.0, ap (λ u. u.sent) s.leaves ∙ more.1);
       agreed = list_longer w _ v.agreed s.list;
     }
 
 pub event_later : (w v : World) (e : Event) → Happens w e v → IsLater w v
 event_later = by_kind IsLater step_later
-    (λ w v e l s. one_other w v _ _ s.leaves)
-    (λ w v n s. one_other w v n _ s.leaves)
-    (λ w v n s. one_other w v n _ s.leaves)
+    (λ w v e l s. one_other w v (node_of e) s.node _ s.acts.is_up.stands
+    (left_longer l s.node.notes s.taken.answer.note) s.leaves)
+    (λ w v n s. one_other w v n s.node (down_node s.node.notes []) s.is_up.stands
+    ([], sym (append-nil s.node.notes)) s.leaves)
+    (λ w v n s. one_other w v n s.node (restarted_node s.node.notes) s.stands
+    ([], sym (append-nil s.node.notes)) s.leaves)
 
 -- and so it is with events in turn
 pub same_later : (w v : World) → v ≡ w → IsLater w v
@@ -82,21 +160,17 @@ same_later w v e = record {
   division = ap (λ u. u.division) e;
   weights = ap (λ u. u.weights) e;
   nodes = ap (λ u. length u.nodes) e;
+  notes = same_notes w v e;
   sent = ([], ap (λ u. u.sent) e ∙ sym (append-nil w.sent));
   agreed = ([], ap (λ u. u.agreed) e ∙ sym (append-nil w.agreed));
 }
-
--- what comes behind what came behind
-behind_again : {X : Type 0} (a b c : List X) → (more : List X) × (b ≡ a ++ more) → (more : List X)
-    × (c ≡ b ++ more)
-    → (more : List X) × (c ≡ a ++ more)
-behind_again a b c f s = (f.0 ++ s.0, s.1 ∙ ap (λ l. l ++ s.0) f.1 ∙ append_assoc a f.0 s.0)
 
 then_later : (w u v : World) → IsLater w u → IsLater u v → IsLater w v
 then_later w u v f s = record {
   division = s.division ∙ f.division;
   weights = s.weights ∙ f.weights;
   nodes = s.nodes ∙ f.nodes;
+  notes = notes_again w u v f.nodes f.notes s.notes;
   sent = behind_again w.sent u.sent v.sent f.sent s.sent;
   agreed = behind_again w.agreed u.agreed v.agreed f.agreed s.agreed;
 }

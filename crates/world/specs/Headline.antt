@@ -8,6 +8,7 @@ use Rattle.agreement.specs.declared.claim.Claim.{Claim}
 use Rattle.auditing.specs.Allowed.{IsAllowed}
 use Rattle.auditing.specs.Fits.{Fits}
 use Rattle.auditing.specs.declared.entry.Entry.{Entry}
+use Rattle.ballots.specs.declared.message.Note.{Note}
 use Rattle.claims.specs.Job.{Task}
 use Rattle.claims.specs.declared.deps.Dep.{Dep}
 use Rattle.engine.specs.State as engine
@@ -99,12 +100,14 @@ AtEachMoment division weights events last P =
 abbrev pub IsBeginningOf : List Content → List Content → Type 0
 IsBeginningOf list longer = (more : List Content) × (longer ≡ list ++ more)
 
--- The later world has the division, the weights and the number of nodes of the earlier one, and
--- what was sent and what is agreed there comes behind what was.
+-- The later world has the division, the weights and the number of nodes of the earlier one; and
+-- what each node noted, what was sent and what is agreed there comes behind what was.
 pub record IsLater (w later : World) : Type 0 where
   pub division : later.division ≡ w.division
   pub weights : later.weights ≡ w.weights
   pub nodes : length later.nodes ≡ length w.nodes
+  pub notes : (k : ℕ) (x y : WorldNode) → slice_get w.nodes k ≡ Some x
+      → slice_get later.nodes k ≡ Some y → (more : List (Note Value)) × (y.notes ≡ x.notes ++ more)
   pub sent : (more : List Text) × (later.sent ≡ w.sent ++ more)
   pub agreed : IsBeginningOf w.agreed later.agreed
 
@@ -156,7 +159,7 @@ pub record HasOneList (division : Division) (weights : List ℕ) (events : List 
     : Type 0 where
   pub grows : AtEachMoment division weights events last
       (λ early w. IsBeginningOf w.agreed last.agreed)
-  pub one : AtEachMoment division weights events last (λ early w. HasOneAPath w)
+  pub one_a_path : AtEachMoment division weights events last (λ early w. HasOneAPath w)
   pub built : AtEachMoment division weights events last
       (λ early w. All (WasBuilt division weights early) w.agreed)
   pub fits : AtEachMoment division weights events last (λ early w. AllFit w)

@@ -17,7 +17,7 @@ pub fn events_in_parts()
 {}
 
 /// Whatever happens, from any world on: the tree, its units, the weights and the number of nodes
-/// stay, and what was sent and what is agreed is only added to.
+/// stay, and what each node noted, what was sent and what is agreed is only added to.
 pub fn events_lead_to_later_worlds()
     ensures { EventsLeadToLaterWorlds }
 {}
@@ -26,7 +26,7 @@ pub fn events_lead_to_later_worlds()
 /// package a path.
 pub fn lists_grow()
     ensures grows { ListsGrow }
-    ensures one { ListsHaveOneAPath }
+    ensures one_a_path { ListsHaveOneAPath }
 {}
 
 /// What was sent keeps its number, and no datagram has two.

@@ -4,8 +4,8 @@ use Rattle.running.proofs.runs.run.Goals as goal
 pub returns-clause-grows : goal.returns-clause-grows
 returns-clause-grows c = (has_one_list c.in_ok-world.world c.in_ok-world.ensures.history).grows
 
-pub returns-clause-one : goal.returns-clause-one
-returns-clause-one c = (has_one_list c.in_ok-world.world c.in_ok-world.ensures.history).one
+pub returns-clause-one_a_path : goal.returns-clause-one_a_path
+returns-clause-one_a_path c = (has_one_list c.in_ok-world.world c.in_ok-world.ensures.history).one_a_path
 
 pub returns-clause-built : goal.returns-clause-built
 returns-clause-built c = (has_one_list c.in_ok-world.world c.in_ok-world.ensures.history).built

@@ -5,5 +5,5 @@ use Rattle.world.proofs.laws.lists_grow.Goals as goal
 pub returns-clause-grows : goal.returns-clause-grows
 returns-clause-grows c = list_grows
 
-pub returns-clause-one : goal.returns-clause-one
-returns-clause-one c = one_a_path
+pub returns-clause-one_a_path : goal.returns-clause-one_a_path
+returns-clause-one_a_path c = one_a_path
