@@ -14,10 +14,10 @@ use Rattle.agreement.proofs.Order.{claim_same_true}
 use Rattle.protocol.specs.State.{Value}
 
 -- a vote as it is sent
-abbrev vote_of : ℕ → Claim → messages.Message Value
+abbrev pub vote_of : ℕ → Claim → messages.Message Value
 vote_of k c = messages.Vote k c
 
-votes_same : (a c : Claim) (i j : ℕ) → Some (vote_of i a) ≡ Some (vote_of j c)
+pub votes_same : (a c : Claim) (i j : ℕ) → Some (vote_of i a) ≡ Some (vote_of j c)
     → (j ≡ i) × (a ≡ c)
 votes_same a c i j e = (cc, cc)
 

@@ -47,10 +47,11 @@ use Rattle.running.specs.inside.Placing.{IsReached, IsStanding, StandsOn, disk_o
 use Rattle.running.specs.inside.Posting.{AreListed, AreSame, list_in, sent_in}
 use Rattle.running.specs.inside.Stepping.{RefusesStep, TakesStep, with_decision}
 use Rattle.running.specs.inside.Stopping.{IsStopped}
+use Rattle.running.proofs.ByStep.{IsByStep, by_step, note_answered, sends_answered}
 use Rattle.running.proofs.Listing.{step_lists}
 use Rattle.running.proofs.NodeStands.{same_so, stopped_so, took_so}
 use Rattle.running.proofs.SceneWith.{IsBut, put_again, standing_with, stands_there, world_with}
-use Rattle.running.proofs.StopsInside.{NoneApplies, asks_so, can_be_asked, full_of_lack, get_mapped, get_some, lack_of_full, none_applies, one_value}
+use Rattle.running.proofs.StopsInside.{NoneApplies, asks_so, can_be_asked, full_of_lack, get_mapped, get_some, lack_of_full, none_applies}
 
 was_true : (b : Bool) → not b ≡ false → b ≡ true
 was_true true e = refl
@@ -78,47 +79,6 @@ leaves_its_note (events.Deliver d n) is = refl
 leaves_its_note (events.Stop n) is = absurd (true≢false (sym is))
 leaves_its_note (events.StopIn e l) is = absurd (true≢false (sym is))
 leaves_its_note (events.Restart n) is = absurd (true≢false (sym is))
-
--- ---- what a step refuses
-
--- A step never wants memory, nor does it ask the log.
-abbrev IsByStep : Result Taken NodeFault → Type 0
-IsByStep (Ok t) = Prim.Unit {0}
-IsByStep (Err fault.Memory) = ⊥
-IsByStep (Err (fault.Refused r)) = Prim.Unit {0}
-IsByStep (Err (fault.Log f)) = ⊥
-IsByStep (Err fault.Stopped) = Prim.Unit {0}
-IsByStep (Err (fault.Foreign f)) = Prim.Unit {0}
-
-taken_by_step : (pieces : List Piece) (r : Result Answer Refusal) → IsByStep (taken pieces r)
-taken_by_step pieces (Ok a) = tt
-taken_by_step pieces (Err r) = tt
-
-heard_by_step : (pieces : List Piece) (r : Result Answer Refusal) → IsByStep (heard pieces r)
-heard_by_step pieces (Ok a) = tt
-heard_by_step pieces (Err r) = tt
-
-arrived_by_step : (s : State) (a : Arrival) → IsByStep (step_on s a)
-arrived_by_step s (Strange f pieces) = tt
-arrived_by_step s (Waits pieces) = tt
-arrived_by_step s (Whole m pieces) = heard_by_step pieces (members.heard s m)
-
-by_step : (w : World) (k : ℕ) (x : WorldNode) (asked : Asked) (f : NodeFault)
-    → Takes (node_at w k x) asked (Err f) → IsByStep (Err f)
-by_step w k x (Does input) f takes = subst IsByStep (sym takes.right_is)
-    (taken_by_step x.pieces (members.answer (member_at w k x) takes.letter input))
-by_step w k x (Comes text) f takes = subst IsByStep (sym takes.right_is)
-    (arrived_by_step (member_at w k x) (arrival_of (member_at w k x) x.pieces (datagram_of text)))
-
--- ---- what is noted and sent
-
-note_answered : (s : State) (p : Option Prepared) → (answer_then s p).note ≡ note_in p
-note_answered s None = refl
-note_answered s (Some p) = refl
-
-sends_answered : (s : State) (p : Option Prepared) → (answer_then s p).sends ≡ sends_in p
-sends_answered s None = refl
-sends_answered s (Some p) = refl
 
 -- ---- a scene with another node at a place, and other tables
 
@@ -373,8 +333,8 @@ module _ (s : Scene) (e : Event) (standing : IsStanding s) (reached : IsReached 
           → (m.node ≡ n.node) × ((f ≡ fault.Memory) ⊎ IsRefusedByNode w e (refused_by f))
       is_refused f (inl memory) = (memory.1, inl memory.0)
       is_refused f (inr (inl none)) =
-          let r = refused_so f (by_step w k x none.asked f (takes_there none.asked (Err f)
-          none.refuses)) none.asked none.asks none.refuses m.node none.leaves in
+          let r = refused_so f (by_step (node_at w k x) none.asked f refl (takes_there none.asked
+          (Err f) none.refuses)) none.asked none.asks none.refuses m.node none.leaves in
           (r.0, inr r.1)
       is_refused f (inr (inr full)) = (
         full.leaves,
