@@ -59,7 +59,7 @@ module _ (tree : Tree) (weights : List ℕ) (d : Division) (of_tree : d.tree ≡
   fresh_is me n is =
       let o = is.opened in
       let same : o.division ≡ d = one_way o.division d
-          (o.of_tree ∙ sym of_tree) o.divided divided in
+      (o.of_tree ∙ sym of_tree) o.divided divided in
       o.node ∙ (λ i. opened_node (same i) weights me (is.empty i))
 
   -- the world sees it as one that is fresh
@@ -73,7 +73,7 @@ module _ (tree : Tree) (weights : List ℕ) (d : Division) (of_tree : d.tree ≡
   fresh_stands w ed ew me (Up n) is =
       let right : (m : NodeState) → m ≡ opened_node d weights me [] → m ≡ node_at w me (up_node m) =
       λ m e. subst (λ (o : NodeState). o ≡ node_at w me (up_node o)) (sym e)
-          (λ i. opened_node (sym ed i) (sym ew i) me []) in
+      (λ i. opened_node (sym ed i) (sym ew i) me []) in
       (right n.node (fresh_is me n is), is.on_log)
   fresh_stands w ed ew me (Down r) is = absurd is
 
@@ -89,7 +89,7 @@ pub all_fresh : (tree : Tree) (weights : List ℕ) (d : Division) → d.tree ≡
     → map node_view nodes ≡ replicate (length weights) fresh_node
 all_fresh tree weights d of_tree divided nodes are =
     alike node_view fresh_node nodes (λ k x at. seen_fresh tree weights d of_tree divided k x
-        (are.each k x at))
+    (are.each k x at))
     ∙ ap (λ n. replicate n fresh_node) are.count
 
 -- ---- one node more
@@ -111,7 +111,7 @@ pub fresh_more : (tree : Tree) (weights : List ℕ) (nodes now : List Placed) (n
 fresh_more tree weights nodes now n me each count fresh is k x at = ⊎_elim
     (λ old. each k x old)
     (λ new. subst (λ y. IsUpFresh tree weights k y) new.1
-        (subst (λ j. IsFresh tree weights j n) (sym (new.0 ∙ count)) fresh))
+    (subst (λ j. IsFresh tree weights j n) (sym (new.0 ∙ count)) fresh))
     (one_node nodes (Up n) x k (ap (λ l. slice_get l k) (sym is) ∙ at))
 
 -- ---- the world at the start

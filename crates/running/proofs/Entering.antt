@@ -100,7 +100,7 @@ pub text_entered : (keys now : List (Vec ℕ Global)) (text : Text) (v : Vec ℕ
     → map (λ d. d.items) now ≡ with_datagram (map (λ d. d.items) keys) text
 text_entered keys now text v is e =
     ap (map (λ (d : Vec ℕ Global). d.items)) e
-        ∙ by_case (list_any (λ w. bytes_eq v.items w.items) keys)
+    ∙ by_case (list_any (λ w. bytes_eq v.items w.items) keys)
     ∙ ap (λ b. cond b sent (sent ++ v.items ∷ [])) (among_texts v.items keys)
     ∙ ap (with_datagram sent) is
   where
@@ -123,19 +123,19 @@ flat_map_push f (y ∷ ys) x = ap (λ l. f y ++ l) (flat_map_push f ys x)
 pub receivers_more : (sent : List Text) (receivers : List ℕ) (texts : List Text) (i : ℕ)
     (now : List Text) → i < length receivers
     → now ≡ fold with_datagram (fold with_datagram sent
-        (map (λ s. s.1) (parcels_to (take i receivers) texts))) texts
+    (map (λ s. s.1) (parcels_to (take i receivers) texts))) texts
     → now ≡ fold with_datagram sent (map (λ s. s.1) (parcels_to (take (i + 1) receivers) texts))
 receivers_more sent receivers texts i now within is =
     let r = get_or receivers i 0 in
     let before = parcels_to (take i receivers) texts in
     is ∙ sym (fold-append with_datagram sent (map (λ (s : ℕ × Text). s.1) before) texts)
     ∙ ap (λ l. fold with_datagram sent (map (λ (s : ℕ × Text). s.1) before ++ l))
-        (sym (texts_alone texts r))
+    (sym (texts_alone texts r))
     ∙ ap (fold with_datagram sent) (sym (map-append (λ (s : ℕ × Text). s.1) before
-        (each_to texts r)))
+    (each_to texts r)))
     ∙ ap (λ l. fold with_datagram sent (map (λ (s : ℕ × Text). s.1) l))
     (sym (flat_map_push (each_to texts) (take i receivers) r)
-        ∙ ap (λ l. parcels_to l texts) (sym (take_more receivers i 0 within)))
+    ∙ ap (λ l. parcels_to l texts) (sym (take_more receivers i 0 within)))
 
 -- ---- the list
 
@@ -164,7 +164,7 @@ not_before : (ts : List Text) → AllPairs ◌≢◌ ts → (i : ℕ) → i < le
     → list_any (bytes_eq (get_or ts i [])) (take i ts) ≡ false
 not_before ts apart i within = list_any_none (bytes_eq (get_or ts i [])) (take i ts) (λ k d below.
     by_case k d (omega (arith, below, length-take i ts))
-        (bytes_eq (get_or ts i []) (get_or (take i ts) k d)) refl)
+    (bytes_eq (get_or ts i []) (get_or (take i ts) k d)) refl)
   where
     by_case : (k : ℕ) (d : Text) → k < i → (b : Bool)
         → bytes_eq (get_or ts i []) (get_or (take i ts) k d) ≡ b
@@ -172,9 +172,9 @@ not_before ts apart i within = list_any_none (bytes_eq (get_or ts i [])) (take i
     by_case k d below false e = e
     by_case k d below true e =
         let same : get_or ts i [] ≡ get_or ts k d =
-            same_bytes (get_or ts i []) (get_or (take i ts) k d) e ∙ get_or-take i ts k d below in
+        same_bytes (get_or ts i []) (get_or (take i ts) k d) e ∙ get_or-take i ts k d below in
         absurd (apart k i [] below within (get_or_default ts k [] d (omega (arith, below, within))
-            ∙ sym same))
+        ∙ sym same))
 
 -- So the path of the build's next package is new beside the list and those before it.
 pub next_is_new : (list build : List Content) → IsBuild build
@@ -183,20 +183,20 @@ pub next_is_new : (list build : List Content) → IsBuild build
     → list_any (bytes_eq r.path) (paths_of (list ++ take i build)) ≡ false
 next_is_new list build is none i r within here =
     let path : get_or (paths_of build) i [] ≡ r.path =
-        get_or-map (λ (c : Content). c.path) build i r [] within
-        ∙ ap (λ (c : Content). c.path) (sym here) in
+    get_or-map (λ (c : Content). c.path) build i r [] within
+    ∙ ap (λ (c : Content). c.path) (sym here) in
     let long : length (paths_of build) ≡ length build =
-        length-map build (λ (c : Content). c.path) in
+    length-map build (λ (c : Content). c.path) in
     let old : has_path list r.path ≡ false = ap (λ (c : Content). has_path list c.path) here
-        ∙ none_at (λ c. has_path list c.path) build i r within none in
+    ∙ none_at (λ c. has_path list c.path) build i r within none in
     let new : list_any (bytes_eq r.path) (take i (paths_of build)) ≡ false =
     subst (λ p. list_any (bytes_eq p) (take i (paths_of build)) ≡ false) path
     (not_before (paths_of build) (build_paths_differ (unit_path build) build
-        (record { build_is = is; unit = refl })) i (omega (arith, within, long))) in
+    (record { build_is = is; unit = refl })) i (omega (arith, within, long))) in
     ap (list_any (bytes_eq r.path)) (map-append (λ (c : Content). c.path) list (take i build))
     ∙ list_any-append (bytes_eq r.path) (paths_of list) (paths_of (take i build))
     ∙ ap (λ b. b || list_any (bytes_eq r.path) (paths_of (take i build)))
-        (paths_have list r.path ∙ old)
+    (paths_have list r.path ∙ old)
     ∙ ap (list_any (bytes_eq r.path)) (sym (take-map (λ (c : Content). c.path) i build)) ∙ new
 
 -- then it goes behind the others, and so its package does
@@ -210,11 +210,11 @@ pub path_entered : (list build : List Content) → IsBuild build
 path_entered list build is none i r within here keys now old new listed before entered appended =
     let absent : list_any (bytes_eq r.path) keys ≡ false =
     ap (list_any (bytes_eq r.path)) (listed ∙ ap paths_of before)
-        ∙ next_is_new list build is none i r within here in
+    ∙ next_is_new list build is none i r within here in
     let last : now ≡ keys ++ r.path ∷ [] = entered
-        ∙ ap (λ b. cond b keys (keys ++ r.path ∷ [])) absent in
+    ∙ ap (λ b. cond b keys (keys ++ r.path ∷ [])) absent in
     let more : take i build ++ r ∷ [] ≡ take (i + 1) build = ap (λ x. take i build ++ x ∷ []) here
-        ∙ sym (take_more build i r within) in (
+    ∙ sym (take_more build i r within) in (
       last ∙ ap (λ l. l ++ r.path ∷ []) listed
           ∙ sym (map-append (λ (c : Content). c.path) old (r ∷ [])) ∙ ap paths_of (sym appended),
       appended ∙ ap (λ l. l ++ r ∷ []) before ∙ append_assoc list (take i build) (r ∷ [])

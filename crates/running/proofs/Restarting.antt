@@ -127,7 +127,7 @@ module _ (s : Scene) (me : ℕ) (standing : IsStanding s) (reached : IsReached (
         (h.one_answer.no_second (file_of r.disk) (Ok (texts_of n.node.notes))
         (Ok (texts_of (rest_view r).notes))
         (subst (λ (i : Identity). Opens i (file_of r.disk) (Ok (texts_of n.node.notes))) owner
-            h.notes)
+        h.notes)
         (inr (subst (λ (t : Tree). HasNotes (identity t s.weights me) (texts_of (rest_view r).notes)
         (file_of r.disk)) standing.tree left.notes)))
 

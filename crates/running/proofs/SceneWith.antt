@@ -75,7 +75,7 @@ module _ (s t : Scene) (is : IsBut s t) (k : ℕ) (x : Placed)
   pub world_with : world_of t ≡ with_node (world_of s) k (node_view x)
   world_with =
       let nodes : map node_view t.nodes.items
-          ≡ slice_set (map node_view s.nodes.items) k (node_view x) =
+      ≡ slice_set (map node_view s.nodes.items) k (node_view x) =
       ap (map node_view) put ∙ map-set node_view s.nodes.items k x in
       λ i. record {
         division = is.units i;

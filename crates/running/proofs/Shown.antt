@@ -24,8 +24,13 @@ use Rattle.running.specs.inside.Placing.{IsStanding, StandsOn, disk_of, file_of,
 notes_long : (i : Identity) (notes : List (List ℕ)) (file : List ℕ) (has : HasNotes i notes file)
     → length file ≡ gate_place i notes + 1 + length has.behind
 notes_long i notes file has =
-    omega (arith, ap length has.parts, length-append (header i ++ entries notes)
-        (has.gate ∷ has.behind), length-append (header i) (entries notes))
+    omega (
+      arith,
+      ap length has.parts,
+      length-append (header i ++ entries notes)
+          (has.gate ∷ has.behind),
+      length-append (header i) (entries notes),
+    )
 
 -- The file of a node that stands on its disk is as long as the world says.
 pub file_long : (w : World) (k : ℕ) (p : Placed) → StandsOn w k p
@@ -34,17 +39,23 @@ file_long w k (Up n) stands =
     let s = stands.1.holds.settled in
     let texts = texts_of n.node.notes in
     let own : n.log.identity ≡ identity w.division.tree w.weights k = stands.1.owner
-        ∙ ap (λ (m : NodeState). identity_of m.member) stands.0 in
+    ∙ ap (λ (m : NodeState). identity_of m.member) stands.0 in
     let long : length (file_of (disk_of (Up n))) ≡ gate_place n.log.identity texts + 1 + 0 =
     notes_long n.log.identity texts (file_of n.log.disk)
-        (record { gate = s.gate; behind = []; parts = s.file; closed = s.closed; lengths =
-        s.lengths }) in
+    (record {
+      gate = s.gate;
+      behind = [];
+      parts = s.file;
+      closed = s.closed;
+      lengths =
+          s.lengths;
+    }) in
     long ∙ ap (λ (i : Identity). gate_place i texts + 1 + 0) own
 file_long w k (Down r) stands =
     let i = identity w.division.tree w.weights k in
     notes_long i (texts_of (node_view (Down r)).notes) (file_of r.disk) stands.notes
     ∙ ap (λ (behind : List ℕ). gate_place i (texts_of (node_view (Down r)).notes) + 1 + length
-        behind) stands.behind
+    behind) stands.behind
 
 -- ---- nodes of a world
 
@@ -53,7 +64,7 @@ view_at : (nodes : List Placed) (k : ℕ) (p : Placed) (x : WorldNode) → slice
     → slice_get (map node_view nodes) k ≡ Some x → node_view p ≡ x
 view_at nodes k p x there e =
     let shown : Some (node_view p) ≡ Some x =
-        sym (slice_get-map node_view nodes k ∙ ap (option_map node_view) there) ∙ e in cc
+    sym (slice_get-map node_view nodes k ∙ ap (option_map node_view) there) ∙ e in cc
 
 -- a number of a node that is up is one of a node
 pub up_within : (nodes : List Placed) (k : ℕ) → up_of (slice_get (map node_view nodes) k) ≡ true
@@ -62,7 +73,7 @@ up_within nodes k up = ⊎_elim
     (λ within. within)
     (λ past.
     let none : false ≡ true = sym (ap up_of (slice_get_past (map node_view nodes) k
-        (omega (arith, past, length-map nodes node_view)))) ∙ up in
+    (omega (arith, past, length-map nodes node_view)))) ∙ up in
     absurd (let no : false ≡ true = none in cc))
     (cases_lt k (length nodes))
 
@@ -73,7 +84,7 @@ module _ (s : Scene) (standing : IsStanding s) (k : ℕ) (x : WorldNode)
       → n.node ≡ node_at (world_of s) k x
   node_shown n there =
       subst (λ y. n.node ≡ node_at (world_of s) k y) (view_at s.nodes.items k (Up n) x there at)
-          (standing.disks k (Up n) there).0
+      (standing.disks k (Up n) there).0
 
   -- Its file is as long as the world says.
   pub file_shown : (p : Placed) → slice_get s.nodes.items k ≡ Some p
@@ -86,5 +97,10 @@ module _ (s : Scene) (standing : IsStanding s) (k : ℕ) (x : WorldNode)
 pub few_nodes : (h : History) → IsHistory h → length h.world.nodes ≤ most_members
 few_nodes h is =
     let later = leads_later (start h.world.division h.world.weights) h.world (taken h) is.led in
-    omega (arith, later.nodes, length-replicate
-        (length h.world.weights) fresh_node, few_members h.world.weights is.made.weigh)
+    omega (
+      arith,
+      later.nodes,
+      length-replicate
+          (length h.world.weights) fresh_node,
+      few_members h.world.weights is.made.weigh,
+    )

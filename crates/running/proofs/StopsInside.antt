@@ -434,7 +434,7 @@ module _ (s : Scene) (e : Event) (standing : IsStanding s) (reached : IsReached 
       let n = its_node s e (left.Torn torn) standing reached may in
       let is = standing.disks (events.node_of e) (Up n.0) n.1 in
       let same : stopped.node ≡ Up n.0 = some_same stopped.node (Up n.0)
-          (sym stopped.stood ∙ n.1) in
+      (sym stopped.stood ∙ n.1) in
       down_so s e (left.Torn torn) standing reached may x r h fits t but stopped.rest stopped.nodes
       (torn_so (world_of s) (events.node_of e) n.0 is torn stopped.rest
       (stopped.disk ∙ ap (λ y. stands (file_of (disk_of y) ++ torn) ∷ []) same)
@@ -454,7 +454,7 @@ module _ (s : Scene) (e : Event) (standing : IsStanding s) (reached : IsReached 
 
       by : (y : Placed) → TookStep (Up n.0) r y
           → IsStopped (slice_set s.nodes.items (events.node_of e) y) t.nodes.items
-              (events.node_of e)
+          (events.node_of e)
           → StopsIn (world_of s) e left.Whole (world_of t) × IsStanding t
       by (Down d) took stop = absurd took
       by (Up m) took stop =
@@ -510,7 +510,7 @@ module _ (s : Scene) (e : Event) (standing : IsStanding s) (reached : IsReached 
       by (Down d) stays put = absurd stays
       by (Up m) stays put =
           let u = up_again s e left.Whole standing reached may t but m put stays.node
-              stays.on_log in (
+          stays.on_log in (
             u.0,
             u.1,
             ⊎_elim (λ memory. inl memory)

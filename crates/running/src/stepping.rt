@@ -21,7 +21,7 @@ ghost use Rattle.running.specs.inside.Stepping.{
 };
 
 use crate::World;
-use crate::asked::{node_of, ready, refused};
+use crate::asked::{finished, node_of, ready, refused};
 use crate::placed::Placed;
 use crate::posted::Posted;
 use crate::scene::Scene;
@@ -180,7 +180,7 @@ fn finish(
         ⊎ ((f ≡ NodeFault.Log LogFault.Full) × LacksRoom node.old.log (note_in ready.step))) }
 {
     grow(weights, posted, node, &ready)?;
-    node.finish(ready)?;
+    finished(node, ready)?;
     Ok(())
 }
 

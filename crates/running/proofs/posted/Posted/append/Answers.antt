@@ -14,10 +14,10 @@ loop-package-preserved c =
     let is = subst IsBuild (sym c.packages-packages.ensures) c.unit_path-unit.ensures.build in
     let within : i < length build = omega arith in
     let both = path_entered (list_in c.args.self.now) build is
-        (sym c.has_any.ensures ∙ c.if-has_any.false) i r within c.package-item.is
+    (sym c.has_any.ensures ∙ c.if-has_any.false) i r within c.package-item.is
     before.listed.keys after.listed.keys (list_in before) (list_in after)
     c.loop-package.invariant.listed c.loop-package.invariant.list
-        c.in_ok-append_package.ensures.listed c.in_ok-append_package.ensures.ok in
+    c.in_ok-append_package.ensures.listed c.in_ok-append_package.ensures.ok in
     record {
       listed = both.0;
       list = both.1;

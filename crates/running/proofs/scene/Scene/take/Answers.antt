@@ -19,7 +19,7 @@ take-requires-clause-on_log c =
     c.requires.may c.requires.step c.in-Up.node
     (at_place c.args.self.now (event_view c.args.event.now) c.requires.may
     (no_restart (event_view c.args.event.now) c.requires.step) c.node_of.result c.node_of.ensures
-        c.index_mut.result.now
+    c.index_mut.result.now
     (Up c.in-Up.node) c.index_mut.ensures.value c.in-Up.is)).1
 
 -- the scene that the call leaves
@@ -39,7 +39,7 @@ left c =
     c.requires.may c.requires.step c.in-Up.node
     (at_place c.args.self.now (event_view c.args.event.now) c.requires.may
     (no_restart (event_view c.args.event.now) c.requires.step) c.node_of.result c.node_of.ensures
-        c.index_mut.result.now
+    c.index_mut.result.now
     (Up c.in-Up.node) c.index_mut.ensures.value c.in-Up.is)
     (c.host_fits.ensures (sent_in c.args.self.now.posted)) c.take.new.node (scene_then c)
     (record {
