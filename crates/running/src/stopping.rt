@@ -167,7 +167,7 @@ fn stop_with(
 /// Puts a node in the place of another.
 fn put<'a>(nodes: &mut Vec<Placed<'a>>, place: usize, placed: Placed<'a>)
     requires { place < length nodes.old.items }
-    ensures { nodes.new.items ≡ slice_set nodes.old.items place placed }
+    ensures { nodes.new.items ≡ slice_set nodes.old.items place placed.entry }
 {
     nodes[place] = placed;
 }
