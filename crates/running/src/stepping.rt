@@ -179,7 +179,10 @@ fn finish(
     ensures refused { IfErr result (λ f. (f ≡ NodeFault.Memory)
         ⊎ ((f ≡ NodeFault.Log LogFault.Full) × LacksRoom node.old.log (note_in ready.step))) }
 {
-    grow(weights, posted, node, &ready)?;
+    let Ok(()) = grow(weights, posted, node, &ready) else {
+        drop(ready);
+        return Err(NodeFault::Memory);
+    };
     finished(node, ready)?;
     Ok(())
 }
