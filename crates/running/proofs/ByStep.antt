@@ -1,5 +1,5 @@
 -- What a node's step refuses, notes and sends.
-use Rattle.std.proofs.Common.{◌≡◌, Bool, false, List, Option, None, Some, Result, Ok, Err, refl, sym, subst}
+use Rattle.std.proofs.Common.{◌≡◌, false, List, Option, None, Some, Result, Ok, Err, refl, sym, subst}
 use Rattle.member.specs.Prepared.{Prepared}
 use Rattle.node.specs.Arrival.{Arrival, Strange, Waits, Whole, arrival_of}
 use Rattle.node.specs.State.{NodeState}

@@ -1,5 +1,5 @@
 -- A member that sends a vote notes it, or has noted it.
-use Rattle.std.proofs.Common.{◌≡◌, ◌⊎◌, ◌&&◌, ℕ, Bool, true, false, not, List, Option, None, Some, max, suc, slice_get, option_map, refl, sym, ap, subst, ◌∙◌, inl, inr, true≢false}
+use Rattle.std.proofs.Common.{◌≡◌, ◌⊎◌, ◌&&◌, ℕ, true, not, List, Option, None, Some, max, suc, slice_get, option_map, refl, sym, subst, ◌∙◌, inl, inr, true≢false}
 use Rattle.std.proofs.lemmas.Bool.{and_parts, cond_both}
 use Rattle.agreement.specs.Claims.{claim_same, is_above, is_below, is_promised}
 use Rattle.agreement.specs.Member as members

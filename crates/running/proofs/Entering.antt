@@ -17,7 +17,7 @@ use Rattle.package_record.specs.Build.{IsBuild, paths_of, unit_path}
 use Rattle.package_record.specs.Content.{Content}
 use Rattle.units.proofs.Places.{same_bytes}
 use Rattle.world.proofs.Distinct.{build_paths_differ}
-use Rattle.world.specs.Lists.{has_path, with_build}
+use Rattle.world.specs.Lists.{has_path}
 use Rattle.world.specs.Sent.{with_datagram}
 use Rattle.running.specs.declared.posted.Posted.{Posted}
 use Rattle.running.specs.inside.Posting.{HasGrown, list_in, sent_in}

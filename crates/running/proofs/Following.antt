@@ -1,5 +1,5 @@
 -- What follows for a world from the events that led to it.
-use Rattle.std.proofs.Common.{◌≡◌, List, [], ◌∷◌, ◌++◌, refl, subst, sym}
+use Rattle.std.proofs.Common.{◌≡◌, [], ◌∷◌, ◌++◌, refl, subst, sym}
 use Rattle.events.specs.Events.{Event}
 use Rattle.headline.proofs.OneList.{each_has_one_list, each_run_is_acts}
 use Rattle.headline.proofs.Runs.{always_alike}

@@ -1,6 +1,6 @@
 -- The list after a step is the one with the build that its vote decides.
-use Rattle.std.proofs.Common.{◌≡◌, ◌<◌, ◌⊎◌, ◌==◌, ◌&&◌, ◌||◌, ℕ, zero, suc, Bool, true, false, not, List, [], ◌∷◌, ◌++◌, length, Option, None, Some, nat_lt, option_map, slice_get, slice_set, refl, sym, ap, ap₂, subst, ◌∙◌, arith, inl, inr, ⊎_elim, eq-eqb, eqb-true, lt-ltb, true≢false}
-use Rattle.std.specs.Prelude.{All, Contains, option_and_then, if◌then◌else◌}
+use Rattle.std.proofs.Common.{◌≡◌, ◌<◌, ◌⊎◌, ◌==◌, ◌&&◌, ℕ, zero, suc, Bool, true, false, not, List, [], ◌∷◌, length, Option, None, Some, nat_lt, option_map, slice_get, slice_set, refl, sym, ap, ap₂, subst, ◌∙◌, arith, inl, inr, ⊎_elim, eq-eqb, eqb-true, lt-ltb, true≢false}
+use Rattle.std.specs.Prelude.{Contains, option_and_then, if◌then◌else◌}
 use Rattle.std.proofs.lemmas.Bool.{and_from, and_parts, cond-false, cond-true, or_cases, or_left, or_right}
 use Rattle.std.proofs.lemmas.List.Elements.{All-contains, Contains-append_right}
 use Rattle.faults.specs.Answers.{option_or}
@@ -47,7 +47,7 @@ use Rattle.package_record.proofs.BuildsRead.{build_is_read}
 use Rattle.protocol.specs.Answers.{Answer, tree_digest}
 use Rattle.protocol.specs.Laws.{Says}
 use Rattle.protocol.specs.State.{State, Value}
-use Rattle.protocol.specs.Step.{facts_named, facts_of_unit}
+use Rattle.protocol.specs.Step.{facts_of_unit}
 use Rattle.protocol.specs.declared.sends.Send.{Send}
 use Rattle.units.specs.Division.{number_found, number_of}
 use Rattle.units.proofs.Lists.{same_answers}
@@ -55,13 +55,12 @@ use Rattle.units.proofs.Names.{name_is_found}
 use Rattle.wire.specs.Messages.{IsBody, IsMessage}
 use Rattle.wire.specs.Pieces.{split_of}
 use Rattle.wire.specs.Spelling.{datagram_text}
-use Rattle.wire.specs.declared.datagram.Datagram.TheVariants as datagrams
 use Rattle.world.specs.Happening.{Acts}
 use Rattle.world.specs.Lists.{IsDecided, IsListAfter}
-use Rattle.world.specs.Sent.{WasProposed, WasSent, message, voters, with_sends}
+use Rattle.world.specs.Sent.{WasProposed, message, voters, with_sends}
 use Rattle.world.specs.World.{IsMade, World, WorldNode, member_at, node_at, up_node}
 use Rattle.world.proofs.Sending.{among_is, is_found, sends_come, sends_stay, sends_there}
-use Rattle.running.specs.inside.Deciding.{claim_voted, decided_by, decision, makes_majority, message_in, same_claim, sender_place, value_under, voted_by, voted_in, voters_in, voters_of}
+use Rattle.running.specs.inside.Deciding.{claim_voted, decided_by, decision, makes_majority, message_in, same_claim, value_under, voted_by, voted_in, voters_in, voters_of}
 use Rattle.running.specs.inside.Placing.{IsReached}
 use Rattle.running.specs.inside.Stepping.{with_decision}
 use Rattle.running.proofs.Casting.{IsNotedVote, vote_of, votes_are_noted, votes_same}

@@ -1,5 +1,5 @@
 -- A node that starts again is the one that its notes restore.
-use Rattle.std.proofs.Common.{◌≡◌, ◌<◌, ℕ, true, false, nat_le, List, length, None, Some, Result, Ok, Err, slice_get, slice_index_or, slice_set, refl, sym, ap, ap₂, subst, ◌∙◌, arith, inr}
+use Rattle.std.proofs.Common.{◌≡◌, ◌<◌, ℕ, false, nat_le, List, length, None, Some, Result, Ok, slice_get, slice_index_or, slice_set, refl, sym, ap, ap₂, subst, ◌∙◌, arith, inr}
 use Rattle.std.specs.Prelude.{All}
 use Rattle.std.proofs.lemmas.Bool.{leb-false, true≢false}
 use Rattle.std.proofs.lemmas.List.{length-map, length-replicate}
@@ -27,7 +27,7 @@ use Rattle.units.specs.Division.{Division, number_named}
 use Rattle.wire.specs.Messages.{IsNote}
 use Rattle.world.proofs.Growing.{leads_later}
 use Rattle.world.specs.Happening.{Restarts, fault_before, is_up, up_of}
-use Rattle.world.specs.World.{World, WorldNode, fresh_node, node_at, restarted_node, start, up_node, with_node}
+use Rattle.world.specs.World.{World, fresh_node, node_at, start, up_node, with_node}
 use Rattle.world.specs.declared.fault.WorldFault.TheVariants as worlds
 use Rattle.running.specs.declared.placed.Placed.{Placed}
 use Rattle.running.specs.declared.placed.Placed.TheVariants.{Down, Up}

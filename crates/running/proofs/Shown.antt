@@ -1,5 +1,5 @@
 -- What a world shows of a node.
-use Rattle.std.proofs.Common.{◌≡◌, ◌+◌, ◌<◌, ◌≤◌, ℕ, true, false, List, [], ◌∷◌, ◌++◌, length, map, Option, Some, option_map, slice_get, sym, ap, subst, ◌∙◌, arith, length-append, ⊎_elim}
+use Rattle.std.proofs.Common.{◌≡◌, ◌+◌, ◌<◌, ◌≤◌, ℕ, true, false, List, [], ◌∷◌, ◌++◌, length, map, Some, option_map, slice_get, sym, ap, subst, ◌∙◌, arith, length-append, ⊎_elim}
 use Rattle.std.proofs.lemmas.Bool.{cases_lt}
 use Rattle.std.proofs.lemmas.List.{length-map, length-replicate}
 use Rattle.claims.specs.Claim.{most_members}
@@ -16,7 +16,6 @@ use Rattle.world.specs.World.{World, WorldNode, fresh_node, node_at, start}
 use Rattle.running.specs.History.{History, IsHistory, file_length, taken}
 use Rattle.running.specs.declared.placed.Placed.{Placed}
 use Rattle.running.specs.declared.placed.Placed.TheVariants.{Up, Down}
-use Rattle.running.specs.declared.placed.Rest.{Rest}
 use Rattle.running.specs.declared.scene.Scene.{Scene}
 use Rattle.running.specs.inside.Placing.{IsStanding, StandsOn, disk_of, file_of, node_view, world_of}
 

@@ -1,12 +1,11 @@
 -- A stop inside a step, and why it may be refused.
-use Rattle.std.proofs.Common.{◌≡◌, ◌⊎◌, ◌<◌, ◌++◌, ℕ, zero, suc, Bool, true, false, not, ◌&&◌, nat_le, List, [], ◌∷◌, length, map, Option, None, Some, option_map, Result, Ok, Err, IfErr, IfOk, OnErr, OnOk, slice_get, slice_index_or, slice_set, refl, sym, ap, subst, ◌∙◌, arith, inl, inr, ⊎_elim}
+use Rattle.std.proofs.Common.{◌≡◌, ◌⊎◌, ◌<◌, ◌++◌, ℕ, zero, suc, Bool, true, false, not, nat_le, List, [], ◌∷◌, length, map, Option, None, Some, option_map, Result, Ok, Err, IfErr, OnErr, OnOk, slice_get, slice_index_or, slice_set, refl, sym, ap, subst, ◌∙◌, arith, inl, inr, ⊎_elim}
 use Rattle.std.proofs.lemmas.Bool.{leb-false, true≢false}
 use Rattle.std.proofs.lemmas.Option.{slice_get_within}
 use Rattle.std.proofs.lemmas.List.{length-map, set-set}
-use Rattle.faults.specs.Answers.{first_that_applies, map_ok}
+use Rattle.faults.specs.Answers.{first_that_applies}
 use Rattle.faults.specs.Bytes.{Text}
 use Rattle.ballots.specs.declared.message.Note.{Note}
-use Rattle.engine.specs.declared.Letter.{Letter}
 use Rattle.events.specs.Events as events
 use Rattle.events.specs.Events.{Event, is_step}
 use Rattle.events.specs.declared.event.Left.{Left}
@@ -14,31 +13,20 @@ use Rattle.events.specs.declared.event.Left.TheVariants as left
 use Rattle.headline.proofs.Headers.{some_same}
 use Rattle.headline.proofs.OneList.{each_run_is_acts}
 use Rattle.headline.proofs.Runs.{none_is_foreign}
-use Rattle.member.specs.Prepared.{Prepared}
-use Rattle.node.specs.Arrival.{Arrival, Strange, Waits, Whole, arrival_of}
-use Rattle.node.specs.Calls.{HasPrepared, left_by}
+use Rattle.node.specs.Calls.{left_by}
 use Rattle.node.specs.OnLog.{IsFull, IsOnLog, LacksRoom, identity_of, texts_of}
 use Rattle.node.specs.State.{LoggedNode, NodeState, with_note}
-use Rattle.node.specs.Step.{Asked, Comes, Does, IsAsked, IsReadyFor, ReadyStep, Taken, Takes, after, answer_then, heard, note_in, running_step, step, step_on, taken, taken_by}
-use Rattle.node.specs.declared.fault.Foreign.{Foreign}
+use Rattle.node.specs.Step.{Asked, Comes, Does, IsAsked, IsReadyFor, ReadyStep, Taken, Takes, note_in, taken_by}
 use Rattle.node.specs.declared.fault.NodeFault.{NodeFault}
 use Rattle.node.specs.declared.fault.NodeFault.TheVariants as fault
 use Rattle.package_record.proofs.BuildsRead.{build_is_read}
-use Rattle.protocol.specs.Answers.{Answer}
-use Rattle.protocol.specs.State.{State, Value}
-use Rattle.protocol.specs.Step as members
+use Rattle.protocol.specs.State.{Value}
 use Rattle.protocol.specs.declared.input.Input.TheVariants as inputs
-use Rattle.protocol.specs.declared.refusal.Refusal.{Refusal}
 use Rattle.stable_record.specs.History.{stands}
 use Rattle.stable_record.specs.InMemory.{mem_history}
-use Rattle.stable_record.specs.Log.{gate_place, most_bytes}
+use Rattle.stable_record.specs.Log.{gate_place}
 use Rattle.stable_record.specs.declared.identity.Identity.{Identity}
-use Rattle.stable_record.specs.declared.log_fault.LogFault.TheVariants.{Full}
 use Rattle.stable_record.specs.declared.mem_disk.MemDisk.{MemDisk}
-use Rattle.units.specs.Division.{Division}
-use Rattle.wire.specs.Reading.{datagram_of}
-use Rattle.wire.specs.Spelling.{note_text}
-use Rattle.wire.specs.declared.datagram.Piece.{Piece}
 use Rattle.world.specs.Happening.{Acts, Asks, HasRoomFor, IsRefusedByNode, IsUp, LogIsFull, StopsIn, fault_before, is_up, lacks_datagram, left_node, leaves_note, up_of}
 use Rattle.world.specs.World.{World, WorldNode, down_node, node_at, up_node, with_node}
 use Rattle.world.specs.declared.fault.WorldFault.{WorldFault}
@@ -48,9 +36,8 @@ use Rattle.running.specs.declared.placed.Placed.TheVariants.{Down, Up}
 use Rattle.running.specs.declared.placed.Rest.{Rest}
 use Rattle.running.specs.declared.scene.Scene.{Scene}
 use Rattle.running.specs.inside.Asking.{CanBeAsked, IsReadied, asked_by, refused_by}
-use Rattle.running.specs.inside.Placing.{IsReached, IsStanding, StandsOn, disk_of, file_of, node_view, rest_view, world_of}
-use Rattle.running.specs.inside.Posting.{sent_in}
-use Rattle.running.specs.inside.Stopping.{HasNotStopped, HasReadied, HasTakenOnLog, IsNotStoppedWith, IsReady, IsStopped, IsStoppedBehind, IsStoppedTorn, IsStoppedWith, ReadiesStep, StandsReady, StaysOnLog, TookNone, TookStep}
+use Rattle.running.specs.inside.Placing.{IsReached, IsStanding, StandsOn, disk_of, file_of, node_view, world_of}
+use Rattle.running.specs.inside.Stopping.{IsNotStoppedWith, IsStopped, IsStoppedWith, ReadiesStep, StandsReady, TookNone, TookStep}
 use Rattle.running.proofs.ByStep.{IsByStep, by_step, note_answered}
 use Rattle.running.proofs.NodeStands.{IsLeftAs, owner, runs, same_so, stopped_so, took_so, torn_so}
 use Rattle.running.proofs.PutBack.{stands_at}

@@ -2,7 +2,6 @@ use Rattle.std.proofs.Common.{refl}
 use Rattle.running.proofs.Restarting.{has_node_there, member_within, place_within, restarts_there}
 use Rattle.running.proofs.SceneWith.{IsBut}
 use Rattle.running.proofs.scene.Scene.restart.Goals as goal
-use Rattle.running.specs.declared.placed.Placed.TheVariants.{Up}
 use Rattle.running.specs.declared.scene.Scene.{Scene}
 
 pub restarted-requires-clause-member : goal.restarted-requires-clause-member
