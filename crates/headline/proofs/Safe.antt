@@ -73,7 +73,7 @@ few_members weights are =
     (nat_le (length weights) most_members) counted.0).1
 
 -- a note of a vote is of that vote
-ballot_noted : (a b : Ballot Value) → members.Voted a ≡ members.Voted b → a ≡ b
+pub ballot_noted : (a b : Ballot Value) → members.Voted a ≡ members.Voted b → a ≡ b
 ballot_noted a b e = cc
 
 vote_noted : (f : Fact Value) (c : Claim) (v : Value) → note_of f ≡ members.Voted (ballot c v)

@@ -34,7 +34,7 @@ use Rattle.headline.proofs.Standing.{IsLeftAs, logs_then, members_then, sent_her
 
 -- ---- what sends are, datagram by datagram
 
-texts_alone : (texts : List Text) (to : ℕ) → map (λ (s : ℕ × Text). s.1) (each_to texts to) ≡ texts
+pub texts_alone : (texts : List Text) (to : ℕ) → map (λ (s : ℕ × Text). s.1) (each_to texts to) ≡ texts
 texts_alone [] to = refl
 texts_alone (t ∷ ts) to = ap (λ l. t ∷ l) (texts_alone ts to)
 

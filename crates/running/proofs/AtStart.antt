@@ -51,12 +51,15 @@ fresh_of tree weights me file empty (Ok n) is =
     is_fresh tree weights me n (subst (λ (f : Text). IsNodeOf tree weights me f n) empty is)
 fresh_of tree weights me file empty (Err e) is = tt
 
-module _ (tree : Tree) (weights : List ℕ) (d : Division) (of_tree : d.tree ≡ tree) (divided : IsDivision d) where
+module _ (tree : Tree) (weights : List ℕ) (d : Division) (of_tree : d.tree ≡ tree)
+    (divided : IsDivision d) where
   -- a fresh node is the one over that division
-  fresh_is : (me : ℕ) (n : LoggedNode MemDisk) → IsFresh tree weights me n → n.node ≡ opened_node d weights me []
+  fresh_is : (me : ℕ) (n : LoggedNode MemDisk) → IsFresh tree weights me n
+      → n.node ≡ opened_node d weights me []
   fresh_is me n is =
       let o = is.opened in
-      let same : o.division ≡ d = one_way o.division d (o.of_tree ∙ sym of_tree) o.divided divided in
+      let same : o.division ≡ d = one_way o.division d
+      (o.of_tree ∙ sym of_tree) o.divided divided in
       o.node ∙ (λ i. opened_node (same i) weights me (is.empty i))
 
   -- the world sees it as one that is fresh
@@ -65,46 +68,59 @@ module _ (tree : Tree) (weights : List ℕ) (d : Division) (of_tree : d.tree ≡
   seen_fresh me (Down r) is = absurd is
 
   -- it stands on its disk
-  pub fresh_stands : (w : World) → w.division ≡ d → w.weights ≡ weights → (me : ℕ) (x : Placed) → IsUpFresh tree weights me x → StandsOn w me x
+  pub fresh_stands : (w : World) → w.division ≡ d → w.weights ≡ weights → (me : ℕ) (x : Placed)
+      → IsUpFresh tree weights me x → StandsOn w me x
   fresh_stands w ed ew me (Up n) is =
       let right : (m : NodeState) → m ≡ opened_node d weights me [] → m ≡ node_at w me (up_node m) =
-      λ m e. subst (λ (o : NodeState). o ≡ node_at w me (up_node o)) (sym e) (λ i. opened_node (sym ed i) (sym ew i) me []) in
+      λ m e. subst (λ (o : NodeState). o ≡ node_at w me (up_node o)) (sym e)
+      (λ i. opened_node (sym ed i) (sym ew i) me []) in
       (right n.node (fresh_is me n is), is.on_log)
   fresh_stands w ed ew me (Down r) is = absurd is
 
 -- elements that all show as one
-alike : {X Y : Type 0} (f : X → Y) (y : Y) (xs : List X) → ((k : ℕ) (x : X) → slice_get xs k ≡ Some x → f x ≡ y) → map f xs ≡ replicate (length xs) y
+alike : {X Y : Type 0} (f : X → Y) (y : Y) (xs : List X)
+    → ((k : ℕ) (x : X) → slice_get xs k ≡ Some x → f x ≡ y) → map f xs ≡ replicate (length xs) y
 alike f y [] same = refl
 alike f y (x ∷ xs) same = λ i. same 0 x refl i ∷ alike f y xs (λ k. same (suc k)) i
 
 -- the nodes at the start
-pub all_fresh : (tree : Tree) (weights : List ℕ) (d : Division) → d.tree ≡ tree → IsDivision d → (nodes : List Placed) → AreFresh tree weights nodes
+pub all_fresh : (tree : Tree) (weights : List ℕ) (d : Division) → d.tree ≡ tree → IsDivision d
+    → (nodes : List Placed) → AreFresh tree weights nodes
     → map node_view nodes ≡ replicate (length weights) fresh_node
 all_fresh tree weights d of_tree divided nodes are =
-    alike node_view fresh_node nodes (λ k x at. seen_fresh tree weights d of_tree divided k x (are.each k x at))
+    alike node_view fresh_node nodes (λ k x at. seen_fresh tree weights d of_tree divided k x
+    (are.each k x at))
     ∙ ap (λ n. replicate n fresh_node) are.count
 
 -- ---- one node more
 
-one_node : {X : Type 0} (xs : List X) (y x : X) (k : ℕ) → slice_get (xs ++ y ∷ []) k ≡ Some x → (slice_get xs k ≡ Some x) ⊎ ((k ≡ length xs) × (y ≡ x))
+one_node : {X : Type 0} (xs : List X) (y x : X) (k : ℕ) → slice_get (xs ++ y ∷ []) k ≡ Some x
+    → (slice_get xs k ≡ Some x) ⊎ ((k ≡ length xs) × (y ≡ x))
 one_node [] y x zero e = inr (refl, (let same : Some y ≡ Some x = e in cc))
 one_node [] y x (suc k) e = absurd (let no : None ≡ Some x = e in cc)
 one_node (z ∷ zs) y x zero e = inl e
-one_node (z ∷ zs) y x (suc k) e = ⊎_elim (λ old. inl old) (λ new. inr (ap suc new.0, new.1)) (one_node zs y x k e)
+one_node (z ∷ zs) y x (suc k) e = ⊎_elim (λ old. inl old) (λ new. inr (ap suc new.0, new.1))
+    (one_node zs y x k e)
 
 -- fresh nodes with the next one are fresh
-pub fresh_more : (tree : Tree) (weights : List ℕ) (nodes now : List Placed) (n : LoggedNode MemDisk) (me : ℕ)
-    → ((k : ℕ) (x : Placed) → slice_get nodes k ≡ Some x → IsUpFresh tree weights k x) → length nodes ≡ me → IsFresh tree weights me n → now ≡ nodes ++ Up n ∷ []
+pub fresh_more : (tree : Tree) (weights : List ℕ) (nodes now : List Placed) (n : LoggedNode MemDisk)
+    (me : ℕ)
+    → ((k : ℕ) (x : Placed) → slice_get nodes k ≡ Some x → IsUpFresh tree weights k x)
+    → length nodes ≡ me → IsFresh tree weights me n → now ≡ nodes ++ Up n ∷ []
     → (k : ℕ) (x : Placed) → slice_get now k ≡ Some x → IsUpFresh tree weights k x
 fresh_more tree weights nodes now n me each count fresh is k x at = ⊎_elim
     (λ old. each k x old)
-    (λ new. subst (λ y. IsUpFresh tree weights k y) new.1 (subst (λ j. IsFresh tree weights j n) (sym (new.0 ∙ count)) fresh))
+    (λ new. subst (λ y. IsUpFresh tree weights k y) new.1
+    (subst (λ j. IsFresh tree weights j n) (sym (new.0 ∙ count)) fresh))
     (one_node nodes (Up n) x k (ap (λ l. slice_get l k) (sym is) ∙ at))
 
 -- ---- the world at the start
 
-module _ (s : Scene) (tree : Tree) (weights : List ℕ) (of_tree : s.units.tree ≡ tree) (divided : IsDivision s.units) (weigh : s.weights ≡ weights) (fresh : AreFresh tree weights s.nodes.items) where
-  pub world_starts : sent_in s.posted ≡ [] → list_in s.posted ≡ [] → world_of s ≡ start s.units weights
+module _ (s : Scene) (tree : Tree) (weights : List ℕ) (of_tree : s.units.tree ≡ tree)
+    (divided : IsDivision s.units) (weigh : s.weights ≡ weights)
+    (fresh : AreFresh tree weights s.nodes.items) where
+  pub world_starts : sent_in s.posted ≡ [] → list_in s.posted ≡ []
+      → world_of s ≡ start s.units weights
   world_starts es el = λ i. record {
     division = s.units;
     weights = weigh i;
@@ -116,6 +132,7 @@ module _ (s : Scene) (tree : Tree) (weights : List ℕ) (of_tree : s.units.tree 
   pub scene_stands : s.tree.now ≡ tree → AreListed s.posted → IsStanding s
   scene_stands own listed = record {
     tree = of_tree ∙ sym own;
-    disks = λ k x at. fresh_stands tree weights s.units of_tree divided (world_of s) refl weigh k x (fresh.each k x at);
+    disks = λ k x at. fresh_stands tree weights s.units of_tree divided (world_of s) refl weigh k x
+        (fresh.each k x at);
     listed = listed;
   }

@@ -1,5 +1,5 @@
 -- A member that sends a vote notes it, or has noted it.
-use Rattle.std.proofs.Common.{◌≡◌, ◌⊎◌, ◌&&◌, ℕ, Bool, true, false, not, List, Option, None, Some, max, suc, slice_get, option_map, refl, sym, ap, subst, ◌∙◌, inl, inr, true≢false}
+use Rattle.std.proofs.Common.{◌≡◌, ◌⊎◌, ◌&&◌, ℕ, true, not, List, Option, None, Some, max, suc, slice_get, option_map, refl, sym, subst, ◌∙◌, inl, inr, true≢false}
 use Rattle.std.proofs.lemmas.Bool.{and_parts, cond_both}
 use Rattle.agreement.specs.Claims.{claim_same, is_above, is_below, is_promised}
 use Rattle.agreement.specs.Member as members
@@ -14,10 +14,10 @@ use Rattle.agreement.proofs.Order.{claim_same_true}
 use Rattle.protocol.specs.State.{Value}
 
 -- a vote as it is sent
-abbrev vote_of : ℕ → Claim → messages.Message Value
+abbrev pub vote_of : ℕ → Claim → messages.Message Value
 vote_of k c = messages.Vote k c
 
-votes_same : (a c : Claim) (i j : ℕ) → Some (vote_of i a) ≡ Some (vote_of j c)
+pub votes_same : (a c : Claim) (i j : ℕ) → Some (vote_of i a) ≡ Some (vote_of j c)
     → (j ≡ i) × (a ≡ c)
 votes_same a c i j e = (cc, cc)
 

@@ -10,13 +10,14 @@ use Rattle.std.proofs.lemmas.List.{append-nil, get_or-map, get_or-take, get_or_d
 use Rattle.std.proofs.lemmas.List.Folds.{list_any-append, list_any_none}
 use Rattle.std.proofs.lemmas.List.Sums.{fold-append}
 use Rattle.faults.specs.Bytes.{Text, is_among}
+use Rattle.headline.proofs.Speaking.{texts_alone}
 use Rattle.indexmap.specs.IndexSet.{insert_key}
 use Rattle.node.specs.Parcels.{each_to, parcels_to}
 use Rattle.package_record.specs.Build.{IsBuild, paths_of, unit_path}
 use Rattle.package_record.specs.Content.{Content}
 use Rattle.units.proofs.Places.{same_bytes}
 use Rattle.world.proofs.Distinct.{build_paths_differ}
-use Rattle.world.specs.Lists.{has_path, with_build}
+use Rattle.world.specs.Lists.{has_path}
 use Rattle.world.specs.Sent.{with_datagram}
 use Rattle.running.specs.declared.posted.Posted.{Posted}
 use Rattle.running.specs.inside.Posting.{HasGrown, list_in, sent_in}
@@ -24,7 +25,8 @@ use Rattle.running.specs.inside.Posting.{HasGrown, list_in, sent_in}
 -- ---- tables that grow
 
 -- what begins a beginning begins the whole
-begins_on : {X : Type 0} (m n : ℕ) (a b c : List X) → length a ≡ m → length b ≡ n → take m b ≡ a → take n c ≡ b → take m c ≡ a
+begins_on : {X : Type 0} (m n : ℕ) (a b c : List X) → length a ≡ m → length b ≡ n → take m b ≡ a
+    → take n c ≡ b → take m c ≡ a
 begins_on m n a b c short long ab bc =
     let less : m ≤ n = omega (arith, length-take m b, ap length ab, short, long) in
     sym (take-take m n c less) ∙ ap (take m) bc ∙ ab
@@ -32,148 +34,189 @@ begins_on m n a b c short long ab bc =
 -- tables that grew, and grew on, have grown
 pub grown_on : (p q r : Posted) → HasGrown p q → HasGrown q r → HasGrown p r
 grown_on p q r first then = record {
-  sent = begins_on _ _ (sent_in p) (sent_in q) (sent_in r) (length-map p.sent.keys (λ d. d.items)) (length-map q.sent.keys (λ d. d.items)) first.sent then.sent;
+  sent = begins_on _ _ (sent_in p) (sent_in q) (sent_in r) (length-map p.sent.keys (λ d. d.items))
+      (length-map q.sent.keys (λ d. d.items)) first.sent then.sent;
   list = begins_on _ _ (list_in p) (list_in q) (list_in r) refl refl first.list then.list;
-  listed = begins_on _ _ p.listed.keys q.listed.keys r.listed.keys refl refl first.listed then.listed;
+  listed = begins_on _ _ p.listed.keys q.listed.keys r.listed.keys refl refl first.listed
+      then.listed;
 }
 
 -- tables whose lists have more behind them have grown
-pub grown_by : (p q : Posted) (sent : List Text) (list : List Content) (listed : List Text) → sent_in q ≡ sent_in p ++ sent → list_in q ≡ list_in p ++ list
+pub grown_by : (p q : Posted) (sent : List Text) (list : List Content) (listed : List Text)
+    → sent_in q ≡ sent_in p ++ sent → list_in q ≡ list_in p ++ list
     → q.listed.keys ≡ p.listed.keys ++ listed → HasGrown p q
 grown_by p q sent list listed es el ek = record {
-  sent = ap (take (length p.sent.keys)) es ∙ take_at (sent_in p) sent (length p.sent.keys) (length-map p.sent.keys (λ d. d.items));
-  list = ap (take (length p.agreed.items)) el ∙ take_at (list_in p) list (length p.agreed.items) refl;
-  listed = ap (take (length p.listed.keys)) ek ∙ take_at p.listed.keys listed (length p.listed.keys) refl;
+  sent = ap (take (length p.sent.keys)) es ∙ take_at (sent_in p) sent (length p.sent.keys)
+      (length-map p.sent.keys (λ d. d.items));
+  list = ap (take (length p.agreed.items)) el
+      ∙ take_at (list_in p) list (length p.agreed.items) refl;
+  listed = ap (take (length p.listed.keys)) ek
+      ∙ take_at p.listed.keys listed (length p.listed.keys) refl;
 }
 
 -- the same lists have grown by nothing
-pub grown_none : (p q : Posted) → sent_in q ≡ sent_in p → list_in q ≡ list_in p → q.listed.keys ≡ p.listed.keys → HasGrown p q
+pub grown_none : (p q : Posted) → sent_in q ≡ sent_in p → list_in q ≡ list_in p
+    → q.listed.keys ≡ p.listed.keys → HasGrown p q
 grown_none p q es el ek = record {
-  sent = ap (take (length p.sent.keys)) es ∙ take_all (length p.sent.keys) (sent_in p) (omega (arith, length-map p.sent.keys (λ d. d.items)));
-  list = ap (take (length p.agreed.items)) el ∙ take_all (length p.agreed.items) (list_in p) (omega arith);
-  listed = ap (take (length p.listed.keys)) ek ∙ take_all (length p.listed.keys) p.listed.keys (omega arith);
+  sent = ap (take (length p.sent.keys)) es ∙ take_all (length p.sent.keys) (sent_in p)
+      (omega (arith, length-map p.sent.keys (λ d. d.items)));
+  list = ap (take (length p.agreed.items)) el
+      ∙ take_all (length p.agreed.items) (list_in p) (omega arith);
+  listed = ap (take (length p.listed.keys)) ek
+      ∙ take_all (length p.listed.keys) p.listed.keys (omega arith);
 }
 
 -- tables where a path alone was kept more have grown
-pub grown_key : (p q : Posted) (path : Text) → sent_in q ≡ sent_in p → list_in q ≡ list_in p → q.listed.keys ≡ insert_key bytes_eq p.listed.keys path → HasGrown p q
+pub grown_key : (p q : Posted) (path : Text) → sent_in q ≡ sent_in p → list_in q ≡ list_in p
+    → q.listed.keys ≡ insert_key bytes_eq p.listed.keys path → HasGrown p q
 grown_key p q path es el ek = by_case (list_any (bytes_eq path) p.listed.keys) ek
   where
-    by_case : (b : Bool) → q.listed.keys ≡ cond b p.listed.keys (p.listed.keys ++ path ∷ []) → HasGrown p q
+    by_case : (b : Bool) → q.listed.keys ≡ cond b p.listed.keys (p.listed.keys ++ path ∷ [])
+        → HasGrown p q
     by_case true e = grown_none p q es el e
-    by_case false e = grown_by p q [] [] (path ∷ []) (es ∙ sym (append-nil (sent_in p))) (el ∙ sym (append-nil (list_in p))) e
+    by_case false e = grown_by p q [] [] (path ∷ []) (es ∙ sym (append-nil (sent_in p)))
+        (el ∙ sym (append-nil (list_in p))) e
 
 -- ---- datagrams
 
 -- a key that equals the text is the text among these
-among_texts : (text : Text) (keys : List (Vec ℕ Global)) → list_any (λ v. bytes_eq text v.items) keys ≡ is_among (map (λ d. d.items) keys) text
+among_texts : (text : Text) (keys : List (Vec ℕ Global))
+    → list_any (λ v. bytes_eq text v.items) keys ≡ is_among (map (λ d. d.items) keys) text
 among_texts text [] = refl
 among_texts text (v ∷ keys) = rw (nat_list_eq_equiv.symm text v.items, among_texts text keys) refl
 
 -- a datagram that is there stays
-pub text_there : (keys : List (Vec ℕ Global)) (text : Text) → list_any (λ v. bytes_eq text v.items) keys ≡ true
+pub text_there : (keys : List (Vec ℕ Global)) (text : Text)
+    → list_any (λ v. bytes_eq text v.items) keys ≡ true
     → map (λ d. d.items) keys ≡ with_datagram (map (λ d. d.items) keys) text
 text_there keys text there =
     let sent = map (λ (d : Vec ℕ Global). d.items) keys in
     sym (ap (λ b. cond b sent (sent ++ text ∷ [])) (sym (among_texts text keys) ∙ there))
 
 -- and one that isn't goes last
-pub text_entered : (keys now : List (Vec ℕ Global)) (text : Text) (v : Vec ℕ Global) → v.items ≡ text
-    → now ≡ insert_key (λ (a b : Vec ℕ Global). bytes_eq a.items b.items) keys v → map (λ d. d.items) now ≡ with_datagram (map (λ d. d.items) keys) text
+pub text_entered : (keys now : List (Vec ℕ Global)) (text : Text) (v : Vec ℕ Global)
+    → v.items ≡ text
+    → now ≡ insert_key (λ (a b : Vec ℕ Global). bytes_eq a.items b.items) keys v
+    → map (λ d. d.items) now ≡ with_datagram (map (λ d. d.items) keys) text
 text_entered keys now text v is e =
-    ap (map (λ (d : Vec ℕ Global). d.items)) e ∙ by_case (list_any (λ w. bytes_eq v.items w.items) keys)
+    ap (map (λ (d : Vec ℕ Global). d.items)) e
+    ∙ by_case (list_any (λ w. bytes_eq v.items w.items) keys)
     ∙ ap (λ b. cond b sent (sent ++ v.items ∷ [])) (among_texts v.items keys)
     ∙ ap (with_datagram sent) is
   where
     sent : List Text
     sent = map (λ (d : Vec ℕ Global). d.items) keys
 
-    by_case : (b : Bool) → map (λ (d : Vec ℕ Global). d.items) (cond b keys (keys ++ v ∷ [])) ≡ cond b sent (sent ++ v.items ∷ [])
+    by_case : (b : Bool) → map (λ (d : Vec ℕ Global). d.items) (cond b keys (keys ++ v ∷ []))
+        ≡ cond b sent (sent ++ v.items ∷ [])
     by_case true = refl
     by_case false = map-append (λ (d : Vec ℕ Global). d.items) keys (v ∷ [])
 
 -- ---- datagrams to several receivers
 
--- to one of them go all
-texts_to : (texts : List Text) (to : ℕ) → map (λ (s : ℕ × Text). s.1) (each_to texts to) ≡ texts
-texts_to [] to = refl
-texts_to (t ∷ ts) to = ap (λ l. t ∷ l) (texts_to ts to)
-
-flat_map_push : {X Y : Type 0} (f : X → List Y) (xs : List X) (x : X) → flat_map f (xs ++ x ∷ []) ≡ flat_map f xs ++ f x
+flat_map_push : {X Y : Type 0} (f : X → List Y) (xs : List X) (x : X)
+    → flat_map f (xs ++ x ∷ []) ≡ flat_map f xs ++ f x
 flat_map_push f [] x = append-nil (f x)
-flat_map_push f (y ∷ ys) x = ap (λ l. f y ++ l) (flat_map_push f ys x) ∙ sym (append_assoc (f y) (flat_map f ys) (f x))
+flat_map_push f (y ∷ ys) x = ap (λ l. f y ++ l) (flat_map_push f ys x)
+    ∙ sym (append_assoc (f y) (flat_map f ys) (f x))
 
-pub receivers_more : (sent : List Text) (receivers : List ℕ) (texts : List Text) (i : ℕ) (now : List Text) → i < length receivers
-    → now ≡ fold with_datagram (fold with_datagram sent (map (λ s. s.1) (parcels_to (take i receivers) texts))) texts
+pub receivers_more : (sent : List Text) (receivers : List ℕ) (texts : List Text) (i : ℕ)
+    (now : List Text) → i < length receivers
+    → now ≡ fold with_datagram (fold with_datagram sent
+    (map (λ s. s.1) (parcels_to (take i receivers) texts))) texts
     → now ≡ fold with_datagram sent (map (λ s. s.1) (parcels_to (take (i + 1) receivers) texts))
 receivers_more sent receivers texts i now within is =
     let r = get_or receivers i 0 in
     let before = parcels_to (take i receivers) texts in
     is ∙ sym (fold-append with_datagram sent (map (λ (s : ℕ × Text). s.1) before) texts)
-    ∙ ap (λ l. fold with_datagram sent (map (λ (s : ℕ × Text). s.1) before ++ l)) (sym (texts_to texts r))
-    ∙ ap (fold with_datagram sent) (sym (map-append (λ (s : ℕ × Text). s.1) before (each_to texts r)))
+    ∙ ap (λ l. fold with_datagram sent (map (λ (s : ℕ × Text). s.1) before ++ l))
+    (sym (texts_alone texts r))
+    ∙ ap (fold with_datagram sent) (sym (map-append (λ (s : ℕ × Text). s.1) before
+    (each_to texts r)))
     ∙ ap (λ l. fold with_datagram sent (map (λ (s : ℕ × Text). s.1) l))
-    (sym (flat_map_push (each_to texts) (take i receivers) r) ∙ ap (λ l. parcels_to l texts) (sym (take_more receivers i 0 within)))
+    (sym (flat_map_push (each_to texts) (take i receivers) r)
+    ∙ ap (λ l. parcels_to l texts) (sym (take_more receivers i 0 within)))
 
 -- ---- the list
 
 -- a path that is kept beside the list is that of a package in it
-pub paths_have : (list : List Content) (path : Text) → list_any (bytes_eq path) (paths_of list) ≡ has_path list path
+pub paths_have : (list : List Content) (path : Text)
+    → list_any (bytes_eq path) (paths_of list) ≡ has_path list path
 paths_have [] path = refl
 paths_have (r ∷ rs) path = rw (nat_list_eq_equiv.symm path r.path, paths_have rs path) refl
 
 pub any_have : (list packages : List Content) (keys : List Text) → keys ≡ paths_of list
-    → list_any (λ (r : Content). list_any (bytes_eq r.path) keys) packages ≡ list_any (λ (r : Content). has_path list r.path) packages
-any_have list packages keys are = λ i. list_any (λ (r : Content). (ap (list_any (bytes_eq r.path)) are ∙ paths_have list r.path) i) packages
+    → list_any (λ (r : Content). list_any (bytes_eq r.path) keys) packages
+    ≡ list_any (λ (r : Content). has_path list r.path) packages
+any_have list packages keys are = λ i. list_any
+    (λ (r : Content). (ap (list_any (bytes_eq r.path)) are ∙ paths_have list r.path) i) packages
 
 -- an element passes no test that none passes
-none_at : {X : Type 0} (p : X → Bool) (xs : List X) (i : ℕ) (d : X) → i < length xs → list_any p xs ≡ false → p (get_or xs i d) ≡ false
+none_at : {X : Type 0} (p : X → Bool) (xs : List X) (i : ℕ) (d : X) → i < length xs
+    → list_any p xs ≡ false → p (get_or xs i d) ≡ false
 none_at p [] i d within none = absurd (omega arith)
 none_at p (x ∷ xs) zero d within none = (or_parts (p x) (list_any p xs) none).0
-none_at p (x ∷ xs) (suc i) d within none = none_at p xs i d (omega (arith, within)) (or_parts (p x) (list_any p xs) none).1
+none_at p (x ∷ xs) (suc i) d within none = none_at p xs i d (omega (arith, within))
+    (or_parts (p x) (list_any p xs) none).1
 
 -- a text isn't among those before it, where all differ
-not_before : (ts : List Text) → AllPairs ◌≢◌ ts → (i : ℕ) → i < length ts → list_any (bytes_eq (get_or ts i [])) (take i ts) ≡ false
+not_before : (ts : List Text) → AllPairs ◌≢◌ ts → (i : ℕ) → i < length ts
+    → list_any (bytes_eq (get_or ts i [])) (take i ts) ≡ false
 not_before ts apart i within = list_any_none (bytes_eq (get_or ts i [])) (take i ts) (λ k d below.
-    by_case k d (omega (arith, below, length-take i ts)) (bytes_eq (get_or ts i []) (get_or (take i ts) k d)) refl)
+    by_case k d (omega (arith, below, length-take i ts))
+    (bytes_eq (get_or ts i []) (get_or (take i ts) k d)) refl)
   where
-    by_case : (k : ℕ) (d : Text) → k < i → (b : Bool) → bytes_eq (get_or ts i []) (get_or (take i ts) k d) ≡ b → bytes_eq (get_or ts i []) (get_or (take i ts) k d) ≡ false
+    by_case : (k : ℕ) (d : Text) → k < i → (b : Bool)
+        → bytes_eq (get_or ts i []) (get_or (take i ts) k d) ≡ b
+        → bytes_eq (get_or ts i []) (get_or (take i ts) k d) ≡ false
     by_case k d below false e = e
     by_case k d below true e =
-        let same : get_or ts i [] ≡ get_or ts k d = same_bytes (get_or ts i []) (get_or (take i ts) k d) e ∙ get_or-take i ts k d below in
-        absurd (apart k i [] below within (get_or_default ts k [] d (omega (arith, below, within)) ∙ sym same))
+        let same : get_or ts i [] ≡ get_or ts k d =
+        same_bytes (get_or ts i []) (get_or (take i ts) k d) e ∙ get_or-take i ts k d below in
+        absurd (apart k i [] below within (get_or_default ts k [] d (omega (arith, below, within))
+        ∙ sym same))
 
 -- So the path of the build's next package is new beside the list and those before it.
-pub next_is_new : (list build : List Content) → IsBuild build → list_any (λ r. has_path list r.path) build ≡ false → (i : ℕ) (r : Content) → i < length build → r ≡ get_or build i r
+pub next_is_new : (list build : List Content) → IsBuild build
+    → list_any (λ r. has_path list r.path) build ≡ false → (i : ℕ) (r : Content) → i < length build
+    → r ≡ get_or build i r
     → list_any (bytes_eq r.path) (paths_of (list ++ take i build)) ≡ false
 next_is_new list build is none i r within here =
-    let path : get_or (paths_of build) i [] ≡ r.path = get_or-map (λ (c : Content). c.path) build i r [] within ∙ ap (λ (c : Content). c.path) (sym here) in
-    let long : length (paths_of build) ≡ length build = length-map build (λ (c : Content). c.path) in
-    let old : has_path list r.path ≡ false = ap (λ (c : Content). has_path list c.path) here ∙ none_at (λ c. has_path list c.path) build i r within none in
+    let path : get_or (paths_of build) i [] ≡ r.path =
+    get_or-map (λ (c : Content). c.path) build i r [] within
+    ∙ ap (λ (c : Content). c.path) (sym here) in
+    let long : length (paths_of build) ≡ length build =
+    length-map build (λ (c : Content). c.path) in
+    let old : has_path list r.path ≡ false = ap (λ (c : Content). has_path list c.path) here
+    ∙ none_at (λ c. has_path list c.path) build i r within none in
     let new : list_any (bytes_eq r.path) (take i (paths_of build)) ≡ false =
     subst (λ p. list_any (bytes_eq p) (take i (paths_of build)) ≡ false) path
-    (not_before (paths_of build) (build_paths_differ (unit_path build) build (record { build_is = is; unit = refl })) i (omega (arith, within, long))) in
+    (not_before (paths_of build) (build_paths_differ (unit_path build) build
+    (record { build_is = is; unit = refl })) i (omega (arith, within, long))) in
     ap (list_any (bytes_eq r.path)) (map-append (λ (c : Content). c.path) list (take i build))
     ∙ list_any-append (bytes_eq r.path) (paths_of list) (paths_of (take i build))
-    ∙ ap (λ b. b || list_any (bytes_eq r.path) (paths_of (take i build))) (paths_have list r.path ∙ old)
+    ∙ ap (λ b. b || list_any (bytes_eq r.path) (paths_of (take i build)))
+    (paths_have list r.path ∙ old)
     ∙ ap (list_any (bytes_eq r.path)) (sym (take-map (λ (c : Content). c.path) i build)) ∙ new
 
 -- then it goes behind the others, and so its package does
-pub path_entered : (list build : List Content) → IsBuild build → list_any (λ r. has_path list r.path) build ≡ false → (i : ℕ) (r : Content) → i < length build → r ≡ get_or build i r
-    → (keys now : List Text) (old new : List Content) → keys ≡ paths_of old → old ≡ list ++ take i build
-    → now ≡ insert_key bytes_eq keys r.path → new ≡ old ++ r ∷ [] → (now ≡ paths_of new) × (new ≡ list ++ take (i + 1) build)
+pub path_entered : (list build : List Content) → IsBuild build
+    → list_any (λ r. has_path list r.path) build ≡ false → (i : ℕ) (r : Content) → i < length build
+    → r ≡ get_or build i r
+    → (keys now : List Text) (old new : List Content) → keys ≡ paths_of old
+    → old ≡ list ++ take i build
+    → now ≡ insert_key bytes_eq keys r.path → new ≡ old ++ r ∷ []
+    → (now ≡ paths_of new) × (new ≡ list ++ take (i + 1) build)
 path_entered list build is none i r within here keys now old new listed before entered appended =
     let absent : list_any (bytes_eq r.path) keys ≡ false =
-    ap (list_any (bytes_eq r.path)) (listed ∙ ap paths_of before) ∙ next_is_new list build is none i r within here in
-    let last : now ≡ keys ++ r.path ∷ [] = entered ∙ ap (λ b. cond b keys (keys ++ r.path ∷ [])) absent in
-    let more : take i build ++ r ∷ [] ≡ take (i + 1) build = ap (λ x. take i build ++ x ∷ []) here ∙ sym (take_more build i r within) in (
-      last ∙ ap (λ l. l ++ r.path ∷ []) listed ∙ sym (map-append (λ (c : Content). c.path) old (r ∷ [])) ∙ ap paths_of (sym appended),
-      appended ∙ ap (λ l. l ++ r ∷ []) before ∙ append_assoc list (take i build) (r ∷ []) ∙ ap (λ l. list ++ l) more,
+    ap (list_any (bytes_eq r.path)) (listed ∙ ap paths_of before)
+    ∙ next_is_new list build is none i r within here in
+    let last : now ≡ keys ++ r.path ∷ [] = entered
+    ∙ ap (λ b. cond b keys (keys ++ r.path ∷ [])) absent in
+    let more : take i build ++ r ∷ [] ≡ take (i + 1) build = ap (λ x. take i build ++ x ∷ []) here
+    ∙ sym (take_more build i r within) in (
+      last ∙ ap (λ l. l ++ r.path ∷ []) listed
+          ∙ sym (map-append (λ (c : Content). c.path) old (r ∷ [])) ∙ ap paths_of (sym appended),
+      appended ∙ ap (λ l. l ++ r ∷ []) before ∙ append_assoc list (take i build) (r ∷ [])
+          ∙ ap (λ l. list ++ l) more,
     )
-
--- a build that the list has a path of is not appended
-pub build_there : (list build : List Content) → list_any (λ r. has_path list r.path) build ≡ true → list ≡ with_build list build
-build_there list build there = sym (ap (λ b. cond b list (list ++ build)) there)
-
--- and another is
-pub build_appended : (list build : List Content) → list_any (λ r. has_path list r.path) build ≡ false → list ++ build ≡ with_build list build
-build_appended list build none = sym (ap (λ b. cond b list (list ++ build)) none)

@@ -1,5 +1,5 @@
 -- What follows for a world from the events that led to it.
-use Rattle.std.proofs.Common.{◌≡◌, List, [], ◌∷◌, ◌++◌, refl, subst, sym}
+use Rattle.std.proofs.Common.{◌≡◌, [], ◌∷◌, ◌++◌, refl, subst, sym}
 use Rattle.events.specs.Events.{Event}
 use Rattle.headline.proofs.OneList.{each_has_one_list, each_run_is_acts}
 use Rattle.headline.proofs.Runs.{always_alike}
@@ -12,7 +12,6 @@ use Rattle.world.specs.Happening.{Happens, Leads}
 use Rattle.world.specs.Headline.{HasOneList, HoldAlike}
 use Rattle.world.specs.World.{IsMade, start}
 use Rattle.running.specs.History.{AlongRun, History, IsHistory, taken}
-use Rattle.running.specs.inside.Placing.{IsReached}
 
 -- Each world that events led to has one list, and is safe; and nodes hold the same.
 pub has_one_list : (h : History) → IsHistory h
@@ -31,10 +30,6 @@ pub hold_alike : (h : History) → IsHistory h → AlongRun h (λ early v. HoldA
 hold_alike h is =
     always_alike each_run_is_acts build_is_read h.world.division h.world.weights is.made (taken h)
     h.world is.led
-
--- Events led there.
-pub is_reached : (h : History) → IsHistory h → IsReached h.world
-is_reached h is = record { made = is.made; events = taken h; led = is.led }
 
 -- ---- how a history goes on
 

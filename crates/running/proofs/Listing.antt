@@ -1,6 +1,6 @@
 -- The list after a step is the one with the build that its vote decides.
-use Rattle.std.proofs.Common.{◌≡◌, ◌<◌, ◌⊎◌, ◌==◌, ◌&&◌, ◌||◌, ℕ, zero, suc, Bool, true, false, not, List, [], ◌∷◌, ◌++◌, length, Option, None, Some, nat_lt, option_map, slice_get, slice_set, refl, sym, ap, ap₂, subst, ◌∙◌, arith, inl, inr, ⊎_elim, eq-eqb, eqb-true, lt-ltb, true≢false}
-use Rattle.std.specs.Prelude.{All, Contains, option_and_then, if◌then◌else◌}
+use Rattle.std.proofs.Common.{◌≡◌, ◌<◌, ◌⊎◌, ◌==◌, ◌&&◌, ℕ, zero, suc, Bool, true, false, not, List, [], ◌∷◌, length, Option, None, Some, nat_lt, option_map, slice_get, slice_set, refl, sym, ap, ap₂, subst, ◌∙◌, arith, inl, inr, ⊎_elim, eq-eqb, eqb-true, lt-ltb, true≢false}
+use Rattle.std.specs.Prelude.{Contains, option_and_then, if◌then◌else◌}
 use Rattle.std.proofs.lemmas.Bool.{and_from, and_parts, cond-false, cond-true, or_cases, or_left, or_right}
 use Rattle.std.proofs.lemmas.List.Elements.{All-contains, Contains-append_right}
 use Rattle.faults.specs.Answers.{option_or}
@@ -34,7 +34,7 @@ use Rattle.headline.proofs.Inputs.{ask_is_act, claim_is_act, failed_is_act, nudg
 use Rattle.headline.proofs.Logs.{noted_is_on_log}
 use Rattle.headline.proofs.Making.{build_is_act}
 use Rattle.headline.proofs.OneList.{each_run_is_acts}
-use Rattle.headline.proofs.Safe.{majority_within}
+use Rattle.headline.proofs.Safe.{ballot_noted, majority_within}
 use Rattle.headline.proofs.Said.{has_preimage}
 use Rattle.headline.proofs.Speaking.{sent_more, text_comes, text_goes}
 use Rattle.headline.proofs.VoteTexts.{is_that_vote}
@@ -47,7 +47,7 @@ use Rattle.package_record.proofs.BuildsRead.{build_is_read}
 use Rattle.protocol.specs.Answers.{Answer, tree_digest}
 use Rattle.protocol.specs.Laws.{Says}
 use Rattle.protocol.specs.State.{State, Value}
-use Rattle.protocol.specs.Step.{facts_named, facts_of_unit}
+use Rattle.protocol.specs.Step.{facts_of_unit}
 use Rattle.protocol.specs.declared.sends.Send.{Send}
 use Rattle.units.specs.Division.{number_found, number_of}
 use Rattle.units.proofs.Lists.{same_answers}
@@ -55,32 +55,24 @@ use Rattle.units.proofs.Names.{name_is_found}
 use Rattle.wire.specs.Messages.{IsBody, IsMessage}
 use Rattle.wire.specs.Pieces.{split_of}
 use Rattle.wire.specs.Spelling.{datagram_text}
-use Rattle.wire.specs.declared.datagram.Datagram.TheVariants as datagrams
 use Rattle.world.specs.Happening.{Acts}
 use Rattle.world.specs.Lists.{IsDecided, IsListAfter}
-use Rattle.world.specs.Sent.{WasProposed, WasSent, message, voters, with_sends}
+use Rattle.world.specs.Sent.{WasProposed, message, voters, with_sends}
 use Rattle.world.specs.World.{IsMade, World, WorldNode, member_at, node_at, up_node}
 use Rattle.world.proofs.Sending.{among_is, is_found, sends_come, sends_stay, sends_there}
-use Rattle.running.specs.inside.Deciding.{claim_voted, decided_by, decision, makes_majority, message_in, same_claim, sender_place, value_under, voted_by, voted_in, voters_in, voters_of}
+use Rattle.running.specs.inside.Deciding.{claim_voted, decided_by, decision, makes_majority, message_in, same_claim, value_under, voted_by, voted_in, voters_in, voters_of}
 use Rattle.running.specs.inside.Placing.{IsReached}
 use Rattle.running.specs.inside.Stepping.{with_decision}
-use Rattle.running.proofs.Casting.{IsNotedVote, votes_are_noted}
+use Rattle.running.proofs.Casting.{IsNotedVote, vote_of, votes_are_noted, votes_same}
+use Rattle.running.proofs.VoteSent.{vote_is, whole_text}
 
 -- ---- votes, as they are said and noted
-
--- a vote as it is sent
-abbrev vote_there : ℕ → Claim → messages.Message Value
-vote_there k c = messages.Vote k c
-
-votes_same : (a c : Claim) (i j : ℕ) → Some (vote_there i a) ≡ Some (vote_there j c)
-    → (j ≡ i) × (a ≡ c)
-votes_same a c i j e = (cc, cc)
 
 said_same : (a b : messages.Message Value) → Some a ≡ Some b → a ≡ b
 said_same a b e = cc
 
 -- what is said as a vote votes
-votes_so : (k j : ℕ) (c : Claim) (b : Body Value) → said k b ≡ vote_there j c
+votes_so : (k j : ℕ) (c : Claim) (b : Body Value) → said k b ≡ vote_of j c
     → claim_voted b ≡ Some c
 votes_so k j c (bodies.Offer d) e = absurd cc
 votes_so k j c (bodies.Promise d r) e = absurd cc
@@ -90,31 +82,11 @@ votes_so k j c (bodies.Agreed v) e = absurd cc
 votes_so k j c bodies.Ask e = absurd cc
 votes_so k j c (bodies.Nay d p) e = absurd cc
 
--- what is voted for is in a vote
-vote_is : (b : Body Value) (c : Claim) → claim_voted b ≡ Some c → b ≡ bodies.Vote c
-vote_is (bodies.Offer d) c e = absurd (let wrong : None ≡ Some c = e in cc)
-vote_is (bodies.Promise d r) c e = absurd (let wrong : None ≡ Some c = e in cc)
-vote_is (bodies.Propose d v) c e = absurd (let wrong : None ≡ Some c = e in cc)
-vote_is (bodies.Vote d) c e = ap (λ (x : Claim). bodies.Vote x) (claim_same d c e)
-  where
-    claim_same : (d c : Claim) → Some d ≡ Some c → d ≡ c
-    claim_same d c e = cc
-vote_is (bodies.Agreed v) c e = absurd (let wrong : None ≡ Some c = e in cc)
-vote_is bodies.Ask c e = absurd (let wrong : None ≡ Some c = e in cc)
-vote_is (bodies.Nay d p) c e = absurd (let wrong : None ≡ Some c = e in cc)
-
--- the text of a message that goes out in whole
-abbrev whole_text : Message Value → Text
-whole_text m = datagram_text (datagrams.Whole m)
-
 -- claims that are one are found to be
 claim_is_same : (d c : Claim) → d ≡ c → same_claim d c ≡ true
 claim_is_same d c e = and_from (d.round == c.round) (d.member == c.member)
     (eq-eqb d.round c.round (ap (λ (x : Claim). x.round) e))
     (eq-eqb d.member c.member (ap (λ (x : Claim). x.member) e))
-
-ballot_same : (a b : Ballot Value) → members.Voted a ≡ members.Voted b → a ≡ b
-ballot_same a b e = cc
 
 -- the build of a note of a vote under the claim
 fact_value : (f : Fact Value) (b : Ballot Value) (c : Claim) → note_of f ≡ members.Voted b
@@ -124,7 +96,7 @@ fact_value (fact.Opened round) b c e is =
 fact_value (fact.Promised d) b c e is =
     absurd (let wrong : members.Promised d ≡ members.Voted b = e in cc)
 fact_value (fact.Voted d v) b c e is =
-    let same = ballot_same (ballot d v) b e in
+    let same = ballot_noted (ballot d v) b e in
     cond-true (same_claim d c) (Some v) None
     (claim_is_same d c (ap (λ (z : Ballot Value). z.claim) same ∙ is))
     ∙ ap (λ (z : Ballot Value). Some z.value) same
@@ -227,7 +199,7 @@ module _ (w : World) (made : IsMade w.division w.weights) (acts : List (Act Valu
   -- a vote that is among the datagrams then was sent before, or the step says it
   abbrev IsOldOrNew : Text → Claim → ℕ → Type 0
   IsOldOrNew t c j =
-      (voters w w.sent t c j ≡ true) ⊎ ((d.outcome.send ≡ Some (vote_there j c)) × (t ≡ name))
+      (voters w w.sent t c j ≡ true) ⊎ ((d.outcome.send ≡ Some (vote_of j c)) × (t ≡ name))
 
   old_or_new : (t : Text) (c : Claim) (j : ℕ) → IsClaim c → voters w sent t c j ≡ true
       → IsOldOrNew t c j
@@ -241,7 +213,7 @@ module _ (w : World) (made : IsMade w.division w.weights) (acts : List (Act Valu
       text = whole_text (message w t j (bodies.Vote c))
 
       by : (z : Send) × Contains answer.sends z × Contains (datagrams_of z.message) text
-          → (d.outcome.send ≡ Some (vote_there j c)) × (t ≡ name)
+          → (d.outcome.send ≡ Some (vote_of j c)) × (t ≡ name)
       by (z, there, datagram) =
           let says = says_it z there in
           let p = has_preimage datagram_text (split_of z.message) text datagram in
@@ -254,7 +226,7 @@ module _ (w : World) (made : IsMade w.division w.weights) (acts : List (Act Valu
 
   -- so a claim is decided only by a vote that the step says
   not_decided : (t : Text) (c : Claim)
-      → ((j : ℕ) → d.outcome.send ≡ Some (vote_there j c) → t ≡ name → ⊥)
+      → ((j : ℕ) → d.outcome.send ≡ Some (vote_of j c) → t ≡ name → ⊥)
       → IsDecided w sent t c → ⊥
   not_decided t c none is = true≢false
       (sym (majority_within w.weights (voters w sent t c) (voters w w.sent t c)
@@ -269,7 +241,7 @@ module _ (w : World) (made : IsMade w.division w.weights) (acts : List (Act Valu
     says : Says member d.unit d.outcome.send z.message
     says = says_it z there
 
-    is_sent : d.outcome.send ≡ Some (vote_there k c)
+    is_sent : d.outcome.send ≡ Some (vote_of k c)
     is_sent = says.body ∙ ap (λ (b : Body Value). Some (said k b)) body
 
     claim_good : IsClaim c
@@ -504,7 +476,7 @@ module _ (w : World) (made : IsMade w.division w.weights) (acts : List (Act Valu
   by_claim z there None is = inr (
     λ t c decided. not_decided t c
         (λ j send about. absurd (let wrong : None ≡ Some c = sym is
-        ∙ votes_so k j c z.message.body (said_same (said k z.message.body) (vote_there j c)
+        ∙ votes_so k j c z.message.body (said_same (said k z.message.body) (vote_of j c)
         (sym (says_it z there).body ∙ send)) in cc)) decided,
     refl,
   )

@@ -1,9 +1,9 @@
 -- A node that stands on its log, and what a stop leaves of it.
-use Rattle.std.proofs.Common.{◌≡◌, ◌≤◌, ℕ, List, [], ◌∷◌, ◌++◌, ◌-◌, drop, length, length-append, append_assoc, append-nil, refl, sym, ap, subst, ◌∙◌, arith, false, true}
+use Rattle.std.proofs.Common.{◌≡◌, ℕ, List, [], ◌∷◌, ◌++◌, ◌-◌, length, length-append, append_assoc, append-nil, refl, sym, ap, subst, ◌∙◌, arith, false}
 use Rattle.std.proofs.lemmas.List.{drop_all, drop_at}
 use Rattle.faults.specs.Bytes.{Text}
 use Rattle.node.specs.OnLog.{IsOnLog, identity, identity_of, texts_of}
-use Rattle.node.specs.State.{LoggedNode, NodeState, with_note}
+use Rattle.node.specs.State.{LoggedNode, NodeState}
 use Rattle.node.specs.Step.{Taken, after}
 use Rattle.node.specs.Noted.{notes_in}
 use Rattle.stable_record.specs.Crash.{IsOnDisk}
@@ -13,8 +13,7 @@ use Rattle.stable_record.specs.Log.{entries, header, log_file, open_gate}
 use Rattle.stable_record.specs.declared.identity.Identity.{Identity}
 use Rattle.stable_record.specs.declared.mem_disk.MemDisk.{MemDisk}
 use Rattle.world.specs.World.{World, WorldNode, down_node, node_at, up_node}
-use Rattle.running.specs.declared.placed.Placed.{Placed}
-use Rattle.running.specs.declared.placed.Placed.TheVariants.{Down, Up}
+use Rattle.running.specs.declared.placed.Placed.TheVariants.{Up}
 use Rattle.running.specs.declared.placed.Rest.{Rest}
 use Rattle.running.specs.inside.Placing.{HasLeft, StandsOn, file_of, last_bytes, rest_view}
 

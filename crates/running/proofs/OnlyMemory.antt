@@ -14,7 +14,7 @@ use Rattle.protocol.specs.Restoring.{AreOnUnits}
 use Rattle.protocol.specs.State.{Value}
 use Rattle.stable_record.specs.Faults.{HasRisen}
 use Rattle.stable_record.specs.Log.{HasNotes}
-use Rattle.stable_record.specs.Opening.{Opens, no_more_than_a_gate}
+use Rattle.stable_record.specs.Opening.{no_more_than_a_gate}
 use Rattle.stable_record.specs.declared.log_fault.LogFault.{LogFault}
 use Rattle.stable_record.specs.declared.log_fault.LogFault.TheVariants as log
 use Rattle.units.specs.Division.{Division, IsDivision, number_named}

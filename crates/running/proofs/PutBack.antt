@@ -1,7 +1,8 @@
 -- An element that is taken out, and another one put in its place.
-use Rattle.std.proofs.Common.{◌≡◌, ◌<◌, ℕ, zero, suc, List, [], ◌∷◌, ◌++◌, Some, length, drop, take, slice_get, slice_index_or, slice_set, refl, sym, ap, ◌∙◌, arith}
+use Rattle.std.proofs.Common.{◌≡◌, ◌<◌, ℕ, zero, suc, List, [], ◌∷◌, Some, length, slice_get, slice_index_or, slice_set, refl, sym, ap, ◌∙◌, arith}
 use Rattle.std.proofs.lemmas.Option.{slice_get-get_or}
 use Rattle.std.specs.List.{insert, remove}
+use Rattle.headline.proofs.Headers.{some_same}
 
 pub put_back : {X : Type 0} (xs : List X) (i : ℕ) (x : X) → i < length xs
     → insert (remove xs i) i x ≡ slice_set xs i x
@@ -16,7 +17,4 @@ stands_at xs i x e lt = slice_get-get_or xs i x lt ∙ ap Some (sym e)
 
 pub one_there : {X : Type 0} (xs : List X) (i : ℕ) (x y : X) → slice_get xs i ≡ Some x
     → slice_get xs i ≡ Some y → x ≡ y
-one_there xs i x y e f = one_value x y (sym e ∙ f)
-  where
-    one_value : {X : Type 0} (x y : X) → Some x ≡ Some y → x ≡ y
-    one_value x y e = cc
+one_there xs i x y e f = some_same x y (sym e ∙ f)

@@ -1,5 +1,5 @@
 -- A node that starts again is the one that its notes restore.
-use Rattle.std.proofs.Common.{◌≡◌, ◌<◌, ℕ, true, false, nat_le, List, length, None, Some, Result, Ok, Err, slice_get, slice_index_or, slice_set, refl, sym, ap, ap₂, subst, ◌∙◌, arith, inr}
+use Rattle.std.proofs.Common.{◌≡◌, ◌<◌, ℕ, false, nat_le, List, length, None, Some, Result, Ok, slice_get, slice_index_or, slice_set, refl, sym, ap, ap₂, subst, ◌∙◌, arith, inr}
 use Rattle.std.specs.Prelude.{All}
 use Rattle.std.proofs.lemmas.Bool.{leb-false, true≢false}
 use Rattle.std.proofs.lemmas.List.{length-map, length-replicate}
@@ -8,6 +8,7 @@ use Rattle.std.proofs.lemmas.Option.{slice_get_within}
 use Rattle.faults.specs.Bytes.{Text}
 use Rattle.ballots.specs.declared.message.Note.{Note}
 use Rattle.events.specs.Events as events
+use Rattle.headline.proofs.Headers.{some_same}
 use Rattle.headline.proofs.OneList.{each_run_is_acts}
 use Rattle.headline.specs.Local.{AreLocal, IsOfUnit}
 use Rattle.listing.specs.Tree.{Tree}
@@ -26,7 +27,7 @@ use Rattle.units.specs.Division.{Division, number_named}
 use Rattle.wire.specs.Messages.{IsNote}
 use Rattle.world.proofs.Growing.{leads_later}
 use Rattle.world.specs.Happening.{Restarts, fault_before, is_up, up_of}
-use Rattle.world.specs.World.{World, WorldNode, fresh_node, node_at, restarted_node, start, up_node, with_node}
+use Rattle.world.specs.World.{World, fresh_node, node_at, start, up_node, with_node}
 use Rattle.world.specs.declared.fault.WorldFault.TheVariants as worlds
 use Rattle.running.specs.declared.placed.Placed.{Placed}
 use Rattle.running.specs.declared.placed.Placed.TheVariants.{Down, Up}
@@ -37,7 +38,7 @@ use Rattle.running.specs.inside.Placing.{HasLeft, IsReached, IsStanding, StandsO
 use Rattle.running.proofs.OnlyMemory.{notes_have_node}
 use Rattle.running.proofs.PutBack.{stands_at}
 use Rattle.running.proofs.SceneWith.{IsBut, standing_with, world_with}
-use Rattle.running.proofs.StopsInside.{NoneApplies, get_mapped, get_some, none_applies, one_value}
+use Rattle.running.proofs.StopsInside.{NoneApplies, get_mapped, get_some, none_applies}
 
 -- what a file opens as
 abbrev opens_with : List Text → Result (List Text) LogFault
@@ -92,7 +93,7 @@ module _ (s : Scene) (me : ℕ) (standing : IsStanding s) (reached : IsReached (
 
   -- what stands at the place is what is left of it
   pub at_place : (x : Placed) → slice_get nodes me ≡ Some x → x ≡ Down r
-  at_place x g = one_value x (Down r) (sym g ∙ its_rest.1)
+  at_place x g = some_same x (Down r) (sym g ∙ its_rest.1)
 
   left : HasLeft w me (rest_view r) r.disk
   left = standing.disks me (Down r) its_rest.1
@@ -125,7 +126,8 @@ module _ (s : Scene) (me : ℕ) (standing : IsStanding s) (reached : IsReached (
     texts = same_texts (texts_of n.node.notes) (texts_of (rest_view r).notes)
         (h.one_answer.no_second (file_of r.disk) (Ok (texts_of n.node.notes))
         (Ok (texts_of (rest_view r).notes))
-        (subst (λ (i : Identity). Opens i (file_of r.disk) (Ok (texts_of n.node.notes))) owner h.notes)
+        (subst (λ (i : Identity). Opens i (file_of r.disk) (Ok (texts_of n.node.notes))) owner
+        h.notes)
         (inr (subst (λ (t : Tree). HasNotes (identity t s.weights me) (texts_of (rest_view r).notes)
         (file_of r.disk)) standing.tree left.notes)))
 

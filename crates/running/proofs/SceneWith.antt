@@ -3,18 +3,15 @@ use Rattle.std.proofs.Common.{◌≡◌, ◌<◌, [], ◌∷◌, ℕ, zero, suc,
 use Rattle.std.proofs.lemmas.List.{map-set, set-get_or}
 use Rattle.std.proofs.lemmas.Option.{get_or_from_slice_get}
 use Rattle.agreement.proofs.Nodes.{get_set}
-use Rattle.listing.specs.Tree.{Tree}
 use Rattle.node.specs.OnLog.{identity, texts_of}
-use Rattle.node.specs.State.{NodeState}
 use Rattle.protocol.specs.Restoring.{restored}
 use Rattle.protocol.specs.State.{fresh}
 use Rattle.stable_record.specs.Log.{log_file}
 use Rattle.stable_record.specs.declared.identity.Identity.{Identity}
 use Rattle.units.specs.Division.{Division}
-use Rattle.world.specs.World.{World, WorldNode, node_at, up_node, with_node}
+use Rattle.world.specs.World.{World, node_at, up_node, with_node}
 use Rattle.running.specs.declared.placed.Placed.{Placed}
 use Rattle.running.specs.declared.placed.Placed.TheVariants.{Down, Up}
-use Rattle.running.specs.declared.posted.Posted.{Posted}
 use Rattle.running.specs.declared.scene.Scene.{Scene}
 use Rattle.running.specs.inside.Placing.{IsStanding, StandsOn, node_view, rest_view, world_of}
 use Rattle.running.specs.inside.Posting.{AreListed, list_in, sent_in}
@@ -74,7 +71,8 @@ module _ (s t : Scene) (is : IsBut s t) (k : ℕ) (x : Placed)
   -- the world
   pub world_with : world_of t ≡ with_node (world_of s) k (node_view x)
   world_with =
-      let nodes : map node_view t.nodes.items ≡ slice_set (map node_view s.nodes.items) k (node_view x) =
+      let nodes : map node_view t.nodes.items
+      ≡ slice_set (map node_view s.nodes.items) k (node_view x) =
       ap (map node_view) put ∙ map-set node_view s.nodes.items k x in
       λ i. record {
         division = is.units i;

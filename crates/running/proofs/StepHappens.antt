@@ -1,45 +1,33 @@
 -- The step of a node in its scene is one of the world.
-use Rattle.std.proofs.Common.{◌≡◌, ◌⊎◌, ◌<◌, ◌&&◌, ℕ, Bool, true, false, not, nat_le, List, length, map, Option, None, Some, Result, Ok, Err, Vec, IfErr, OnErr, OnOk, slice_get, slice_set, slice_index_or, refl, sym, ap, subst, ◌∙◌, arith, inl, inr, ⊎_elim, true≢false}
+use Rattle.std.proofs.Common.{◌≡◌, ◌⊎◌, ◌<◌, ◌&&◌, ℕ, Bool, true, false, not, nat_le, List, length, map, None, Some, Result, Ok, Err, Vec, IfErr, OnErr, OnOk, slice_get, slice_set, slice_index_or, refl, sym, ap, subst, ◌∙◌, arith, inl, inr, ⊎_elim, true≢false}
 use Rattle.std.specs.declared.alloc.Global.{Global}
 use Rattle.std.proofs.lemmas.Bool.{leb-false}
 use Rattle.std.proofs.lemmas.List.{length-map, map-set}
 use Rattle.std.proofs.lemmas.Option.{slice_get-get_or}
 use Rattle.agreement.proofs.Nodes.{get_set}
-use Rattle.ballots.specs.declared.message.Note.{Note}
 use Rattle.events.specs.Events as events
 use Rattle.events.specs.Events.{Event, event_view, is_step}
 use Rattle.events.specs.declared.event.Event as declared
 use Rattle.faults.specs.Bytes.{Text}
 use Rattle.headline.proofs.OneList.{each_run_is_acts}
 use Rattle.headline.proofs.Runs.{none_is_foreign}
-use Rattle.member.specs.Prepared.{Prepared}
-use Rattle.node.specs.Arrival.{Arrival, Strange, Waits, Whole, arrival_of}
 use Rattle.node.specs.Calls.{left_by}
-use Rattle.node.specs.OnLog.{IsFull, IsOnLog, LacksRoom}
+use Rattle.node.specs.OnLog.{IsOnLog, LacksRoom}
 use Rattle.node.specs.State.{LoggedNode, NodeState}
-use Rattle.node.specs.Step.{Asked, Comes, Does, IsAsked, ReadyStep, Taken, Takes, after, answer_then, heard, note_in, sends_in, step, step_on, taken, taken_by}
-use Rattle.node.specs.declared.fault.Foreign.{Foreign}
+use Rattle.node.specs.Step.{Asked, IsAsked, Taken, Takes, after, note_in, sends_in, taken_by}
 use Rattle.node.specs.declared.fault.NodeFault.{NodeFault}
 use Rattle.node.specs.declared.fault.NodeFault.TheVariants as fault
 use Rattle.package_record.proofs.BuildsRead.{build_is_read}
 use Rattle.package_record.specs.Content.{Content}
-use Rattle.protocol.specs.Answers.{Answer}
-use Rattle.protocol.specs.State.{State, Value}
-use Rattle.protocol.specs.Step as members
-use Rattle.protocol.specs.declared.refusal.Refusal.{Refusal}
 use Rattle.stable_record.specs.InMemory.{mem_history}
 use Rattle.stable_record.specs.declared.mem_disk.MemDisk.{MemDisk}
-use Rattle.wire.specs.Reading.{datagram_of}
-use Rattle.wire.specs.declared.datagram.Piece.{Piece}
-use Rattle.world.specs.Happening.{Acts, Happens, IsRefusedByNode, IsUp, Steps, Stops, fault_before, is_bad_stop, is_restart, is_up, lacks_datagram, leaves_note, stepped, up_of}
+use Rattle.world.specs.Happening.{Acts, Happens, IsRefusedByNode, IsUp, Steps, Stops, fault_before, is_bad_stop, is_restart, is_up, lacks_datagram, leaves_note, up_of}
 use Rattle.world.specs.Lists.{IsListAfter}
 use Rattle.world.specs.Sent.{with_sends}
 use Rattle.world.specs.World.{World, WorldNode, member_at, node_at, up_node, with_node}
-use Rattle.world.specs.declared.fault.WorldFault.{WorldFault}
 use Rattle.world.specs.declared.fault.WorldFault.TheVariants as worlds
 use Rattle.running.specs.declared.placed.Placed.{Placed}
 use Rattle.running.specs.declared.placed.Placed.TheVariants.{Down, Up}
-use Rattle.running.specs.declared.posted.Posted.{Posted}
 use Rattle.running.specs.declared.scene.Scene.{Scene}
 use Rattle.running.specs.inside.Asking.{CanBeAsked, asked_by, refused_by}
 use Rattle.running.specs.inside.Deciding.{decision}
@@ -47,10 +35,11 @@ use Rattle.running.specs.inside.Placing.{IsReached, IsStanding, StandsOn, disk_o
 use Rattle.running.specs.inside.Posting.{AreListed, AreSame, list_in, sent_in}
 use Rattle.running.specs.inside.Stepping.{RefusesStep, TakesStep, with_decision}
 use Rattle.running.specs.inside.Stopping.{IsStopped}
+use Rattle.running.proofs.ByStep.{IsByStep, by_step, note_answered, sends_answered}
 use Rattle.running.proofs.Listing.{step_lists}
 use Rattle.running.proofs.NodeStands.{same_so, stopped_so, took_so}
 use Rattle.running.proofs.SceneWith.{IsBut, put_again, standing_with, stands_there, world_with}
-use Rattle.running.proofs.StopsInside.{NoneApplies, asks_so, can_be_asked, full_of_lack, get_mapped, get_some, lack_of_full, none_applies, one_value}
+use Rattle.running.proofs.StopsInside.{NoneApplies, asks_so, can_be_asked, full_of_lack, get_mapped, lack_of_full, none_applies}
 
 was_true : (b : Bool) → not b ≡ false → b ≡ true
 was_true true e = refl
@@ -78,47 +67,6 @@ leaves_its_note (events.Deliver d n) is = refl
 leaves_its_note (events.Stop n) is = absurd (true≢false (sym is))
 leaves_its_note (events.StopIn e l) is = absurd (true≢false (sym is))
 leaves_its_note (events.Restart n) is = absurd (true≢false (sym is))
-
--- ---- what a step refuses
-
--- A step never wants memory, nor does it ask the log.
-abbrev IsByStep : Result Taken NodeFault → Type 0
-IsByStep (Ok t) = Prim.Unit {0}
-IsByStep (Err fault.Memory) = ⊥
-IsByStep (Err (fault.Refused r)) = Prim.Unit {0}
-IsByStep (Err (fault.Log f)) = ⊥
-IsByStep (Err fault.Stopped) = Prim.Unit {0}
-IsByStep (Err (fault.Foreign f)) = Prim.Unit {0}
-
-taken_by_step : (pieces : List Piece) (r : Result Answer Refusal) → IsByStep (taken pieces r)
-taken_by_step pieces (Ok a) = tt
-taken_by_step pieces (Err r) = tt
-
-heard_by_step : (pieces : List Piece) (r : Result Answer Refusal) → IsByStep (heard pieces r)
-heard_by_step pieces (Ok a) = tt
-heard_by_step pieces (Err r) = tt
-
-arrived_by_step : (s : State) (a : Arrival) → IsByStep (step_on s a)
-arrived_by_step s (Strange f pieces) = tt
-arrived_by_step s (Waits pieces) = tt
-arrived_by_step s (Whole m pieces) = heard_by_step pieces (members.heard s m)
-
-by_step : (w : World) (k : ℕ) (x : WorldNode) (asked : Asked) (f : NodeFault)
-    → Takes (node_at w k x) asked (Err f) → IsByStep (Err f)
-by_step w k x (Does input) f takes = subst IsByStep (sym takes.right_is)
-    (taken_by_step x.pieces (members.answer (member_at w k x) takes.letter input))
-by_step w k x (Comes text) f takes = subst IsByStep (sym takes.right_is)
-    (arrived_by_step (member_at w k x) (arrival_of (member_at w k x) x.pieces (datagram_of text)))
-
--- ---- what is noted and sent
-
-note_answered : (s : State) (p : Option Prepared) → (answer_then s p).note ≡ note_in p
-note_answered s None = refl
-note_answered s (Some p) = refl
-
-sends_answered : (s : State) (p : Option Prepared) → (answer_then s p).sends ≡ sends_in p
-sends_answered s None = refl
-sends_answered s (Some p) = refl
 
 -- ---- a scene with another node at a place, and other tables
 
@@ -373,8 +321,8 @@ module _ (s : Scene) (e : Event) (standing : IsStanding s) (reached : IsReached 
           → (m.node ≡ n.node) × ((f ≡ fault.Memory) ⊎ IsRefusedByNode w e (refused_by f))
       is_refused f (inl memory) = (memory.1, inl memory.0)
       is_refused f (inr (inl none)) =
-          let r = refused_so f (by_step w k x none.asked f (takes_there none.asked (Err f)
-          none.refuses)) none.asked none.asks none.refuses m.node none.leaves in
+          let r = refused_so f (by_step (node_at w k x) none.asked f refl (takes_there none.asked
+          (Err f) none.refuses)) none.asked none.asks none.refuses m.node none.leaves in
           (r.0, inr r.1)
       is_refused f (inr (inr full)) = (
         full.leaves,

@@ -1,43 +1,32 @@
 -- A stop inside a step, and why it may be refused.
-use Rattle.std.proofs.Common.{◌≡◌, ◌⊎◌, ◌<◌, ◌++◌, ℕ, zero, suc, Bool, true, false, not, ◌&&◌, nat_le, List, [], ◌∷◌, length, map, Option, None, Some, option_map, Result, Ok, Err, IfErr, IfOk, OnErr, OnOk, slice_get, slice_index_or, slice_set, refl, sym, ap, subst, ◌∙◌, arith, inl, inr, ⊎_elim}
+use Rattle.std.proofs.Common.{◌≡◌, ◌⊎◌, ◌<◌, ◌++◌, ℕ, zero, suc, Bool, true, false, not, nat_le, List, [], ◌∷◌, length, map, Option, None, Some, option_map, Result, Ok, Err, IfErr, OnErr, OnOk, slice_get, slice_index_or, slice_set, refl, sym, ap, subst, ◌∙◌, arith, inl, inr, ⊎_elim}
 use Rattle.std.proofs.lemmas.Bool.{leb-false, true≢false}
 use Rattle.std.proofs.lemmas.Option.{slice_get_within}
 use Rattle.std.proofs.lemmas.List.{length-map, set-set}
-use Rattle.faults.specs.Answers.{first_that_applies, map_ok}
+use Rattle.faults.specs.Answers.{first_that_applies}
 use Rattle.faults.specs.Bytes.{Text}
 use Rattle.ballots.specs.declared.message.Note.{Note}
-use Rattle.engine.specs.declared.Letter.{Letter}
 use Rattle.events.specs.Events as events
 use Rattle.events.specs.Events.{Event, is_step}
 use Rattle.events.specs.declared.event.Left.{Left}
 use Rattle.events.specs.declared.event.Left.TheVariants as left
+use Rattle.headline.proofs.Headers.{some_same}
 use Rattle.headline.proofs.OneList.{each_run_is_acts}
 use Rattle.headline.proofs.Runs.{none_is_foreign}
-use Rattle.member.specs.Prepared.{Prepared}
-use Rattle.node.specs.Arrival.{Arrival, Strange, Waits, Whole, arrival_of}
-use Rattle.node.specs.Calls.{HasPrepared, left_by}
+use Rattle.node.specs.Calls.{left_by}
 use Rattle.node.specs.OnLog.{IsFull, IsOnLog, LacksRoom, identity_of, texts_of}
 use Rattle.node.specs.State.{LoggedNode, NodeState, with_note}
-use Rattle.node.specs.Step.{Asked, Comes, Does, IsAsked, IsReadyFor, ReadyStep, Taken, Takes, after, answer_then, heard, note_in, running_step, step, step_on, taken, taken_by}
-use Rattle.node.specs.declared.fault.Foreign.{Foreign}
+use Rattle.node.specs.Step.{Asked, Comes, Does, IsAsked, IsReadyFor, ReadyStep, Taken, Takes, note_in, taken_by}
 use Rattle.node.specs.declared.fault.NodeFault.{NodeFault}
 use Rattle.node.specs.declared.fault.NodeFault.TheVariants as fault
 use Rattle.package_record.proofs.BuildsRead.{build_is_read}
-use Rattle.protocol.specs.Answers.{Answer}
-use Rattle.protocol.specs.State.{State, Value}
-use Rattle.protocol.specs.Step as members
+use Rattle.protocol.specs.State.{Value}
 use Rattle.protocol.specs.declared.input.Input.TheVariants as inputs
-use Rattle.protocol.specs.declared.refusal.Refusal.{Refusal}
 use Rattle.stable_record.specs.History.{stands}
 use Rattle.stable_record.specs.InMemory.{mem_history}
-use Rattle.stable_record.specs.Log.{gate_place, most_bytes}
+use Rattle.stable_record.specs.Log.{gate_place}
 use Rattle.stable_record.specs.declared.identity.Identity.{Identity}
-use Rattle.stable_record.specs.declared.log_fault.LogFault.TheVariants.{Full}
 use Rattle.stable_record.specs.declared.mem_disk.MemDisk.{MemDisk}
-use Rattle.units.specs.Division.{Division}
-use Rattle.wire.specs.Reading.{datagram_of}
-use Rattle.wire.specs.Spelling.{note_text}
-use Rattle.wire.specs.declared.datagram.Piece.{Piece}
 use Rattle.world.specs.Happening.{Acts, Asks, HasRoomFor, IsRefusedByNode, IsUp, LogIsFull, StopsIn, fault_before, is_up, lacks_datagram, left_node, leaves_note, up_of}
 use Rattle.world.specs.World.{World, WorldNode, down_node, node_at, up_node, with_node}
 use Rattle.world.specs.declared.fault.WorldFault.{WorldFault}
@@ -47,9 +36,9 @@ use Rattle.running.specs.declared.placed.Placed.TheVariants.{Down, Up}
 use Rattle.running.specs.declared.placed.Rest.{Rest}
 use Rattle.running.specs.declared.scene.Scene.{Scene}
 use Rattle.running.specs.inside.Asking.{CanBeAsked, IsReadied, asked_by, refused_by}
-use Rattle.running.specs.inside.Placing.{IsReached, IsStanding, StandsOn, disk_of, file_of, node_view, rest_view, world_of}
-use Rattle.running.specs.inside.Posting.{sent_in}
-use Rattle.running.specs.inside.Stopping.{HasNotStopped, HasReadied, HasTakenOnLog, IsNotStoppedWith, IsReady, IsStopped, IsStoppedBehind, IsStoppedTorn, IsStoppedWith, ReadiesStep, StandsReady, StaysOnLog, TookNone, TookStep}
+use Rattle.running.specs.inside.Placing.{IsReached, IsStanding, StandsOn, disk_of, file_of, node_view, world_of}
+use Rattle.running.specs.inside.Stopping.{IsNotStoppedWith, IsStopped, IsStoppedWith, ReadiesStep, StandsReady, TookNone, TookStep}
+use Rattle.running.proofs.ByStep.{IsByStep, by_step, note_answered}
 use Rattle.running.proofs.NodeStands.{IsLeftAs, owner, runs, same_so, stopped_so, took_so, torn_so}
 use Rattle.running.proofs.PutBack.{stands_at}
 use Rattle.running.proofs.SceneWith.{IsBut, put_again, put_there, standing_with, world_with}
@@ -94,9 +83,6 @@ get_mapped f [] k x e = absurd (let wrong : None ≡ Some x = e in cc)
 get_mapped f (y ∷ ys) zero x e = ap (option_map f) e
 get_mapped f (y ∷ ys) (suc k) x e = get_mapped f ys k x e
 
-pub one_value : {X : Type 0} (x y : X) → Some x ≡ Some y → x ≡ y
-one_value x y e = cc
-
 -- a refusal
 abbrev refuses_with : NodeFault → Result Taken NodeFault
 refuses_with f = Err f
@@ -126,58 +112,23 @@ can_be_asked w (events.Restart n) is there = absurd (true≢false (sym is))
 pub asks_so : (w : World) (e : Event) (asked : Asked) → asked_by w.sent e ≡ Some asked
     → Asks w e asked
 asks_so w (events.Claim n path host above) asked h =
-    sym (one_value (Does (inputs.Claim path host above)) asked h)
+    sym (some_same (Does (inputs.Claim path host above)) asked h)
 asks_so w (events.Built n path files) asked h =
-    sym (one_value (Does (inputs.Built path files)) asked h)
-asks_so w (events.Failed n path) asked h = sym (one_value (Does (inputs.Failed path)) asked h)
-asks_so w (events.Nudge n) asked h = sym (one_value (Does inputs.Nudge) asked h)
-asks_so w (events.Ask n path) asked h = sym (one_value (Does (inputs.Ask path)) asked h)
+    sym (some_same (Does (inputs.Built path files)) asked h)
+asks_so w (events.Failed n path) asked h = sym (some_same (Does (inputs.Failed path)) asked h)
+asks_so w (events.Nudge n) asked h = sym (some_same (Does inputs.Nudge) asked h)
+asks_so w (events.Ask n path) asked h = sym (some_same (Does (inputs.Ask path)) asked h)
 asks_so w (events.Deliver d n) asked h = by (slice_get w.sent d) refl
   where
     by : (o : Option Text) → slice_get w.sent d ≡ o → Asks w (events.Deliver d n) asked
     by None e = absurd (let wrong : None ≡ Some asked = sym (ap (option_map Comes) e) ∙ h in cc)
     by (Some text) e =
-        (text, e, sym (one_value (Comes text) asked (sym (ap (option_map Comes) e) ∙ h)))
+        (text, e, sym (some_same (Comes text) asked (sym (ap (option_map Comes) e) ∙ h)))
 asks_so w (events.Stop n) asked h = absurd (let wrong : None ≡ Some asked = h in cc)
 asks_so w (events.StopIn e l) asked h = absurd (let wrong : None ≡ Some asked = h in cc)
 asks_so w (events.Restart n) asked h = absurd (let wrong : None ≡ Some asked = h in cc)
 
--- ---- what a step refuses
-
--- A step never wants memory, nor does it ask the log.
-abbrev IsByStep : Result Taken NodeFault → Type 0
-IsByStep (Ok t) = Prim.Unit {0}
-IsByStep (Err fault.Memory) = ⊥
-IsByStep (Err (fault.Refused r)) = Prim.Unit {0}
-IsByStep (Err (fault.Log f)) = ⊥
-IsByStep (Err fault.Stopped) = Prim.Unit {0}
-IsByStep (Err (fault.Foreign f)) = Prim.Unit {0}
-
-taken_by_step : (pieces : List Piece) (r : Result Answer Refusal) → IsByStep (taken pieces r)
-taken_by_step pieces (Ok a) = tt
-taken_by_step pieces (Err r) = tt
-
-heard_by_step : (pieces : List Piece) (r : Result Answer Refusal) → IsByStep (heard pieces r)
-heard_by_step pieces (Ok a) = tt
-heard_by_step pieces (Err r) = tt
-
-arrived_by_step : (s : State) (a : Arrival) → IsByStep (step_on s a)
-arrived_by_step s (Strange f pieces) = tt
-arrived_by_step s (Waits pieces) = tt
-arrived_by_step s (Whole m pieces) = heard_by_step pieces (members.heard s m)
-
-by_step : (n : NodeState) (letter : Letter) (asked : Asked) → n.stopped ≡ false
-    → IsByStep (step n letter asked)
-by_step n letter (Does input) runs = rw runs
-    (taken_by_step n.pieces (members.answer n.member letter input))
-by_step n letter (Comes text) runs = rw runs
-    (arrived_by_step n.member (arrival_of n.member n.pieces (datagram_of text)))
-
 -- ---- notes that lack room
-
-note_answered : (s : State) (p : Option Prepared) → (answer_then s p).note ≡ note_in p
-note_answered s None = refl
-note_answered s (Some p) = refl
 
 module _ (w : World) (k : ℕ) (n : LoggedNode MemDisk) (is : StandsOn w k (Up n)) where
   place_is : n.log.end ≡ gate_place (identity_of (node_at w k (up_node n.node)).member)
@@ -247,7 +198,7 @@ module _ (s : Scene) (e : Event) (l : Left) (standing : IsStanding s)
 
   -- what stands at the place is that node
   pub at_place : (x : Placed) → slice_get nodes k ≡ Some x → x ≡ Up n
-  at_place x g = one_value x (Up n) (sym g ∙ its_node.1)
+  at_place x g = some_same x (Up n) (sym g ∙ its_node.1)
 
   up_there : IsUp w e (up_node n.node)
   up_there = record { stands = get_mapped node_view nodes k (Up n) its_node.1; up = refl }
@@ -313,8 +264,7 @@ module _ (s : Scene) (e : Event) (l : Left) (standing : IsStanding s)
       (inr (may, refuses asked asks (fault.Foreign f) takes)))
 
   kind_of : (asked : Asked) (f : NodeFault) → Takes n.node asked (Err f) → IsByStep (Err f)
-  kind_of asked f takes = subst IsByStep (sym takes.right_is)
-      (by_step n.node takes.letter asked (runs w k n is))
+  kind_of asked f = by_step n.node asked f (runs w k n is)
 
   pub readied_refused : (x : Placed) (f : NodeFault) → ReadiesStep w.sent e (Up n) x (Err f)
       → (x ≡ Up n)
@@ -444,7 +394,7 @@ stopped_at : (w : World) (k : ℕ) (n : LoggedNode MemDisk) → StandsOn w k (Up
     → (old new : List Placed)
     → slice_get old k ≡ Some (Up n) → IsStopped old new k → HasStoppedAt w k n old new
 stopped_at w k n is old new here h =
-    let same : h.node ≡ Up n = one_value h.node (Up n) (sym h.stood ∙ here) in
+    let same : h.node ≡ Up n = some_same h.node (Up n) (sym h.stood ∙ here) in
     record {
       rest = h.rest;
       nodes = h.nodes;
@@ -470,7 +420,8 @@ module _ (s : Scene) (e : Event) (standing : IsStanding s) (reached : IsReached 
   stops_in (left.Torn torn) may x r h fits t but stopped =
       let n = its_node s e (left.Torn torn) standing reached may in
       let is = standing.disks (events.node_of e) (Up n.0) n.1 in
-      let same : stopped.node ≡ Up n.0 = one_value stopped.node (Up n.0) (sym stopped.stood ∙ n.1) in
+      let same : stopped.node ≡ Up n.0 = some_same stopped.node (Up n.0)
+      (sym stopped.stood ∙ n.1) in
       down_so s e (left.Torn torn) standing reached may x r h fits t but stopped.rest stopped.nodes
       (torn_so (world_of s) (events.node_of e) n.0 is torn stopped.rest
       (stopped.disk ∙ ap (λ y. stands (file_of (disk_of y) ++ torn) ∷ []) same)
@@ -486,10 +437,11 @@ module _ (s : Scene) (e : Event) (standing : IsStanding s) (reached : IsReached 
       is = standing.disks (events.node_of e) (Up n.0) n.1
 
       same : stopped.node ≡ Up n.0
-      same = one_value stopped.node (Up n.0) (sym stopped.stood ∙ n.1)
+      same = some_same stopped.node (Up n.0) (sym stopped.stood ∙ n.1)
 
       by : (y : Placed) → TookStep (Up n.0) r y
-          → IsStopped (slice_set s.nodes.items (events.node_of e) y) t.nodes.items (events.node_of e)
+          → IsStopped (slice_set s.nodes.items (events.node_of e) y) t.nodes.items
+          (events.node_of e)
           → StopsIn (world_of s) e left.Whole (world_of t) × IsStanding t
       by (Down d) took stop = absurd took
       by (Up m) took stop =
@@ -535,7 +487,7 @@ module _ (s : Scene) (e : Event) (standing : IsStanding s) (reached : IsReached 
       n = its_node s e left.Whole standing reached may
 
       same : none.node ≡ Up n.0
-      same = one_value none.node (Up n.0) (sym none.stood ∙ n.1)
+      same = some_same none.node (Up n.0) (sym none.stood ∙ n.1)
 
       by : (y : Placed) → TookNone (Up n.0) r y f
           → t.nodes.items ≡ slice_set s.nodes.items (events.node_of e) y
@@ -544,7 +496,8 @@ module _ (s : Scene) (e : Event) (standing : IsStanding s) (reached : IsReached 
           ⊎ IsRefusedByNode (world_of s) (events.StopIn e left.Whole) (refused_by f))
       by (Down d) stays put = absurd stays
       by (Up m) stays put =
-          let u = up_again s e left.Whole standing reached may t but m put stays.node stays.on_log in (
+          let u = up_again s e left.Whole standing reached may t but m put stays.node
+          stays.on_log in (
             u.0,
             u.1,
             ⊎_elim (λ memory. inl memory)

@@ -5,6 +5,7 @@ use Rattle.agreement.specs.declared.claim.Claim.{Claim}
 use Rattle.ballots.specs.declared.message.Body.{Body}
 use Rattle.ballots.specs.declared.message.Body.TheVariants as body
 use Rattle.ballots.specs.declared.message.Message.{Message}
+use Rattle.headline.proofs.Headers.{some_same}
 use Rattle.member.specs.Prepared.{Prepared}
 use Rattle.node.specs.Parcels.{datagrams_to, each_to}
 use Rattle.node.specs.Step.{sends_in}
@@ -18,9 +19,6 @@ use Rattle.running.specs.inside.Deciding.{claim_voted, message_in, sender_place}
 
 -- ---- the message
 
-some_same : {X : Type 0} (x y : X) → Some x ≡ Some y → x ≡ y
-some_same x y e = cc
-
 -- what all sends share is in the first
 pub message_is : (sends : List Send) (m : Message Value)
     → sends ≡ sent_to (Some m) (receivers_of sends) → (sends ≡ [] → ⊥)
@@ -31,7 +29,7 @@ message_is (s ∷ ss) m e some = ap message_in e
 -- ---- its text
 
 -- what is voted for is in a vote
-vote_is : (b : Body Value) (c : Claim) → claim_voted b ≡ Some c → b ≡ body.Vote c
+pub vote_is : (b : Body Value) (c : Claim) → claim_voted b ≡ Some c → b ≡ body.Vote c
 vote_is (body.Offer d) c e = absurd (let wrong : None ≡ Some c = e in cc)
 vote_is (body.Promise d r) c e = absurd (let wrong : None ≡ Some c = e in cc)
 vote_is (body.Propose d v) c e = absurd (let wrong : None ≡ Some c = e in cc)

@@ -69,14 +69,6 @@ none_makes_none ws S k out = by (is_majority ws (with_member S k)) (is_majority 
 abbrev pub voters_below : ℕ → List Text → Text → Members
 voters_below n sent vote k = nat_lt k n && is_among sent (slice_set vote sender_place k)
 
--- none is below the first
-pub none_below : (sent : List Text) (vote : Text) → named_in [] ≡ voters_below 0 sent vote
-none_below sent vote = λ i k. at k i
-  where
-    at : (k : ℕ) → false ≡ voters_below 0 sent vote k
-    at k = sym (ap (λ b. b && is_among sent (slice_set vote sender_place k))
-        (false_from_ne_true (nat_lt k 0) (λ t. let lt = ltb-true k 0 t in omega (arith, lt))))
-
 -- below the next there are those below this one, and this one if it did
 pub voters_next : (n : ℕ) (sent : List Text) (vote : Text)
     → is_among sent (slice_set vote sender_place n) ≡ true

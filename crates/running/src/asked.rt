@@ -1,11 +1,14 @@
 //! What an event asks, and of which node.
-ghost use Rattle.std.specs.Prelude.{◌≡◌, IfOk, length, map};
+ghost use Rattle.std.specs.Prelude.{◌≡◌, IfErr, IfOk, OnOk, length, map};
 ghost use Rattle.faults.specs.Answers.{map_ok};
 ghost use Rattle.events.specs.Events as events;
 ghost use Rattle.events.specs.Events.{event_view};
+ghost use Rattle.node.specs.OnLog.{IsOnLog};
 ghost use Rattle.node.specs.Step.{IsReadyFor, taken_by};
 ghost use Rattle.protocol.specs.declared.input.Input.TheVariants as inputs;
 ghost use Rattle.running.specs.inside.Asking.{CanBeAsked, IsReadied, refused_by};
+ghost use Rattle.running.specs.inside.Stopping.{HasTakenOnLog, StaysOnLog};
+ghost use Rattle.stable_record.specs.InMemory.{mem_history};
 ghost use Rattle.world.specs.Happening as happening;
 ghost use Rattle.world.specs.World as worlds;
 
@@ -109,6 +112,18 @@ pub(crate) fn ready(
         }
         _ => node.prepare(Input::Nudge),
     }
+}
+
+/// The node takes the step that is ready. What goes out of it is dropped: who is to have it reads
+/// it before.
+pub(crate) fn finished(node: &mut Node<'_, MemDisk>, ready: Ready) -> Result<(), NodeFault>
+    requires present { IsReadyFor node.old.node ready }
+    requires on_log { IsOnLog mem_history node.old }
+    ensures taken { OnOk result (HasTakenOnLog node.old ready node.new) }
+    ensures none { IfErr result (StaysOnLog node.old ready node.new) }
+{
+    node.finish(ready)?;
+    Ok(())
 }
 
 /// Why the node refuses the event.

@@ -21,7 +21,7 @@ ghost use Rattle.running.specs.inside.Stepping.{
 };
 
 use crate::World;
-use crate::asked::{node_of, ready, refused};
+use crate::asked::{finished, node_of, ready, refused};
 use crate::placed::Placed;
 use crate::posted::Posted;
 use crate::scene::Scene;
@@ -202,8 +202,11 @@ fn finish(
     ensures refused { IfErr result (λ f. (f ≡ NodeFault.Memory)
         ⊎ ((f ≡ NodeFault.Log LogFault.Full) × LacksRoom node.old.log (note_in ready.step))) }
 {
-    grow(weights, posted, node, &ready)?;
-    node.finish(ready)?;
+    let Ok(()) = grow(weights, posted, node, &ready) else {
+        drop(ready);
+        return Err(NodeFault::Memory);
+    };
+    finished(node, ready)?;
     Ok(())
 }
 

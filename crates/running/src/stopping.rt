@@ -12,6 +12,7 @@ ghost use Rattle.std.specs.Prelude.{
   Some,
   length,
   map,
+  slice_set,
   true,
 };
 ghost use Rattle.events.specs.Events as events;
@@ -43,7 +44,7 @@ ghost use Rattle.running.specs.inside.Stopping.{
   TookStep,
 };
 
-use crate::asked::{node_of, ready};
+use crate::asked::{finished, node_of, ready};
 use crate::opening::opened;
 use crate::placed::{Placed, Rest};
 use crate::scene::Scene;
@@ -66,10 +67,12 @@ pub(crate) fn stop(nodes: &mut Vec<Placed<'_>>, place: usize)
 }
 
 /// The node at the place stops, and a torn write leaves these bytes behind the closed gate.
-fn stop_torn(nodes: &mut Vec<Placed<'_>>, place: usize, torn: &[u8]) -> Result<(), Memory>
+fn stop_torn(nodes: &mut Vec<Placed<'_>>, place: usize, torn: &[u8]) -> Result<(), NodeFault>
     requires { place < length nodes.old.items }
-    ensures ok { OnOk result (IsStoppedTorn nodes.old.items nodes.new.items place torn.now) }
-    ensures err { OnErr result (nodes.new.items ≡ nodes.old.items) }
+    ensures stopped { OnOk result
+        (IsStoppedTorn nodes.old.items nodes.new.items place torn.now) }
+    ensures none { IfErr result (λ f. (nodes.new.items ≡ nodes.old.items)
+        × (f ≡ NodeFault.Memory)) }
 {
     let alloc: Global = *nodes.allocator();
     let disk = nodes[place].disk_with(alloc, torn)?;
@@ -110,17 +113,14 @@ fn readied(
     }
 }
 
-/// The node takes the step, and what comes out of it is lost.
+/// The node that is up takes the step, and what comes out of it is lost.
 fn take_step(placed: &mut Placed<'_>, ready: Ready) -> Result<(), NodeFault>
     requires { IsReady placed.old ready }
     ensures took { OnOk result (TookStep placed.old ready placed.new) }
     ensures none { IfErr result (TookNone placed.old ready placed.new) }
 {
     match placed {
-        Placed::Up(node) => {
-            node.finish(ready)?;
-            Ok(())
-        }
+        Placed::Up(node) => finished(node, ready),
         Placed::Down(_) => unreachable!(),
     }
 }
@@ -152,15 +152,24 @@ fn stop_with(
 {
     match left {
         Left::None => {
+            drop(ready);
             stop(nodes, place);
             Ok(())
         }
-        Left::Torn(torn) => match stop_torn(nodes, place, torn.as_slice()) {
-            Ok(()) => Ok(()),
-            Err(Memory) => Err(NodeFault::Memory),
-        },
+        Left::Torn(torn) => {
+            drop(ready);
+            stop_torn(nodes, place, torn.as_slice())
+        }
         Left::Whole => stop_behind(nodes, place, ready),
     }
+}
+
+/// Puts a node in the place of another.
+fn put<'a>(nodes: &mut Vec<Placed<'a>>, place: usize, placed: Placed<'a>)
+    requires { place < length nodes.old.items }
+    ensures { nodes.new.items ≡ slice_set nodes.old.items place placed.entry }
+{
+    nodes[place] = placed;
 }
 
 /// The node that a copy of its disk restores.
@@ -222,7 +231,7 @@ impl<'a> Scene<'a> {
             me,
         ) {
             Ok(node) => {
-                self.nodes[me as usize] = Placed::Up(node);
+                put(&mut self.nodes, me as usize, Placed::Up(node));
                 Ok(())
             }
             Err(Memory) => Err(NodeFault::Memory),

@@ -11,6 +11,7 @@ loop-me-preserved c =
     let more = c.in_ok-push.ensures.items in
     record {
       count = omega (arith, c.loop-me.invariant.count, ap length more, length_push nodes (Up n));
-      each = fresh_more c.args.tree.now c.args.weights.now nodes c.push.new.self.items n c.loop-me.me c.loop-me.invariant.each c.loop-me.invariant.count
+      each = fresh_more c.args.tree.now c.args.weights.now nodes c.push.new.self.items n
+          c.loop-me.me c.loop-me.invariant.each c.loop-me.invariant.count
           c.in_ok-fresh.ensures more;
     }

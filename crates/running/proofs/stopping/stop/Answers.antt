@@ -12,7 +12,8 @@ returns c =
       stood = slice_get-get_or c.args.nodes.now.items c.args.place c.remove.result c.requires
           ∙ ap Some (sym c.remove.ensures.value);
       rest = c.rest-rest.result;
-      nodes = done ∙ put_back c.args.nodes.now.items c.args.place (Down c.rest-rest.result) c.requires;
+      nodes = done ∙ put_back c.args.nodes.now.items c.args.place
+          (Down c.rest-rest.result) c.requires;
       disk = c.rest-rest.ensures.disk;
       notes = c.rest-rest.ensures.notes;
       behind = c.rest-rest.ensures.behind;

@@ -5,8 +5,8 @@ use Rattle.running.specs.declared.placed.Placed.TheVariants.{Down}
 use Rattle.running.specs.declared.placed.Rest.{Rest}
 use Rattle.running.specs.inside.Placing.{node_view}
 
-pub returns-clause-ok : goal.returns-clause-ok
-returns-clause-ok c =
+pub returns-clause-stopped : goal.returns-clause-stopped
+returns-clause-stopped c =
     let done = rw (c.unwrap.ensures, c.remove.ensures.items) at c.insert.ensures.items in
     let rest : Rest = record {
       disk = c.in_ok-disk.disk;

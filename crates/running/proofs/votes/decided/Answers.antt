@@ -8,7 +8,8 @@ pub voters-requires : goal.voters-requires
 voters-requires c =
     let message = c.in-Some-message.message.now in
     let said = message_is c.sends.result.now message c.in-Some-message.ensures.sent (λ e.
-    let wrong : Some c.in-Some-message.message ≡ None = c.in-Some-message.ensures.nobody.1 e in cc) in
+    let wrong : Some c.in-Some-message.message ≡ None =
+    c.in-Some-message.ensures.nobody.1 e in cc) in
     let first = c.in-Some-get.ensures
     ∙ ap (λ (l : List (ℕ × Text)). slice_get l 0) c.sends-2.ensures in
     subst (λ (t : Text). sender_place < length t)

@@ -11,6 +11,7 @@ use Rattle.running.proofs.posted.Posted.has_any.Goals as goal
 pub returns : goal.returns
 returns c =
     let keys = c.args.self.now.listed.keys in
-    any_from_yields_List (λ (r : Content). list_any (bytes_eq r.path) keys) _ _ c.any.result c.any.ensures.ran (YieldsList-from_slice c.args.packages.now cc)
+    any_from_yields_List (λ (r : Content). list_any (bytes_eq r.path) keys) _ _ c.any.result
+    c.any.ensures.ran (YieldsList-from_slice c.args.packages.now cc)
     (λ x b q k. search (rules, tests))
     ∙ any_have (list_in c.args.self.now) c.args.packages.now keys c.requires

@@ -12,12 +12,28 @@ fresh_nodes-requires c = (
 
 pub returns-clause-world : goal.returns-clause-world
 returns-clause-world c =
-    let s : Scene = record { tree = c.args.tree; units = c.in_ok-units.units; weights = c.copy.result; nodes = c.in_ok-fresh_nodes.field-0; posted = c.new-2.result } in
-    world_starts s c.args.tree.now c.args.weights.now c.in_ok-units.ensures c.len-count.ensures.division c.copy.ensures c.in_ok-fresh_nodes.ensures
+    let s : Scene = record {
+      tree = c.args.tree;
+      units = c.in_ok-units.units;
+      weights =
+          c.copy.result;
+      nodes = c.in_ok-fresh_nodes.field-0;
+      posted = c.new-2.result;
+    } in
+    world_starts s c.args.tree.now c.args.weights.now c.in_ok-units.ensures
+    c.len-count.ensures.division c.copy.ensures c.in_ok-fresh_nodes.ensures
     c.new-2.ensures.sent c.new-2.ensures.list
 
 pub returns-clause-standing : goal.returns-clause-standing
 returns-clause-standing c =
-    let s : Scene = record { tree = c.args.tree; units = c.in_ok-units.units; weights = c.copy.result; nodes = c.in_ok-fresh_nodes.field-0; posted = c.new-2.result } in
-    scene_stands s c.args.tree.now c.args.weights.now c.in_ok-units.ensures c.len-count.ensures.division c.copy.ensures c.in_ok-fresh_nodes.ensures
+    let s : Scene = record {
+      tree = c.args.tree;
+      units = c.in_ok-units.units;
+      weights =
+          c.copy.result;
+      nodes = c.in_ok-fresh_nodes.field-0;
+      posted = c.new-2.result;
+    } in
+    scene_stands s c.args.tree.now c.args.weights.now c.in_ok-units.ensures
+    c.len-count.ensures.division c.copy.ensures c.in_ok-fresh_nodes.ensures
     refl c.new-2.ensures.listed

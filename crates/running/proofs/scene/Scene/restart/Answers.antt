@@ -1,9 +1,7 @@
-use Rattle.std.proofs.Common.{arith, refl}
-use Rattle.std.specs.Vec.{with_item}
+use Rattle.std.proofs.Common.{refl}
 use Rattle.running.proofs.Restarting.{has_node_there, member_within, place_within, restarts_there}
 use Rattle.running.proofs.SceneWith.{IsBut}
 use Rattle.running.proofs.scene.Scene.restart.Goals as goal
-use Rattle.running.specs.declared.placed.Placed.TheVariants.{Up}
 use Rattle.running.specs.declared.scene.Scene.{Scene}
 
 pub restarted-requires-clause-member : goal.restarted-requires-clause-member
@@ -15,28 +13,24 @@ restarted-requires-clause-node c =
     has_node_there c.args.self.now c.args.me c.requires.standing c.requires.reached c.requires.may
     c.index.result.now c.index.ensures
 
-pub index_mut-requires : goal.index_mut-requires
-index_mut-requires c =
-    omega (
-      arith,
-      place_within c.args.self.now c.args.me c.requires.standing c.requires.reached c.requires.may,
-      c.args.self.now.nodes.ok.0,
-    )
+pub put-requires : goal.put-requires
+put-requires c =
+    place_within c.args.self.now c.args.me c.requires.standing c.requires.reached c.requires.may
 
 pub returns-in-Ok-clause-taken : goal.returns-in-Ok-clause-taken
 returns-in-Ok-clause-taken c =
     let s = c.args.self.now in
     let n = c.in-Ok.node in
-    let t : Scene = record s { nodes = with_item s.nodes c.args.me (Up n) } in
+    let t : Scene = record s { nodes = c.put.new.nodes } in
     let but : IsBut s t = record { tree = refl; units = refl; weights = refl; posted = refl } in
     (restarts_there s c.args.me c.requires.standing c.requires.reached c.requires.may
-    c.index.result.now c.index.ensures n c.in-Ok.ensures t but refl).0
+    c.index.result.now c.index.ensures n c.in-Ok.ensures t but c.put.ensures).0
 
 pub returns-in-Ok-clause-standing : goal.returns-in-Ok-clause-standing
 returns-in-Ok-clause-standing c =
     let s = c.args.self.now in
     let n = c.in-Ok.node in
-    let t : Scene = record s { nodes = with_item s.nodes c.args.me (Up n) } in
+    let t : Scene = record s { nodes = c.put.new.nodes } in
     let but : IsBut s t = record { tree = refl; units = refl; weights = refl; posted = refl } in
     (restarts_there s c.args.me c.requires.standing c.requires.reached c.requires.may
-    c.index.result.now c.index.ensures n c.in-Ok.ensures t but refl).1
+    c.index.result.now c.index.ensures n c.in-Ok.ensures t but c.put.ensures).1

@@ -25,7 +25,8 @@ readied-requires-clause-up c =
     let l = c.args.left.now in
     let place = c.node_of-place.result in
     let old = c.index_mut.result.now in
-    is_on s e l c.requires.standing c.requires.reached c.requires.may place c.node_of-place.ensures old c.index_mut.ensures.value
+    is_on s e l c.requires.standing c.requires.reached c.requires.may place c.node_of-place.ensures
+    old c.index_mut.ensures.value
 
 pub stop_with-requires : goal.stop_with-requires
 stop_with-requires c =
@@ -34,7 +35,9 @@ stop_with-requires c =
     let l = c.args.left.now in
     let place = c.node_of-place.result in
     let old = c.index_mut.result.now in
-    ready_there s e l c.requires.standing c.requires.reached c.requires.may place c.node_of-place.ensures old c.index_mut.ensures.value c.readied.new.placed c.in-Ok.ready c.in-Ok.ensures
+    ready_there s e l c.requires.standing c.requires.reached c.requires.may place
+    c.node_of-place.ensures old c.index_mut.ensures.value c.readied.new.placed c.in-Ok.ready
+    c.in-Ok.ensures
 
 pub returns-in-Ok-clause-taken : goal.returns-in-Ok-clause-taken
 returns-in-Ok-clause-taken c =
@@ -51,7 +54,9 @@ returns-in-Ok-clause-taken c =
     let Stopped : Type 0 = IsStoppedWith l nodes t.nodes.items place r in
     let NotStopped : NodeFault → Type 0 = IsNotStoppedWith l nodes t.nodes.items place r in
     on_ok c.stop_with.result Stopped (StopsIn (world_of s) e l (world_of t))
-    (λ stopped. (stops_there s e l c.requires.standing c.requires.reached c.requires.may place c.node_of-place.ensures old c.index_mut.ensures.value x r c.in-Ok.ensures (c.host_fits.ensures (world_of s).sent) t but stopped).0)
+    (λ stopped. (stops_there s e l c.requires.standing c.requires.reached c.requires.may place
+    c.node_of-place.ensures old c.index_mut.ensures.value x r c.in-Ok.ensures
+    (c.host_fits.ensures (world_of s).sent) t but stopped).0)
     c.stop_with.ensures.stopped
 
 pub returns-in-Ok-clause-same : goal.returns-in-Ok-clause-same
@@ -69,7 +74,9 @@ returns-in-Ok-clause-same c =
     let Stopped : Type 0 = IsStoppedWith l nodes t.nodes.items place r in
     let NotStopped : NodeFault → Type 0 = IsNotStoppedWith l nodes t.nodes.items place r in
     on_err c.stop_with.result NotStopped (world_of t ≡ world_of s)
-    (λ f none. (not_there s e l c.requires.standing c.requires.reached c.requires.may place c.node_of-place.ensures old c.index_mut.ensures.value x r c.in-Ok.ensures (c.host_fits.ensures (world_of s).sent) t but f none).0)
+    (λ f none. (not_there s e l c.requires.standing c.requires.reached c.requires.may place
+    c.node_of-place.ensures old c.index_mut.ensures.value x r c.in-Ok.ensures
+    (c.host_fits.ensures (world_of s).sent) t but f none).0)
     c.stop_with.ensures.none
 
 pub returns-in-Ok-clause-refused : goal.returns-in-Ok-clause-refused
@@ -88,7 +95,9 @@ returns-in-Ok-clause-refused c =
     let NotStopped : NodeFault → Type 0 = IsNotStoppedWith l nodes t.nodes.items place r in
     if_err c.stop_with.result NotStopped
     (λ f. (f ≡ fault.Memory) ⊎ IsRefusedByNode (world_of s) (events.StopIn e l) (refused_by f))
-    (λ f none. (not_there s e l c.requires.standing c.requires.reached c.requires.may place c.node_of-place.ensures old c.index_mut.ensures.value x r c.in-Ok.ensures (c.host_fits.ensures (world_of s).sent) t but f none).2)
+    (λ f none. (not_there s e l c.requires.standing c.requires.reached c.requires.may place
+    c.node_of-place.ensures old c.index_mut.ensures.value x r c.in-Ok.ensures
+    (c.host_fits.ensures (world_of s).sent) t but f none).2)
     c.stop_with.ensures.none
 
 pub returns-in-Ok-clause-standing : goal.returns-in-Ok-clause-standing
@@ -106,8 +115,12 @@ returns-in-Ok-clause-standing c =
     let Stopped : Type 0 = IsStoppedWith l nodes t.nodes.items place r in
     let NotStopped : NodeFault → Type 0 = IsNotStoppedWith l nodes t.nodes.items place r in
     either c.stop_with.result Stopped NotStopped (IsStanding t)
-    (λ stopped. (stops_there s e l c.requires.standing c.requires.reached c.requires.may place c.node_of-place.ensures old c.index_mut.ensures.value x r c.in-Ok.ensures (c.host_fits.ensures (world_of s).sent) t but stopped).1)
-    (λ f none. (not_there s e l c.requires.standing c.requires.reached c.requires.may place c.node_of-place.ensures old c.index_mut.ensures.value x r c.in-Ok.ensures (c.host_fits.ensures (world_of s).sent) t but f none).1)
+    (λ stopped. (stops_there s e l c.requires.standing c.requires.reached c.requires.may place
+    c.node_of-place.ensures old c.index_mut.ensures.value x r c.in-Ok.ensures
+    (c.host_fits.ensures (world_of s).sent) t but stopped).1)
+    (λ f none. (not_there s e l c.requires.standing c.requires.reached c.requires.may place
+    c.node_of-place.ensures old c.index_mut.ensures.value x r c.in-Ok.ensures
+    (c.host_fits.ensures (world_of s).sent) t but f none).1)
     c.stop_with.ensures.stopped c.stop_with.ensures.none
 
 pub returns-in-Err-clause-same : goal.returns-in-Err-clause-same
@@ -120,7 +133,9 @@ returns-in-Err-clause-same c =
     let x = c.readied.new.placed in
     let t : Scene = record s { nodes = with_item s.nodes place x } in
     let but : IsBut s t = record { tree = refl; units = refl; weights = refl; posted = refl } in
-    (refused_there s e l c.requires.standing c.requires.reached c.requires.may place c.node_of-place.ensures old c.index_mut.ensures.value x c.in-Err.fault c.in-Err.ensures t but refl).0
+    (refused_there s e l c.requires.standing c.requires.reached c.requires.may place
+    c.node_of-place.ensures old c.index_mut.ensures.value x c.in-Err.fault c.in-Err.ensures t
+    but refl).0
 
 pub returns-in-Err-clause-refused : goal.returns-in-Err-clause-refused
 returns-in-Err-clause-refused c =
@@ -132,7 +147,9 @@ returns-in-Err-clause-refused c =
     let x = c.readied.new.placed in
     let t : Scene = record s { nodes = with_item s.nodes place x } in
     let but : IsBut s t = record { tree = refl; units = refl; weights = refl; posted = refl } in
-    (refused_there s e l c.requires.standing c.requires.reached c.requires.may place c.node_of-place.ensures old c.index_mut.ensures.value x c.in-Err.fault c.in-Err.ensures t but refl).2
+    (refused_there s e l c.requires.standing c.requires.reached c.requires.may place
+    c.node_of-place.ensures old c.index_mut.ensures.value x c.in-Err.fault c.in-Err.ensures t
+    but refl).2
 
 pub returns-in-Err-clause-standing : goal.returns-in-Err-clause-standing
 returns-in-Err-clause-standing c =
@@ -144,4 +161,6 @@ returns-in-Err-clause-standing c =
     let x = c.readied.new.placed in
     let t : Scene = record s { nodes = with_item s.nodes place x } in
     let but : IsBut s t = record { tree = refl; units = refl; weights = refl; posted = refl } in
-    (refused_there s e l c.requires.standing c.requires.reached c.requires.may place c.node_of-place.ensures old c.index_mut.ensures.value x c.in-Err.fault c.in-Err.ensures t but refl).1
+    (refused_there s e l c.requires.standing c.requires.reached c.requires.may place
+    c.node_of-place.ensures old c.index_mut.ensures.value x c.in-Err.fault c.in-Err.ensures t
+    but refl).1

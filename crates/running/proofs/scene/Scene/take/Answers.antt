@@ -18,7 +18,8 @@ take-requires-clause-on_log c =
     (on_log c.args.self.now (event_view c.args.event.now) c.requires.standing c.requires.reached
     c.requires.may c.requires.step c.in-Up.node
     (at_place c.args.self.now (event_view c.args.event.now) c.requires.may
-    (no_restart (event_view c.args.event.now) c.requires.step) c.node_of.result c.node_of.ensures c.index_mut.result.now
+    (no_restart (event_view c.args.event.now) c.requires.step) c.node_of.result c.node_of.ensures
+    c.index_mut.result.now
     (Up c.in-Up.node) c.index_mut.ensures.value c.in-Up.is)).1
 
 -- the scene that the call leaves
@@ -37,7 +38,8 @@ left c =
     is_left c.args.self.now (event_view c.args.event.now) c.requires.standing c.requires.reached
     c.requires.may c.requires.step c.in-Up.node
     (at_place c.args.self.now (event_view c.args.event.now) c.requires.may
-    (no_restart (event_view c.args.event.now) c.requires.step) c.node_of.result c.node_of.ensures c.index_mut.result.now
+    (no_restart (event_view c.args.event.now) c.requires.step) c.node_of.result c.node_of.ensures
+    c.index_mut.result.now
     (Up c.in-Up.node) c.index_mut.ensures.value c.in-Up.is)
     (c.host_fits.ensures (sent_in c.args.self.now.posted)) c.take.new.node (scene_then c)
     (record {

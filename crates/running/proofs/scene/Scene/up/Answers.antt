@@ -7,5 +7,6 @@ pub returns : goal.returns
 returns c = λ x at.
     let s = c.args.self.now in
     let within = up_within s.nodes.items c.args.node c.requires.up in
-    let there = slice_get_read s.nodes.items _ c.args.node c.index.result.now refl within c.index.ensures in
+    let there = slice_get_read s.nodes.items _ c.args.node c.index.result.now refl within
+    c.index.ensures in
     node_shown s c.requires.standing c.args.node x at c.in-Up.node (there ∙ ap Some c.in-Up.is)
