@@ -6,7 +6,7 @@ use Rattle.std.specs.List.{slice_get}
 use Rattle.faults.specs.Bytes.{Text, is_empty}
 use Rattle.replay.proofs.Slices.{length_now}
 use Rattle.replay.specs.List.{without_empty_end}
-use Rattle.replay.specs.Listed.{has_empty_end}
+use Rattle.replay.specs.inside.Listed.{has_empty_end}
 
 before_last : (t u : Text) (ts : List Text) → length (t ∷ u ∷ ts) - 1 ≡ suc (length (u ∷ ts) - 1)
 before_last t u ts = omega arith

@@ -3,7 +3,7 @@ use Rattle.std.proofs.Common.{◌≡◌, ◌+◌, ◌<◌, ◌++◌, ℕ, Bor, L
 use Rattle.std.specs.List.{AllZip}
 use Rattle.faults.specs.Bytes.{Text}
 use Rattle.replay.specs.List.{AreList, IsFirstBadAt, Says}
-use Rattle.replay.specs.Listed.{AddsLine, CannotFollow, entries_in, said_in}
+use Rattle.replay.specs.inside.Listed.{AddsLine, CannotFollow, entries_in, said_in}
 use Rattle.replay.specs.declared.list.Packages.{Packages}
 use Rattle.replay.specs.declared.list_line.ListLine.{ListLine}
 use Rattle.replay.proofs.Saying.{no_list, said_more}

@@ -7,12 +7,10 @@ use Rattle.faults.specs.Bytes.{Text}
 use Rattle.hex.specs.Hex.{decode_sized}
 use Rattle.pkgname.specs.PkgName.{name_of}
 use Rattle.pkgpath.specs.PkgPath.{path_of}
+use Rattle.replay.proofs.Positions.{ok_once}
 use Rattle.replay.specs.List.{AreList, Names, Says, said_of}
 use Rattle.replay.specs.declared.list_line.ListLine.{ListLine}
 use Rattle.replay.specs.declared.list_line.ListLine.TheVariants.{Package, Built}
-
-ok_once : {X F : Type 0} (r : Result X F) (x y : X) → r ≡ Ok x → r ≡ Ok y → x ≡ y
-ok_once r x y e f = cc
 
 -- a line names one package, behind one word
 named_once : (line word other : Text) (d e : Dep) → Names word line d → Names other line e → (word ≡ other) × (d ≡ e)

@@ -10,24 +10,13 @@ use Rattle.engine.specs.declared.Letter.{Letter}
 use Rattle.faults.specs.Bytes.{Text}
 use Rattle.listing.specs.Tree.{Package, name_at, no_package, package_at, path_at}
 use Rattle.replay.specs.Status.{package_line, package_lines}
+use Rattle.units.proofs.Lists.{range_next}
 
 -- the text has the lines of the packages below a position
 pub record HasLines (s : State) (p : ℕ) (text : Text) : Type 0 where
   pub letters : List Letter
   pub are_letters : AllZip (HasLetter s) (range_with_len 0 p) letters
   pub lines : text ≡ package_lines (take p s.tree) letters
-
-numbers_next : (a n : ℕ) → range_with_len a (suc n) ≡ range_with_len a n ++ (a + n) ∷ []
-numbers_next a zero = let first : a ≡ a + 0 = omega arith in ap (λ m. m ∷ []) first
-numbers_next a (suc n) =
-    let last : a + 1 + n ≡ a + suc n = omega arith in
-    ap (λ (ms : List ℕ). a ∷ ms) (numbers_next (a + 1) n ∙ ap (λ m. range_with_len (a + 1) n ++ m ∷ []) last)
-
-numbers_more : (n : ℕ) → range_with_len 0 (n + 1) ≡ range_with_len 0 n ++ n ∷ []
-numbers_more n =
-    let next : n + 1 ≡ suc n = omega arith in
-    let last : 0 + n ≡ n = omega arith in
-    ap (range_with_len 0) next ∙ numbers_next 0 n ∙ ap (λ m. range_with_len 0 n ++ m ∷ []) last
 
 letters_length : (s : State) (ps : List ℕ) (letters : List Letter) → AllZip (HasLetter s) ps letters → length ps ≡ length letters
 letters_length s [] [] all = refl
@@ -68,7 +57,7 @@ lines_more s p letter text after has within is_letter appended =
     ap (flat_map line) pairs ∙ flat_map-append line (zip (take p s.tree) has.letters) ((x, letter) ∷ []) in
     record {
       letters = has.letters ++ letter ∷ [];
-      are_letters = subst R (sym (numbers_more p)) (letters_more s (range_with_len 0 p) has.letters p letter has.are_letters is_letter);
+      are_letters = subst R (sym (range_next p)) (letters_more s (range_with_len 0 p) has.letters p letter has.are_letters is_letter);
       lines = appended ∙ ap (λ (t : Text). t ++ package_line letter x.path x.name) has.lines
           ∙ ap (λ (t : Text). package_lines (take p s.tree) has.letters ++ t) (sym (append-nil (package_line letter x.path x.name))) ∙ sym all;
     }

@@ -7,11 +7,11 @@ use Rattle.listing.specs.declared.ListingFault.{ListingFault}
 use Rattle.listing.specs.declared.ListingFault.TheVariants.{Memory as ListingMemory}
 use Rattle.replay.specs.Held.{IsFirstFault}
 use Rattle.replay.specs.List.{IsFirstBadLine}
-use Rattle.replay.specs.Printed.{IsDescribed}
+use Rattle.replay.specs.inside.Files.{IsDescribed, RefusesListingFile, RefusesTraceFile}
 use Rattle.replay.specs.Refusals.{RefusesHeld, RefusesList, RefusesListing, held_refusal, list_refusal, listing_refusal, memory_refusal, trace_refusal}
 use Rattle.replay.specs.Rules.{rules_for}
 use Rattle.replay.specs.Runs.{RefusesEvent, RefusesRun, RefusesTrace}
-use Rattle.replay.specs.Stopped.{RefusesAuditFiles, RefusesListingFile, RefusesRunFiles, RefusesStatusFiles, RefusesTraceFile}
+use Rattle.replay.specs.Stopped.{RefusesAuditFiles, RefusesRunFiles, RefusesStatusFiles}
 use Rattle.replay.specs.declared.held.HeldFault.{HeldFault}
 use Rattle.replay.specs.declared.held.HeldFault.TheVariants.{Memory as HeldMemory}
 use Rattle.replay.specs.declared.list.ListFault.{ListFault}

@@ -7,7 +7,7 @@ use Rattle.auditing.specs.declared.entry.Entry.{Entry}
 use Rattle.claims.specs.declared.deps.Dep.{Dep}
 use Rattle.faults.specs.Bytes.{Text}
 use Rattle.replay.specs.List.{AreList, Says, said_of}
-use Rattle.replay.specs.Listed.{CannotFollow, IsBuilt, said_in}
+use Rattle.replay.specs.inside.Listed.{CannotFollow, IsBuilt, said_in}
 use Rattle.replay.specs.declared.list.Packages.{Packages}
 use Rattle.replay.specs.declared.list_line.ListLine.{ListLine}
 use Rattle.replay.specs.declared.list_line.ListLine.TheVariants.{Package, Built}

@@ -5,10 +5,10 @@ pub mod List
 pub mod ListLaws
 pub mod ListRefusals
 pub mod ListText
-pub mod Listed
 pub mod Printed
 pub mod Refusals
 pub mod Rules
 pub mod Runs
 pub mod Status
 pub mod Stopped
+pub mod inside

@@ -15,14 +15,6 @@ use Rattle.words.specs.Calls.{AreTaken, IsCallOf, matched}
 use Rattle.words.specs.declared.Call.{Call}
 use Rattle.words.specs.declared.Call.TheVariants.{Audit, Run, Status}
 
--- a listing describes the tree, where each path is a group of its own or not
-abbrev pub IsDescribed : Bool → Tree → Type 0
-IsDescribed is_single tree = (listing : Text) × (tree_of (rules_for is_single) listing ≡ Ok tree)
-
--- a text is the trace
-abbrev pub IsSpelled : Trace → Type 0
-IsSpelled trace = (text : Text) × (trace_of text ≡ Ok trace)
-
 -- the status that a listing and a text of held package paths describe
 pub record IsStatus (is_single : Bool) (text : Text) : Type 0 where
   pub listing : Text

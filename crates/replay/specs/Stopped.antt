@@ -28,15 +28,6 @@ StopsBy e stop =
     ((kind_of e ≡ OutOfMemory) × (stop ≡ Refused memory_refusal))
     ⊎ ((kind_of e ≢ OutOfMemory) × (stop ≡ WrongWords e))
 
--- the file of a listing can't be read, or this is told of the listing
-abbrev pub RefusesListingFile : Bool → Refusal → Type 0
-RefusesListingFile is_single r =
-    IsSystemRefusal r ⊎ ((listing : Text) × RefusesListing (rules_for is_single) listing r)
-
--- the file of a trace can't be read, or this is told of a text that is no trace
-abbrev pub RefusesTraceFile : Refusal → Type 0
-RefusesTraceFile r = IsSystemRefusal r ⊎ ((trace : Text) × RefusesText trace r)
-
 -- one of the two files can't be read, or this is told of the texts in them
 abbrev pub RefusesStatusFiles : Bool → Refusal → Type 0
 RefusesStatusFiles is_single r =

@@ -2,7 +2,7 @@
 ghost use Rattle.std.specs.Prelude.{◌≡◌, ◌∷◌, [], ◌++◌, ◌⊎◌, IfErr, IfNone, IfOk, IfSome, None, Some, map};
 ghost use Rattle.replay.specs.List.{AreEntries, IsFirstBadLine, lines_in};
 ghost use Rattle.replay.specs.ListRefusals.{number_of, place_of};
-ghost use Rattle.replay.specs.Listed.{AddsLine, CannotFollow, IsBuilt, entries_in, has_empty_end, said_in};
+ghost use Rattle.replay.specs.inside.Listed.{AddsLine, CannotFollow, IsBuilt, entries_in, has_empty_end, said_in};
 ghost use Rattle.replay.specs.declared.list.ListFault.TheVariants.{Memory as OutOfMemory};
 
 use crate::list_line::{ListLine, list_line};

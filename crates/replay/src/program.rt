@@ -1,8 +1,9 @@
 //! The program `dpbr`.
 ghost use Rattle.std.specs.Prelude.{◌≡◌, ◌≤◌, ◌⊎◌, Bool, IfErr, IfOk, map, string_bytes};
 ghost use Rattle.std.specs.Io.KnownBytes.{Keeps};
-ghost use Rattle.replay.specs.Printed.{HasCarriedOut, HasPrinted, IsAudit, IsDescribed, IsOutputOf, IsRun, IsSpelled, IsStatus};
-ghost use Rattle.replay.specs.Stopped.{CannotCarryOut, HasFailed, HasStopped, RefusesAuditFiles, RefusesCall, RefusesListingFile, RefusesRunFiles, RefusesStatusFiles, RefusesTraceFile};
+ghost use Rattle.replay.specs.Printed.{HasCarriedOut, HasPrinted, IsAudit, IsOutputOf, IsRun, IsStatus};
+ghost use Rattle.replay.specs.inside.Files.{IsDescribed, IsSpelled, RefusesListingFile, RefusesTraceFile};
+ghost use Rattle.replay.specs.Stopped.{CannotCarryOut, HasFailed, HasStopped, RefusesAuditFiles, RefusesCall, RefusesRunFiles, RefusesStatusFiles};
 ghost use Rattle.traces.specs.Faults.{trace_view};
 ghost use Rattle.words.specs.Calls.{AreTaken};
 

@@ -10,7 +10,8 @@ use Rattle.clap.specs.Takes.{is_given}
 use Rattle.clap.specs.Walk.{Row, Text, answers_to, nothing_held, rows_after}
 use Rattle.words.proofs.Entering.{Enters, enters_one, none_lacks}
 use Rattle.words.proofs.Rows.{AskForHelp, ask_for_help, given_value, rows_filled}
-use Rattle.words.specs.Calls.{AreTaken, NamesCall, dpbr_app, faults_of, matched, status_command}
+use Rattle.words.specs.Calls.{AreTaken, dpbr_app, faults_of, matched, status_command}
+use Rattle.words.specs.inside.Naming.{NamesCall}
 
 -- which one of four is found: the last passes the test
 abbrev IsOneOf : {X : Type 0} → (X → Bool) → X → X → X → X → X → Type 0

@@ -1,5 +1,5 @@
 -- The calls of `dpbr`, as clap matches their words.
-use Rattle.std.specs.Prelude.{◌≡◌, ◌⊎◌, ◌↔◌, codes, fold, List, [], ◌∷◌, Bool, Option, None, Some, true}
+use Rattle.std.specs.Prelude.{◌≡◌, ◌↔◌, codes, fold, List, [], ◌∷◌, Bool, Option, None, Some, true}
 use Rattle.clap.specs.Words.{App, Kinds, Row, Rule, Shape, Text, fault_of, first_of, new_app, new_rule, subcommand_of, with_rule, with_subcommand}
 use Rattle.clap.specs.declared.builder.action.ArgAction.TheVariants.{SetTrue}
 use Rattle.words.specs.declared.Call.{Call}
@@ -87,15 +87,3 @@ IsCallOf (Some (name, rows)) (Audit listing list is_single) = (name ≡ codes "a
     × AreValues rows (codes "LISTING", codes "LIST") listing.now list.now is_single
 IsCallOf (Some (name, rows)) (Run listing trace is_single) = (name ≡ codes "run")
     × AreValues rows (codes "LISTING", codes "TRACE") listing.now trace.now is_single
-
--- a word was matched under each of two names
-abbrev pub HasBoth : List Row → Text → Text → Type 0
-HasBoth rows one other = ((t : Text) × IsWord rows one t) × ((t : Text) × IsWord rows other t)
-
--- clap matched a call's subcommand, and a word for each of the call's values
-abbrev pub NamesCall : Option (Text × List Row) → Type 0
-NamesCall None = ⊥
-NamesCall (Some (name, rows)) =
-    ((name ≡ codes "status") × HasBoth rows (codes "LISTING") (codes "HELD"))
-    ⊎ ((name ≡ codes "audit") × HasBoth rows (codes "LISTING") (codes "LIST"))
-    ⊎ ((name ≡ codes "run") × HasBoth rows (codes "LISTING") (codes "TRACE"))

@@ -3,7 +3,8 @@
 
 ghost use Rattle.std.specs.Prelude.{◌≡◌, IfNone, IfOk, IfSome, map};
 ghost use Rattle.clap.specs.Words.{FailsBy, app_of, subcommand_rows_of};
-ghost use Rattle.words.specs.Calls.{IsCallOf, NamesCall, dpbr_app, faults_of, letters_app, list_app, matched};
+ghost use Rattle.words.specs.Calls.{IsCallOf, dpbr_app, faults_of, letters_app, list_app, matched};
+ghost use Rattle.words.specs.inside.Naming.{NamesCall};
 
 mod arguments;
 mod audit;

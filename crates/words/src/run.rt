@@ -2,7 +2,8 @@
 ghost use Rattle.std.specs.Prelude.{◌≡◌, IfNone, IfOk, IfSome, Some, codes, false};
 ghost use Rattle.clap.specs.Words.{found_of, rows_of, shape_of};
 ghost use Rattle.clap.specs.declared.builder.command.Command.TheViews.{out-Command as fields_of};
-ghost use Rattle.words.specs.Calls.{HasBoth, IsCallOf, run_command};
+ghost use Rattle.words.specs.Calls.{IsCallOf, run_command};
+ghost use Rattle.words.specs.inside.Naming.{HasBoth};
 
 use crate::Call;
 use crate::arguments::{self, is_single, required, text_of};

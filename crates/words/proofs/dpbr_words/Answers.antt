@@ -1,7 +1,7 @@
 -- Words that clap takes name a call.
 use Rattle.std.proofs.Common.{map, subst, sym}
 use Rattle.words.proofs.Taken.{taken_names_call}
-use Rattle.words.specs.Calls.{NamesCall}
+use Rattle.words.specs.inside.Naming.{NamesCall}
 use Rattle.words.proofs.dpbr_words.Goals as goal
 
 pub returns-clause-faults : goal.returns-clause-faults

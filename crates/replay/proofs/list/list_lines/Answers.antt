@@ -1,7 +1,7 @@
 use Rattle.std.proofs.Common.{◌≡◌, ◌∙◌, List, Bor, length, ap, map, sym}
 use Rattle.faults.specs.Bytes.{Text}
 use Rattle.replay.specs.List.{lines_in}
-use Rattle.replay.specs.Listed.{has_empty_end}
+use Rattle.replay.specs.inside.Listed.{has_empty_end}
 use Rattle.replay.proofs.Ends.{dropped, kept}
 use Rattle.replay.proofs.list.list_lines.Goals as goal
 use Rattle.replay.proofs.list.list_lines.Goals.{then-ends_empty, else-ends_empty}

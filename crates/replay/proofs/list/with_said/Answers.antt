@@ -1,4 +1,4 @@
-use Rattle.replay.specs.Listed.{entries_in}
+use Rattle.replay.specs.inside.Listed.{entries_in}
 use Rattle.replay.proofs.Saying.{package_said}
 use Rattle.replay.proofs.list.with_said.Goals as goal
 

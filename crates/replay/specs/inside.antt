@@ -1,0 +1,4 @@
+-- What only bodies and proofs need.
+pub mod Files
+pub mod Holding
+pub mod Listed
