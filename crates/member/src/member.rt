@@ -313,8 +313,6 @@ fn are_below(members: &[u8], number: usize) -> bool
 fn record_of<'b>(build: &'b Build, path: &PkgPath) -> Option<&'b Record>
     ensures { option_copied result ≡ record_in path.now build.entry.now }
 {
-    // The contract of this call says that the records ascend.
-    let _unit = build.unit_path();
     let records = build.packages();
     match records.binary_search_by(|record| record.path().cmp(path)) {
         Ok(place) => Some(&records[place]),
