@@ -9,4 +9,6 @@ pub mod Fitting
 pub mod Allowing
 pub mod Places
 pub mod Signatures
+pub mod Needed
+pub mod Reasons
 pub mod OneVerdict
