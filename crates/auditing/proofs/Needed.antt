@@ -7,7 +7,7 @@ use Rattle.listing.specs.Tree.{IsTree, Tree, position_of}
 use Rattle.units.specs.Units.{IsUnitOf}
 use Rattle.units.proofs.WellMade.{well_made}
 use Rattle.auditing.specs.Allowed.{AreItsDependencies}
-use Rattle.auditing.specs.Standing.{AreNeeded}
+use Rattle.auditing.specs.inside.Standing.{AreNeeded}
 use Rattle.auditing.proofs.Built.{are_from_same, same_from_are}
 
 pub its_from_needed : (tree of : Tree) (p : ℕ) (built : List Dep) (ps qs : List ℕ) → of ≡ tree → IsTree tree

@@ -6,7 +6,7 @@ use Rattle.faults.specs.declared.Memory.{Memory}
 use Rattle.listing.specs.Tree.{Tree, name_at, position_of}
 use Rattle.units.specs.Ignored.{IsIgnored}
 use Rattle.auditing.specs.Allowed.{AreItsDependencies, IsNew, MayFollow, StoodEarlier}
-use Rattle.auditing.specs.Standing.{IsReasonInBuilt}
+use Rattle.auditing.specs.inside.Standing.{IsReasonInBuilt}
 use Rattle.auditing.specs.Verdicts.{IsFirstReason}
 use Rattle.auditing.specs.declared.entry.Entry.{Entry}
 use Rattle.auditing.specs.declared.verdict.Reason.{Reason}

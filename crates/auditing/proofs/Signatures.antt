@@ -5,7 +5,7 @@ use Rattle.std.proofs.lemmas.Bool.{true≢false}
 use Rattle.faults.specs.Bytes.{Text}
 use Rattle.claims.specs.declared.deps.Dep.{Dep}
 use Rattle.auditing.specs.Allowed.{IsNew, IsSignatureOf}
-use Rattle.auditing.specs.Standing.{IsOnlyOneWith}
+use Rattle.auditing.specs.inside.Standing.{IsOnlyOneWith}
 use Rattle.auditing.specs.declared.entry.Entry.{Entry}
 
 pub signature_of_one : (earlier : List Entry) (d : Dep) (e : Entry) → IsOnlyOneWith earlier d.path e → e.name ≡ d.name → e.digest ≡ d.digest

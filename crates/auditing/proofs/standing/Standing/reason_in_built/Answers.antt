@@ -4,7 +4,7 @@ use Rattle.std.proofs.lemmas.Option.{MatchOption-at_none, MatchOption-at_some}
 use Rattle.listing.specs.Tree.{Tree}
 use Rattle.units.specs.Ignored.{IsIgnored}
 use Rattle.units.proofs.WellMade.{well_made}
-use Rattle.auditing.specs.Standing.{AreNeeded}
+use Rattle.auditing.specs.inside.Standing.{AreNeeded}
 use Rattle.auditing.proofs.Built.{not_unlisted}
 use Rattle.auditing.proofs.Needed.{its_from_needed, needed_from_its}
 use Rattle.auditing.proofs.standing.Standing.reason_in_built.Goals as goal
