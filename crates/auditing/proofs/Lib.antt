@@ -1,12 +1,12 @@
 mod Examples
-pub mod Ascending
-pub mod Members
 pub mod Positions
 pub mod Built
 pub mod OfUnit
-pub mod Sets
 pub mod Fitting
 pub mod Allowing
 pub mod Places
 pub mod Signatures
+pub mod Needed
+pub mod Reasons
+pub mod Sets
 pub mod OneVerdict

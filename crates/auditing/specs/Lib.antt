@@ -1,5 +1,5 @@
 pub mod Allowed
 pub mod Fits
 pub mod Laws
-pub mod Standing
+pub mod inside
 pub mod Verdicts

@@ -1,6 +1,6 @@
 //! The audit of a list of packages against a tree.
 ghost use Rattle.std.specs.Prelude.{IfOk, []};
-ghost use Rattle.auditing.specs.Standing.{HasRead};
+ghost use Rattle.auditing.specs.inside.Standing.{HasRead};
 ghost use Rattle.auditing.specs.Verdicts.{IsVerdict};
 
 use crate::standing::Standing;

@@ -1,5 +1,5 @@
 use Rattle.std.proofs.Common.{◌≡◌, take}
-use Rattle.auditing.specs.Standing.{HasRead}
+use Rattle.auditing.specs.inside.Standing.{HasRead}
 use Rattle.auditing.proofs.judging.audit_entries.Given as goal
 
 abbrev pub invariant-loop-index : goal.invariant-loop-index

@@ -2,5 +2,5 @@ use Rattle.std.proofs.Common.{take}
 use Rattle.auditing.specs.Allowed.{StoodEarlier}
 use Rattle.auditing.proofs.standing.Standing.stood_earlier.Given as goal
 
-abbrev pub invariant-loop-dep : goal.invariant-loop-dep
-invariant-loop-dep l = StoodEarlier l.earlier (take l.dep-index l.built)
+abbrev pub invariant-loop-place : goal.invariant-loop-place
+invariant-loop-place l = StoodEarlier l.earlier (take l.place l.built)
