@@ -1,5 +1,5 @@
 // The answer to a line.
-use crate::{datagrams, joining, notes, trials};
+use crate::{datagrams, joining, notes, stages, trials};
 use faults::Fault;
 use std::alloc::{AllocError, Global};
 use wire::WireFault;
@@ -35,6 +35,11 @@ fn asked(alloc: Global, line: &[u8]) -> Result<String, AllocError> {
         b"agreed 3" => joining::sent(alloc, false, 3),
         b"agreed 69856" => joining::sent(alloc, false, 69_856),
         b"agreed 4194158" => joining::sent(alloc, false, 4_194_158),
+        b"make" => told(alloc, stages::is_made(alloc)),
+        b"split" => told(alloc, stages::is_split(alloc)),
+        b"encode" => told(alloc, stages::is_encoded(alloc)),
+        b"decode" => told(alloc, stages::is_decoded(alloc)),
+        b"join" => told(alloc, stages::is_joined(alloc)),
         b"zeros 65507" => trials::zeros(alloc, 65_507),
         b"zeros 65508" => trials::zeros(alloc, 65_508),
         _ => String::from_str(alloc, "no question"),

@@ -49,7 +49,7 @@ fn datagrams(alloc: Global, is_proposed: bool, build: Build) -> Result<Vec<Datag
     }
 }
 
-fn in_datagrams(alloc: Global, message: Message) -> Result<Vec<Datagram>, Memory>
+pub fn in_datagrams(alloc: Global, message: Message) -> Result<Vec<Datagram>, Memory>
     requires { IsMessage message }
     ensures { IfOk result (λ datagrams. All IsDatagram datagrams.items) }
 {
@@ -104,7 +104,7 @@ fn joined(alloc: Global, datagrams: Vec<Datagram>) -> Result<Vec<u8>, WireFault>
 }
 
 // The pieces, the last one first.
-fn from_the_last(alloc: Global, datagrams: Vec<Datagram>) -> Result<Vec<Piece>, Memory> {
+pub fn from_the_last(alloc: Global, datagrams: Vec<Datagram>) -> Result<Vec<Piece>, Memory> {
     let mut left = datagrams;
     let mut pieces = Vec::new(alloc);
     for _ in 0..left.len() {
@@ -115,7 +115,7 @@ fn from_the_last(alloc: Global, datagrams: Vec<Datagram>) -> Result<Vec<Piece>, 
     Ok(pieces)
 }
 
-fn message_of(alloc: Global, pieces: &[Piece]) -> Result<Message, WireFault> {
+pub fn message_of(alloc: Global, pieces: &[Piece]) -> Result<Message, WireFault> {
     let Some(first) = pieces.first() else {
         return Err(WireFault::Truncated);
     };

@@ -8,6 +8,8 @@
 //   is read as a datagram that is written so.
 // - `propose` or `agreed`, and 3, 69856 or 4194158: the lengths of the datagrams in which member 0
 //   says so of a build with a file of so many bytes, and whether they join to it from the last on.
+// - `make`, `split`, `encode`, `decode` or `join`: whether a build of 4 MiB can be made, and split,
+//   and from there on written as datagrams, read again, or joined.
 // - `zeros` and 65507 or 65508 ask what a datagram of so many bytes of 0 is.
 #![tactic(auto)]
 
@@ -16,6 +18,7 @@ mod datagrams;
 mod joining;
 mod making;
 mod notes;
+mod stages;
 mod trials;
 
 use std::io;
