@@ -26,6 +26,8 @@ bench: all
 	bench/wire
 	tools/prove member_probe
 	bench/member
+	tools/prove node_probe log_probe
+	bench/node
 	bench/run
 
 .PHONY: all check install dist bench

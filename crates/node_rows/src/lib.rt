@@ -1,0 +1,14 @@
+//! A node's calls one after the other, over what their contracts say and no more.
+#![tactic(auto)]
+
+mod chained;
+mod passed_on;
+mod prepared;
+mod refused;
+mod reopened;
+
+pub use chained::{receive_two, take_then_receive};
+pub use passed_on::pass_on;
+pub use prepared::{let_go, let_go_then_receive, take};
+pub use refused::{receive_either, take_or_receive, take_when_stopped};
+pub use reopened::{crash_inside, receive_after_reopening, reopen};

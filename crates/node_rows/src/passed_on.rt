@@ -1,0 +1,45 @@
+//! What one node sends, at another one.
+ghost use Rattle.std.specs.Prelude.{IfOk, OnOk, slice_get};
+ghost use Rattle.node.specs.OnLog.{IsOnLog};
+ghost use Rattle.node.specs.Ranges.{IsGoodInput};
+ghost use Rattle.node.specs.Step.{Does};
+ghost use Rattle.node_rows.specs.Rows.{EachCrashLeavesItsNotes, IsPassedOn, IsReceived};
+
+use member::Input;
+use node::{Node, NodeFault, Out, Parcels};
+use stable_record::Disk;
+
+/// A node takes an input, and another one takes the first datagram that goes out of it.
+pub fn pass_on<D: Disk, E: Disk>(
+    sender: &mut Node<'_, D>,
+    receiver: &mut Node<'_, E>,
+    input: Input,
+) -> Result<Option<Out>, NodeFault>
+    requires message { IsGoodInput input }
+    ensures passed_on { IfOk result (IsPassedOn sender.old.node sender.new.node
+        receiver.old.node receiver.new.node (Does input)) }
+
+    // Whatever was passed on, its note was on the sender's disk before.
+    ensures noted { D.is_kept sender.new.log.disk → IsOnLog D.history sender.old
+        → OnOk result (EachCrashLeavesItsNotes D.history sender.new) }
+{
+    let out = sender.handle(input)?;
+    receive_first(receiver, &out.sends)
+}
+
+/// The node takes the first of these, if there is one.
+fn receive_first<E: Disk>(
+    receiver: &mut Node<'_, E>,
+    sends: &Parcels,
+) -> Result<Option<Out>, NodeFault>
+    ensures { IfOk result
+        (IsReceived (slice_get sends.now 0) receiver.old.node receiver.new.node) }
+{
+    match sends.get(0) {
+        Some((_to, text)) => match receiver.handle_datagram(text) {
+            Ok(out) => Ok(Some(out)),
+            Err(fault) => Err(fault),
+        },
+        None => Ok(None),
+    }
+}
