@@ -7,21 +7,16 @@ ghost use Rattle.protocol.specs.Step.{HasHandled};
 ghost use Rattle.member.specs.Outcomes.{told};
 
 use crate::told::told;
-use member::{Input, Member, Outcome, Refusal};
+use faults::Memory;
+use member::{Input, Member, Outcome, Refusal, Step};
 use std::alloc::Global;
 
-// Prepares the step, tells what it is to note and to say, and takes it.
-pub fn stepped(
-    alloc: Global,
-    member: &mut Member<'_>,
-    input: Input,
-) -> Result<(String, Outcome), Refusal>
-    ensures { HasHandled member.old member.new input (map_ok (λ x. told x.1) result) }
+// Prepares the step, and takes it.
+pub fn stepped(member: &mut Member<'_>, input: Input) -> Result<Outcome, Refusal>
+    ensures { HasHandled member.old member.new input (map_ok told result) }
 {
     let step = member.prepare(input)?;
-    let ahead = told(alloc, step.note(), step.sends())?;
-    let outcome = member.commit(step);
-    Ok((ahead, outcome))
+    Ok(member.commit(step))
 }
 
 // Prepares the step, and tells what it would note and say.
@@ -29,7 +24,11 @@ pub fn prepared(alloc: Global, member: &mut Member<'_>, input: Input) -> Result<
     ensures { member.new ≡ member.old }
 {
     let step = member.prepare(input)?;
-    Ok(told(alloc, step.note(), step.sends())?)
+    Ok(ahead(alloc, step)?)
+}
+
+fn ahead(alloc: Global, step: Step) -> Result<String, Memory> {
+    told(alloc, step.note(), step.sends())
 }
 
 // Handles both, the second whatever became of the first.

@@ -11,7 +11,7 @@ use claims::Claim;
 use engine::Letter;
 use faults::Memory;
 use listing::Tree;
-use member::{Member, OpenClaim};
+use member::{Member, OpenClaim, Outcome};
 use package_record::Record;
 use pkgpath::PkgPath;
 use std::alloc::Global;
@@ -85,24 +85,40 @@ pub fn restarted(post: &mut Post<'_>, at: usize) -> Result<String, Memory> {
     if at >= post.weights.len() {
         return Ok(String::from_str(post.alloc, "no member")?);
     }
-    let notes = noted(post.alloc, post.notes.as_slice(), at)?;
+    let notes = noted(post.alloc, post.given.as_slice(), at)?;
     let member = restored(post.alloc, post.tree, &post.weights, at as u8, notes)?;
-    let text = letters(post.alloc, post.tree, &member)?;
-    if let Some(place) = post.members.get_mut(at) {
-        *place = member;
+    let text = letters(post.alloc, post.tree, &member);
+    put(&mut post.members, at, member)?;
+    text
+}
+
+// The member takes this place.
+fn put<'a>(members: &mut Vec<Member<'a>>, at: usize, member: Member<'a>) -> Result<(), Memory> {
+    let last = members.len();
+    members.push(member)?;
+    if at < last {
+        members.as_mut_slice().swap(at, last);
     }
-    Ok(text)
+    members.truncate(last);
+    Ok(())
 }
 
 // What this member noted.
-fn noted(alloc: Global, notes: &[(usize, Note)], at: usize) -> Result<Vec<Note>, Memory> {
+fn noted(alloc: Global, given: &[(usize, Outcome)], at: usize) -> Result<Vec<Note>, Memory> {
     let mut own = Vec::new(alloc);
-    for (member, note) in notes {
+    for (member, outcome) in given {
         if *member == at {
-            own.push(note.copy()?)?;
+            add(&mut own, outcome.note.as_ref())?;
         }
     }
     Ok(own)
+}
+
+fn add(notes: &mut Vec<Note>, note: Option<&Note>) -> Result<(), Memory> {
+    if let Some(note) = note {
+        notes.push(note.copy()?)?;
+    }
+    Ok(())
 }
 
 // A new member, which is what it restores of the notes that are about its units.

@@ -1,6 +1,7 @@
 // A row: some members, and what they are asked.
 use crate::asked::answer;
 use crate::post::Post;
+use ballots::Weights;
 use faults::Memory;
 use input_words::{first_word, listing, weights};
 use listing::Tree;
@@ -12,9 +13,20 @@ pub fn answers(alloc: Global, row: &[String]) -> Result<(String, u32), Memory> {
     let (Ok(tree), Some(weights)) = (Tree::parse(alloc, text.as_slice()), weights(row)) else {
         return Err(Memory);
     };
-    let mut post = Post::new(alloc, &tree, &weights)?;
-    let answers = all(alloc, &mut post, row)?;
-    Ok((answers, post.refused))
+    of_members(alloc, &tree, &weights, row)
+}
+
+fn of_members(
+    alloc: Global,
+    tree: &Tree,
+    weights: &Weights,
+    row: &[String],
+) -> Result<(String, u32), Memory> {
+    let mut post = Post::new(alloc, tree, weights)?;
+    match all(alloc, &mut post, row) {
+        Ok(answers) => Ok((answers, post.refused)),
+        Err(memory) => Err(memory),
+    }
 }
 
 fn all(alloc: Global, post: &mut Post<'_>, row: &[String]) -> Result<String, Memory> {

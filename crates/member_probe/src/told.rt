@@ -157,12 +157,9 @@ fn job_text(alloc: Global, job: Option<&Job>) -> Result<String, Memory> {
     }
 }
 
-// What was to be noted and said ahead, which the outcome has to say too, and the job.
-pub fn answer_text(alloc: Global, ahead: String, outcome: &Outcome) -> Result<String, Memory> {
+// What is noted, what is said to whom, and the job.
+pub fn answer_text(alloc: Global, outcome: &Outcome) -> Result<String, Memory> {
     let mut text = told(alloc, outcome.note.as_ref(), &outcome.sends)?;
-    if text.as_str() != ahead.as_str() {
-        return Ok(String::from_str(alloc, "other than prepared")?);
-    }
     let job = job_text(alloc, outcome.job.as_ref())?;
     text.push_str(job.as_str())?;
     Ok(text)
