@@ -72,8 +72,8 @@ impl<'a> World<'a> {
         self.scene.posted.agreed.as_slice()
     }
 
-    /// The events that were taken, in turn. They led to this world from its start, so that all holds
-    /// of it that holds of each run.
+    /// The events that were taken, in turn. They led to this world from its start, so that all
+    /// holds of it that holds of each run.
     pub fn events(&self) -> &[Event]
         ensures events { result.now ≡ self.now.events }
         ensures history { IsHistory self.now }
