@@ -53,7 +53,8 @@ EachRunIsActs =
     → (acts : List (Act Value)) × Mirrors division weights events w acts
     × Matches w (after_all_acts division weights acts) × AreLocal w
 
--- In a world that matches what acts leave, equal headers of sent pieces belong to equal messages.
+-- In a world that matches what acts leave, messages that were sent, with all their datagrams, are
+-- one where pieces of theirs have equal headers.
 abbrev pub MatchedHeadersAreEqual : Type 0
 MatchedHeadersAreEqual =
     (division : Division) (weights : List ℕ) (acts : List (Act Value)) (w : World)
@@ -111,7 +112,7 @@ pub record IsSafe (division : Division) (weights : List ℕ) (events : List Even
   -- the dependencies of every build ever proposed stood in the list when its job was given
   pub jobs_stood : AtEachMoment division weights events last
       (λ early w. JobsStood division weights early w)
-  -- equal headers of sent pieces belong to equal messages
+  -- messages that were sent, with all their datagrams, are one where pieces have equal headers
   pub equal_headers : AtEachMoment division weights events last
       (λ early w. EqualHeaders w × EachIsOfAMessage w)
 

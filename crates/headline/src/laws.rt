@@ -54,8 +54,8 @@ pub fn events_are_acts()
     ensures runs { EachRunIsActs }
 {}
 
-/// What was sent, with all its datagrams, was said by a member; equal headers of sent pieces belong
-/// to equal messages; and nothing that was sent is foreign to a node.
+/// What was sent, with all its datagrams, was said by a member; messages that were sent so are one
+/// where pieces of theirs have equal headers; and nothing that was sent is foreign to a node.
 pub fn sent_was_said()
     ensures said { SentWasSaid }
     ensures headers { MatchedHeadersAreEqual }

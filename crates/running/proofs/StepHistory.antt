@@ -6,7 +6,7 @@ use Rattle.std.proofs.lemmas.List.{map-append}
 use Rattle.events.specs.Events.{Event, event_view}
 use Rattle.events.specs.declared.event.Event as declared
 use Rattle.world.specs.Happening.{Happens}
-use Rattle.world.specs.Headline.{HasOneAPath, HeldIsListed, HoldAlike, IsBeginningOf, IsLater}
+use Rattle.world.specs.Headline.{AllFit, AuditSaysYes, HasOneAPath, HasOneList, HeldIsListed, HoldAlike, IsBeginningOf, IsLater}
 use Rattle.world.specs.declared.fault.WorldFault.{WorldFault}
 use Rattle.world.proofs.Alike.{held_alike}
 use Rattle.world.proofs.Growing.{at_end, event_later, same_later}
@@ -31,6 +31,29 @@ goes_so w v e k is happens kept same =
     (ap (map event_view) kept ∙ map-append event_view w.events.items (k ∷ [])
     ∙ ap (λ z. map event_view w.events.items ++ z ∷ []) same)
 
+-- ---- now
+
+-- what holds at each moment holds now
+module _ (h : History) (is : IsHistory h) where
+  abbrev one_list : HasOneList h.world.division h.world.weights (taken h) h.world
+  one_list = has_one_list h is
+
+  pub one_there : HasOneAPath h.world
+  one_there = at_end h.world.division h.world.weights (λ early w. HasOneAPath w) (taken h) h.world
+      one_list.one_a_path
+
+  pub fits_there : AllFit h.world
+  fits_there = at_end h.world.division h.world.weights (λ early w. AllFit w) (taken h) h.world
+      one_list.fits
+
+  pub allowed_there : AuditSaysYes h.world
+  allowed_there = at_end h.world.division h.world.weights (λ early w. AuditSaysYes w) (taken h)
+      h.world one_list.allowed
+
+  pub listed_there : HeldIsListed h.world
+  listed_there = at_end h.world.division h.world.weights (λ early w. HeldIsListed w) (taken h)
+      h.world one_list.held
+
 -- ---- before and after
 
 -- an event that happens leads to a later world, and so does one that is refused
@@ -39,15 +62,6 @@ pub later_so : (old new : History) (e : Event) (r : Result (Prim.Unit {0}) World
 later_so old new e (Ok u) happens same = event_later old.world new.world e happens
 later_so old new e (Err f) happens same =
     same_later old.world new.world (ap (λ (h : History). h.world) same)
-
--- what nodes hold is in the list, which has one package a path
-listed_there : (h : History) → IsHistory h → HeldIsListed h.world
-listed_there h is = at_end h.world.division h.world.weights (λ early w. HeldIsListed w) (taken h)
-    h.world (has_one_list h is).held
-
-one_there : (h : History) → IsHistory h → HasOneAPath h.world
-one_there h is = at_end h.world.division h.world.weights (λ early w. HasOneAPath w) (taken h)
-    h.world (has_one_list h is).one_a_path
 
 -- so where the list only grew, nodes before and after hold alike
 pub alike_so : (old new : History) → IsHistory old → IsHistory new

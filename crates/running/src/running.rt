@@ -6,7 +6,7 @@ ghost use Rattle.engine.specs.State as engines;
 ghost use Rattle.protocol.specs.State.{engine_of};
 ghost use Rattle.running.specs.History.{IsHistory, file_length};
 ghost use Rattle.world.specs.Happening.{is_up};
-ghost use Rattle.world.specs.Headline.{holds};
+ghost use Rattle.world.specs.Headline.{AllFit, AuditSaysYes, HasOneAPath, HeldIsListed, holds};
 ghost use Rattle.world.specs.World.{member_at, start};
 
 use crate::scene::Scene;
@@ -60,15 +60,20 @@ impl<'a> World<'a> {
         })
     }
 
-    /// The agreed list, in the order in which it grew.
+    /// The agreed list, in the order in which it grew: it has at most one package a path, each fits
+    /// the tree, an audit of it says yes, and all that nodes hold is in it.
     pub fn agreed(&self) -> &[Record]
-        ensures { result.now ≡ self.now.world.agreed }
+        ensures list { result.now ≡ self.now.world.agreed }
+        ensures one_a_path { HasOneAPath self.now.world }
+        ensures fits { AllFit self.now.world }
+        ensures allowed { AuditSaysYes self.now.world }
+        ensures held { HeldIsListed self.now.world }
     {
         self.scene.posted.agreed.as_slice()
     }
 
-    /// The events that were taken, in turn. They led to this world from its start, so that all holds
-    /// of it that holds of each run.
+    /// The events that were taken, in turn. They led to this world from its start, so that all
+    /// holds of it that holds of each run.
     pub fn events(&self) -> &[Event]
         ensures events { result.now ≡ self.now.events }
         ensures history { IsHistory self.now }

@@ -36,8 +36,8 @@ use std::alloc::Global;
 use world::WorldFault;
 
 impl<'a> World<'a> {
-    /// Takes the event, or refuses it and changes nothing. Whichever it was, the list only grew, and
-    /// at each moment of all that was taken so far the world has one list.
+    /// Takes the event, or refuses it and changes nothing. Whichever it was, the list only grew,
+    /// and at each moment of all that was taken so far the world has one list.
     ///
     /// # Errors
     ///
