@@ -1,5 +1,5 @@
 -- A text is one list at most, and the beginnings of a list are lists.
-use Rattle.std.proofs.Common.{◌≡◌, ◌∙◌, ◌++◌, ℕ, zero, suc, List, [], ◌∷◌, Result, Ok, map, take, codes, ap, refl, subst, sym}
+use Rattle.std.proofs.Common.{◌≡◌, ◌∙◌, ◌++◌, ℕ, zero, suc, List, [], ◌∷◌, map, take, codes, ap, refl, subst, sym}
 use Rattle.std.specs.List.{AllZip, flat_map}
 use Rattle.auditing.specs.declared.entry.Entry.{Entry}
 use Rattle.claims.specs.declared.deps.Dep.{Dep}

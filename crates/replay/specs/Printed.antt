@@ -1,16 +1,13 @@
 -- What the program prints, and the status with which it then ends.
-use Rattle.std.specs.Prelude.{◌≡◌, ℕ, Bool, List, Ok, Option, take}
+use Rattle.std.specs.Prelude.{◌≡◌, ℕ, Bool, List, Option, take}
 use Rattle.std.specs.Io.KnownBytes.{Appends}
 use Rattle.auditing.specs.declared.verdict.Verdict.{Verdict}
 use Rattle.clap.specs.Words.{Text as Word}
 use Rattle.faults.specs.Bytes.{Text}
-use Rattle.listing.specs.Listing.{tree_of}
-use Rattle.listing.specs.Tree.{Tree}
 use Rattle.replay.specs.Audit.{IsVerdictOnListing, status_of, verdict_line}
 use Rattle.replay.specs.Rules.{rules_for}
 use Rattle.replay.specs.Runs.{IsRunOfListing}
 use Rattle.replay.specs.Status.{IsStatusOfListing}
-use Rattle.traces.specs.Trace.{Trace, trace_of}
 use Rattle.words.specs.Calls.{AreTaken, IsCallOf, matched}
 use Rattle.words.specs.declared.Call.{Call}
 use Rattle.words.specs.declared.Call.TheVariants.{Audit, Run, Status}

@@ -1,5 +1,5 @@
 -- What `dpbr run` prints.
-use Rattle.std.specs.Prelude.{◌≡◌, ◌⊎◌, ◌++◌, ℕ, Bool, false, true, List, [], ◌∷◌, Some, Ok, Err, codes, flat_map, length, slice_get}
+use Rattle.std.specs.Prelude.{◌≡◌, ◌⊎◌, ◌++◌, ℕ, false, true, List, [], ◌∷◌, Some, Ok, codes, flat_map, length, slice_get}
 use Rattle.std.specs.Fmt.{decimal}
 use Rattle.engine.specs.State.{AreCounts}
 use Rattle.engine.specs.declared.Counts.{Counts}

@@ -6,9 +6,9 @@ use Rattle.clap.specs.declared.error.Error.{Error}
 use Rattle.clap.specs.declared.error.kind.ErrorKind.TheVariants.{OutOfMemory}
 use Rattle.faults.specs.Bytes.{Text}
 use Rattle.replay.specs.Printed.{HasBegun}
-use Rattle.replay.specs.Refusals.{IsSystemRefusal, RefusesAudit, RefusesListing, RefusesStatus, memory_refusal}
+use Rattle.replay.specs.Refusals.{IsSystemRefusal, RefusesAudit, RefusesStatus, memory_refusal}
 use Rattle.replay.specs.Rules.{rules_for}
-use Rattle.replay.specs.Runs.{RefusesRun, RefusesText}
+use Rattle.replay.specs.Runs.{RefusesRun}
 use Rattle.replay.specs.declared.refusal.Refusal.{Refusal}
 use Rattle.replay.specs.declared.stop.Stop.{Stop}
 use Rattle.replay.specs.declared.stop.Stop.TheVariants.{Refused, Unwritten, WrongWords}

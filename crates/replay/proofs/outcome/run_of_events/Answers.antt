@@ -1,4 +1,4 @@
-use Rattle.std.proofs.Common.{inl, inr, refl}
+use Rattle.std.proofs.Common.{inr, refl}
 use Rattle.std.proofs.lemmas.Result.{err_from_is_err_and}
 use Rattle.traces.specs.Faults.{trace_view}
 use Rattle.replay.proofs.outcome.run_of_events.Goals as goal
