@@ -10,6 +10,6 @@ pub returns : goal.returns
 returns c =
     subst (λ (h : History). (x : WorldNode) → slice_get h.world.nodes c.args.node ≡ Some x
     → engines.AreCounts (engine_of (member_at h.world c.args.node x)) c.counts.result)
-        c.self.view_is
+    c.self.view_is
     (λ x at. subst (λ (n : NodeState). engines.AreCounts (engine_of n.member) c.counts.result)
-        (c.up.ensures x at) c.counts.ensures.counts)
+    (c.up.ensures x at) c.counts.ensures.counts)

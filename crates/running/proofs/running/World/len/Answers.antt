@@ -7,5 +7,10 @@ use Rattle.running.proofs.running.World.len.Goals as goal
 pub overflow_cast-result : goal.overflow_cast-result
 overflow_cast-result c =
     let w = c.self.inside in
-    omega (arith, c.len.ensures, few_nodes (history_of w) c.self.invariant.history, length-map
-        w.scene.nodes.items node_view)
+    omega (
+      arith,
+      c.len.ensures,
+      few_nodes (history_of w) c.self.invariant.history,
+      length-map
+          w.scene.nodes.items node_view,
+    )

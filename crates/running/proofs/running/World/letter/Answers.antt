@@ -10,7 +10,7 @@ pub returns : goal.returns
 returns c =
     subst (λ (h : History). (x : WorldNode) → slice_get h.world.nodes c.args.node ≡ Some x
     → engines.HasLetter (engine_of (member_at h.world c.args.node x)) c.args.position
-        c.letter.result) c.self.view_is
+    c.letter.result) c.self.view_is
     (λ x at. subst (λ (n : NodeState). engines.HasLetter
-        (engine_of n.member) c.args.position c.letter.result)
-        (c.up.ensures x at) c.letter.ensures.letter)
+    (engine_of n.member) c.args.position c.letter.result)
+    (c.up.ensures x at) c.letter.ensures.letter)

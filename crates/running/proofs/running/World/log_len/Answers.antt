@@ -12,11 +12,11 @@ returns c =
     let s = c.self.inside.scene in
     let k = c.args.node in
     let counted : k < length (history_of c.self.inside).world.nodes =
-        subst (λ (h : History). k < length h.world.nodes) (sym c.self.view_is) c.requires in
+    subst (λ (h : History). k < length h.world.nodes) (sym c.self.view_is) c.requires in
     let within : k < length s.nodes.items = omega
-        (arith, counted, length-map s.nodes.items node_view) in
+    (arith, counted, length-map s.nodes.items node_view) in
     let there = slice_get_read s.nodes.items _ k c.index.result.now refl within c.index.ensures in
     subst (λ (h : History). (x : WorldNode) → slice_get h.world.nodes k ≡ Some x
-        → length c.file.result.now ≡ file_length h.world k x) c.self.view_is
+    → length c.file.result.now ≡ file_length h.world k x) c.self.view_is
     (λ x at. ap length c.file.ensures ∙ file_shown s c.self.invariant.standing k x at
-        c.index.result.now there)
+    c.index.result.now there)
