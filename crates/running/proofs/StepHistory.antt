@@ -1,6 +1,6 @@
 -- What was taken stays, and an event that happens leads on; and what holds then of the world before
 -- and of the one after.
-use Rattle.std.proofs.Common.{◌≡◌, ◌++◌, List, [], ◌∷◌, Result, Ok, Err, map, refl, sym, ap, subst, ◌∙◌}
+use Rattle.std.proofs.Common.{◌≡◌, ◌++◌, [], ◌∷◌, Result, Ok, Err, map, sym, ap, subst, ◌∙◌}
 use Rattle.std.specs.Prelude.{OnErr, OnOk}
 use Rattle.std.proofs.lemmas.List.{map-append}
 use Rattle.events.specs.Events.{Event, event_view}
