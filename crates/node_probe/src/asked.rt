@@ -3,9 +3,9 @@ use crate::cutting::{cuts, opens, zeros};
 use crate::failing::failures;
 use crate::known::{crashed, known, stopped};
 use crate::network::Network;
-use crate::stepping::Asked;
+use crate::stepping::{Asked, is_input};
 use faults::Memory;
-use input_words::{first_path, first_place, first_word, input};
+use input_words::{first_path, first_place, first_word};
 use std::alloc::Global;
 
 pub fn answer(network: &mut Network<'_>, line: &str) -> Result<String, Memory> {
@@ -28,9 +28,11 @@ fn given(network: &mut Network<'_>, word: &str, rest: &str) -> Result<String, Me
     let Some((at, rest)) = first_place(rest) else {
         return no_question(network.alloc);
     };
-    match input(network.alloc, word, rest, [0; 32])? {
-        Some(input) => network.give(at, Asked::Does(input)),
-        None => no_question(network.alloc),
+    let words = format!(in network.alloc; "{word} {rest}")?;
+    if is_input(network.alloc, words.as_str())? {
+        network.give(at, Asked::Does(words))
+    } else {
+        no_question(network.alloc)
     }
 }
 
@@ -38,7 +40,7 @@ fn sent(network: &mut Network<'_>, word: &str, rest: &str) -> Result<String, Mem
     let Some((number, rest)) = first_place(rest) else {
         return no_question(network.alloc);
     };
-    let (Some(bytes), Some((to, rest))) = (network.sent.get(number), first_place(rest)) else {
+    let (Some(bytes), Some((to, rest))) = (network.past.sent.get(number), first_place(rest)) else {
         return no_question(network.alloc);
     };
     let mut bytes = bytes.clone()?;

@@ -1,9 +1,11 @@
 //! What files open to as a node's log, and what its log does where bytes of it are gone, or 0.
 use crate::known::{opened_at, taken_off};
-use crate::network::{Network, fault_text};
-use crate::opening::{new_disk, opened};
+use crate::network::Network;
+use crate::opening::{disk_of, new_disk, opened};
+use crate::past::refusal_text;
 use faults::Memory;
-use node::NodeFault;
+use node::Node;
+use stable_record::FaultDisk;
 use std::alloc::Global;
 
 /// What the log opens to where it is cut to each length, behind the first length that answers so.
@@ -62,7 +64,7 @@ impl Told {
 }
 
 /// The bytes of the node's log; none of no node. The node is opened again.
-fn log_of(network: &mut Network<'_>, at: usize) -> Result<Vec<u8>, Memory> {
+pub fn log_of(network: &mut Network<'_>, at: usize) -> Result<Vec<u8>, Memory> {
     match taken_off(network, at) {
         Some(disk) => {
             let bytes = disk.bytes().to_vec(network.alloc)?;
@@ -81,8 +83,15 @@ pub fn opens(network: &Network<'_>, at: usize, bytes: &[u8]) -> Result<String, M
     }
     let disk = new_disk(alloc, bytes)?;
     match opened(alloc, network.tree, &network.weights, at as u8, disk) {
-        Ok(node) => Ok(format!(in alloc; "{}", node.log_len())?),
-        Err(NodeFault::Memory) => Err(Memory),
-        Err(fault) => fault_text(alloc, fault),
+        Ok(node) => Ok(format!(in alloc; "{}", length_of(node))?),
+        Err((1, _)) => Err(Memory),
+        Err((number, cause)) => refusal_text(alloc, number, cause),
     }
+}
+
+/// The length of the log of the node, which is no more.
+fn length_of(node: Node<'_, FaultDisk>) -> u64 {
+    let length = node.log_len();
+    let _disk = disk_of(node);
+    length
 }

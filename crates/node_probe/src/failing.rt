@@ -1,15 +1,21 @@
 //! A node whose device fails, and what a crash leaves of it.
-use crate::network::{Network, Step};
-use crate::opening::{each_left, opened, sound};
+use crate::cutting::log_of;
+use crate::network::Network;
+use crate::opening::{disk_of, each_left, new_failing, once, opened, sound};
+use crate::past::{Past, Step};
 use crate::sending::sends_text;
-use crate::stepping::taken;
+use crate::stepping::{Answer, taken};
 use faults::{Fault, Memory};
-use node::{Node, NodeFault};
+use node::Node;
 use protocol::Input;
 use stable_record::{Failing, FaultDisk, Left, MemDisk};
+use std::alloc::Global;
 
 /// More calls than any row has.
 const MOST: u64 = 1000;
+
+/// How many crashes follow each failure.
+const CRASHES: u8 = 6;
 
 /// How a node fared on a disk that fails as it is told.
 enum Fared {
@@ -21,19 +27,19 @@ enum Fared {
     Badly,
 }
 
-/// Which node takes its steps again, how its disk fails, and what a crash leaves of that; and the
-/// step that it is then asked once more, where it was that one.
+/// Which node takes its steps again, how its disk fails, and which crash follows; and the step that
+/// it is then asked once more, where it was that one.
 #[derive(Clone, Copy)]
 struct Trial {
     at: usize,
     failing: Failing,
-    left: Left,
+    crash: u8,
     again: Option<usize>,
 }
 
 /// How many calls the node's steps have, if it survives the failing of each.
 pub fn failures(
-    network: &Network<'_>,
+    network: &mut Network<'_>,
     at: usize,
     again: Option<(usize, &str)>,
 ) -> Result<String, Memory> {
@@ -41,24 +47,27 @@ pub fn failures(
         Some((step, _)) => Some(step),
         None => None,
     };
-    let once = calls(network, at, again, false)?;
-    let on = calls(network, at, again, true)?;
+    let log = log_of(network, at)?;
+    let once = calls(network, log.as_slice(), at, again, false)?;
+    let on = calls(network, log.as_slice(), at, again, true)?;
     Ok(format!(in network.alloc; "{once} once, {on} from there on")?)
 }
 
 /// How many calls may fail, with each of the crashes behind; 0 where the node doesn't survive one.
-fn calls(network: &Network<'_>, at: usize, again: Option<usize>, on: bool) -> Result<u64, Memory> {
+fn calls(
+    network: &Network<'_>,
+    log: &[u8],
+    at: usize,
+    again: Option<usize>,
+    on: bool,
+) -> Result<u64, Memory> {
     for call in 1..MOST {
-        match each_crash(
-            network,
-            at,
-            again,
-            if on {
-                Failing::From(call)
-            } else {
-                Failing::Once(call)
-            },
-        )? {
+        let failing = if on {
+            Failing::From(call)
+        } else {
+            Failing::Once(call)
+        };
+        match each_crash(network, log, at, again, failing)? {
             Fared::Well => return Ok(call - 1),
             Fared::Survived => {}
             Fared::Badly => return Ok(0),
@@ -69,21 +78,19 @@ fn calls(network: &Network<'_>, at: usize, again: Option<usize>, on: bool) -> Re
 
 fn each_crash(
     network: &Network<'_>,
+    log: &[u8],
     at: usize,
     again: Option<usize>,
     failing: Failing,
 ) -> Result<Fared, Memory> {
-    for kind in 0..5u8 {
-        let left = each_left(kind);
-        match tried(
-            network,
-            Trial {
-                at,
-                failing,
-                left,
-                again,
-            },
-        )? {
+    for crash in 0..CRASHES {
+        let trial = Trial {
+            at,
+            failing,
+            crash,
+            again,
+        };
+        match tried(network, log, trial)? {
             Fared::Survived => {}
             other => return Ok(other),
         }
@@ -92,98 +99,103 @@ fn each_crash(
 }
 
 /// How the node fares that takes its steps on such a disk.
-fn tried(network: &Network<'_>, trial: Trial) -> Result<Fared, Memory> {
-    let disk = FaultDisk::new(MemDisk::new(network.alloc, &[])?, trial.failing);
+fn tried(network: &Network<'_>, log: &[u8], trial: Trial) -> Result<Fared, Memory> {
+    let alloc = network.alloc;
     if trial.at >= network.weights.len() {
         return Ok(Fared::Badly);
     }
-    match Node::open(
-        network.alloc,
-        disk,
-        network.tree,
-        &network.weights,
-        trial.at as u8,
-    ) {
-        Ok(node) => stepped(network, trial, node),
-        Err((NodeFault::Memory, _disk)) => Err(Memory),
-        Err((fault, disk)) => {
-            let right = fault.number() == 1001 && is_new(network, trial, disk.into_inner())?;
-            Ok(if right { Fared::Survived } else { Fared::Badly })
+    let disk = new_failing(alloc, trial.failing)?;
+    match once(alloc, network.tree, &network.weights, trial.at as u8, disk) {
+        Ok(node) => stepped(network, log, trial, node),
+        Err((fault, disk)) => unopened(network, log, trial, fault.number(), disk.into_inner()),
+    }
+}
+
+fn has_fared(survived: bool) -> Fared {
+    if survived {
+        Fared::Survived
+    } else {
+        Fared::Badly
+    }
+}
+
+/// How a node fares whose opening is refused with this number.
+fn unopened(
+    network: &Network<'_>,
+    log: &[u8],
+    trial: Trial,
+    number: u32,
+    disk: MemDisk,
+) -> Result<Fared, Memory> {
+    let first = first_length(network.past.steps.as_slice(), trial.at);
+    let is_new = leaves(network, log, trial, (first, first), disk)?.is_some();
+    if number == 1 {
+        Err(Memory)
+    } else {
+        Ok(has_fared(number == 1001 && is_new))
+    }
+}
+
+/// The length of the node's log before its first step.
+fn first_length(steps: &[Step], at: usize) -> u64 {
+    for step in steps {
+        if step.node == at {
+            return step.before;
         }
     }
-}
-
-/// Whether the node that is opened after the crash has no notes.
-fn is_new(network: &Network<'_>, trial: Trial, disk: MemDisk) -> Result<bool, Memory> {
-    let first = match network.steps.iter().find(|step| step.node == trial.at) {
-        Some(step) => step.before,
-        None => 0,
-    };
-    match opened_after(network, trial, disk)? {
-        Some(node) => Ok(node.log_len() == first),
-        None => Ok(false),
-    }
-}
-
-/// The node that is opened after the crash.
-fn opened_after<'a>(
-    network: &Network<'a>,
-    trial: Trial,
-    disk: MemDisk,
-) -> Result<Option<Node<'a, FaultDisk>>, Memory> {
-    if trial.at >= network.weights.len() {
-        return Ok(None);
-    }
-    let disk = sound(disk.crash(trial.left));
-    match opened(
-        network.alloc,
-        network.tree,
-        &network.weights,
-        trial.at as u8,
-        disk,
-    ) {
-        Ok(node) => Ok(Some(node)),
-        Err(NodeFault::Memory) => Err(Memory),
-        Err(_) => Ok(None),
-    }
+    0
 }
 
 /// The node takes its steps up to the first that fails, and is opened again after the crash.
 fn stepped(
     network: &Network<'_>,
+    log: &[u8],
     trial: Trial,
-    mut node: Node<'_, FaultDisk>,
+    node: Node<'_, FaultDisk>,
 ) -> Result<Fared, Memory> {
-    let Some((place, number)) = first_failure(network.steps.as_slice(), trial.at, &mut node)? else {
-        return Ok(Fared::Well);
-    };
-    let Some(step) = network.steps.get(place) else {
-        return Ok(Fared::Badly);
-    };
-    let right = number == 1001 && is_stopped(&mut node);
-    let disk = node.into_disk().into_inner();
-    let survives = survives(network, trial, (place, step), disk)?;
-    Ok(if right && survives {
-        Fared::Survived
-    } else {
-        Fared::Badly
-    })
+    let mut node = node;
+    let failure = first_failure(&network.past, trial.at, &mut node);
+    let is_stopped = is_stopped(&mut node);
+    let disk = disk_of(node);
+    match failure? {
+        Some((place, 1001)) if is_stopped => {
+            Ok(has_fared(survives(network, log, trial, place, disk)?))
+        }
+        Some(_) => Ok(Fared::Badly),
+        None => Ok(Fared::Well),
+    }
 }
 
 /// The place of the first step that the node refuses, and the number of the refusal.
 fn first_failure(
-    steps: &[Step],
+    past: &Past,
     at: usize,
     node: &mut Node<'_, FaultDisk>,
 ) -> Result<Option<(usize, u32)>, Memory> {
-    for place in 0..steps.len() {
-        if steps[place].node == at {
-            if let Err(fault) = taken(node, &steps[place].asked)? {
-                return Ok(Some((place, fault.number())));
-            }
+    for place in 0..past.steps.len() {
+        let number = refusal(past.alloc, &past.steps[place], at, node)?;
+        if number > 0 {
+            return Ok(Some((place, number)));
         }
     }
     Ok(None)
+}
+
+/// The number of the refusal of the step, where it is the node's and is refused, or 0.
+fn refusal(
+    alloc: Global,
+    step: &Step,
+    at: usize,
+    node: &mut Node<'_, FaultDisk>,
+) -> Result<u32, Memory> {
+    if step.node != at {
+        return Ok(0);
+    }
+    match taken(alloc, node, &step.asked)? {
+        Answer::Sends(_, _) => Ok(0),
+        Answer::Refuses(number, _) => Ok(number),
+        Answer::WantsMemory => Ok(1),
+    }
 }
 
 /// Whether the node answers that it stopped.
@@ -198,36 +210,123 @@ fn is_stopped(node: &mut Node<'_, FaultDisk>) -> bool {
 /// step's or without, and answers the same, where the step is asked once more.
 fn survives(
     network: &Network<'_>,
+    log: &[u8],
     trial: Trial,
-    step: (usize, &Step),
+    place: usize,
     disk: MemDisk,
 ) -> Result<bool, Memory> {
-    let (place, step) = step;
-    let Some(mut node) = opened_after(network, trial, disk)? else {
+    let Some(step) = network.past.steps.get(place) else {
         return Ok(false);
     };
-    let len = node.log_len();
-    if len != step.before && len != step.after {
-        return Ok(false);
-    }
-    if trial.again == Some(place) {
-        answers_so(network, &mut node, step)
-    } else {
-        Ok(true)
+    match leaves(network, log, trial, (step.before, step.after), disk)? {
+        Some(disk) if trial.again == Some(place) => answers_so(network, trial.at, step, disk),
+        Some(_) => Ok(true),
+        None => Ok(false),
     }
 }
 
-/// Whether the node answers to this step as it did.
+/// The disk of the node that is opened after the crash, if its log is as much of this one as one of
+/// the lengths says.
+fn leaves(
+    network: &Network<'_>,
+    log: &[u8],
+    trial: Trial,
+    lengths: (u64, u64),
+    disk: MemDisk,
+) -> Result<Option<MemDisk>, Memory> {
+    let disk = if trial.crash < 5 {
+        over(network, trial.at, disk.crash(each_left(trial.crash)))?
+    } else {
+        crashed_behind(network, trial.at, disk)?
+    };
+    match disk {
+        Some(disk) if has_notes(disk.bytes(), log, lengths) => Ok(Some(disk)),
+        _ => Ok(None),
+    }
+}
+
+/// Whether the file has one of these lengths, and the notes that the log has up to there.
+fn has_notes(file: &[u8], log: &[u8], lengths: (u64, u64)) -> bool {
+    let (before, after) = lengths;
+    let length = file.len() as u64;
+    match file.split_last() {
+        Some((gate, notes)) => {
+            (length == before || length == after) && *gate != 1 && log.starts_with(notes)
+        }
+        None => false,
+    }
+}
+
+/// The disk of the node that is opened over this one.
+fn over(network: &Network<'_>, at: usize, disk: MemDisk) -> Result<Option<MemDisk>, Memory> {
+    if at >= network.weights.len() {
+        return Ok(None);
+    }
+    match opened(
+        network.alloc,
+        network.tree,
+        &network.weights,
+        at as u8,
+        sound(disk),
+    ) {
+        Ok(node) => Ok(Some(disk_of(node))),
+        Err((1, _)) => Err(Memory),
+        Err(_) => Ok(None),
+    }
+}
+
+/// The disk of the node that is opened after a crash behind its opening, if it is as it was.
+fn crashed_behind(
+    network: &Network<'_>,
+    at: usize,
+    disk: MemDisk,
+) -> Result<Option<MemDisk>, Memory> {
+    let Some(disk) = over(network, at, disk)? else {
+        return Ok(None);
+    };
+    let seen = disk.bytes().to_vec(network.alloc)?;
+    match over(network, at, disk.crash(Left::Before))? {
+        Some(disk) if disk.bytes() == seen.as_slice() => Ok(Some(disk)),
+        _ => Ok(None),
+    }
+}
+
+/// Whether the node that is opened over the disk answers to this step as it did.
 fn answers_so(
     network: &Network<'_>,
-    node: &mut Node<'_, FaultDisk>,
+    at: usize,
     step: &Step,
+    disk: MemDisk,
 ) -> Result<bool, Memory> {
-    match taken(node, &step.asked)? {
-        Ok(out) => {
-            let told = sends_text(network.alloc, network.sent.as_slice(), &out)?;
-            Ok(told.as_str() == step.told.as_str())
-        }
+    if at >= network.weights.len() {
+        return Ok(false);
+    }
+    match opened(
+        network.alloc,
+        network.tree,
+        &network.weights,
+        at as u8,
+        sound(disk),
+    ) {
+        Ok(node) => tells_so(&network.past, step, node),
+        Err((1, _)) => Err(Memory),
         Err(_) => Ok(false),
+    }
+}
+
+fn tells_so(past: &Past, step: &Step, node: Node<'_, FaultDisk>) -> Result<bool, Memory> {
+    let mut node = node;
+    let answer = taken(past.alloc, &mut node, &step.asked);
+    let _disk = disk_of(node);
+    is_told(past, &answer?, step.told.as_str())
+}
+
+fn is_told(past: &Past, answer: &Answer, told: &str) -> Result<bool, Memory> {
+    match answer {
+        Answer::Sends(sends, is_job) => {
+            let text = sends_text(past.alloc, past.sent.as_slice(), sends.as_slice(), *is_job)?;
+            Ok(text.as_str() == told)
+        }
+        _ => Ok(false),
     }
 }

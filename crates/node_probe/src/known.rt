@@ -1,13 +1,14 @@
 //! What a node knows, and nodes that are opened again.
 ghost use Rattle.std.specs.Prelude.{◌≡◌};
 
-use crate::network::{Network, fault_text};
-use crate::opening::{left, opened, sound};
+use crate::network::Network;
+use crate::opening::{disk_of, left, opened, sound};
+use crate::past::refusal_text;
 use claims::Claim;
 use engine::Letter;
 use faults::Memory;
 use listing::Tree;
-use node::{Node, NodeFault};
+use node::Node;
 use pkgpath::PkgPath;
 use stable_record::{FaultDisk, MemDisk};
 use std::alloc::Global;
@@ -67,8 +68,14 @@ pub fn crashed(network: &mut Network<'_>, at: usize, word: &str) -> Result<Strin
 /// The disk of the node, which is no more.
 pub fn taken_off(network: &mut Network<'_>, at: usize) -> Option<MemDisk> {
     let place = network.nodes.get_mut(at)?;
-    let node = place.take()?;
-    Some(node.into_disk().into_inner())
+    disk_in(place)
+}
+
+fn disk_in(place: &mut Option<Node<'_, FaultDisk>>) -> Option<MemDisk> {
+    match place.take() {
+        Some(node) => Some(disk_of(node)),
+        None => None,
+    }
 }
 
 /// The node is opened over the disk: the length of its log, the counts and the letters.
@@ -79,14 +86,18 @@ pub fn opened_at(network: &mut Network<'_>, at: usize, disk: MemDisk) -> Result<
     }
     match opened(alloc, tree, &network.weights, at as u8, sound(disk)) {
         Ok(node) => {
-            let text = letters(alloc, tree, &node)?;
-            if let Some(place) = network.nodes.get_mut(at) {
-                *place = Some(node);
-            }
-            Ok(text)
+            let text = letters(alloc, tree, &node);
+            put(&mut network.nodes, at, node);
+            text
         }
-        Err(NodeFault::Memory) => Err(Memory),
-        Err(fault) => fault_text(alloc, fault),
+        Err((1, _)) => Err(Memory),
+        Err((number, cause)) => refusal_text(alloc, number, cause),
+    }
+}
+
+fn put<'a>(nodes: &mut Vec<Option<Node<'a, FaultDisk>>>, at: usize, node: Node<'a, FaultDisk>) {
+    if let Some(place) = nodes.get_mut(at) {
+        *place = Some(node);
     }
 }
 

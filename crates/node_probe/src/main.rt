@@ -20,10 +20,11 @@
 //!   byte at each place is 0. An answer stands behind the first place that has it. The node is
 //!   opened again.
 //! - `failures K STEP`: the node's steps are taken again on disks whose calls fail, each in turn,
-//!   alone and with all later ones, and each of the five crashes follows. Its answer is how many
-//!   calls there are, if the node answers 1001 and then 1201, and is opened with the notes from
-//!   before the step, with the step's or without; and if it then answers the same to that STEP,
-//!   counted from 0, where it was this one.
+//!   alone and with all later ones, and each of the five crashes follows, or an opening and then a
+//!   crash that leaves what was synced. Its answer is how many calls there are, if the node answers
+//!   1001 and then 1201, and is opened with the notes that its log has from before the step, with
+//!   the step's or without, of which the last crash takes none; and if it then answers the same to
+//!   that STEP, counted from 0, where it was this one. The node is opened again.
 //!
 //! Where memory runs out in a step, that is told on standard error, and the same is asked again.
 #![tactic(auto)]
@@ -34,6 +35,7 @@ mod failing;
 mod known;
 mod network;
 mod opening;
+mod past;
 mod rows;
 mod sending;
 mod stepping;

@@ -1,37 +1,24 @@
-//! Nodes, what each was asked, and all datagrams that they ever sent.
+//! Nodes, and what they were asked.
 ghost use Rattle.std.specs.Prelude.{◌<◌, length};
 
 use crate::opening::{new_disk, opened};
-use crate::sending::{entered, sends_text};
-use crate::stepping::{Asked, taken};
+use crate::past::Past;
+use crate::stepping::{Answer, Asked, taken};
 use ballots::Weights;
-use faults::{Fault, Memory};
+use faults::Memory;
 use listing::Tree;
-use node::{Node, NodeFault, Out};
+use node::Node;
 use stable_record::FaultDisk;
 use std::alloc::Global;
 
-/// A step that a node took.
-#[derive(Drop)]
-pub struct Step {
-    pub node: usize,
-    pub asked: Asked,
-    /// The length of its log before the step, and after it.
-    pub before: u64,
-    pub after: u64,
-    /// What was sent, and whether there was a job.
-    pub told: String,
-}
-
-/// Nodes by number, and the different datagrams that were sent, the first one first.
+/// Nodes by number, and what they were asked.
 #[derive(Drop)]
 pub struct Network<'a> {
     pub tree: &'a Tree,
     pub weights: Weights,
     /// None of one that was not opened.
     pub nodes: Vec<Option<Node<'a, FaultDisk>>>,
-    pub steps: Vec<Step>,
-    pub sent: Vec<Vec<u8>>,
+    pub past: Past,
     /// How often memory ran out in a step.
     pub refused: u32,
     pub alloc: Global,
@@ -43,8 +30,7 @@ impl<'a> Network<'a> {
             tree,
             weights: weights.copy(),
             nodes: nodes(alloc, tree, weights)?,
-            steps: Vec::new(alloc),
-            sent: Vec::new(alloc),
+            past: Past::new(alloc),
             refused: 0,
             alloc,
         })
@@ -57,51 +43,16 @@ impl<'a> Network<'a> {
             return Ok(String::from_str(self.alloc, "no node")?);
         };
         let before = node.log_len();
-        let mut out = taken(node, &asked)?;
-        if let Err(NodeFault::Memory) = out {
+        let mut answer = taken(self.alloc, node, &asked)?;
+        if let Answer::WantsMemory = answer {
             self.refused = self.refused.saturating_add(1);
             if node.log_len() != before {
                 return Ok(String::from_str(self.alloc, "the log changed")?);
             }
-            out = taken(node, &asked)?;
+            answer = taken(self.alloc, node, &asked)?;
         }
         let after = node.log_len();
-        self.told(at, asked, (before, after), out)
-    }
-
-    fn told(
-        &mut self,
-        node: usize,
-        asked: Asked,
-        lengths: (u64, u64),
-        out: Result<Out, NodeFault>,
-    ) -> Result<String, Memory> {
-        match out {
-            Ok(out) => self.keep(node, asked, lengths, &out),
-            Err(NodeFault::Memory) => Err(Memory),
-            Err(fault) => Ok(fault_text(self.alloc, fault)?),
-        }
-    }
-
-    fn keep(
-        &mut self,
-        node: usize,
-        asked: Asked,
-        lengths: (u64, u64),
-        out: &Out,
-    ) -> Result<String, Memory> {
-        let new = entered(self.alloc, &mut self.sent, &out.sends)?;
-        let told = sends_text(self.alloc, self.sent.as_slice(), out)?;
-        let (before, after) = lengths;
-        let text = format!(in self.alloc; "log {after}{new}{told}")?;
-        self.steps.push(Step {
-            node,
-            asked,
-            before,
-            after,
-            told,
-        })?;
-        Ok(text)
+        self.past.told(at, asked, (before, after), &answer)
     }
 }
 
@@ -127,15 +78,7 @@ fn new_node<'a>(
 {
     match opened(alloc, tree, weights, me, new_disk(alloc, &[])?) {
         Ok(node) => Ok(Some(node)),
-        Err(NodeFault::Memory) => Err(Memory),
+        Err((1, _)) => Err(Memory),
         Err(_) => Ok(None),
-    }
-}
-
-/// The number of the refusal and its cause.
-pub fn fault_text(alloc: Global, fault: NodeFault) -> Result<String, Memory> {
-    match fault.cause() {
-        Some(cause) => Ok(format!(in alloc; "{} {cause}", fault.number())?),
-        None => Ok(format!(in alloc; "{}", fault.number())?),
     }
 }

@@ -1,18 +1,16 @@
 //! What nodes send, in words.
 use faults::Memory;
-use node::{Out, Parcels};
 use std::alloc::Global;
 
-/// The most datagrams that one step sends: each of the pieces of a message to each node.
-const MOST: usize = 1152;
-
 /// Enters the datagrams that were never sent before, and tells how long they are.
-pub fn entered(alloc: Global, sent: &mut Vec<Vec<u8>>, sends: &Parcels) -> Result<String, Memory> {
+pub fn entered(
+    alloc: Global,
+    sent: &mut Vec<Vec<u8>>,
+    sends: &[(u8, Vec<u8>)],
+) -> Result<String, Memory> {
     let mut text = String::new(alloc);
-    for place in 0..MOST {
-        if let Some((_to, bytes)) = sends.get(place) {
-            enter(alloc, &mut text, sent, bytes)?;
-        }
+    for (_to, bytes) in sends {
+        enter(alloc, &mut text, sent, bytes.as_slice())?;
     }
     Ok(text)
 }
@@ -34,37 +32,44 @@ fn enter(
 
 /// The number of the datagram with these bytes.
 fn number_of(sent: &[Vec<u8>], bytes: &[u8]) -> Option<usize> {
-    sent.iter().position(|other| other.as_slice() == bytes)
+    for number in 0..sent.len() {
+        if sent[number].as_slice() == bytes {
+            return Some(number);
+        }
+    }
+    None
 }
 
 /// What goes to whom, and whether there is a job.
-pub fn sends_text(alloc: Global, sent: &[Vec<u8>], out: &Out) -> Result<String, Memory> {
+pub fn sends_text(
+    alloc: Global,
+    sent: &[Vec<u8>],
+    sends: &[(u8, Vec<u8>)],
+    is_job: bool,
+) -> Result<String, Memory> {
     let mut text = String::new(alloc);
     let mut last = None;
-    for place in 0..MOST {
-        if let Some((to, bytes)) = out.sends.get(place) {
-            add_send(alloc, &mut text, last, (to, number_of(sent, bytes)))?;
-            last = Some(to);
-        }
+    for (to, bytes) in sends {
+        add_receiver(alloc, &mut text, last, *to)?;
+        add_number(alloc, &mut text, number_of(sent, bytes.as_slice()))?;
+        last = Some(*to);
     }
-    if out.job.is_some() {
+    if is_job {
         text.push_str("; job")?;
     }
     Ok(text)
 }
 
-/// Adds the number of the datagram, and its receiver where the last one is another.
-fn add_send(
-    alloc: Global,
-    text: &mut String,
-    last: Option<u8>,
-    send: (u8, Option<usize>),
-) -> Result<(), Memory> {
-    let (to, number) = send;
+/// Adds the receiver where the last one is another.
+fn add_receiver(alloc: Global, text: &mut String, last: Option<u8>, to: u8) -> Result<(), Memory> {
     if last != Some(to) {
         let head = format!(in alloc; "; to {to}:")?;
         text.push_str(head.as_str())?;
     }
+    Ok(())
+}
+
+fn add_number(alloc: Global, text: &mut String, number: Option<usize>) -> Result<(), Memory> {
     match number {
         Some(number) => text.push_str(format!(in alloc; " {number}")?.as_str())?,
         None => text.push_str(" new")?,

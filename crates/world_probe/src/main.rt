@@ -7,10 +7,17 @@
 // answer then has an item for each event: a point, and behind it a digit for each datagram that it
 // sent and that is new, the kind of its message, and each path that it brought to the list, with =
 // before it; or ! and the number of its refusal.
+//
+// A line that begins with `shows` has a trace behind it, which is run. The answer says how many
+// events it took, and of each node whether it is up, and then the letter of the package and whether
+// it is held; or the number of the refusal, the event, and the number of the cause or 0.
 #![tactic(auto)]
 
 mod answers;
+mod lengths;
+mod shown;
 mod steps;
+mod worlds;
 
 use std::io;
 
