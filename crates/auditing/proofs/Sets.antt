@@ -8,9 +8,9 @@ use Rattle.std.specs.declared.cmp.Ordering.TheVariants.{Less, Equal, Greater}
 use Rattle.std.proofs.lemmas.Bool.{and_parts}
 use Rattle.faults.specs.Bytes.{Text}
 use Rattle.faults.specs.Pieces.{text_cmp}
+use Rattle.faults.proofs.Ascending.{Rising}
+use Rattle.faults.proofs.Members.{member_cases, no_members}
 use Rattle.claims.specs.Deps.{is_ascending}
-use Rattle.units.proofs.Ascending.{Rising}
-use Rattle.units.proofs.Members.{member_cases, no_members}
 
 -- a text below all of these is below each
 below_each : (t : Text) (ts : List Text) → list_all (λ u. is_lt (text_cmp t u)) ts ≡ true → (u : Text) → Contains ts u → text_cmp t u ≡ Less

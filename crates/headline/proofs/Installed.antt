@@ -7,6 +7,7 @@ use Rattle.std.proofs.lemmas.Bool.{and_parts, true≢false}
 use Rattle.std.proofs.lemmas.List.Elements.{Contains-get_or}
 use Rattle.faults.specs.Bytes.{Text}
 use Rattle.faults.specs.Pieces.{set_of}
+use Rattle.faults.proofs.Sets.{from_set}
 use Rattle.agreement.specs.AgreedList.{Act}
 use Rattle.engine.specs.Letters.{IsInstallable}
 use Rattle.engine.specs.State as engine
@@ -19,7 +20,6 @@ use Rattle.units.specs.Units.{is_in, positions}
 use Rattle.units.proofs.Kept.{unit_listed}
 use Rattle.units.proofs.Lists.{in_kept}
 use Rattle.units.proofs.Places.{has_position, listed_at, same_bytes}
-use Rattle.units.proofs.Sets.{from_set}
 use Rattle.world.specs.Headline.{InstallableIsHeld, IsClosed, holds}
 use Rattle.world.specs.World.{IsMade, World, WorldNode, member_at}
 use Rattle.headline.specs.Local.{AreLocal}

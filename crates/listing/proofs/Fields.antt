@@ -1,13 +1,11 @@
 -- The shape of a dependency, by its fields.
-use Rattle.std.proofs.Common.{◌≡◌, ◌≤◌, ◌+◌, ◌++◌, ◌==◌, ◌&&◌, ℕ, Bool, true, false, not, cond, nat_le, List, [], ◌∷◌, length, map, Ok, Option, None, Some, is_some, Bor, refl, sym, ap, ◌∙◌, arith}
+use Rattle.std.proofs.Common.{◌≡◌, ◌≤◌, ◌+◌, ◌++◌, ◌==◌, ◌&&◌, ℕ, Bool, true, false, not, cond, nat_le, List, [], ◌∷◌, length, map, Ok, Option, None, Some, MatchOption, is_some, refl, sym, ap, ◌∙◌, arith}
 use Rattle.std.specs.List.{count_by, slice_split, onto_first}
-use Rattle.std.specs.Option.{option_copied}
 use Rattle.std.proofs.lemmas.Bool.Decides.{nat_tests}
 use Rattle.std.proofs.lemmas.List.{map-append}
 use Rattle.faults.specs.Bytes.{Text, colon, has_byte, is_empty, slash}
 use Rattle.listing.specs.Dependencies.{are_shaped, fields_before_path, fields_of, is_shaped}
 use Rattle.listing.specs.inside.Parts.{filled}
-use Rattle.pkgname.specs.Pieces.{pieces_behind}
 use Rattle.pkgspec.specs.Spec.{Alternative, spec_of}
 
 -- four fields are too many
@@ -35,19 +33,13 @@ more_than_three word rest a b c e =
     let r = first_of_fields rest in
     ap are_shaped (e ∙ ap (λ fs. a ∷ b ∷ c ∷ fs) r.2) ∙ four_fields a b c r.0 r.1
 
--- what stands behind the first field, where something does
-pub more_fields : (text first : Text) (o : Option (Bor Text)) → is_some o ≡ true → fields_of text ≡ first ∷ pieces_behind colon (option_copied o)
-    → (rest : Text) × (fields_of text ≡ first ∷ fields_of rest)
-more_fields text first None there h = cc
-more_fields text first (Some r) there h = (r.now, h)
-
-pub three_and_more : (word first second third : Text) (rest1 rest2 : Text) (o : Option (Bor Text))
+pub three_and_more : {B : Type 0} (front behind : B → Text) (word first second rest1 rest2 : Text) (o : Option B)
     → fields_of word ≡ first ∷ fields_of rest1 → fields_of rest1 ≡ second ∷ fields_of rest2
-    → fields_of rest2 ≡ third ∷ pieces_behind colon (option_copied o) → is_some o ≡ true
+    → MatchOption o (fields_of rest2 ≡ rest2 ∷ []) (λ halves. fields_of rest2 ≡ front halves ∷ fields_of (behind halves)) → is_some o ≡ true
     → is_shaped word ≡ false
-three_and_more word first second third rest1 rest2 o e1 e2 e3 there =
-    let m = more_fields rest2 third o there e3 in
-    more_than_three word m.0 first second third (e1 ∙ ap (λ fs. first ∷ fs) e2 ∙ ap (λ fs. first ∷ second ∷ fs) m.1)
+three_and_more front behind word first second rest1 rest2 None e1 e2 e3 there = cc
+three_and_more front behind word first second rest1 rest2 (Some halves) e1 e2 e3 there =
+    more_than_three word (behind halves) first second (front halves) (e1 ∙ ap (λ fs. first ∷ fs) e2 ∙ ap (λ fs. first ∷ second ∷ fs) e3)
 
 -- ---- specs that were read
 

@@ -1,12 +1,16 @@
 -- What the parts of a line are, by places.
-use Rattle.std.proofs.Common.{◌≡◌, ◌<◌, ◌≤◌, ◌+◌, ◌-◌, ◌==◌, ◌&&◌, ◌||◌, ℕ, Bool, true, false, not, length, take, drop, position, get_or, Some, None, refl, sym, ap, ◌∙◌, arith, eq-eqb}
-use Rattle.std.specs.List.{prefix_len, suffix_len, before_last, after_last}
+use Rattle.std.proofs.Common.{◌≡◌, ◌<◌, ◌≤◌, ◌+◌, ◌-◌, ◌==◌, ◌&&◌, ◌||◌, ◌++◌, ◌∷◌, ℕ, Bool, true, false, not, length, take, drop, get_or, refl, sym, ap, ◌∙◌, arith, eq-eqb}
+use Rattle.std.specs.List.{after_first, after_last, before_last, position_or_len, suffix_len}
+use Rattle.std.proofs.Math.Seq.{drop-append-add, take-append_seam}
+use Rattle.std.proofs.lemmas.List.Folds.{list_any-append}
+use Rattle.std.proofs.lemmas.List.Sums.{prefix_len_is}
 use Rattle.std.specs.Str.{bytes_eq}
 use Rattle.std.specs.Cmp.Lexicographic.{nat_list_eq_equiv}
 use Rattle.std.proofs.lemmas.List.{get_or-drop, length-drop, take_rest}
 use Rattle.faults.specs.Bytes.{Text, dot, equals_sign, has_byte, is_among}
+use Rattle.faults.proofs.FirstPlaces.{ends_before}
 use Rattle.listing.specs.Lines.{build_depends, full_name, ignore, is_blank, is_cut, key_of, lib_depends, path_text, run_depends, trimmed, value_text, variable_text, variables}
-use Rattle.listing.proofs.Places.{before_first_at, none_at_all, none_anywhere, passes_at, place_is, prefix_len_is, some_there, suffix_len_is}
+use Rattle.listing.proofs.Places.{none_anywhere, some_there, suffix_len_is}
 
 -- a text that is none of the variables
 pub is_no_variable : (name : Text) → bytes_eq name full_name ≡ false → bytes_eq name build_depends ≡ false → bytes_eq name lib_depends ≡ false
@@ -22,16 +26,12 @@ is_no_variable name a b c d e =
 
 -- ---- without blanks at the ends
 
-after_blanks : (text : Text) (s : ℕ) → s ≤ length text → ((k : ℕ) → k < s → is_blank (get_or text k 0) ≡ true)
-    → (s < length text → is_blank (get_or text s 0) ≡ false) → prefix_len is_blank text ≡ s
-after_blanks text s le front stop = prefix_len_is is_blank text s le front stop
-
 pub trimmed_is : (text : Text) (s e : ℕ) → s ≤ e → e ≤ length text
     → ((k : ℕ) → k < s → is_blank (get_or text k 0) ≡ true) → (s < length text → is_blank (get_or text s 0) ≡ false)
     → ((k : ℕ) → e ≤ k → k < length text → is_blank (get_or text k 0) ≡ true) → (s < e → is_blank (get_or text (e - 1) 0) ≡ false)
     → take (e - s) (drop s text) ≡ trimmed text
 trimmed_is text s e se el front stop back last =
-    let n = prefix_len_is is_blank text s (omega arith) front stop in
+    let n = prefix_len_is is_blank text s 0 (omega arith) front stop in
     let len = length-drop s text in
     let m : suffix_len is_blank (drop s text) ≡ length text - e =
     suffix_len_is is_blank (drop s text) (length text - e) (omega (arith, len))
@@ -45,31 +45,17 @@ trimmed_is text s e se el front stop back last =
 
 -- ---- a line that is cut
 
--- with no `=`, or no dot before the first, a line isn't cut
-pub no_equals : (line : Text) → position (λ b. b == equals_sign) line ≡ None → is_cut line ≡ false
-no_equals line e = ap (λ b. b && has_byte dot (key_of line)) (none_at_all (λ b. b == equals_sign) line e)
-
 and_false : (b : Bool) → (b && false) ≡ false
 and_false true = refl
 and_false false = refl
 
-key_at : (line : Text) (i : ℕ) → position (λ b. b == equals_sign) line ≡ Some i → key_of line ≡ take i line
-key_at line i e = before_first_at (λ b. b == equals_sign) line i e
-
-pub no_dot : (line : Text) (i : ℕ) → position (λ b. b == equals_sign) line ≡ Some i
-    → ((k : ℕ) → k < length (take i line) → (get_or (take i line) k 0 == dot) ≡ false) → is_cut line ≡ false
-no_dot line i e none =
-    ap (λ key. has_byte equals_sign line && has_byte dot key) (key_at line i e)
-    ∙ ap (λ b. has_byte equals_sign line && b) (none_anywhere (λ b. b == dot) (take i line) none) ∙ and_false (has_byte equals_sign line)
-
-pub cut_at : (line : Text) (i j : ℕ) → position (λ b. b == equals_sign) line ≡ Some i → j < length (take i line) → get_or (take i line) j 0 ≡ dot → is_cut line ≡ true
-cut_at line i j e within here =
-    let there = some_there (λ b. b == dot) (take i line) j within (eq-eqb _ _ here) in
-    let equals = some_there (λ b. b == equals_sign) line i (place_is (λ b. b == equals_sign) line i e).1 (passes_at (λ b. b == equals_sign) line i e) in
-    ap (λ key. has_byte equals_sign line && has_byte dot key) (key_at line i e) ∙ (λ k. equals k && there k)
+or_true : (b : Bool) → (b || true) ≡ true
+or_true true = refl
+or_true false = refl
 
 -- behind the last dot stand as many bytes as are left
-after_dot : (key : Text) (j : ℕ) → j < length key → get_or key j 0 ≡ dot → ((k : ℕ) → j < k → k < length key → (get_or key k 0 == dot) ≡ false)
+after_dot : (key : Text) (j : ℕ) → j < length key → get_or key j 0 ≡ dot
+    → ((k : ℕ) → j < k → k < length key → (get_or key k 0 == dot) ≡ false)
     → suffix_len (λ b. not (b == dot)) key ≡ length key - (j + 1)
 after_dot key j within here last =
     suffix_len_is (λ b. not (b == dot)) key (length key - (j + 1)) (omega arith)
@@ -77,22 +63,52 @@ after_dot key j within here last =
     (λ l. let place : length key - (length key - (j + 1)) - 1 ≡ j = omega arith in
     ap (λ i. not (get_or key i 0 == dot)) place ∙ ap not (eq-eqb _ _ here))
 
-pub path_text_at : (line : Text) (i j : ℕ) → position (λ b. b == equals_sign) line ≡ Some i → j < length (take i line) → get_or (take i line) j 0 ≡ dot
-    → ((k : ℕ) → j < k → k < length (take i line) → (get_or (take i line) k 0 == dot) ≡ false) → take j (take i line) ≡ path_text line
-path_text_at line i j e within here last =
-    let n = after_dot (take i line) j within here last in
-    let place : j ≡ length (take i line) - suffix_len (λ b. not (b == dot)) (take i line) - 1 = omega (arith, n) in
-    ap (λ m. take m (take i line)) place ∙ ap (before_last (λ b. b == dot)) (sym (key_at line i e))
+-- a line that is cut at its first `=` into a key and a value
+module _ (line key value : Text) (cut : line ≡ key ++ equals_sign ∷ value)
+    (none : has_byte equals_sign key ≡ false) where
+  key_ends : position_or_len (λ b. b == equals_sign) line ≡ length key
+  key_ends =
+      ap (position_or_len (λ b. b == equals_sign)) cut
+      ∙ ends_before (λ b. b == equals_sign) key equals_sign value none refl
 
-pub variable_text_at : (line : Text) (i j : ℕ) → position (λ b. b == equals_sign) line ≡ Some i → j < length (take i line) → get_or (take i line) j 0 ≡ dot
-    → ((k : ℕ) → j < k → k < length (take i line) → (get_or (take i line) k 0 == dot) ≡ false)
-    → take (length (take i line) - (j + 1)) (drop (j + 1) (take i line)) ≡ variable_text line
-variable_text_at line i j e within here last =
-    let n = after_dot (take i line) j within here last in
-    let place : j + 1 ≡ length (take i line) - suffix_len (λ b. not (b == dot)) (take i line) = omega (arith, n) in
-    take_rest (take i line) (j + 1) ∙ ap (λ m. drop m (take i line)) place ∙ ap (after_last (λ b. b == dot)) (sym (key_at line i e))
+  key_is : key_of line ≡ key
+  key_is = (λ i. take (key_ends i) (cut i)) ∙ take-append_seam key (equals_sign ∷ value)
 
-pub value_text_at : (line : Text) (i : ℕ) → position (λ b. b == equals_sign) line ≡ Some i
-    → trimmed (take (length line - (i + 1)) (drop (i + 1) line)) ≡ value_text line
-value_text_at line i e =
-    ap trimmed (take_rest line (i + 1)) ∙ ap (λ n. trimmed (drop (n + 1) line)) (sym (place_is (λ b. b == equals_sign) line i e).0)
+  value_is : after_first (λ b. b == equals_sign) line ≡ value
+  value_is = (λ i. drop (key_ends i + 1) (cut i)) ∙ drop-append-add key (equals_sign ∷ value) 1
+
+  has_equals : has_byte equals_sign line ≡ true
+  has_equals =
+      ap (has_byte equals_sign) cut
+      ∙ list_any-append (λ b. b == equals_sign) key (equals_sign ∷ value)
+      ∙ or_true (has_byte equals_sign key)
+
+  pub no_dot : ((k : ℕ) → k < length key → (get_or key k 0 == dot) ≡ false) → is_cut line ≡ false
+  no_dot lacks =
+      ap (λ text. has_byte equals_sign line && has_byte dot text) key_is
+      ∙ ap (λ b. has_byte equals_sign line && b) (none_anywhere (λ b. b == dot) key lacks)
+      ∙ and_false (has_byte equals_sign line)
+
+  pub value_text_is : trimmed value ≡ value_text line
+  value_text_is = sym (ap trimmed value_is)
+
+  -- the key's last dot
+  module _ (j : ℕ) (within : j < length key) (here : get_or key j 0 ≡ dot) where
+    pub dot_cuts : is_cut line ≡ true
+    dot_cuts =
+        ap (λ text. has_byte equals_sign line && has_byte dot text) key_is
+        ∙ (λ i. has_equals i && some_there (λ b. b == dot) key j within (eq-eqb _ _ here) i)
+
+    module _ (last : (k : ℕ) → j < k → k < length key → (get_or key k 0 == dot) ≡ false) where
+      pub path_text_at : take j key ≡ path_text line
+      path_text_at =
+          let n = after_dot key j within here last in
+          let place : j ≡ length key - suffix_len (λ b. not (b == dot)) key - 1 = omega (arith, n) in
+          ap (λ m. take m key) place ∙ ap (before_last (λ b. b == dot)) (sym key_is)
+
+      pub variable_text_at : take (length key - (j + 1)) (drop (j + 1) key) ≡ variable_text line
+      variable_text_at =
+          let n = after_dot key j within here last in
+          let place : j + 1 ≡ length key - suffix_len (λ b. not (b == dot)) key = omega (arith, n) in
+          take_rest key (j + 1) ∙ ap (λ m. drop m key) place
+          ∙ ap (after_last (λ b. b == dot)) (sym key_is)

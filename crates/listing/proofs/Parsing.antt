@@ -1,14 +1,14 @@
 -- A listing, line by line.
-use Rattle.std.proofs.Common.{◌≡◌, ◌<◌, ◌+◌, ◌++◌, ◌==◌, ◌⊎◌, ℕ, Bool, List, [], ◌∷◌, ◌≤◌, length, take, drop, get_or, option_copied, Bor, option_to_list, option_and_then, Option, None, Some, IfSome, Ok, Err, Result, MatchResult, refl, sym, ap, subst, ◌∙◌, arith, inl, inr, zero-add}
+use Rattle.std.proofs.Common.{◌≡◌, ◌<◌, ◌+◌, ◌++◌, ◌==◌, ◌⊎◌, ℕ, Bool, List, [], ◌∷◌, ◌≤◌, length, take, drop, get_or, option_to_list, option_and_then, Option, None, Some, Ok, Err, Result, MatchResult, refl, sym, ap, subst, ◌∙◌, arith, inl, inr, zero-add}
 use Rattle.std.specs.List.{cons_option, range_with_len, slice_split}
-use Rattle.std.specs.Option.{option_map_or}
 use Rattle.std.proofs.lemmas.List.{take_more, take_all}
 use Rattle.std.proofs.lemmas.List.Elements.{filter_map-append}
 use Rattle.std.proofs.lemmas.List.FromFn.{get_or-enumerate_from, length-enumerate_from, get_or-range_with_len, length-range_with_len}
+use Rattle.std.proofs.lemmas.List.Splits.{length-slice_split}
+use Rattle.std.proofs.lemmas.List.Sums.{count_by-le-length}
 use Rattle.std.proofs.lemmas.Option.{slice_get-get_or}
 use Rattle.faults.specs.Answers.{IsRightUnless, first_given, option_or, unless_fault}
 use Rattle.faults.specs.Bytes.{Text, line_feed}
-use Rattle.pkgname.specs.Pieces.{pieces_behind}
 use Rattle.listing.specs.Lines.{Setting, lines_of, setting_of, settings_of}
 use Rattle.listing.specs.Listing.{fault_at, fault_of, line_fault, nameless_fault, tree_of, tree_of_settings}
 use Rattle.listing.specs.Rules.{group_by, names_and_specs, with_groups}
@@ -79,17 +79,13 @@ parsed_more text table now k n line within here same so_far h = record {
 }
 
 -- the lines from the k-th on are those of what is left
-abbrev pub AreLeft : Text → ℕ → Option (Bor Text) → Type 0
-AreLeft text k left = drop k (pieces text) ≡ pieces_behind line_feed (option_copied left)
+abbrev pub AreLeft : Text → ℕ → List Text → Type 0
+AreLeft text k left = drop k (pieces text) ≡ left
 
--- how many bytes are left, and the end of the text
-abbrev pub size_left : Option (Bor Text) → ℕ
-size_left left = option_map_or (λ text. length text.now + 1) left 0
-
--- behind a line less is left
-pub less_left : (left : Option (Bor Text)) (n : ℕ) → IfSome left (λ behind. length behind.now < n) → size_left left ≤ n
-less_left None n h = omega arith
-less_left (Some behind) n h = omega (arith, h)
+-- a text has at most one line more than bytes
+pub lines_within : (text : Text) → length (pieces text) ≤ length text + 1
+lines_within text =
+    omega (arith, length-slice_split (λ b. b == line_feed) text, count_by-le-length (λ b. b == line_feed) text)
 
 -- a faulty line
 pub parse_fault : (is_single : Bool) (text : Text) (table : Table) (k n : ℕ) (line : Text) (e : ListingFault) → k < length (pieces text) → line ≡ get_or (pieces text) k line → n ≡ k

@@ -1,26 +1,16 @@
 -- Where in a text a test first or last passes.
-use Rattle.std.proofs.Common.{◌≡◌, ◌<◌, ◌≤◌, ◌+◌, ◌-◌, ℕ, suc, zero, Bool, true, false, not, cond, ◌||◌, nat_lt, List, [], ◌∷◌, length, take, drop, reverse, position, get_or, None, Some, refl, sym, ap, ◌∙◌, arith}
-use Rattle.std.specs.List.{prefix_len, suffix_len, position_or_len, before_first, list_any}
-use Rattle.std.proofs.lemmas.List.Quantifiers.{position-Some}
+use Rattle.std.proofs.Common.{◌≡◌, ◌<◌, ◌≤◌, ◌-◌, ℕ, suc, zero, Bool, true, false, cond, ◌||◌, nat_lt, List, [], ◌∷◌, length, take, drop, reverse, position, get_or, None, Some, refl, sym, ap, ◌∙◌, arith}
+use Rattle.std.specs.List.{suffix_len, position_or_len, before_first, list_any}
 use Rattle.std.proofs.lemmas.Bool.{ltb-true, ltb-false}
 use Rattle.std.proofs.lemmas.List.{drop_all, get_or-reverse, length-reverse, take_all, take_rest}
-
--- the first n pass, and the next, if there is one, does not
-pub prefix_len_is : (p : ℕ → Bool) (xs : List ℕ) (n : ℕ) → n ≤ length xs → ((k : ℕ) → k < n → p (get_or xs k 0) ≡ true)
-    → (n < length xs → p (get_or xs n 0) ≡ false) → prefix_len p xs ≡ n
-prefix_len_is p [] n le front stop = omega arith
-prefix_len_is p (x ∷ xs) zero le front stop = ap (λ b. cond b (1 + prefix_len p xs) 0) (stop (omega arith))
-prefix_len_is p (x ∷ xs) (suc n) le front stop =
-    let rest = prefix_len_is p xs n (omega arith) (λ k l. front (suc k) (omega arith)) (λ l. stop (omega arith)) in
-    let first : cond (p x) (1 + prefix_len p xs) 0 ≡ 1 + prefix_len p xs = ap (λ b. cond b (1 + prefix_len p xs) 0) (front zero (omega arith)) in
-    first ∙ omega (arith, rest)
+use Rattle.std.proofs.lemmas.List.Sums.{prefix_len_is}
 
 -- the last n pass, and the one before, if there is one, does not
 pub suffix_len_is : (p : ℕ → Bool) (xs : List ℕ) (n : ℕ) → n ≤ length xs
     → ((k : ℕ) → length xs - n ≤ k → k < length xs → p (get_or xs k 0) ≡ true)
     → (n < length xs → p (get_or xs (length xs - n - 1) 0) ≡ false) → suffix_len p xs ≡ n
 suffix_len_is p xs n le back stop =
-    prefix_len_is p (reverse xs) n (omega (arith, length-reverse xs))
+    prefix_len_is p (reverse xs) n 0 (omega (arith, length-reverse xs))
     (λ k l. ap p (get_or-reverse xs k 0 (omega arith)) ∙ back (length xs - 1 - k) (omega arith) (omega arith))
     (λ l. let within : n < length xs = omega (arith, length-reverse xs) in
     let same : length xs - 1 - n ≡ length xs - n - 1 = omega arith in
@@ -57,21 +47,6 @@ nothing_from p xs e = sym (drop_all (position_or_len p xs) xs (ltb-false _ _ (fr
 
 -- ---- whether some byte passes
 
-any_more : (p : ℕ → Bool) (x : ℕ) (xs : List ℕ) (b : Bool) → p x ≡ b → length (x ∷ xs) ≤ position_or_len p (x ∷ xs)
-    → (length xs ≤ position_or_len p xs → list_any p xs ≡ false) → list_any p (x ∷ xs) ≡ false
-any_more p x xs true e le rest =
-    absurd (let none : position_or_len p (x ∷ xs) ≡ 0 = ap (λ b. cond (not b) (1 + position_or_len p xs) 0) e in omega (arith, none, le))
-any_more p x xs false e le rest =
-    let more : position_or_len p (x ∷ xs) ≡ 1 + position_or_len p xs = ap (λ b. cond (not b) (1 + position_or_len p xs) 0) e in
-    ap (λ b. b || list_any p xs) e ∙ rest (omega (arith, more, le))
-
-any_by_length : (p : ℕ → Bool) (xs : List ℕ) → length xs ≤ position_or_len p xs → list_any p xs ≡ false
-any_by_length p [] le = refl
-any_by_length p (x ∷ xs) le = any_more p x xs (p x) refl le (any_by_length p xs)
-
-pub none_at_all : (p : ℕ → Bool) (xs : List ℕ) → position p xs ≡ None → list_any p xs ≡ false
-none_at_all p xs e = any_by_length p xs (ltb-false _ _ (from_none (nat_lt (position_or_len p xs) (length xs)) (position_or_len p xs) e))
-
 pub none_anywhere : (p : ℕ → Bool) (xs : List ℕ) → ((k : ℕ) → k < length xs → p (get_or xs k 0) ≡ false) → list_any p xs ≡ false
 none_anywhere p [] h = refl
 none_anywhere p (x ∷ xs) h = ap (λ b. b || list_any p xs) (h zero (omega arith)) ∙ none_anywhere p xs (λ k l. h (suc k) (omega arith))
@@ -84,7 +59,3 @@ pub some_there : (p : ℕ → Bool) (xs : List ℕ) (k : ℕ) → k < length xs 
 some_there p [] k l h = absurd (omega arith)
 some_there p (x ∷ xs) zero l h = ap (λ b. b || list_any p xs) h
 some_there p (x ∷ xs) (suc k) l h = ap (λ b. p x || b) (some_there p xs k (omega arith) h) ∙ or_true (p x)
-
--- where a position is, the test passes
-pub passes_at : (p : ℕ → Bool) (xs : List ℕ) (i : ℕ) → position p xs ≡ Some i → p (get_or xs i 0) ≡ true
-passes_at p xs i e = (position-Some p xs i 0 e).1

@@ -7,11 +7,10 @@ use Rattle.std.proofs.lemmas.List.Quantifiers.{position-Some}
 use Rattle.std.proofs.lemmas.List.Splits.{slice_split-cons_yes}
 use Rattle.std.proofs.lemmas.List.Sums.{fails_before_first}
 use Rattle.faults.specs.Bytes.{Text, blank, is_empty, tab}
+use Rattle.faults.proofs.FirstPlaces.{first_place, pieces_from_None, pieces_from_Some}
 use Rattle.memchr.specs.Find.{IsFirstByte, is_byte2}
-use Rattle.pkgname.proofs.Cutting.{pieces_from_None, pieces_from_Some}
 use Rattle.listing.specs.Dependencies.{words_of}
 use Rattle.listing.specs.Lines.{is_blank}
-use Rattle.listing.proofs.Found.{first_place}
 use Rattle.listing.proofs.Places.{from_none}
 
 -- pieces that say nothing are left out

@@ -19,8 +19,9 @@ use crate::ListingFault;
 use crate::line::first_word;
 use crate::table::Row;
 use crate::word::Word;
+use faults::split_once;
 use indexmap::{IndexMap, IndexSet};
-use pkgname::{PkgName, first_piece};
+use pkgname::PkgName;
 use pkgpath::{PathFault, PkgPath};
 use pkgspec::{Spec, SpecFault};
 use std::alloc::Global;
@@ -36,7 +37,7 @@ const ROOM_FOR_WORD: usize = 16;
 fn has_slash(text: &[u8]) -> bool
     ensures { result ≡ has_byte slash text.now }
 {
-    text.iter().any(|byte| *byte == b'/')
+    text.contains(&b'/')
 }
 
 /// The field before the path, which is empty where none stands there, and the field with the path:
@@ -44,24 +45,21 @@ fn has_slash(text: &[u8]) -> bool
 fn path_field(word: &[u8]) -> Option<(&[u8], &[u8])>
     ensures { IsPathField word.now (option_map (λ f. (f.0.now, f.1.now)) result) }
 {
-    let (first, rest) = first_piece(word, b':');
-    let Some(rest) = rest else {
-        return if has_slash(first) {
-            Some((b"".as_slice(), first))
+    let Some((first, rest)) = split_once(word, b':') else {
+        return if has_slash(word) {
+            Some((b"".as_slice(), word))
         } else {
             None
         };
     };
-    let (second, rest) = first_piece(rest, b':');
-    let Some(rest) = rest else {
-        return match (has_slash(first), has_slash(second)) {
+    let Some((second, third)) = split_once(rest, b':') else {
+        return match (has_slash(first), has_slash(rest)) {
             (true, false) => Some((b"".as_slice(), first)),
-            (false, true) => Some((first, second)),
+            (false, true) => Some((first, rest)),
             _ => None,
         };
     };
-    let (third, rest) = first_piece(rest, b':');
-    if rest.is_some() {
+    if split_once(third, b':').is_some() {
         return None;
     }
     match (has_slash(first), has_slash(second), has_slash(third)) {

@@ -1,13 +1,12 @@
 //! A line of a listing: `PATH.VARIABLE=VALUE`.
-ghost use Rattle.std.specs.Prelude.{◌≡◌, ℕ, ◌<◌, ◌≤◌, ◌==◌, ◌∷◌, [], false, length, option_copied, slice_index, IfSome, MatchOption, MatchBool, position};
-ghost use Rattle.faults.specs.Bytes.{dot, is_among, line_feed};
-ghost use Rattle.faults.specs.Pieces.{pieces_at};
-ghost use Rattle.pkgname.specs.Pieces.{pieces_behind};
+ghost use Rattle.std.specs.Prelude.{◌≡◌, ℕ, ◌<◌, ◌≤◌, ◌==◌, ◌∷◌, [], false, length, slice_index, IfSome, MatchOption, MatchBool, position};
+ghost use Rattle.faults.specs.Bytes.{dot, is_among};
 ghost use Rattle.listing.specs.Dependencies.{words_of};
 ghost use Rattle.listing.specs.Lines.{is_blank, is_cut, is_skipped, trimmed, variables};
 ghost use Rattle.listing.specs.inside.Parts.{AreParts, name_of_variable};
 
-use memchr::{memchr, memchr2, memrchr};
+use faults::split_once;
+use memchr::{memchr2, memrchr};
 
 /// The variables that are read.
 #[derive(Clone, Copy, Debug, PartialEq, Eq)]
@@ -50,18 +49,6 @@ pub struct Parts<'a> {
     pub value: &'a [u8],
 }
 
-/// The first line of a text, and what stands behind the LF that ends it. The last line has no LF.
-pub fn first_line(text: &[u8]) -> (&[u8], Option<&[u8]>)
-    ensures pieces { pieces_at line_feed text.now
-        ≡ result.0.now ∷ pieces_behind line_feed (option_copied result.1) }
-    ensures shorter { IfSome result.1 (λ behind. length behind.now < length text.now) }
-{
-    match memchr(b'\n', text) {
-        Some(at) => (&text[..at], Some(&text[at + 1..])),
-        None => (text, None),
-    }
-}
-
 /// Whether the line is empty or begins with `===>`.
 pub fn is_skipped(line: &[u8]) -> bool
     ensures { result ≡ is_skipped line.now }
@@ -73,13 +60,12 @@ pub fn is_skipped(line: &[u8]) -> bool
 pub fn parts_of(line: &[u8]) -> Option<Parts<'_>>
     ensures { MatchOption result (is_cut line.now ≡ false) (AreParts line.now) }
 {
-    let equals = memchr(b'=', line)?;
-    let key = &line[..equals];
+    let (key, value) = split_once(line, b'=')?;
     let dot = memrchr(b'.', key)?;
     Some(Parts {
         path: &key[..dot],
         variable: &key[dot + 1..],
-        value: trimmed(&line[equals + 1..]),
+        value: trimmed(value),
     })
 }
 

@@ -10,11 +10,10 @@ ghost use Rattle.listing.specs.Tree.{ArePositions, IsTree, build_at, group_at, i
 
 use crate::ListingFault;
 use crate::groups::Groups;
-use crate::line::first_line;
 use crate::node::{Node, nodes_of};
 use crate::table::Table;
 use indexmap::IndexSet;
-use pkgname::PkgName;
+use pkgname::{Pieces, PkgName};
 use pkgpath::PkgPath;
 use std::alloc::Global;
 use std::marker::Model;
@@ -78,12 +77,10 @@ impl Tree {
     {
         let mut table = Table::new(alloc);
         let mut number = 0;
-        let mut left = Some(text);
-        'lines: while let Some(text) = left {
-            let (line, behind) = first_line(text);
+        let mut left = Pieces::new(text, b'\n');
+        'lines: while let Some(line) = left.next() {
             number += 1;
             table.read(alloc, number, line)?;
-            left = behind;
         }
         Tree::of_table(alloc, table, is_single)
     }

@@ -3,14 +3,15 @@ ghost use Rattle.std.specs.Prelude.{◌<◌, length};
 
 use faults::Fault;
 use listing::{ListingFault, Tree};
-use pkgname::first_piece;
+use pkgname::Pieces;
 use std::alloc::{AllocError, Global};
 use std::io;
 use std::io::Write;
 
 pub fn answer(alloc: Global, line: &[u8]) -> io::Result<Vec<u8>> {
-    let (question, text) = first_piece(line, b' ');
-    let text = bytes_of(alloc, text.unwrap_or(b""));
+    let mut words = Pieces::new(line, b' ');
+    let question = words.next().unwrap_or(b"");
+    let text = bytes_of(alloc, words.next().unwrap_or(b""));
     match question {
         b"tree" => told(alloc, Tree::parse(alloc, text.as_slice())),
         b"single" => told(alloc, Tree::parse_single(alloc, text.as_slice())),

@@ -12,11 +12,11 @@ use Rattle.std.specs.Str.{bytes_eq}
 use Rattle.std.proofs.lemmas.Bool.{and_parts, cases_lt, true≢false}
 use Rattle.faults.specs.Bytes.{Text}
 use Rattle.faults.specs.Pieces.{text_cmp}
+use Rattle.faults.proofs.Sets.{flipped, same_texts}
 use Rattle.claims.specs.Deps.{is_ascending}
 use Rattle.package_record.specs.Build.{paths_of}
 use Rattle.package_record.specs.Content.{Content}
 use Rattle.protocol.specs.State.{record_in}
-use Rattle.units.proofs.Sets.{flipped, same_texts}
 
 -- what is below is told so
 is_less : (o : Ordering) → is_lt o ≡ true → o ≡ Less

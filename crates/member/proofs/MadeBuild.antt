@@ -7,6 +7,7 @@ use Rattle.std.specs.List.{slice_index_or}
 use Rattle.std.proofs.lemmas.List.{get_or-map, length-map}
 use Rattle.std.proofs.lemmas.List.Elements.{Contains-get_or}
 use Rattle.faults.specs.Answers.{first_that_applies, option_or, unless_fault}
+use Rattle.faults.proofs.Members.{contains_first, contains_later}
 use Rattle.claims.specs.Claim.{IsClaim}
 use Rattle.claims.specs.Deps.{is_ascending}
 use Rattle.claims.specs.Job.{Task}
@@ -18,7 +19,6 @@ use Rattle.package_record.specs.Packages.{AreOfOneGroup, contents_of}
 use Rattle.package_record.specs.declared.RecordFault.{RecordFault}
 use Rattle.package_record.specs.declared.build.Package.{Package}
 use Rattle.units.specs.Division.{unit_at}
-use Rattle.units.proofs.Members.{contains_first, contains_later}
 use Rattle.protocol.specs.Given.{Given}
 use Rattle.protocol.specs.State.{OpenClaim, Progress, Gathering, Building, Voting, State, Value}
 use Rattle.protocol.specs.Member.{IsMember, claim_in}

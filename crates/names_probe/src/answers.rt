@@ -1,16 +1,16 @@
 // The answer to a line.
 use faults::Fault;
-use pkgname::{PkgName, Version, first_piece, is_version};
+use pkgname::{Pieces, PkgName, Version, is_version};
 use pkgpath::PkgPath;
 use pkgspec::Spec;
 use std::alloc::{AllocError, Global};
 use std::cmp::Ordering;
 
 pub fn answer(alloc: Global, line: &[u8]) -> Result<String, AllocError> {
-    let (question, words) = first_piece(line, b' ');
-    let (first, behind) = first_piece(words.unwrap_or(b""), b' ');
-    let first = bytes_of(alloc, first)?;
-    let second = bytes_of(alloc, behind.unwrap_or(b""))?;
+    let mut words = Pieces::new(line, b' ');
+    let question = words.next().unwrap_or(b"");
+    let first = bytes_of(alloc, words.next().unwrap_or(b""))?;
+    let second = bytes_of(alloc, words.next().unwrap_or(b""))?;
     match question {
         b"name" => name(alloc, first.as_slice()),
         b"compare" => compare(alloc, first.as_slice(), second.as_slice()),
@@ -62,7 +62,7 @@ fn parts(alloc: Global, name: &PkgName) -> Result<String, AllocError> {
     let mut answer = hex::encode(alloc, name.stem())?;
     append(alloc, &mut answer, name.version().as_bytes())?;
     for flavor in name.flavors() {
-        append(alloc, &mut answer, flavor.as_slice())?;
+        append(alloc, &mut answer, flavor)?;
     }
     Ok(answer)
 }
@@ -71,20 +71,8 @@ fn compare(alloc: Global, own: &[u8], other: &[u8]) -> Result<String, AllocError
     if !is_version(own) || !is_version(other) {
         return String::from_str(alloc, "no version");
     }
-    let Ok(own) = Version::new(alloc, own) else {
-        return no_memory(alloc);
-    };
-    let Ok(other) = Version::new(alloc, other) else {
-        return no_memory(alloc);
-    };
-    String::from_str(alloc, compared(&own, &other))
-}
-
-fn compared(own: &Version, other: &Version) -> &'static str {
-    match other.copy() {
-        Ok(copy) => place(own.compare(&copy)),
-        Err(_) => "no memory",
-    }
+    let ordering = Version::new(own).compare(&Version::new(other));
+    String::from_str(alloc, place(ordering))
 }
 
 fn place(ordering: Ordering) -> &'static str {

@@ -1,7 +1,7 @@
 -- The numbers of the refusals, and their causes.
 use Rattle.std.specs.Prelude.{ℕ, Option, None, Some}
 use Rattle.protocol.specs.Refusals as members
-use Rattle.stable_record.specs.Numbers.{log_number}
+use Rattle.stable_record.specs.LogRefusals as logs
 use Rattle.wire.specs.Refusals as wire
 use Rattle.node.specs.declared.fault.Foreign.{Foreign}
 use Rattle.node.specs.declared.fault.Foreign.TheVariants.{Bytes, Message}
@@ -14,12 +14,12 @@ foreign_number (Bytes f) = wire.number_of f
 foreign_number (Message r) = members.number_of r
 
 -- the number by which each refusal is told
-abbrev pub fault_number : NodeFault → ℕ
-fault_number fault.Memory = 1
-fault_number (fault.Refused r) = members.number_of r
-fault_number (fault.Log f) = log_number f
-fault_number fault.Stopped = 1201
-fault_number (fault.Foreign f) = 1202
+abbrev pub number_of : NodeFault → ℕ
+number_of fault.Memory = 1
+number_of (fault.Refused r) = members.number_of r
+number_of (fault.Log f) = logs.number_of f
+number_of fault.Stopped = 1201
+number_of (fault.Foreign f) = 1202
 
 -- the number of the refusal that led to it: of bad files, or of what makes a datagram foreign
 abbrev pub cause_of : NodeFault → Option ℕ

@@ -1,6 +1,6 @@
 //! What a node refuses a call with.
 ghost use Rattle.std.specs.Prelude.{◌≡◌, None};
-ghost use Rattle.node.specs.Refusals.{cause_of, fault_number};
+ghost use Rattle.node.specs.Refusals.{cause_of, number_of};
 ghost use Rattle.node.specs.declared.fault.NodeFault.TheVariants.{Memory as out_of_memory};
 
 use faults::{Fault, WantOfMemory};
@@ -49,7 +49,7 @@ impl<E: WantOfMemory> From<E> for NodeFault {
 }
 
 impl Fault for NodeFault {
-    ghost number_of = { fault_number };
+    ghost number_of = { number_of };
 
     ghost place_of = { λ _. None };
 

@@ -1,32 +1,53 @@
 -- A text that is cut at the first of some bytes.
-use Rattle.std.proofs.Common.{◌≡◌, ℕ, ◌+◌, ◌-◌, ◌<◌, ◌≤◌, ◌==◌, Bool, true, false, cond, ltb, List, [], ◌∷◌, length, take, drop, Some, None, Ok, Err, refl, arith, inl, inr}
+use Rattle.std.proofs.Common.{◌≡◌, ℕ, ◌+◌, ◌<◌, ◌==◌, ◌++◌, Bool, true, false, cond, List, [], ◌∷◌, length, take, drop, Ok, Err, refl, sym, ap, ◌∙◌, arith}
+use Rattle.std.proofs.Math.Seq.{drop-append-add, take-append_seam}
 use Rattle.std.specs.List.{after_first, before_first, onto_first, position_or_len}
-use Rattle.std.proofs.lemmas.Bool.{cases_lt, lt-ltb, le-ltb}
-use Rattle.std.proofs.lemmas.List.{take_all, length-drop}
+use Rattle.std.proofs.lemmas.Bool.{eq-eqb, le-ltb, lt-ltb, or_parts}
+use Rattle.std.proofs.lemmas.List.{length-append}
 use Rattle.std.proofs.lemmas.List.Sums.{fails_before_first}
 use Rattle.std.proofs.lemmas.List.Splits.{slice_split_first, slice_split_none}
-use Rattle.faults.specs.Bytes.{Text}
+use Rattle.faults.specs.Bytes.{Text, has_byte}
 use Rattle.faults.specs.Pieces.{pieces_at}
-use Rattle.package_record.specs.Reading.{line_at}
-use Rattle.package_record.specs.declared.RecordFault.TheVariants.{Truncated}
+use Rattle.package_record.specs.Reading.{cut_in, line_at}
+use Rattle.package_record.specs.declared.RecordFault.TheVariants.{BadLine, Truncated}
 
--- the byte was found
-pub found : (i p n : ℕ) → Some i ≡ cond (ltb p n) (Some p) None → (p < n) × (i ≡ p)
-found i p n e = elim (cases_lt p n) [
-  | inl lt ↦ (lt, let f : Some i ≡ Some p = rw (lt-ltb p n lt) at e in (cc))
-  | inr ge ↦ absurd (let f = rw (le-ltb p n ge) at e in (cc))
-]
+-- the first such byte behind a front that lacks it stands where the front ends
+at_front : (c : ℕ) (front behind : Text) → has_byte c front ≡ false → position_or_len (λ b. b == c) (front ++ c ∷ behind) ≡ length front
+at_front c [] behind lacks = rw (eq-eqb c c refl) refl
+at_front c (x ∷ front) behind lacks =
+    let parts = or_parts (x == c) (has_byte c front) lacks in
+    rw parts.0 (omega (arith, at_front c front behind parts.1))
 
--- the byte was not found
-pub found_none : (p n : ℕ) → p ≤ n → None ≡ cond (ltb p n) (Some p) None → p ≡ n
-found_none p n le e = elim (cases_lt p n) [
-  | inl lt ↦ absurd (let f = rw (lt-ltb p n lt) at e in (cc))
-  | inr ge ↦ omega arith
-]
+-- a text that is a front, a byte that it lacks, and what stands behind is cut there
+pub halves_found : (c : ℕ) (text front behind : Text) → (text ≡ front ++ c ∷ behind) × (has_byte c front ≡ false)
+    → (position_or_len (λ b. b == c) text < length text) × (front ≡ before_first (λ b. b == c) text) × (behind ≡ after_first (λ b. b == c) text)
+halves_found c text front behind h =
+    let at : position_or_len (λ b. b == c) text ≡ length front = ap (position_or_len (λ b. b == c)) h.0 ∙ at_front c front behind h.1 in
+    let long : length text ≡ length front + length (c ∷ behind) = ap length h.0 ∙ length-append front (c ∷ behind) in
+    let first : take (position_or_len (λ b. b == c) text) text ≡ front = ap (λ n. take n text) at ∙ ap (take (length front)) h.0 ∙ take-append_seam front (c ∷ behind) in
+    let rest : drop (position_or_len (λ b. b == c) text + 1) text ≡ behind = ap (λ n. drop (n + 1) text) at ∙ ap (drop (length front + 1)) h.0 ∙ drop-append-add front (c ∷ behind) 1 in
+    (omega (arith, at, long), sym first, sym rest)
 
--- the rest behind the first such byte, as a range
-pub rest_behind : (i p : ℕ) (text : Text) → i ≡ p → take (length text - (i + 1)) (drop (i + 1) text) ≡ drop (p + 1) text
-rest_behind i p text e = rw (← e) (take_all (length text - (i + 1)) (drop (i + 1) text) (omega (arith, length-drop (i + 1) text)))
+-- a text that lacks the byte has it nowhere
+pub nowhere : (c : ℕ) (text : Text) → has_byte c text ≡ false → position_or_len (λ b. b == c) text ≡ length text
+nowhere c [] lacks = refl
+nowhere c (x ∷ text) lacks =
+    let parts = or_parts (x == c) (has_byte c text) lacks in
+    rw parts.0 (omega (arith, nowhere c text parts.1))
+
+-- what is cut of a text at the first such byte
+pub cut_found : (c n : ℕ) (text front behind : Text) → (text ≡ front ++ c ∷ behind) × (has_byte c front ≡ false) → cut_in c n text ≡ Ok (front, behind)
+unfolding cut_in
+cut_found c n text front behind h =
+    let cut = halves_found c text front behind h in
+    rw (lt-ltb _ _ cut.0, cut.1, cut.2) refl
+
+-- a text without the byte isn't cut
+pub no_cut : (c n : ℕ) (text : Text) → has_byte c text ≡ false → cut_in c n text ≡ Err (BadLine n)
+unfolding cut_in
+no_cut c n text lacks =
+    let all = nowhere c text lacks in
+    rw (le-ltb (position_or_len (λ b. b == c) text) (length text) (omega (arith, all))) refl
 
 -- a text without the byte is one piece
 pub one_piece : (c : ℕ) (text : Text) → position_or_len (λ b. b == c) text ≡ length text → pieces_at c text ≡ text ∷ []

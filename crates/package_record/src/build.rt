@@ -16,6 +16,7 @@ use pkgname::PkgName;
 use pkgpath::PkgPath;
 use std::alloc::Global;
 use std::marker::Model;
+use std::rc::Rc;
 
 /// What a build made of one path.
 #[derive(Drop)]
@@ -29,9 +30,16 @@ pub struct Package {
 
 /// The records of all packages that one build made, ascending by path: from one to 16,384, of one
 /// group, with one host, one claim, and one list of what they were built on. The text of a whole
-/// build is within `LIMIT`; a build of one is its record's text.
+/// build is within `LIMIT`; a build of one is its record's text. Copies share what they say, which
+/// nothing changes.
 #[derive(Drop)]
 pub struct Build {
+    made: Rc<Made>,
+}
+
+/// What a build made.
+#[derive(Drop)]
+struct Made {
     /// The name of the unit that was built.
     unit: PkgPath,
     records: Vec<Record>,
@@ -44,9 +52,10 @@ impl Model for Build {
 
     ghost Value = { List Content };
 
-    ghost view = { λ b. b.records.items };
+    ghost view = { λ b. b.made.value.records.items };
 
-    ghost invariant = { λ b. IsBuild b.records.items × (b.unit ≡ unit_path b.records.items) };
+    ghost invariant = { λ b. IsBuild b.made.value.records.items
+        × (b.made.value.unit ≡ unit_path b.made.value.records.items) };
 }
 
 impl Build {
@@ -80,8 +89,10 @@ impl Build {
         requires { IsBuild records.items }
         ensures { IfOk result (λ b. b ≡ records.items) }
     {
+        let alloc: Global = *records.allocator();
         let unit = unit_of(records.as_slice())?;
-        Ok(Build { unit, records })
+        let made = Rc::new(alloc, Made { unit, records })?;
+        Ok(Build { made })
     }
 
     /// The build whose text this is. A text that begins with the line `@dpb 2` is of two or more
@@ -127,8 +138,8 @@ impl Build {
         ensures ok { OnOk result (out.new.items ≡ out.old.items ++ build_text self.now) }
         ensures err { OnErr result (out.new.items ≡ out.old.items) }
     {
-        let alloc: Global = *self.records.allocator();
-        let text = build_writing::text(alloc, self.records.as_slice())?;
+        let alloc: Global = *self.made.records.allocator();
+        let text = build_writing::text(alloc, self.made.records.as_slice())?;
         out.extend_from_slice(text.as_slice())?;
         Ok(())
     }
@@ -137,8 +148,8 @@ impl Build {
     pub fn lines(&self) -> Result<Vec<u8>, Memory>
         ensures { IfOk result (λ lines. lines.items ≡ lines_before (length self.now)) }
     {
-        let mut lines = Vec::new(*self.records.allocator());
-        build_writing::put_lines(&mut lines, self.records.len())?;
+        let mut lines = Vec::new(*self.made.records.allocator());
+        build_writing::put_lines(&mut lines, self.made.records.len())?;
         Ok(lines)
     }
 
@@ -148,7 +159,7 @@ impl Build {
         ensures path { result.now ≡ unit_path self.now }
         ensures build { IsBuild self.now }
     {
-        &self.unit
+        &self.made.unit
     }
 
     /// The records, ascending by path.
@@ -156,17 +167,15 @@ impl Build {
         ensures records { result.now ≡ self.now }
         ensures ascending { is_ascending (paths_of result.now) ≡ true }
     {
-        self.records.as_slice()
+        self.made.records.as_slice()
     }
 
-    /// An equal build.
+    /// An equal build, which shares what it says with this one.
     pub fn copy(&self) -> Result<Build, Memory>
         ensures { IfOk result (λ b. b ≡ self.now) }
     {
-        let alloc: Global = *self.records.allocator();
-        let unit = self.unit.copy()?;
-        let records = copy_records(alloc, self.records.as_slice())?;
-        Ok(Build { unit, records })
+        let made = self.made.clone()?;
+        Ok(Build { made })
     }
 }
 
@@ -179,14 +188,4 @@ fn unit_of(records: &[Record]) -> Result<PkgPath, Memory>
         return records[0].path().copy();
     }
     records[0].path().without_subpackage()
-}
-
-fn copy_records(alloc: Global, records: &[Record]) -> Result<Vec<Record>, Memory>
-    ensures { IfOk result (λ copies. copies.items ≡ records.now) }
-{
-    let mut copies = Vec::with_capacity(alloc, records.len())?;
-    for record in records {
-        copies.push(record.copy()?)?;
-    }
-    Ok(copies)
 }

@@ -1,9 +1,9 @@
 //! A place in a text, and the line that stands there.
-ghost use Rattle.std.specs.Prelude.{◌≡◌, ◌+◌, ◌<◌, ◌^◌, ◌==◌, length, MatchOption};
-ghost use Rattle.std.specs.List.{after_first, before_first, position_or_len};
+ghost use Rattle.std.specs.Prelude.{◌≡◌, ◌+◌, ◌<◌, ◌^◌, length};
 
 use crate::RecordFault;
 use crate::fault::ReadError;
+use faults::split_once;
 
 /// What is left of a text, and how many lines were passed.
 #[derive(Clone, Copy)]
@@ -11,20 +11,6 @@ pub struct Cursor<'a> {
     pub rest: &'a [u8],
     pub passed: u64,
     pub ghost fits: { passed + length rest.now < 2 ^ 64 },
-}
-
-/// What stands before the first such byte, and what stands behind it.
-pub fn split<'a>(text: &'a [u8], byte: u8) -> Option<(&'a [u8], &'a [u8])>
-    ensures { MatchOption result
-        (position_or_len (λ b. b == byte) text.entry.now ≡ length text.entry.now)
-        (λ x. (position_or_len (λ b. b == byte) text.entry.now < length text.entry.now)
-        × (x.0.now ≡ before_first (λ b. b == byte) text.entry.now)
-        × (x.1.now ≡ after_first (λ b. b == byte) text.entry.now)) }
-{
-    match text.iter().position(|other| *other == byte) {
-        Some(place) => Some((&text[..place], &text[place + 1..])),
-        None => None,
-    }
 }
 
 impl<'a> Cursor<'a> {
@@ -37,7 +23,7 @@ impl<'a> Cursor<'a> {
         ensures { Gives (λ x. (x.0.now, cursor_view x.1)) result
             (line_at (cursor_view self.entry)) }
     {
-        match split(self.rest, b'\n') {
+        match split_once(self.rest, b'\n') {
             Some((line, rest)) => {
                 let passed = self.passed + 1;
                 Ok((line, Cursor { rest, passed }))

@@ -5,6 +5,8 @@ ghost use Rattle.faults.specs.Bytes.{slash};
 ghost use Rattle.faults.specs.Pieces.{pieces_at};
 ghost use Rattle.package_record.specs.Content.{is_file_component, is_file_name, is_printable};
 
+use crate::LONGEST_FILE_NAME;
+
 fn is_file_component(component: &[u8]) -> bool
     ensures { result ≡ is_file_component component.now }
 {
@@ -24,10 +26,13 @@ fn is_printable(name: &[u8]) -> bool
     name.iter().all(|byte| *byte >= b' ' && *byte <= b'~')
 }
 
-/// The name has 1 to 255 printable bytes, does not begin with `@`, and has components between
-/// its slashes, none of them empty, `.` or `..`.
+/// The name has 1 to `LONGEST_FILE_NAME` printable bytes, does not begin with `@`, and has
+/// components between its slashes, none of them empty, `.` or `..`.
 pub fn is_file_name(name: &[u8]) -> bool
     ensures { result ≡ is_file_name name.now }
 {
-    name.len() <= 255 && is_printable(name) && !name.starts_with(b"@") && has_file_components(name)
+    name.len() <= LONGEST_FILE_NAME
+        && is_printable(name)
+        && !name.starts_with(b"@")
+        && has_file_components(name)
 }

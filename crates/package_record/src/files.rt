@@ -3,7 +3,6 @@ ghost use Rattle.std.specs.Prelude.{◌≡◌, IfOk, map};
 ghost use Rattle.package_record.specs.Views.{file_view};
 
 use crate::File;
-use crate::fields::copy_files;
 use faults::Memory;
 use std::alloc::Global;
 use std::marker::Model;
@@ -55,4 +54,15 @@ impl Files {
         let items = copy_files(alloc, self.items.as_slice())?;
         Ok(Files { items })
     }
+}
+
+/// Equal files.
+fn copy_files(alloc: Global, files: &[File]) -> Result<Vec<File>, Memory>
+    ensures { IfOk result (λ copies. map file_view copies.items ≡ map file_view files.now) }
+{
+    let mut copies = Vec::with_capacity(alloc, files.len())?;
+    for file in files {
+        copies.push(file.copy()?)?;
+    }
+    Ok(copies)
 }

@@ -12,6 +12,7 @@ mod alike;
 mod build;
 mod build_writing;
 mod cursor;
+mod digest;
 mod fault;
 mod fields;
 mod file;
@@ -30,6 +31,7 @@ mod several;
 mod writing;
 
 pub use crate::build::{Build, Package};
+pub use crate::digest::{digest_of, digest_text};
 pub use crate::file::File;
 pub use crate::files::Files;
 pub use crate::laws::{
@@ -41,6 +43,9 @@ pub use crate::package::{Record, make};
 
 /// Hosts are numbered from 0 up to this.
 pub const GREATEST_HOST: u16 = 65_535;
+
+/// The most bytes that the name of a file may have.
+pub const LONGEST_FILE_NAME: usize = 255;
 
 /// The most bytes that the text of a record, and of a whole build, may have.
 pub const LIMIT: usize = 4_194_304;

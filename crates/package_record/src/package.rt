@@ -19,14 +19,15 @@ use pkgpath::PkgPath;
 use sha2::{Digest, Sha256};
 use std::alloc::Global;
 use std::marker::Model;
+use std::rc::Rc;
 
 /// A package that was built: its path and name, the host that built it and under which claim, the
 /// dependencies that it was built on, the paths that it needs to run, and its files. The text of a
 /// record is within `LIMIT`; its dependencies and its paths to run ascend, each path once; its
-/// files' names are good, and each stands once.
+/// files' names are good, and each stands once. Copies share what they say, which nothing changes.
 #[derive(Drop)]
 pub struct Record {
-    fields: Fields,
+    fields: Rc<Fields>,
 }
 
 impl Model for Record {
@@ -35,9 +36,9 @@ impl Model for Record {
 
     ghost Value = { Content };
 
-    ghost view = { λ r. content_of r.fields };
+    ghost view = { λ r. content_of r.fields.value };
 
-    ghost invariant = { λ r. IsRecord (content_of r.fields) };
+    ghost invariant = { λ r. IsRecord (content_of r.fields.value) };
 }
 
 /// The record that says this. File names come first: `BadFileName` counts the files from 1, and
@@ -95,11 +96,20 @@ pub fn sized(alloc: Global, fields: Fields) -> Result<(Record, usize), RecordFau
     if length > LIMIT {
         return Err(RecordFault::TooLarge);
     }
-    let made = Record { fields };
+    let made = Record::of(alloc, fields)?;
     Ok((made, length))
 }
 
 impl Record {
+    /// The record with these fields.
+    fn of(alloc: Global, fields: Fields) -> Result<Record, Memory>
+        requires { IsRecord (content_of fields) }
+        ensures { IfOk result (λ r. r ≡ content_of fields) }
+    {
+        let fields = Rc::new(alloc, fields)?;
+        Ok(Record { fields })
+    }
+
     /// The record whose text this is. It is tested in this order:
     ///
     /// 1. The length of the whole text, which is `TooLarge` over `LIMIT`.
@@ -117,7 +127,7 @@ impl Record {
         ensures exact { IsRightUnless RecordFault.Memory result (whole_of text.now) }
     {
         let fields = parsing::whole(alloc, text)?;
-        Ok(Record { fields })
+        Ok(Record::of(alloc, fields)?)
     }
 
     /// The record at the front of the text, and how many bytes its own text takes. Anything may
@@ -134,7 +144,7 @@ impl Record {
     {
         let (fields, rest) = parsing::first(alloc, text)?;
         let length = text.len().saturating_sub(rest.len());
-        Ok((Record { fields }, length))
+        Ok((Record::of(alloc, fields)?, length))
     }
 
     /// Appends the text, or nothing.
@@ -216,11 +226,11 @@ impl Record {
         self.fields.files.as_slice()
     }
 
-    /// An equal record.
+    /// An equal record, which shares what it says with this one.
     pub fn copy(&self) -> Result<Record, Memory>
         ensures { IfOk result (λ r. r ≡ self.now) }
     {
-        let fields = self.fields.copy()?;
+        let fields = self.fields.clone()?;
         Ok(Record { fields })
     }
 }

@@ -16,12 +16,13 @@ ghost use Rattle.package_record.specs.Reading.{
   version_at,
 };
 
-use crate::cursor::{Cursor, split};
+use crate::cursor::Cursor;
+use crate::digest::digest_of;
 use crate::fault::ReadError;
 use crate::number::number_within;
-use crate::writing::digest_text;
 use crate::{GREATEST_HOST, RecordFault};
 use claims::{Claim, Dep, GREATEST_ROUND, MEMBERS};
+use faults::split_once;
 use pkgname::{NameFault, PkgName};
 use pkgpath::{PathFault, PkgPath};
 use std::alloc::Global;
@@ -62,11 +63,7 @@ fn name(alloc: Global, line: u64, text: &[u8]) -> Result<PkgName, ReadError>
 pub fn digest(line: u64, text: &[u8]) -> Result<[u8; 32], ReadError>
     ensures { Gives (λ digest. digest) result (digest_in line text.now) }
 {
-    let mut digest = [0; 32];
-    match hex::decode_to_slice(text, &mut digest) {
-        Ok(()) if digest_text(&digest).as_slice() == text => Ok(digest),
-        _ => Err(bad_line(line)),
-    }
+    digest_of(text).ok_or(bad_line(line))
 }
 
 /// What stands before the first such byte, and behind it.
@@ -74,8 +71,8 @@ pub fn digest(line: u64, text: &[u8]) -> Result<[u8; 32], ReadError>
 fn cut<'a>(byte: u8, line: u64, text: &'a [u8]) -> Result<(&'a [u8], &'a [u8]), ReadError>
     ensures { Gives (λ x. (x.0.now, x.1.now)) result (cut_in byte line text.entry.now) }
 {
-    match split(text, byte) {
-        Some(parts) => Ok(parts),
+    match split_once(text, byte) {
+        Some((front, behind)) => Ok((front, behind)),
         None => Err(bad_line(line)),
     }
 }

@@ -1,6 +1,6 @@
 //! The text of a record.
 ghost use Rattle.std.specs.Prelude.{◌≡◌, ◌++◌, [], ◌∷◌, All, OnOk, IfOk, codes, decimal, flat_map, length, map};
-ghost use Rattle.hex.specs.Hex.{IsBytes, encode_lower};
+ghost use Rattle.hex.specs.Hex.{encode_lower};
 ghost use Rattle.sha2.specs.Sha256.{sha256};
 ghost use Rattle.pkgname.specs.PkgName.{IsName};
 ghost use Rattle.pkgpath.specs.PkgPath.{IsPath};
@@ -8,6 +8,7 @@ ghost use Rattle.package_record.specs.Content.{HasNames, IsDep, built_line, clai
 ghost use Rattle.package_record.specs.Views.{content_of, file_view};
 
 use crate::File;
+use crate::digest::digest_text;
 use crate::fields::Fields;
 use claims::{Claim, Dep};
 use faults::Memory;
@@ -34,17 +35,6 @@ pub fn put_field(out: &mut Vec<u8>, word: &[u8], text: &[u8]) -> Result<(), Memo
     ensures { OnOk result (out.new.items ≡ out.old.items ++ ended ((word.now ++ text.now) ∷ [])) }
 {
     put_line(out, &[word, text])
-}
-
-/// The 64 lower-case hexadecimal digits of the digest.
-pub fn digest_text(digest: &[u8; 32]) -> [u8; 64]
-    ensures text { result ≡ encode_lower digest.now }
-    ensures size { length digest.now ≡ 32 }
-    ensures bytes { IsBytes digest.now }
-{
-    let mut text = [0; 64];
-    hex::encode_to_slice(digest, &mut text).unwrap();
-    text
 }
 
 /// The lines that say what the package is.

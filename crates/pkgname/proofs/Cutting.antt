@@ -1,25 +1,11 @@
 -- The pieces of a text.
-use Rattle.std.proofs.Common.{◌≡◌, ℕ, ◌+◌, Bool, true, false, List, [], ◌∷◌, length, take, drop, Some, None, refl, ap, ◌∙◌, arith, inl, inr}
+use Rattle.std.proofs.Common.{◌≡◌, ℕ, ◌+◌, ◌++◌, ◌<◌, ◌≤◌, Bool, true, false, List, [], ◌∷◌, length, take, drop, Some, None, refl, ap, ◌∙◌, arith, inl, inr}
+use Rattle.std.proofs.Math.Seq.{drop-append-add, take-append_seam}
 use Rattle.std.proofs.lemmas.Bool.{cases_Bool, cases_lt, le-ltb, lt-ltb}
-use Rattle.std.proofs.lemmas.List.Splits.{slice_split-cons_no, slice_split-cons_yes, slice_split_first, slice_split_none}
-use Rattle.std.proofs.lemmas.List.Sums.{fails_before_first}
-use Rattle.std.specs.List.{list_all, list_any, onto_first, position, position_or_len, slice_split}
-
--- the text up to the first separator, and the pieces of what stands behind it
-pub pieces_from_Some : (p : ℕ → Bool) (text : List ℕ) (i : ℕ) → position p text ≡ Some i → slice_split p text ≡ take i text ∷ slice_split p (drop (i + 1) text)
-pieces_from_Some p text i e = elim (cases_lt (position_or_len p text) (length text)) [
-  | inl within ↦
-      let at : position_or_len p text ≡ i = let found = rw (lt-ltb _ _ within) at e in cc in
-      rw (← at) (slice_split_first p text 0 within)
-  | inr past ↦ cc (rw (le-ltb _ _ past) at e)
-]
-
--- a text without a separator is its one piece
-pub pieces_from_None : (p : ℕ → Bool) (text : List ℕ) → position p text ≡ None → slice_split p text ≡ text ∷ []
-pieces_from_None p text e = elim (cases_lt (position_or_len p text) (length text)) [
-  | inl within ↦ cc (rw (lt-ltb _ _ within) at e)
-  | inr past ↦ slice_split_none p text (λ k d l. fails_before_first p text k d (omega arith))
-]
+use Rattle.std.proofs.lemmas.List.{drop-drop, length-append, length-drop}
+use Rattle.std.proofs.lemmas.List.Splits.{slice_split-cons_no, slice_split-cons_yes}
+use Rattle.std.specs.List.{list_all, list_any, onto_first, slice_split}
+use Rattle.pkgname.specs.Inside.{behind_place}
 
 -- a text has some piece
 pub some_piece : (p : ℕ → Bool) (text : List ℕ) → (first : List ℕ) × (others : List (List ℕ)) × (slice_split p text ≡ first ∷ others)
@@ -59,4 +45,29 @@ list_all-first_piece p q (x ∷ text) piece others e h = elim (cases_Bool (p x))
       let first : q x ≡ true = grind arith in
       let others : list_all q text ≡ true = grind arith in
       rw (is, first) (list_all-first_piece p q text cut.0 cut.1 cut.3 others)
+]
+
+-- a text that was cut behind its front: the front, and what stands behind the byte after it
+pub front_cut : (c : ℕ) (text front behind : List ℕ) → text ≡ front ++ c ∷ behind
+    → (length front ≤ length text) × (take (length front) text ≡ front) × (behind_place text (length front) ≡ Some behind)
+front_cut c text front behind e =
+    let long : length text ≡ length front + length (c ∷ behind) = ap length e ∙ length-append front (c ∷ behind) in
+    let taken : take (length front) text ≡ front = ap (take (length front)) e ∙ take-append_seam front (c ∷ behind) in
+    let left : drop (length front + 1) text ≡ behind = ap (drop (length front + 1)) e ∙ drop-append-add front (c ∷ behind) 1 in
+    (omega (arith, long), taken, rw (lt-ltb (length front) (length text) (omega (arith, long)), left) refl)
+
+-- nothing stands behind the end
+pub behind_end : (text : List ℕ) → behind_place text (length text) ≡ None
+behind_end text = rw (le-ltb (length text) (length text) (omega arith)) refl
+
+-- what stands behind a place, counted from another before it
+pub behind_place-drop : (text : List ℕ) (k n : ℕ) → k ≤ length text → behind_place (drop k text) n ≡ behind_place text (k + n)
+behind_place-drop text k n within = elim (cases_lt (k + n) (length text)) [
+  | inl low ↦
+      let here : n < length (drop k text) = omega (arith, length-drop k text) in
+      let place : k + (n + 1) ≡ k + n + 1 = omega arith in
+      rw (lt-ltb n (length (drop k text)) here, lt-ltb (k + n) (length text) low) (ap Some (drop-drop (n + 1) k text ∙ ap (λ i. drop i text) place))
+  | inr high ↦
+      let here : length (drop k text) ≤ n = omega (arith, length-drop k text) in
+      rw (le-ltb n (length (drop k text)) here, le-ltb (k + n) (length text) high) refl
 ]

@@ -1,5 +1,4 @@
 mod Examples
-pub mod Copies
 pub mod Cutting
 pub mod Digits
 pub mod Fronts

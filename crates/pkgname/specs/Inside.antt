@@ -1,18 +1,31 @@
 -- The fields of a name: its text, and where its parts are.
-use Rattle.std.specs.Prelude.{◌≡◌, ◌≤◌, Some, List, ℕ, length, map, take, vec_items}
-use Rattle.pkgname.specs.PkgName.{IsName, parts_of}
+use Rattle.std.specs.Prelude.{◌≡◌, ◌+◌, ◌≤◌, Some, None, Option, List, ℕ, length, take, drop, nat_lt, if◌then◌else◌}
+use Rattle.faults.specs.Bytes.{Text, dash}
+use Rattle.pkgname.specs.Pieces.{pieces_behind}
+use Rattle.pkgname.specs.PkgName.{IsName, Parts, parts_of}
+use Rattle.pkgname.specs.Version.{IsVersion}
 use Rattle.pkgname.specs.declared.name.PkgName.TheInside.{Inside}
 
 -- the text of a name
 abbrev pub text_of : Inside → List ℕ
 text_of n = n.text.items
 
--- the text is a name, and its parts are those of the fields
+-- what stands behind the byte at the place, if there is one
+abbrev pub behind_place : Text → ℕ → Option Text
+behind_place text i = if nat_lt i (length text) then Some (drop (i + 1) text) else None
+
+-- the parts of a text by the lengths of its stem and its version
+abbrev pub parts_by_lengths : Text → ℕ → ℕ → Parts
+parts_by_lengths text stem_length version_length = record {
+  stem = take stem_length text;
+  version = take version_length (drop (stem_length + 1) text);
+  flavors = pieces_behind dash (behind_place text (stem_length + 1 + version_length));
+}
+
+-- the text is a name, and its parts are those by the lengths of its stem and its version
 pub record IsSplit (n : Inside) : Type 0 where
   pub name : IsName n.text.items
-  pub within : n.stem_length ≤ length n.text.items
-  pub parts : parts_of n.text.items ≡ Some (record {
-    stem = take n.stem_length n.text.items;
-    version = n.version;
-    flavors = map vec_items n.flavors.items;
-  })
+  pub within : n.stem_length + 1 + n.version_length ≤ length n.text.items
+  pub parts : parts_of n.text.items
+      ≡ Some (parts_by_lengths n.text.items n.stem_length n.version_length)
+  pub version : IsVersion (take n.version_length (drop (n.stem_length + 1) n.text.items))

@@ -21,7 +21,7 @@ mod version;
 pub use crate::bytes::{dash_before_version, has_name_bytes};
 pub use crate::laws::version_order_is_total_preorder;
 pub use crate::name::PkgName;
-pub use crate::pieces::first_piece;
+pub use crate::pieces::Pieces;
 pub use crate::version::{Version, is_version};
 
 /// Why a text is no package name. These are tested in this order, and the first that applies is

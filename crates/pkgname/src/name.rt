@@ -1,5 +1,5 @@
 //! A package name, which contracts see as its text.
-ghost use Rattle.std.specs.Prelude.{◌≡◌, ◌⊎◌, ◌++◌, false, map, option_copied, true, vec_items, Ok, Some, IfErr, IfOk, OnOk, OnErr, nat_eq, refl};
+ghost use Rattle.std.specs.Prelude.{◌≡◌, ◌≤◌, ◌++◌, ◌∷◌, drop, false, length, take, true, Some, IfErr, IfOk, OnOk, OnErr, nat_eq, refl};
 ghost use Rattle.std.proofs.Common.{rules};
 ghost use Rattle.std.specs.Cmp.{partial_equiv_from_equiv};
 ghost use Rattle.std.specs.Cmp.Lexicographic.{nat_list_cmp_total, nat_list_eq_equiv, pointwise, texts_po, texts_ties};
@@ -8,14 +8,14 @@ ghost use Rattle.std.specs.Hash as fed;
 ghost use Rattle.std.specs.List.{list_any};
 ghost use Rattle.faults.specs.Answers.{IsRightUnless};
 ghost use Rattle.faults.specs.Bytes.{dash, is_empty};
-ghost use Rattle.faults.specs.Pieces.{text_cmp};
+ghost use Rattle.faults.specs.Pieces.{pieces_at, text_cmp};
+ghost use Rattle.pkgname.specs.Inside.{behind_place};
 ghost use Rattle.pkgname.specs.PkgName.{IsName, flavors_of, name_of, stem_of, version_of};
 ghost use Rattle.pkgname.specs.Pieces.{pieces_behind};
 
 use crate::bytes::{dash_before_version, has_name_bytes};
-use crate::pieces::first_piece;
-use crate::{NameFault, Version};
-use faults::Memory;
+use crate::{NameFault, Pieces, Version};
+use faults::{Memory, split_once};
 use std::alloc::Global;
 use std::cmp::Ordering;
 use std::hash::{Hash, Hasher};
@@ -29,9 +29,8 @@ const LONGEST: usize = 255;
 #[derive(Drop)]
 pub struct PkgName {
     text: Vec<u8>,
-    stem_length: usize,
-    version: Version,
-    flavors: Vec<Vec<u8>>,
+    stem_length: u8,
+    version_length: u8,
 }
 
 impl Model for PkgName {
@@ -65,15 +64,12 @@ impl PkgName {
         let Some(dash) = dash_before_version(text, b"") else {
             return Err(NameFault::NoVersion);
         };
-        let (version, behind) = first_piece(&text[dash + 1..], b'-');
-        let flavors = flavors_of(alloc, behind)?;
-        let version = Version::new(alloc, version)?;
+        let version_length = version_length(&text[dash + 1..])?;
         let text = Vec::from_slice(alloc, text)?;
         Ok(PkgName {
             text,
-            stem_length: dash,
-            version,
-            flavors,
+            stem_length: dash as u8,
+            version_length: version_length as u8,
         })
     }
 
@@ -98,21 +94,23 @@ impl PkgName {
     pub fn stem(&self) -> &[u8]
         ensures { result.now ≡ stem_of self.now }
     {
-        &self.text[..self.stem_length]
+        &self.text[..usize::from(self.stem_length)]
     }
 
     /// The version, which begins with a digit and has no dash.
-    pub fn version(&self) -> &Version
-        ensures { result.now ≡ version_of self.now }
+    pub fn version(&self) -> Version<'_>
+        ensures { result ≡ version_of self.now }
     {
-        &self.version
+        let start = usize::from(self.stem_length) + 1;
+        Version::new(&self.text[start..start + usize::from(self.version_length)])
     }
 
     /// The flavors in the order of the text, none empty. One that stands there twice is here twice.
-    pub fn flavors(&self) -> &[Vec<u8>]
-        ensures { map vec_items result.now ≡ flavors_of self.now }
+    pub fn flavors(&self) -> Pieces<'_>
+        ensures { result ≡ flavors_of self.now }
     {
-        self.flavors.as_slice()
+        let end = usize::from(self.stem_length) + 1 + usize::from(self.version_length);
+        Pieces::behind(self.text.get(end + 1..), b'-')
     }
 
     /// An equal name, or `Memory`.
@@ -120,37 +118,35 @@ impl PkgName {
         ensures { IfOk result (λ name. name ≡ self.now) }
     {
         let text = self.text.clone()?;
-        let version = self.version.copy()?;
-        let flavors = self.flavors.clone()?;
         Ok(PkgName {
             text,
             stem_length: self.stem_length,
-            version,
-            flavors,
+            version_length: self.version_length,
         })
     }
 }
 
-/// The flavors between dashes, none of which is empty.
-fn flavors_of(alloc: Global, behind: Option<&[u8]>) -> Result<Vec<Vec<u8>>, NameFault>
-    ensures ok { IfOk result (λ flavors.
-        (map vec_items flavors.items ≡ pieces_behind dash (option_copied behind.entry))
-        × (list_any is_empty (pieces_behind dash (option_copied behind.entry)) ≡ false)) }
-    ensures err { IfErr result (λ e. (e ≡ NameFault.Memory)
-        ⊎ ((e ≡ NameFault.BadByte)
-        × (list_any is_empty (pieces_behind dash (option_copied behind.entry)) ≡ true))) }
+/// The length of the version with which the text begins, where no flavor behind it is empty.
+fn version_length(text: &[u8]) -> Result<usize, NameFault>
+    ensures ok { IfOk result (λ n. (n ≤ length text.now)
+        × (pieces_at dash text.now
+            ≡ take n text.now ∷ pieces_behind dash (behind_place text.now n))
+        × (list_any is_empty (drop 1 (pieces_at dash text.now)) ≡ false)) }
+    ensures err { IfErr result (λ e. (e ≡ NameFault.BadByte)
+        × (list_any is_empty (drop 1 (pieces_at dash text.now)) ≡ true)) }
 {
-    let mut flavors = Vec::new(alloc);
-    let mut left = behind;
-    'flavors: while let Some(text) = left {
-        let (flavor, behind) = first_piece(text, b'-');
-        if flavor.is_empty() {
-            return Err(NameFault::BadByte);
-        }
-        flavors.push(Vec::from_slice(alloc, flavor)?)?;
-        left = behind;
+    match split_once(text, b'-') {
+        None => Ok(text.len()),
+        Some((_, flavors)) if has_empty_piece(flavors) => Err(NameFault::BadByte),
+        Some((version, _)) => Ok(version.len()),
     }
-    Ok(flavors)
+}
+
+/// Whether nothing stands somewhere between dashes.
+fn has_empty_piece(text: &[u8]) -> bool
+    ensures { result ≡ list_any is_empty (pieces_at dash text.now) }
+{
+    Pieces::new(text, b'-').any(|piece| piece.is_empty())
 }
 
 impl PartialEq for PkgName {

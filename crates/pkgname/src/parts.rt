@@ -8,9 +8,9 @@ ghost use Rattle.std.specs.Ordering.{nat_cmp};
 ghost use Rattle.pkgname.specs.Order.{body_cmp, component_cmp, parts_cmp};
 ghost use Rattle.pkgname.specs.Version.{before_digits_at_end, components_of, marker, parts_of, without_marker};
 
+use crate::Pieces;
 use crate::component::Component;
 use crate::number::Number;
-use crate::pieces::first_piece;
 use std::cmp::Ordering;
 use std::marker::Model;
 
@@ -102,22 +102,17 @@ fn compare_bodies(own: &[u8], other: &[u8]) -> Ordering
     ensures { result
         ≡ slice_cmp component_cmp (components_of own.entry.now) (components_of other.entry.now) }
 {
-    let (mut own_left, mut other_left) = (own, other);
+    let mut own_pieces = Pieces::new(own, b'.');
+    let mut other_pieces = Pieces::new(other, b'.');
     'components: loop {
-        let (own_piece, own_behind) = first_piece(own_left, b'.');
-        let (other_piece, other_behind) = first_piece(other_left, b'.');
-        let ordering = Component::new(own_piece).compare(&Component::new(other_piece));
-        if ordering.is_ne() {
-            return ordering;
-        }
-        match (own_behind, other_behind) {
-            (Some(own_behind), Some(other_behind)) => {
-                own_left = own_behind;
-                other_left = other_behind;
-            }
-            (None, None) => return Ordering::Equal,
+        let ordering = match (own_pieces.next(), other_pieces.next()) {
+            (Some(own), Some(other)) => Component::new(own).compare(&Component::new(other)),
             (None, Some(_)) => return Ordering::Less,
             (Some(_), None) => return Ordering::Greater,
+            (None, None) => return Ordering::Equal,
+        };
+        if ordering.is_ne() {
+            return ordering;
         }
     }
 }

@@ -1,25 +1,70 @@
 //! The pieces of a text between its separators.
-ghost use Rattle.std.specs.Prelude.{◌≡◌, ◌==◌, ◌<◌, ◌∷◌, length, option_copied, IfSome};
-ghost use Rattle.std.specs.List.{position};
+ghost use Rattle.std.specs.Prelude.{◌≡◌, option_copied};
 ghost use Rattle.faults.specs.Pieces.{pieces_at};
 ghost use Rattle.pkgname.specs.Pieces.{pieces_behind};
 
-/// The bytes before the first separator, and those behind it. Without a separator the piece is the
-/// whole text, and nothing is behind it.
-pub fn first_piece(text: &[u8], separator: u8) -> (&[u8], Option<&[u8]>)
-    ensures pieces { pieces_at separator text.now
-        ≡ result.0.now ∷ pieces_behind separator (option_copied result.1) }
-    ensures shorter { IfSome result.1 (λ behind. length behind.now < length text.now) }
-{
-    match first_place(text, separator) {
-        Some(at) => (&text[..at], Some(&text[at + 1..])),
-        None => (text, None),
+use faults::split_once;
+use std::marker::Model;
+
+/// The pieces of a text between its separators, from the left: one more than there are separators.
+/// Contracts see those that are still to come.
+#[derive(Drop)]
+pub struct Pieces<'a> {
+    separator: u8,
+    left: Option<&'a [u8]>,
+}
+
+impl<'a> Model for Pieces<'a> {
+    ghost use Rattle.std.specs.Prelude.{ℕ, List, option_copied};
+    ghost use Rattle.pkgname.specs.Pieces.{pieces_behind};
+
+    ghost Value = { List (List ℕ) };
+
+    ghost view = { λ p. pieces_behind p.separator (option_copied p.left) };
+}
+
+impl<'a> Pieces<'a> {
+    /// The pieces of a text.
+    pub fn new(text: &'a [u8], separator: u8) -> Pieces<'a>
+        ensures { result ≡ pieces_at separator text.entry.now }
+    {
+        Pieces {
+            separator,
+            left: Some(text),
+        }
+    }
+
+    /// The pieces of what stands behind a separator, none where nothing does.
+    pub fn behind(text: Option<&'a [u8]>, separator: u8) -> Pieces<'a>
+        ensures { result ≡ pieces_behind separator (option_copied text.entry) }
+    {
+        Pieces {
+            separator,
+            left: text,
+        }
     }
 }
 
-fn first_place(text: &[u8], separator: u8) -> Option<usize>
-    ensures place { result ≡ position (λ b. b == separator) text.now }
-    ensures within { IfSome result (λ at. at < length text.now) }
-{
-    text.iter().position(|byte| *byte == separator)
+impl<'a> Iterator for Pieces<'a> {
+    ghost use Rattle.std.specs.Iterator.{YieldsFirstRef, item_count};
+
+    type Item = &'a [u8];
+
+    ghost next_gives = { YieldsFirstRef (λ pieces. pieces) };
+
+    ghost remaining = { item_count (λ pieces. pieces) };
+
+    fn next(&mut self) -> Option<&'a [u8]> {
+        let text = self.left?;
+        match split_once(text, self.separator) {
+            Some((piece, behind)) => {
+                self.left = Some(behind);
+                Some(piece)
+            }
+            None => {
+                self.left = None;
+                Some(text)
+            }
+        }
+    }
 }

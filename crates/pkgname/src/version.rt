@@ -1,49 +1,46 @@
 //! A version, which contracts see as its text.
-ghost use Rattle.std.specs.Prelude.{◌≡◌, IfOk};
+ghost use Rattle.std.specs.Prelude.{◌≡◌};
 ghost use Rattle.pkgname.specs.Order.{version_cmp};
 ghost use Rattle.pkgname.specs.Version.{IsVersion, is_version};
 
 use crate::bytes::has_name_bytes;
 use crate::parts::Parts;
-use faults::Memory;
-use std::alloc::Global;
 use std::cmp::Ordering;
 use std::marker::Model;
 
-/// The version of a name or of a bound: a digit first, and then any number of the bytes of a name
-/// other than the dash. It has no `==`, since versions whose texts differ may tie.
+/// The version of a name or of a bound, in its text: a digit first, and then any number of the
+/// bytes of a name other than the dash. It has no `==`, since versions whose texts differ may tie.
 #[derive(Drop)]
-pub struct Version {
-    text: Vec<u8>,
+pub struct Version<'a> {
+    text: &'a [u8],
 }
 
-impl Model for Version {
+impl<'a> Model for Version<'a> {
     ghost use Rattle.std.specs.Prelude.{ℕ, List};
     ghost use Rattle.pkgname.specs.Version.{IsVersion};
 
     ghost Value = { List ℕ };
 
-    ghost view = { λ v. v.text.items };
+    ghost view = { λ v. v.text.now };
 
-    ghost invariant = { λ v. IsVersion v.text.items };
+    ghost invariant = { λ v. IsVersion v.text.now };
 }
 
-impl Version {
-    /// The version with this text, which has to be a version's (`is_version`), or `Memory`.
-    pub fn new(alloc: Global, text: &[u8]) -> Result<Version, Memory>
+impl<'a> Version<'a> {
+    /// The version with this text, which has to be a version's (`is_version`).
+    pub fn new(text: &'a [u8]) -> Version<'a>
         requires { IsVersion text.now }
-        ensures { IfOk result (λ version. version ≡ text.now) }
+        ensures { result ≡ text.entry.now }
     {
-        let text = Vec::from_slice(alloc, text)?;
-        Ok(Version { text })
+        Version { text }
     }
 
     /// The bytes of the version's text.
-    pub fn as_bytes(&self) -> &[u8]
+    pub fn as_bytes(&self) -> &'a [u8]
         ensures text { result.now ≡ self.now }
         ensures version { IsVersion self.now }
     {
-        self.text.as_slice()
+        self.text
     }
 
     /// Where this version stands to the other. A version is a body, then `p` and digits if it has
@@ -60,20 +57,12 @@ impl Version {
     /// a word may have digits behind it and nothing else; the same word compares by the number of
     /// these, 0 without any, and other rests by their bytes. Numbers have any number of digits.
     /// Versions that tie need not be equal, as 1.02 and 1.2. It takes no memory.
-    pub fn compare(&self, other: &Version) -> Ordering
+    pub fn compare(&self, other: &Version<'_>) -> Ordering
         ensures { result ≡ version_cmp self.now other.now }
     {
         let own = Parts::new(self.as_bytes());
         let others = Parts::new(other.as_bytes());
         own.compare(&others)
-    }
-
-    /// A version with the same text, or `Memory`.
-    pub fn copy(&self) -> Result<Version, Memory>
-        ensures { IfOk result (λ version. version ≡ self.now) }
-    {
-        let text = self.text.clone()?;
-        Ok(Version { text })
     }
 }
 

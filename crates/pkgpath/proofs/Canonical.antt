@@ -5,12 +5,14 @@ use Rattle.std.proofs.lemmas.List.Sums.{sum_by-cons}
 use Rattle.std.specs.List.{filter, find, list_all, list_any}
 use Rattle.faults.specs.Answers.{unless_fault}
 use Rattle.faults.specs.Bytes.{Text, comma, has_byte, is_empty, slash}
-use Rattle.faults.specs.Pieces.{pieces_at, set_of}
+use Rattle.faults.specs.Pieces.{pieces_at, set_of, text_cmp}
+use Rattle.faults.proofs.Ascending.{Rising}
+use Rattle.faults.proofs.Sets.{set_rises, set_stays}
 use Rattle.pkgpath.proofs.Behind.{behind, behind-all, behind-count_empty, behind-count_subpackage, behind-flavors, behind-mark, behind-subpackage, behind-weighs}
 use Rattle.pkgpath.proofs.FirstFault.{faultless, no_fault}
 use Rattle.pkgpath.proofs.PartKinds.{filter-none, list_all-filter, list_all-find, list_all-found, list_all-kept}
 use Rattle.pkgpath.proofs.Pieces.{lacks, length-join, length-pieces, pieces-lack, pieces-split, pieces_at-join, weight_of}
-use Rattle.pkgpath.proofs.Sets.{is_ascending, list_all-set_of, set_of-ascending, set_of-same}
+use Rattle.pkgpath.proofs.Sets.{list_all-set_of}
 use Rattle.pkgpath.specs.PkgPath.{IsPath, Parts, Spells, canonical_text, directory_of, fault_of, is_directory, is_flavor, is_part, is_subpackage, most_bytes, parts_of, path_of, value_of}
 use Rattle.pkgpath.specs.declared.PathFault.{PathFault}
 
@@ -26,7 +28,7 @@ pub record IsWellFormed (v : Parts) : Type 0 where
   pub directory : is_directory v.directory ≡ true
   pub parts : list_all is_part (behind v.is_explicitly_empty v.flavors v.subpackage) ≡ true
   pub no_comma : list_all (lacks comma) (v.directory ∷ behind v.is_explicitly_empty v.flavors v.subpackage) ≡ true
-  pub ascending : is_ascending v.flavors ≡ true
+  pub rising : Rising text_cmp v.flavors
   pub flavors : list_all is_flavor v.flavors ≡ true
   pub mark : v.is_explicitly_empty ≡ true → v.flavors ≡ []
   pub one : list_all is_subpackage (option_to_list v.subpackage) ≡ true
@@ -58,7 +60,7 @@ module _ (v : Parts) (good : IsWellFormed v) where
 
   pub canonical-value : value_of (canonical_text v) ≡ v
   canonical-value =
-      let flavors : set_of (filter is_flavor (parts_of (canonical_text v))) ≡ v.flavors = rw (canonical-parts, behind-flavors v.flavors v.subpackage good.flavors good.one v.is_explicitly_empty) (set_of-same v.flavors good.ascending) in
+      let flavors : set_of (filter is_flavor (parts_of (canonical_text v))) ≡ v.flavors = rw (canonical-parts, behind-flavors v.flavors v.subpackage good.flavors good.one v.is_explicitly_empty) (set_stays v.flavors good.rising) in
       let mark : (list_any is_empty (parts_of (canonical_text v)) && not (list_any is_flavor (parts_of (canonical_text v)))) ≡ v.is_explicitly_empty = rw canonical-parts (behind-mark v.flavors v.subpackage good.flavors good.one v.is_explicitly_empty good.mark) in
       let subpackage : find is_subpackage (parts_of (canonical_text v)) ≡ v.subpackage = rw canonical-parts (behind-subpackage v.flavors v.subpackage good.flavors good.one v.is_explicitly_empty) in
       λ i. record { directory = canonical-directory i; flavors = flavors i; is_explicitly_empty = mark i; subpackage = subpackage i }
@@ -99,7 +101,7 @@ module _ (text : Text) (none : fault_of text ≡ None) where
         directory = good.directory;
         parts = spelled-all is_part refl good.parts;
         no_comma = spelled-no_comma;
-        ascending = set_of-ascending (filter is_flavor (parts_of text));
+        rising = set_rises (filter is_flavor (parts_of text));
         flavors = list_all-set_of is_flavor (filter is_flavor (parts_of text)) (list_all-filter is_flavor (parts_of text));
         mark = spelled-mark;
         one = list_all-find is_subpackage (parts_of text);

@@ -1,11 +1,11 @@
 -- Pieces that are joined and split again.
-use Rattle.std.proofs.Common.{◌≡◌, ℕ, ◌+◌, ◌<◌, Bool, true, false, not, cond, eqb, List, [], ◌∷◌, ◌++◌, length, drop, take, get_or, refl, sym, ap, ◌∙◌, arith, unwrap_or, slice_get}
+use Rattle.std.proofs.Common.{◌≡◌, ℕ, ◌+◌, ◌<◌, Bool, true, false, not, cond, eqb, List, [], ◌∷◌, length, drop, refl, sym, ap, ◌∙◌, arith, unwrap_or, slice_get}
 use Rattle.std.proofs.lemmas.Bool.{and_parts, eq-eqb, not-true, or_parts}
-use Rattle.std.proofs.lemmas.List.{drop_more, get_or-take, length-append, length-take, take-append-drop}
-use Rattle.std.proofs.lemmas.List.Elements.{All-cons, All-from_all_within, All-nil}
+use Rattle.std.proofs.lemmas.List.{length-append}
+use Rattle.std.proofs.lemmas.List.Elements.{All-cons, All-nil}
 use Rattle.std.proofs.lemmas.List.Splits.{join_with_byte-slice_split, length-slice_split, slice_split_at, slice_split_none}
 use Rattle.std.proofs.lemmas.List.Sums.{sum_by-cons}
-use Rattle.std.specs.List.{All, AllWithin, HoldsAt, join_with_byte, list_all, list_any, onto_first, sum_by}
+use Rattle.std.specs.List.{All, join_with_byte, list_all, list_any, onto_first, sum_by}
 use Rattle.faults.specs.Bytes.{Text, comma, has_byte}
 use Rattle.faults.specs.Pieces.{pieces_at}
 use Rattle.pkgpath.specs.PkgPath.{directory_of, parts_of}
@@ -44,19 +44,6 @@ pieces_at-join c p (q ∷ ps) all =
     let parts = and_parts (lacks c p) (list_all (lacks c) (q ∷ ps)) all in
     slice_split_at (λ b. eqb b c) p c (join_with_byte c (q ∷ ps)) (none_passes (λ b. eqb b c) p (not-true (has_byte c p) parts.0)) (eq-eqb c c refl)
     ∙ ap (λ rest. p ∷ rest) (pieces_at-join c q ps parts.1)
-
--- ---- cut at the first such byte
-
-pub pieces_at-none : (c : ℕ) (text : Text) → AllWithin (λ b. eqb b c ≡ false) text 0 (length text) → pieces_at c text ≡ text ∷ []
-pieces_at-none c text none = slice_split_none (λ b. eqb b c) text (All-from_all_within (λ b. eqb b c ≡ false) text none)
-
-pub pieces_at-first : (c : ℕ) (text : Text) (i : ℕ) → i < length text → HoldsAt (λ b. eqb b c ≡ true) text i → AllWithin (λ b. eqb b c ≡ false) text 0 i → pieces_at c text ≡ take i text ∷ pieces_at c (drop (i + 1) text)
-pieces_at-first c text i within here before =
-    let whole : take i text ++ get_or text i 0 ∷ drop (i + 1) text ≡ text = ap (λ rest. take i text ++ rest) (sym (drop_more text i 0 within)) ∙ take-append-drop i text in
-    let front : All (λ b. eqb b c ≡ false) (take i text) = λ k d below.
-    let below_i : k < i = omega (arith, length-take i text) in
-    rw (get_or-take i text k d below_i) (before k d (omega arith) below_i) in
-    ap (pieces_at c) (sym whole) ∙ slice_split_at (λ b. eqb b c) (take i text) (get_or text i 0) (drop (i + 1) text) front (here 0)
 
 -- ---- the directory and the parts
 

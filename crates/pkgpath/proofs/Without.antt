@@ -1,17 +1,16 @@
 -- A path without its subpackage.
-use Rattle.std.proofs.Common.{◌≡◌, ◌≤◌, ◌<◌, ◌+◌, ◌==◌, ℕ, zero, suc, Bool, true, false, not, ◌||◌, ◌++◌, [], ◌∷◌, List, codes, drop, get_or, length, refl, sym, subst, take, ap, ◌∙◌, append_assoc, arith, eq-eqb, Option, Some, None, Ok, Err, option_to_list, if◌then◌else◌}
-use Rattle.std.proofs.lemmas.Bool.{and_from, and_parts, or_parts}
+use Rattle.std.proofs.Common.{◌≡◌, ◌≤◌, ◌<◌, ◌+◌, ◌==◌, ℕ, zero, suc, Bool, true, false, not, ◌||◌, ◌++◌, [], ◌∷◌, List, codes, drop, get_or, length, refl, sym, take, ap, ◌∙◌, append_assoc, arith, eq-eqb, Option, Some, None, Ok, Err, option_to_list, if◌then◌else◌}
+use Rattle.std.proofs.lemmas.Bool.{and_from, and_parts}
 use Rattle.std.proofs.lemmas.List.{append-nil, drop_more, get_or-drop, length-drop, take-append-drop}
 use Rattle.std.proofs.lemmas.List.Folds.{list_all-append}
 use Rattle.std.proofs.lemmas.List.Sums.{sum_by-append, sum_by-cons}
-use Rattle.std.specs.List.{join_with_byte, list_all, list_any, sum_by}
+use Rattle.std.specs.List.{join_with_byte, list_all, sum_by}
 use Rattle.faults.specs.Answers.{unless_fault}
 use Rattle.faults.specs.Bytes.{Text, begins_with, comma, has_byte}
-use Rattle.faults.specs.Pieces.{pieces_at}
 use Rattle.pkgpath.proofs.Behind.{behind, behind-all}
 use Rattle.pkgpath.proofs.Canonical.{IsWellFormed, canonical-faultless, canonical-value, canonical_text_is_read, spelled-well_formed}
-use Rattle.pkgpath.proofs.Pieces.{lacks, length-join, pieces-split, weight_of}
-use Rattle.pkgpath.specs.PkgPath.{IsPath, Parts, Spells, canonical_text, fault_of, is_flavor, is_part, is_subpackage, most_bytes, parts_of, path_of, value_of, without_subpackage}
+use Rattle.pkgpath.proofs.Pieces.{lacks, length-join, weight_of}
+use Rattle.pkgpath.specs.PkgPath.{IsPath, Parts, canonical_text, fault_of, is_flavor, is_part, is_subpackage, value_of, without_subpackage}
 use Rattle.pkgpath.specs.declared.PathFault.{PathFault}
 
 -- the parts without the subpackage
@@ -46,7 +45,7 @@ bare-well_formed v good =
       directory = good.directory;
       parts = bare-all is_part v.is_explicitly_empty v.flavors v.subpackage good.parts;
       no_comma = and_from _ _ both.0 (bare-all (lacks comma) v.is_explicitly_empty v.flavors v.subpackage both.1);
-      ascending = good.ascending;
+      rising = good.rising;
       flavors = good.flavors;
       mark = good.mark;
       one = refl;

@@ -12,20 +12,11 @@ use crate::PathFault;
 use crate::flavors::flavor_set;
 use crate::grammar::is_directory;
 use crate::parts::{Tally, count_parts};
+use faults::split_once;
 use std::alloc::{AllocError, Global};
 
 /// The most bytes that the text of a path has.
 const LONGEST: usize = 255;
-
-/// The texts before and behind the first comma.
-fn split_at_comma(text: &[u8]) -> Option<(&[u8], &[u8])>
-    ensures { MatchOption result
-        (pieces_at comma text.now ≡ text.now ∷ [])
-        (λ halves. pieces_at comma text.now ≡ halves.0.now ∷ pieces_at comma halves.1.now) }
-{
-    let place = text.iter().position(|byte| *byte == b',')?;
-    Some((&text[..place], &text[place + 1..]))
-}
 
 fn directory_fault(directory: &[u8]) -> Option<PathFault>
     ensures { result ≡ first_that_applies (
@@ -177,7 +168,7 @@ pub(crate) fn canonical_text(alloc: Global, text: &[u8]) -> Result<Vec<u8>, Path
     if text.len() > LONGEST {
         return Err(PathFault::TooLong);
     }
-    match split_at_comma(text) {
+    match split_once(text, b',') {
         None => read_directory(alloc, text),
         Some((directory, parts)) => read_parts(alloc, text, directory, parts),
     }

@@ -4,6 +4,7 @@ ghost use Rattle.std.specs.List.{list_all};
 ghost use Rattle.faults.specs.Answers.{IsRightUnless, map_ok};
 ghost use Rattle.faults.specs.Bytes.{comma, dash};
 ghost use Rattle.pkgname.specs.Pieces.{pieces_behind};
+ghost use Rattle.pkgname.specs.PkgName.{flavors_of};
 ghost use Rattle.pkgspec.specs.Matching.{alternative_matches, holds, is_met_by, is_stem_of};
 ghost use Rattle.pkgspec.specs.Reading.{alternative_or_fault, bounds_or_fault, demands_or_fault};
 ghost use Rattle.pkgspec.specs.Spec.{bound_texts, demand_texts, stem_of};
@@ -12,8 +13,8 @@ use crate::SpecFault;
 use crate::bound::Bound;
 use crate::demand::Demand;
 use crate::part::{Part, copy_of_parts};
-use faults::Memory;
-use pkgname::{PkgName, Version, dash_before_version, first_piece, has_name_bytes};
+use faults::{Memory, split_once};
+use pkgname::{Pieces, PkgName, Version, dash_before_version, has_name_bytes};
 use std::alloc::Global;
 use std::marker::Model;
 
@@ -61,8 +62,8 @@ impl Alternative {
         ensures { result ≡ alternative_matches name.now self.now }
     {
         is_stem_of(self.stem.as_slice(), name)
-            && all_hold(self.bounds.as_slice(), name.version())
-            && all_are_met(self.demands.as_slice(), name.flavors())
+            && all_hold(self.bounds.as_slice(), &name.version())
+            && all_are_met(self.demands.as_slice(), name)
     }
 }
 
@@ -87,16 +88,18 @@ fn is_stem_of(stem: &[u8], name: &PkgName) -> bool
     stem == b"STEM".as_slice() || stem == name.stem()
 }
 
-fn all_hold(bounds: &[Bound], version: &Version) -> bool
+fn all_hold(bounds: &[Bound], version: &Version<'_>) -> bool
     ensures { result ≡ list_all (holds version.now) bounds.now }
 {
     bounds.iter().all(|bound| bound.holds(version))
 }
 
-fn all_are_met(demands: &[Demand], flavors: &[Vec<u8>]) -> bool
-    ensures { result ≡ list_all (is_met_by (map vec_items flavors.now)) demands.now }
+fn all_are_met(demands: &[Demand], name: &PkgName) -> bool
+    ensures { result ≡ list_all (is_met_by (flavors_of name.now)) demands.now }
 {
-    demands.iter().all(|demand| demand.is_met_by(flavors))
+    demands
+        .iter()
+        .all(|demand| demand.is_met_by(name.flavors()))
 }
 
 /// The texts of an alternative's parts.
@@ -117,7 +120,11 @@ impl<'a> Parts<'a> {
     {
         match dash_before_version(text, b"*<>=") {
             Some(dash) => {
-                let (bounds, demands) = first_piece(&text[dash + 1..], b'-');
+                let behind = &text[dash + 1..];
+                let (bounds, demands) = match split_once(behind, b'-') {
+                    Some((bounds, demands)) => (bounds, Some(demands)),
+                    None => (behind, None),
+                };
                 Parts {
                     stem: &text[..dash],
                     bounds: Some(bounds),
@@ -138,13 +145,11 @@ fn parse_bounds(alloc: Global, texts: Option<&[u8]>) -> Result<Vec<Bound>, SpecF
         (bounds_or_fault (pieces_behind comma (option_copied texts.entry))) }
 {
     let mut bounds = Vec::new(alloc);
-    let mut left = texts;
-    'bounds: while let Some(text) = left {
-        let (bound, behind) = first_piece(text, b',');
-        if let Some(bound) = Bound::parse(alloc, bound)? {
+    let mut left = Pieces::behind(texts, b',');
+    'bounds: while let Some(text) = left.next() {
+        if let Some(bound) = Bound::parse(alloc, text)? {
             bounds.push(bound)?;
         }
-        left = behind;
     }
     Ok(bounds)
 }
@@ -154,11 +159,9 @@ fn parse_demands(alloc: Global, texts: Option<&[u8]>) -> Result<Vec<Demand>, Spe
         (demands_or_fault (pieces_behind dash (option_copied texts.entry))) }
 {
     let mut demands = Vec::new(alloc);
-    let mut left = texts;
-    'demands: while let Some(text) = left {
-        let (demand, behind) = first_piece(text, b'-');
-        demands.push(Demand::parse(alloc, demand)?)?;
-        left = behind;
+    let mut left = Pieces::behind(texts, b'-');
+    'demands: while let Some(text) = left.next() {
+        demands.push(Demand::parse(alloc, text)?)?;
     }
     Ok(demands)
 }

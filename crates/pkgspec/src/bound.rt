@@ -40,15 +40,18 @@ impl Relation {
 #[derive(Drop)]
 pub(crate) struct Bound {
     relation: Relation,
-    version: Version,
+    version: Vec<u8>,
 }
 
 impl Model for Bound {
+    ghost use Rattle.pkgname.specs.Version.{IsVersion};
     ghost use Rattle.pkgspec.specs.Spec.{Bound};
 
     ghost Value = { Bound };
 
-    ghost view = { λ b. record { relation = b.relation; version = b.version } };
+    ghost view = { λ b. record { relation = b.relation; version = b.version.items } };
+
+    ghost invariant = { λ b. IsVersion b.version.items };
 }
 
 impl Bound {
@@ -63,20 +66,21 @@ impl Bound {
         if !is_version(version) {
             return Err(SpecFault::BadBound);
         }
-        let version = Version::new(alloc, version)?;
+        let version = Vec::from_slice(alloc, version)?;
         Ok(Some(Bound { relation, version }))
     }
 
-    pub fn holds(&self, version: &Version) -> bool
+    pub fn holds(&self, version: &Version<'_>) -> bool
         ensures { result ≡ holds version.now self.now }
     {
-        self.relation.allows(version.compare(&self.version))
+        let own = Version::new(self.version.as_slice());
+        self.relation.allows(version.compare(&own))
     }
 }
 
 impl Part for Bound {
     fn copy(&self) -> Result<Bound, Memory> {
-        let version = self.version.copy()?;
+        let version = self.version.clone()?;
         Ok(Bound {
             relation: self.relation,
             version,

@@ -1,15 +1,14 @@
 //! A demand on a name's flavors.
-ghost use Rattle.std.specs.Prelude.{◌≡◌, map, vec_items};
-ghost use Rattle.std.specs.List.{list_any};
-ghost use Rattle.std.specs.Str.{bytes_eq};
+ghost use Rattle.std.specs.Prelude.{◌≡◌};
 ghost use Rattle.faults.specs.Answers.{IsRightUnless};
+ghost use Rattle.faults.specs.Bytes.{is_among};
 ghost use Rattle.pkgspec.specs.Matching.{is_met_by};
 ghost use Rattle.pkgspec.specs.Reading.{demand_or_fault};
 
 use crate::SpecFault;
 use crate::part::Part;
 use faults::Memory;
-use pkgname::has_name_bytes;
+use pkgname::{Pieces, has_name_bytes};
 use std::alloc::Global;
 use std::marker::Model;
 
@@ -43,8 +42,8 @@ impl Demand {
         Ok(Demand { flavor, is_present })
     }
 
-    pub fn is_met_by(&self, flavors: &[Vec<u8>]) -> bool
-        ensures { result ≡ is_met_by (map vec_items flavors.now) self.now }
+    pub fn is_met_by(&self, flavors: Pieces<'_>) -> bool
+        ensures { result ≡ is_met_by flavors.entry self.now }
     {
         is_among(flavors, self.flavor.as_slice()) == self.is_present
     }
@@ -60,8 +59,8 @@ impl Part for Demand {
     }
 }
 
-fn is_among(flavors: &[Vec<u8>], flavor: &[u8]) -> bool
-    ensures { result ≡ list_any (λ other. bytes_eq other.items flavor.now) flavors.now }
+fn is_among(mut flavors: Pieces<'_>, flavor: &[u8]) -> bool
+    ensures { result ≡ is_among flavors.entry flavor.now }
 {
-    flavors.iter().any(|other| other.as_slice() == flavor)
+    flavors.any(|other| other == flavor)
 }

@@ -11,7 +11,7 @@ use crate::SpecFault;
 use crate::alternative::Alternative;
 use crate::part::copy_of_parts;
 use faults::Memory;
-use pkgname::{PkgName, first_piece};
+use pkgname::{Pieces, PkgName};
 use std::alloc::Global;
 use std::marker::Model;
 
@@ -84,11 +84,9 @@ fn parse_alternatives(alloc: Global, text: &[u8]) -> Result<Vec<Alternative>, Sp
         (alternatives_or_fault (pieces_at bar text.now)) }
 {
     let mut alternatives = Vec::new(alloc);
-    let mut left = Some(text);
-    'alternatives: while let Some(text) = left {
-        let (alternative, behind) = first_piece(text, b'|');
-        alternatives.push(Alternative::parse(alloc, alternative)?)?;
-        left = behind;
+    let mut left = Pieces::new(text, b'|');
+    'alternatives: while let Some(text) = left.next() {
+        alternatives.push(Alternative::parse(alloc, text)?)?;
     }
     Ok(alternatives)
 }

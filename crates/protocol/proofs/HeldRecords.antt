@@ -9,13 +9,13 @@ use Rattle.std.proofs.lemmas.Bool.{false≢true}
 use Rattle.std.proofs.lemmas.List.Elements.{All-contains, All-cons, All-nil}
 use Rattle.faults.specs.Bytes.{Text}
 use Rattle.faults.specs.Pieces.{set_of}
+use Rattle.faults.proofs.Members.{contains_first, contains_later, has_preimage}
+use Rattle.faults.proofs.Sets.{from_set}
 use Rattle.claims.specs.declared.deps.Dep.{Dep}
 use Rattle.listing.specs.Tree.{IsTree, path_at}
 use Rattle.package_record.specs.Content.{Content}
 use Rattle.units.specs.Division.{number_of, unit_at}
-use Rattle.units.proofs.Members.{contains_first, contains_later, has_preimage}
 use Rattle.units.proofs.Places.{has_position, same_bytes}
-use Rattle.units.proofs.Sets.{from_set}
 use Rattle.protocol.specs.State.{State, Value, facts_at, held_record, holds_package, is_held_any}
 use Rattle.protocol.specs.State.{record_in, unit_with}
 use Rattle.protocol.specs.Answers.{Answer, after}

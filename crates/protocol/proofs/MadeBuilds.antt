@@ -15,6 +15,9 @@ use Rattle.std.proofs.lemmas.List.Elements.{Contains-get_or}
 use Rattle.sha2.proofs.Facts256.{length-sha256}
 use Rattle.faults.specs.Bytes.{Text}
 use Rattle.faults.specs.Pieces.{text_cmp}
+use Rattle.faults.proofs.Ascending.{Rising}
+use Rattle.faults.proofs.Members.{contains_first, contains_later, has_preimage}
+use Rattle.faults.proofs.Sets.{from_set, set_rises}
 use Rattle.agreement.specs.Member.{Facts, no_facts}
 use Rattle.agreement.specs.declared.claim.Claim.{Claim}
 use Rattle.claims.specs.Claim.{IsClaim}
@@ -32,10 +35,7 @@ use Rattle.package_record.proofs.BuildsMade.{made_is_build}
 use Rattle.package_record.proofs.Digests.{sha256_bytes}
 use Rattle.units.specs.Division.{unit_at}
 use Rattle.units.specs.Laws.{IsWellMade}
-use Rattle.units.proofs.Ascending.{Rising}
 use Rattle.units.proofs.Kept.{all_listed, unit_good, unit_some}
-use Rattle.units.proofs.Members.{contains_first, contains_later, has_preimage}
-use Rattle.units.proofs.Sets.{from_set, set_rises}
 use Rattle.protocol.specs.Given.{Given}
 use Rattle.protocol.specs.State.{State, Value, facts_at, held_record, name_at, record_in, unit_with}
 use Rattle.protocol.specs.Member.{IsMember}

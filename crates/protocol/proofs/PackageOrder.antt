@@ -14,16 +14,16 @@ use Rattle.std.proofs.lemmas.List.Elements.{Contains-get_or}
 use Rattle.std.proofs.lemmas.List.Sums.{count_by-le-length, length-filter}
 use Rattle.faults.specs.Bytes.{Text}
 use Rattle.faults.specs.Pieces.{by_order, set_of, text_cmp, with_member}
+use Rattle.faults.proofs.Ascending.{Rising}
+use Rattle.faults.proofs.Members.{contains_first, contains_later}
+use Rattle.faults.proofs.Sets.{set_rises}
 use Rattle.claims.specs.Deps.{is_ascending}
 use Rattle.listing.specs.Tree.{Tree, group_at, path_at, position_of}
 use Rattle.pkgpath.specs.PkgPath.{without_subpackage}
 use Rattle.units.specs.Division.{Division, IsDivision, unit_at}
 use Rattle.units.specs.Units.{made_with, positions}
 use Rattle.units.specs.Units as units
-use Rattle.units.proofs.Ascending.{Rising}
 use Rattle.units.proofs.Kept.{unit_good, unit_some}
-use Rattle.units.proofs.Members.{contains_first, contains_later}
-use Rattle.units.proofs.Sets.{set_rises}
 use Rattle.units.proofs.WellMade.{one_unit_has}
 use Rattle.protocol.specs.Jobs.{in_order_of_path}
 

@@ -43,11 +43,11 @@ list_refusal e = record { number = lists.number_of e; place = lists.place_of e }
 
 -- how the fault of a trace is told: by the event that is none, or 0
 abbrev pub trace_refusal : TraceFault → Refusal
-trace_refusal e = record { number = traces.fault_number e; place = traces.fault_place e }
+trace_refusal e = record { number = traces.number_of e; place = traces.place_of e }
 
 -- how the fault of a run is told: by the event that is refused
 abbrev pub run_refusal : RunFault → Refusal
-run_refusal e = record { number = runs.run_number e; place = e.event }
+run_refusal e = record { number = runs.number_of e; place = e.event }
 
 -- the listing describes no tree, and this is told of its fault
 abbrev pub RefusesListing : Rules → Text → Refusal → Type 0

@@ -1,6 +1,5 @@
 //! A line of a list of packages.
-ghost use Rattle.std.specs.Prelude.{◌≡◌, ◌≢◌, ℕ, IfNone, IfOk, IfSome, List, Ok, length};
-ghost use Rattle.hex.specs.Hex.{decode_sized, encode_lower};
+ghost use Rattle.std.specs.Prelude.{IfNone, IfOk, IfSome};
 ghost use Rattle.claims.specs.declared.deps.Dep.{Dep};
 ghost use Rattle.replay.specs.List.{Says, Spells};
 ghost use Rattle.replay.specs.declared.list_line.ListLine.{ListLine};
@@ -8,6 +7,7 @@ ghost use Rattle.replay.specs.declared.list_line.ListLine.{ListLine};
 use crate::pieces::pieces;
 use claims::Dep;
 use faults::Memory;
+use package_record::digest_of;
 use pkgname::{NameFault, PkgName};
 use pkgpath::{PathFault, PkgPath};
 use std::alloc::Global;
@@ -63,27 +63,4 @@ fn signature(alloc: Global, path: &[u8], name: &[u8], digest: &[u8]) -> Result<O
         Some(digest) => Ok(Some(Dep { path, name, digest })),
         None => Ok(None),
     }
-}
-
-/// The bytes that 64 lower-case hexadecimal digits write.
-fn digest_of(text: &[u8]) -> Option<[u8; 32]>
-    ensures some { IfSome result
-        (λ digest. (decode_sized text.now 32 ≡ Ok digest) × (encode_lower digest ≡ text.now)) }
-    ensures none { IfNone result ((digest : List ℕ) → decode_sized text.now 32 ≡ Ok digest
-        → encode_lower digest ≢ text.now) }
-{
-    let mut digest = [0; 32];
-    match hex::decode_to_slice(text, &mut digest) {
-        Ok(()) if digits(&digest).as_slice() == text => Some(digest),
-        _ => None,
-    }
-}
-
-/// The digest in lower-case hexadecimal digits.
-pub(crate) fn digits(digest: &[u8; 32]) -> [u8; 64]
-    ensures { result ≡ encode_lower digest.now }
-{
-    let mut text = [0; 64];
-    hex::encode_to_slice(digest, &mut text).unwrap();
-    text
 }

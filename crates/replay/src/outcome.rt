@@ -27,7 +27,7 @@ pub fn run_of_trace(alloc: Global, tree: &Tree, trace: &[u8]) -> Result<Vec<u8>,
         (λ r. (r ≡ memory_refusal) ⊎ RefusesTrace tree.now trace.now r) }
 {
     let trace = read_trace(alloc, trace)?;
-    run_of_events(alloc, tree, &trace)
+    run_of_events(alloc, tree, trace)
 }
 
 /// The same of a trace that was read.
@@ -35,13 +35,14 @@ pub fn run_of_trace(alloc: Global, tree: &Tree, trace: &[u8]) -> Result<Vec<u8>,
 /// # Errors
 ///
 /// Memory; else that of its first event that is refused.
-pub(crate) fn run_of_events(alloc: Global, tree: &Tree, trace: &Trace) -> Result<Vec<u8>, Refusal>
-    ensures ok { (read : Text) → trace_of read ≡ Ok (trace_view trace.now)
+pub(crate) fn run_of_events(alloc: Global, tree: &Tree, trace: Trace) -> Result<Vec<u8>, Refusal>
+    ensures ok { (read : Text) → trace_of read ≡ Ok (trace_view trace)
         → IfOk result (λ text. IsRunOf tree.now read text.items) }
-    ensures refused { (read : Text) → trace_of read ≡ Ok (trace_view trace.now)
+    ensures refused { (read : Text) → trace_of read ≡ Ok (trace_view trace)
         → IfErr result (λ r. (r ≡ memory_refusal) ⊎ RefusesEvent tree.now read r) }
 {
-    let world = run(alloc, tree, &trace.weights, trace.events.as_slice())?;
+    let Trace { weights, events } = trace;
+    let world = run(alloc, tree, &weights, events)?;
     let text = run_text(alloc, &world)?;
     Ok(text)
 }

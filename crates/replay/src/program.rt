@@ -221,7 +221,7 @@ fn run_in_file<R: Files + AllocGlobal>(rt: &R, tree: &Tree, trace: &str) -> Resu
         → IfErr result (RefusesRunFiles is_single) }
 {
     let trace = trace_of_file(rt, trace)?;
-    let text = run_of_events(rt.alloc(), tree, &trace)?;
+    let text = run_of_events(rt.alloc(), tree, trace)?;
     Ok(Answer { text, status: 0 })
 }
 

@@ -2,9 +2,8 @@
 ghost use Rattle.std.specs.Prelude.{◌≡◌, ◌++◌, IfOk, OnOk};
 ghost use Rattle.replay.specs.ListText.{digest_end, list_text, record_lines, signature_line};
 
-use crate::list_line::digits;
 use faults::Memory;
-use package_record::Record;
+use package_record::{Record, digest_text};
 use pkgname::PkgName;
 use pkgpath::PkgPath;
 use std::alloc::Global;
@@ -64,7 +63,7 @@ fn put_digest(text: &mut Vec<u8>, digest: &[u8; 32]) -> Result<(), Memory>
     ensures { OnOk result (text.new.items ≡ text.old.items ++ digest_end digest.now) }
 {
     text.push(b' ')?;
-    text.extend_from_slice(&digits(digest))?;
+    text.extend_from_slice(&digest_text(digest))?;
     text.push(b'\n')?;
     Ok(())
 }

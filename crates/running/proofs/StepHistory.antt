@@ -22,14 +22,12 @@ stays_so w v is world events = subst IsHistory
     (λ i. record { world = sym world i; events = sym events i }) is
 
 -- and where the event that happened was
-pub goes_so : (w v : Inside) (e k : declared.Event) → IsHistory (history_of w)
+pub goes_so : (w v : Inside) (e : declared.Event) → IsHistory (history_of w)
     → Happens (world_of w.scene) (event_view e) (world_of v.scene)
-    → v.events.items ≡ w.events.items ++ k ∷ [] → event_view k ≡ event_view e
-    → IsHistory (history_of v)
-goes_so w v e k is happens kept same =
+    → v.events.items ≡ w.events.items ++ e ∷ [] → IsHistory (history_of v)
+goes_so w v e is happens kept =
     goes_on (history_of w) (history_of v) (event_view e) is happens
-    (ap (map event_view) kept ∙ map-append event_view w.events.items (k ∷ [])
-    ∙ ap (λ z. map event_view w.events.items ++ z ∷ []) same)
+    (ap (map event_view) kept ∙ map-append event_view w.events.items (e ∷ []))
 
 -- ---- now
 

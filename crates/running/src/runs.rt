@@ -19,7 +19,7 @@ ghost use Rattle.world.specs.Safety.{
   OneProposal,
   PromisesBound,
 };
-ghost use Rattle.running.specs.Faults.{run_cause, run_number};
+ghost use Rattle.running.specs.Faults.{cause_of, number_of};
 ghost use Rattle.running.specs.History.{AlongRun, IsHistory, IsRunFault, taken};
 
 use crate::World;
@@ -41,7 +41,7 @@ pub struct RunFault {
 }
 
 impl Fault for RunFault {
-    ghost number_of = { run_number };
+    ghost number_of = { number_of };
 
     ghost place_of = { λ f. f.event };
 
@@ -58,17 +58,17 @@ impl Fault for RunFault {
 impl RunFault {
     /// The number of the refusal that led to what a node refuses, if one did.
     pub fn cause(&self) -> Option<u32>
-        ensures { result ≡ run_cause self.now }
+        ensures { result ≡ cause_of self.now }
     {
         self.fault.cause()
     }
 }
 
-/// Runs the events from the start. At each moment there is one list of packages, which only grows
-/// and has at most one package a path; each was built by a host under a claim for its unit, after
-/// every dependency in its signature stood in the list with that very signature; every package that
-/// a node holds is in it; and a path that a node shows as installable has its run closure held
-/// there.
+/// Runs the events from the start, and hands them to the world. At each moment there is one list of
+/// packages, which only grows and has at most one package a path; each was built by a host under a
+/// claim for its unit, after every dependency in its signature stood in the list with that very
+/// signature; every package that a node holds is in it; and a path that a node shows as installable
+/// has its run closure held there.
 ///
 /// # Errors
 ///
@@ -77,14 +77,14 @@ pub fn run<'a>(
     alloc: Global,
     tree: &'a Tree,
     weights: &Weights,
-    events: &[Event],
+    events: Vec<Event>,
 ) -> Result<World<'a>, RunFault>
     ensures tree { IfOk result (λ w. w.world.division.tree ≡ tree.entry.now) }
     ensures weights { IfOk result (λ w. w.world.weights ≡ weights.now) }
-    ensures kept { IfOk result (λ w. taken w ≡ map event_view events.now) }
+    ensures kept { IfOk result (λ w. taken w ≡ map event_view events.items) }
     ensures history { IfOk result IsHistory }
     ensures refused { IfErr result (λ f. IsRunFault tree.entry.now weights.now
-        (map event_view events.now) f.event f.fault) }
+        (map event_view events.items) f.event f.fault) }
 
     // At each moment of the run.
     ensures grows { IfOk result
@@ -116,14 +116,14 @@ fn world_after<'a>(
     alloc: Global,
     tree: &'a Tree,
     weights: &Weights,
-    events: &[Event],
+    events: Vec<Event>,
 ) -> Result<World<'a>, RunFault>
     ensures tree { IfOk result (λ w. w.world.division.tree ≡ tree.entry.now) }
     ensures weights { IfOk result (λ w. w.world.weights ≡ weights.now) }
-    ensures kept { IfOk result (λ w. taken w ≡ map event_view events.now) }
+    ensures kept { IfOk result (λ w. taken w ≡ map event_view events.items) }
     ensures history { IfOk result IsHistory }
     ensures refused { IfErr result (λ f. IsRunFault tree.entry.now weights.now
-        (map event_view events.now) f.event f.fault) }
+        (map event_view events.items) f.event f.fault) }
 {
     let Ok(mut world) = World::new(alloc, tree, weights) else {
         return Err(RunFault {
@@ -131,10 +131,10 @@ fn world_after<'a>(
             fault: WorldFault::Memory,
         });
     };
-    for (before, event) in events.iter().enumerate() {
-        if let Err(fault) = world.step(event) {
+    for event in events {
+        if let Err(fault) = world.take_and_keep(event) {
             return Err(RunFault {
-                event: Some(before as u64 + 1),
+                event: Some(world.events().len() as u64 + 1),
                 fault,
             });
         }

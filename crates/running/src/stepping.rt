@@ -1,5 +1,5 @@
 //! The steps of a world.
-ghost use Rattle.std.specs.Prelude.{◌≡◌, ◌++◌, ◌∷◌, ◌⊎◌, ◌<◌, [], IfErr, IfOk, None, OnErr, OnOk, true, vec_capacity, vec_len};
+ghost use Rattle.std.specs.Prelude.{◌≡◌, ◌++◌, ◌∷◌, ◌⊎◌, [], IfErr, None, OnErr, OnOk, true};
 ghost use Rattle.events.specs.Events.{event_view, is_step};
 ghost use Rattle.headline.specs.Laws.{IsSafe};
 ghost use Rattle.node.specs.OnLog.{IsOnLog, LacksRoom};
@@ -65,11 +65,11 @@ impl<'a> World<'a> {
         ensures safe { IsSafe self.new.world.division self.new.world.weights (taken self.new)
             self.new.world }
     {
-        self.take_or_refuse(event)
+        self.take_copy(event)
     }
 
-    /// Takes the event and keeps it, or refuses it and changes nothing.
-    fn take_or_refuse(&mut self, event: &Event) -> Result<(), WorldFault>
+    /// Takes an equal event and keeps it, or refuses it and changes nothing.
+    fn take_copy(&mut self, event: &Event) -> Result<(), WorldFault>
         ensures taken { OnOk result
             (Happens self.old.world (event_view event.now) self.new.world) }
         ensures kept { OnOk result (taken self.new ≡ taken self.old ++ event_view event.now ∷ []) }
@@ -78,34 +78,39 @@ impl<'a> World<'a> {
             ⊎ IsRefused self.old.world (event_view event.now) f) }
         ensures history { IsHistory self.old × IsHistory self.new }
     {
-        if let Some(fault) = self.scene.fault_before(event) {
+        let alloc: Global = *self.events.allocator();
+        match event.copy(alloc) {
+            Ok(copy) => self.take_and_keep(copy),
+            Err(Memory) => Err(WorldFault::Memory),
+        }
+    }
+
+    /// Takes the event and keeps it, or refuses it and changes nothing.
+    pub(crate) fn take_and_keep(&mut self, event: Event) -> Result<(), WorldFault>
+        ensures taken { OnOk result (Happens self.old.world (event_view event) self.new.world) }
+        ensures kept { OnOk result (taken self.new ≡ taken self.old ++ event_view event ∷ []) }
+        ensures same { OnErr result (self.new ≡ self.old) }
+        ensures refused { IfErr result (λ f. (f ≡ WorldFault.Memory)
+            ⊎ IsRefused self.old.world (event_view event) f) }
+        ensures history { IsHistory self.old × IsHistory self.new }
+    {
+        if let Some(fault) = self.scene.fault_before(&event) {
             return Err(fault);
         }
-        let Ok(kept) = kept(&mut self.events, event) else {
+        if self.events.reserve(1).is_err() {
             return Err(WorldFault::Memory);
-        };
-        match self.scene.happen(event) {
+        }
+        match self.scene.happen(&event) {
             Ok(()) => {
-                self.events.push_reserved(kept);
+                self.events.push_reserved(event);
                 Ok(())
             }
             Err(fault) => {
-                drop(kept);
+                drop(event);
                 Err(refused(fault))
             }
         }
     }
-}
-
-/// An equal event, and room to keep it.
-fn kept(events: &mut Vec<Event>, event: &Event) -> Result<Event, Memory>
-    ensures same { events.new.items ≡ events.old.items }
-    ensures room { OnOk result (vec_len events.new < vec_capacity events.new) }
-    ensures event { IfOk result (λ kept. event_view kept ≡ event_view event.now) }
-{
-    let alloc: Global = *events.allocator();
-    events.reserve(1)?;
-    event.copy(alloc)
 }
 
 impl<'a> Scene<'a> {

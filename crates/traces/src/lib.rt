@@ -4,7 +4,7 @@
 ghost use Rattle.std.specs.Prelude.{◌≡◌, ◌++◌, ◌⊎◌, None, Some, Ok, IfErr, IfOk, OnErr, OnOk};
 ghost use Rattle.traces.specs.Again.{IsTextTrace};
 ghost use Rattle.traces.specs.Builds.{builds_of};
-ghost use Rattle.traces.specs.Faults.{IsTraceFault, fault_number, fault_place, trace_view};
+ghost use Rattle.traces.specs.Faults.{IsTraceFault, number_of, place_of, trace_view};
 ghost use Rattle.traces.specs.Trace.{trace_of};
 ghost use Rattle.traces.specs.declared.TraceFault.TheVariants.{Memory as out_of_memory};
 ghost use Rattle.traces.specs.Written.{trace_text};
@@ -50,9 +50,9 @@ impl<E: WantOfMemory> From<E> for TraceFault {
 }
 
 impl Fault for TraceFault {
-    ghost number_of = { fault_number };
+    ghost number_of = { number_of };
 
-    ghost place_of = { fault_place };
+    ghost place_of = { place_of };
 
     fn number(&self) -> u32 {
         match self {

@@ -18,11 +18,11 @@ use Rattle.std.proofs.lemmas.Map.Made.{AllPairs-from_IsDistinct, IsDistinct-from
 use Rattle.std.proofs.lemmas.Slice.Eq.{bytes_eq-Decides}
 use Rattle.faults.specs.Bytes.{Text}
 use Rattle.faults.specs.Pieces.{set_of, text_cmp}
+use Rattle.faults.proofs.Ascending.{rising_from_pairs, same_members}
+use Rattle.faults.proofs.Members.{contains_first, contains_image, contains_later, has_preimage, member_cases, no_members}
+use Rattle.faults.proofs.Sets.{from_set, into_set, same_texts, set_rises}
 use Rattle.listing.specs.Tree.{IsTree, Tree, path_at, position_of}
-use Rattle.units.proofs.Ascending.{rising_from_pairs, same_members}
-use Rattle.units.proofs.Members.{contains_first, contains_image, contains_later, has_preimage, member_cases, no_members}
 use Rattle.units.proofs.Places.{has_position, listed_at}
-use Rattle.units.proofs.Sets.{from_set, into_set, same_texts, set_rises}
 use Rattle.units.specs.Units.{in_order_of_path}
 
 -- ---- what f gives of a list's items

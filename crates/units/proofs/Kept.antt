@@ -13,11 +13,11 @@ use Rattle.std.proofs.lemmas.Map.Made.{AllPairs-from_IsDistinct}
 use Rattle.std.proofs.lemmas.Slice.Eq.{bytes_eq-Decides}
 use Rattle.faults.specs.Answers.{option_or}
 use Rattle.faults.specs.Bytes.{Text}
+use Rattle.faults.proofs.Members.{member_cases, no_members}
 use Rattle.listing.specs.Tree.{IsTree, Tree, build_at, group_at, path_at, position_of}
 use Rattle.units.proofs.Division.{groups, leasts, made_alike, made_contains, number_here, number_is, number_none, number_some, unit_number, units_are, units_count}
 use Rattle.units.proofs.InOrder.{into_order, order_alone}
 use Rattle.units.proofs.Lists.{not_true}
-use Rattle.units.proofs.Members.{member_cases, no_members}
 use Rattle.units.proofs.Names.{name_is_found}
 use Rattle.units.proofs.OneMore.{first_within, groups_distinct}
 use Rattle.units.proofs.Places.{first_place, has_position}

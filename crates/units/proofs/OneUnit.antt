@@ -10,8 +10,8 @@ use Rattle.std.proofs.lemmas.List.Elements.{All-contains, All-get_or, filter_mor
 use Rattle.std.proofs.lemmas.List.Kept.{AllPairs-from_increasing, Contains-dedup_nat, Contains-from_dedup, IsStrictlyIncreasing-filter}
 use Rattle.std.proofs.lemmas.List.Sorted.{Contains-permutation, IsPermutation-sym, searched}
 use Rattle.std.proofs.lemmas.Map.Keys.{IsStrictlyIncreasing-dedup}
+use Rattle.faults.proofs.Ascending.{same_ascending}
 use Rattle.listing.specs.Tree.{ArePositions, IsTree, Tree, build_at, group_at, no_package, path_at}
-use Rattle.units.proofs.Ascending.{same_ascending}
 use Rattle.units.proofs.InOrder.{from_order, into_order, order_alone, two_members}
 use Rattle.units.proofs.Lists.{any_some, below_in, contains_in, in_contains, in_kept, not_true, range_increasing}
 use Rattle.units.specs.Units.{Unit, in_order_of_path, is_in, is_needed, name_of, positions, unit_from}

@@ -12,19 +12,19 @@ use Rattle.std.proofs.lemmas.Slice.Eq.{bytes_eq-Decides}
 use Rattle.faults.specs.Answers.{option_or}
 use Rattle.faults.specs.Bytes.{Text}
 use Rattle.faults.specs.Pieces.{set_of, text_cmp}
+use Rattle.faults.proofs.Ascending.{same_ascending, same_members}
+use Rattle.faults.proofs.Members.{contains_first, member_cases, no_members}
+use Rattle.faults.proofs.Sets.{from_set, into_set, set_rises}
 use Rattle.listing.specs.Tree.{ArePositions, AreSingle, IsTree, Tree, build_at, group_at, no_package, path_at, position_of, run_at}
 use Rattle.pkgpath.proofs.Without.{without-is_path}
 use Rattle.pkgpath.specs.PkgPath.{IsPath, without_subpackage}
-use Rattle.units.proofs.Ascending.{same_ascending, same_members}
 use Rattle.units.proofs.Division.{group_place, leasts, made_alike, made_contains, made_listed, number_here, number_some, same_unit, unit_number, units_are}
 use Rattle.units.proofs.InOrder.{from_order, into_order, order_alone, order_paths, two_members}
 use Rattle.units.proofs.Lists.{and_true, any_of, any_some, below_in, contains_in, filter_same, in_at, in_below, in_contains, in_kept, map_same, not_true, range_increasing}
-use Rattle.units.proofs.Members.{contains_first, member_cases, no_members}
 use Rattle.units.proofs.Names.{tells, unit_tells}
 use Rattle.units.proofs.OneMore.{first_within, with_parts}
 use Rattle.units.proofs.OneUnit.{build_within}
 use Rattle.units.proofs.Places.{has_position}
-use Rattle.units.proofs.Sets.{from_set, into_set, set_rises}
 use Rattle.units.specs.Division.{Division, IsDivision, no_unit, number_found, number_named, number_of, unit_at}
 use Rattle.units.specs.Ignored.{IsIgnored}
 use Rattle.units.specs.Laws.{IsWellMade, unit_alone}

@@ -11,11 +11,11 @@ use Rattle.std.specs.Str.{bytes_eq}
 use Rattle.auditing.proofs.Sets.{rises}
 use Rattle.faults.specs.Bytes.{Text}
 use Rattle.faults.specs.Pieces.{text_cmp}
+use Rattle.faults.proofs.Ascending.{differ}
 use Rattle.events.specs.Events.{Event}
 use Rattle.package_record.specs.Build.{paths_of}
 use Rattle.package_record.specs.Content.{Content}
 use Rattle.protocol.specs.State.{Value}
-use Rattle.units.proofs.Ascending.{differ}
 use Rattle.units.proofs.Places.{equal_bytes}
 use Rattle.units.specs.Division.{Division}
 use Rattle.wire.specs.Messages.{IsBuildOf}

@@ -10,8 +10,9 @@ use std::alloc::{AllocError, Global};
 use traces::Trace;
 
 // How many events the run took, and what each node shows; or what it is refused with.
-pub fn ended(alloc: Global, tree: &Tree, trace: &Trace) -> Result<String, AllocError> {
-    match run(alloc, tree, &trace.weights, trace.events.as_slice()) {
+pub fn ended(alloc: Global, tree: &Tree, trace: Trace) -> Result<String, AllocError> {
+    let Trace { weights, events } = trace;
+    match run(alloc, tree, &weights, events) {
         Ok(world) => shown(alloc, tree, &world),
         Err(fault) => refused(alloc, fault),
     }

@@ -36,7 +36,7 @@ fn of_tree(
     question: Question,
 ) -> Result<String, AllocError> {
     match read_trace(alloc, trace) {
-        Ok(trace) => of_trace(alloc, tree, &trace, question),
+        Ok(trace) => of_trace(alloc, tree, trace, question),
         Err(_) => String::from_str(alloc, "no trace"),
     }
 }
@@ -44,7 +44,7 @@ fn of_tree(
 fn of_trace(
     alloc: Global,
     tree: &Tree,
-    trace: &Trace,
+    trace: Trace,
     question: Question,
 ) -> Result<String, AllocError> {
     if let Question::Shows = question {

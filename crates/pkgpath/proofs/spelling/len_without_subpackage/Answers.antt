@@ -1,7 +1,7 @@
-use Rattle.std.proofs.Common.{◌≡◌, ◌<◌, ◌+◌, ◌-◌, ◌==◌, ℕ, Bool, true, false, codes, drop, get_or, length, take, ap, sym, ◌∙◌, rules, arith}
+use Rattle.std.proofs.Common.{◌≡◌, ◌<◌, ◌+◌, ◌-◌, ◌==◌, ℕ, true, false, codes, drop, get_or, length, take, ap, sym, ◌∙◌, rules}
 use Rattle.std.proofs.Math.Seq.{take-length}
 use Rattle.std.proofs.lemmas.List.{take_rest}
-use Rattle.faults.specs.Bytes.{Text, begins_with, comma}
+use Rattle.faults.specs.Bytes.{begins_with, comma}
 use Rattle.pkgpath.proofs.Without.{cut-dashed, kept-no_comma, kept-undashed}
 use Rattle.pkgpath.proofs.spelling.len_without_subpackage.Goals as goal
 

@@ -1,6 +1,5 @@
-use Rattle.std.proofs.Common.{◌≡◌, ◌+◌, ◌++◌, length, map}
+use Rattle.std.proofs.Common.{◌≡◌, ◌++◌, length, map}
 use Rattle.std.specs.List.{list_all}
-use Rattle.std.specs.Option.{option_map_or}
 use Rattle.std.specs.Prelude.{option_copied}
 use Rattle.faults.specs.Bytes.{dash}
 use Rattle.pkgname.specs.Pieces.{pieces_behind}
@@ -9,9 +8,9 @@ use Rattle.pkgspec.proofs.alternative.parse_demands.Given as goal
 
 abbrev pub invariant-demands : goal.invariant-demands
 invariant-demands l = record {
-  read : map demand_of (pieces_behind dash (option_copied l.fn.texts)) ≡ l.demands.items ++ map demand_of (pieces_behind dash (option_copied l.left));
-  faultless : list_all is_demand (pieces_behind dash (option_copied l.fn.texts)) ≡ list_all is_demand (pieces_behind dash (option_copied l.left));
+  read : map demand_of (pieces_behind dash (option_copied l.fn.texts)) ≡ l.demands.items ++ map demand_of l.left;
+  faultless : list_all is_demand (pieces_behind dash (option_copied l.fn.texts)) ≡ list_all is_demand l.left;
 }
 
 abbrev pub decreases-demands : goal.decreases-demands
-decreases-demands l = option_map_or (λ text. length text.now + 1) l.left 0
+decreases-demands l = length l.left

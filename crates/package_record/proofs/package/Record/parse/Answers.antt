@@ -4,11 +4,11 @@ use Rattle.package_record.specs.Views.{content_of}
 use Rattle.package_record.specs.Reading.{whole_of}
 use Rattle.package_record.proofs.package.Record.parse.Goals as goal
 
-pub invariant_of-result : goal.invariant_of-result
-invariant_of-result c = (whole_taken c.args.text.now (content_of c.in_ok-fields.fields) c.in_ok-fields.ensures).0
+pub of-requires : goal.of-requires
+of-requires c = (whole_taken c.args.text.now (content_of c.in_ok-fields.fields) c.in_ok-fields.ensures).0
 
 pub returns-clause-text : goal.returns-clause-text
-returns-clause-text c = whole_taken c.args.text.now (content_of c.in_ok-fields.fields) c.in_ok-fields.ensures
+returns-clause-text c = rw c.in_ok-of.ensures (whole_taken c.args.text.now (content_of c.in_ok-fields.fields) c.in_ok-fields.ensures)
 
 pub returns-in_err-fields-clause-exact : goal.returns-in_err-fields-clause-exact
 returns-in_err-fields-clause-exact c =

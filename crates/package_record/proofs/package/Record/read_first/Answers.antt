@@ -6,27 +6,27 @@ use Rattle.package_record.specs.Views.{content_of}
 use Rattle.package_record.specs.Reading.{first_of}
 use Rattle.package_record.proofs.package.Record.read_first.Goals as goal
 
-pub invariant_of-result : goal.invariant_of-result
-invariant_of-result c = (first_taken c.args.text.now (content_of c.in_ok-fields.fields, c.in_ok-fields.rest.now) c.in_ok-fields.ensures).0
+pub of-requires : goal.of-requires
+of-requires c = (first_taken c.args.text.now (content_of c.in_ok-fields.fields, c.in_ok-fields.rest.now) c.in_ok-fields.ensures).0
 
 pub returns-clause-text : goal.returns-clause-text
 returns-clause-text c =
     let r = content_of c.in_ok-fields.fields in
     let read = first_taken c.args.text.now (r, c.in_ok-fields.rest.now) c.in_ok-fields.ensures in
-    (read.0, (front_cut c.args.text.now (record_text r) c.in_ok-fields.rest.now _ read.1 c.saturating_sub-length.ensures).1)
+    rw c.in_ok-of.ensures (read.0, (front_cut c.args.text.now (record_text r) c.in_ok-fields.rest.now _ read.1 c.saturating_sub-length.ensures).1)
 
 pub returns-clause-length : goal.returns-clause-length
 returns-clause-length c =
     let r = content_of c.in_ok-fields.fields in
     let read = first_taken c.args.text.now (r, c.in_ok-fields.rest.now) c.in_ok-fields.ensures in
-    (front_cut c.args.text.now (record_text r) c.in_ok-fields.rest.now _ read.1 c.saturating_sub-length.ensures).0
+    rw c.in_ok-of.ensures (front_cut c.args.text.now (record_text r) c.in_ok-fields.rest.now _ read.1 c.saturating_sub-length.ensures).0
 
 pub returns-clause-exact : goal.returns-clause-exact
 returns-clause-exact c =
     let r = content_of c.in_ok-fields.fields in
     let read = first_taken c.args.text.now (r, c.in_ok-fields.rest.now) c.in_ok-fields.ensures in
     let behind = (front_cut c.args.text.now (record_text r) c.in_ok-fields.rest.now _ read.1 c.saturating_sub-length.ensures).2 in
-    c.in_ok-fields.ensures ∙ ap (λ (t : List ℕ). Ok (r, t)) (sym behind)
+    rw c.in_ok-of.ensures (c.in_ok-fields.ensures ∙ ap (λ (t : List ℕ). Ok (r, t)) (sym behind))
 
 pub returns-in_err-fields-clause-exact : goal.returns-in_err-fields-clause-exact
 returns-in_err-fields-clause-exact c =

@@ -1,32 +1,33 @@
-use Rattle.std.proofs.Common.{◌≡◌, ◌+◌, ◌∙◌, arith, Some, sym, true}
-use Rattle.std.proofs.lemmas.List.{take_rest}
+use Rattle.std.proofs.Common.{◌≡◌, ◌+◌, ◌∙◌, arith, ap, drop, false, Some, sym, take, true, ◌∷◌}
+use Rattle.std.proofs.lemmas.List.{length-drop, take_rest}
 use Rattle.std.specs.Char.{is_ascii_digit}
-use Rattle.std.specs.List.{list_all}
-use Rattle.std.specs.Prelude.{option_copied}
-use Rattle.faults.specs.Bytes.{dash}
+use Rattle.std.specs.List.{list_all, list_any}
+use Rattle.faults.specs.Bytes.{dash, is_empty}
+use Rattle.faults.specs.Pieces.{pieces_at}
+use Rattle.pkgname.specs.Inside.{behind_place}
 use Rattle.pkgname.specs.Pieces.{pieces_behind}
 use Rattle.pkgname.specs.PkgName.{is_name_byte, version_dash}
+use Rattle.pkgname.proofs.Cutting.{behind_place-drop}
 use Rattle.pkgname.proofs.Splitting.{name_from_parts, parts_from_pieces, version_behind, version_dash-Some}
 use Rattle.pkgname.proofs.name.PkgName.parse.Goals as goal
-
-pub new-requires : goal.new-requires
-new-requires c =
-    let found : version_dash is_ascii_digit c.args.text.now ≡ Some c.in-Some.dash = sym c.dash_before_version.ensures.place ∙ c.in-Some.is in
-    let bytes : list_all is_name_byte c.args.text.now ≡ true = sym c.has_name_bytes.ensures ∙ c.if-not-has_name_bytes.false in
-    let pieces = rw (take_rest c.args.text.now (c.in-Some.dash + 1)) at c.first_piece.ensures.pieces in
-    version_behind c.args.text.now c.in-Some.dash c.first_piece.result.0.now (pieces_behind dash (option_copied c.first_piece.result.1)) bytes (version_dash-Some is_ascii_digit c.args.text.now c.in-Some.dash found) pieces
 
 pub invariant_of-result : goal.invariant_of-result
 invariant_of-result c =
     let text = c.args.text.now in
+    let place = c.in-Some.dash in
+    let long = c.in_ok-version_length.version_length in
     let found : version_dash is_ascii_digit c.args.text.now ≡ Some c.in-Some.dash = sym c.dash_before_version.ensures.place ∙ c.in-Some.is in
     let bytes : list_all is_name_byte c.args.text.now ≡ true = sym c.has_name_bytes.ensures ∙ c.if-not-has_name_bytes.false in
-    let pieces = rw (take_rest c.args.text.now (c.in-Some.dash + 1)) at c.first_piece.ensures.pieces in
-    let parts = parts_from_pieces c.args.text.now c.in-Some.dash c.first_piece.result.0.now (pieces_behind dash (option_copied c.first_piece.result.1)) found pieces in
-    let name = name_from_parts c.args.text.now _ c.if-text-gt-LONGEST.false bytes parts c.in_ok-flavors.ensures.ok.1 in
-    let within = c.in-Some.ensures.within in
+    let inside = c.in-Some.ensures.within in
+    let cut = rw (take_rest c.args.text.now (c.in-Some.dash + 1)) at c.in_ok-version_length.ensures.ok in
+    let behind = behind_place-drop text (place + 1) long (omega arith) in
+    let pieces : pieces_at dash (drop (place + 1) text) ≡ take long (drop (place + 1) text) ∷ pieces_behind dash (behind_place text (place + 1 + long)) =
+    cut.1 ∙ ap (λ left. take long (drop (place + 1) text) ∷ pieces_behind dash left) behind in
+    let filled : list_any is_empty (pieces_behind dash (behind_place text (place + 1 + long))) ≡ false = rw pieces at cut.2 in
+    let parts = parts_from_pieces text place _ _ found pieces in
     record {
-      name = rw c.in_ok-text.ensures.items name;
-      within = rw c.in_ok-text.ensures.items (omega arith);
-      parts = rw (c.in_ok-text.ensures.items, c.in_ok-version.ensures, c.in_ok-flavors.ensures.ok.0) parts;
+      name = rw c.in_ok-text.ensures.items (name_from_parts text _ c.if-text-gt-LONGEST.false bytes parts filled);
+      within = rw c.in_ok-text.ensures.items (omega (arith, length-drop (place + 1) text, cut.0));
+      parts = rw c.in_ok-text.ensures.items parts;
+      version = rw c.in_ok-text.ensures.items (version_behind text place _ _ bytes (version_dash-Some is_ascii_digit text place found) pieces);
     }

@@ -5,23 +5,23 @@ use Rattle.running.proofs.running.World.step.Goals as goal
 
 pub returns-clause-fixed : goal.returns-clause-fixed
 returns-clause-fixed c =
-    let later = later_so c.args.self.now c.take_or_refuse.new.self (event_view c.args.event.now)
-    c.take_or_refuse.result c.take_or_refuse.ensures.taken c.take_or_refuse.ensures.same in
+    let later = later_so c.args.self.now c.take_copy.new.self (event_view c.args.event.now)
+    c.take_copy.result c.take_copy.ensures.taken c.take_copy.ensures.same in
     (later.division, later.weights)
 
 pub returns-clause-grows : goal.returns-clause-grows
-returns-clause-grows c = (later_so c.args.self.now c.take_or_refuse.new.self
-    (event_view c.args.event.now) c.take_or_refuse.result c.take_or_refuse.ensures.taken
-    c.take_or_refuse.ensures.same).agreed
+returns-clause-grows c = (later_so c.args.self.now c.take_copy.new.self
+    (event_view c.args.event.now) c.take_copy.result c.take_copy.ensures.taken
+    c.take_copy.ensures.same).agreed
 
 pub returns-clause-alike : goal.returns-clause-alike
-returns-clause-alike c = alike_so c.args.self.now c.take_or_refuse.new.self
-    c.take_or_refuse.ensures.history.0 c.take_or_refuse.ensures.history.1
-    (later_so c.args.self.now c.take_or_refuse.new.self (event_view c.args.event.now)
-    c.take_or_refuse.result c.take_or_refuse.ensures.taken c.take_or_refuse.ensures.same).agreed
+returns-clause-alike c = alike_so c.args.self.now c.take_copy.new.self
+    c.take_copy.ensures.history.0 c.take_copy.ensures.history.1
+    (later_so c.args.self.now c.take_copy.new.self (event_view c.args.event.now)
+    c.take_copy.result c.take_copy.ensures.taken c.take_copy.ensures.same).agreed
 
 pub returns-clause-one_list : goal.returns-clause-one_list
-returns-clause-one_list c = has_one_list c.take_or_refuse.new.self c.take_or_refuse.ensures.history.1
+returns-clause-one_list c = has_one_list c.take_copy.new.self c.take_copy.ensures.history.1
 
 pub returns-clause-safe : goal.returns-clause-safe
-returns-clause-safe c = is_safe c.take_or_refuse.new.self c.take_or_refuse.ensures.history.1
+returns-clause-safe c = is_safe c.take_copy.new.self c.take_copy.ensures.history.1

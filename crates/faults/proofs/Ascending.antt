@@ -9,7 +9,7 @@ use Rattle.std.specs.declared.cmp.Ordering.TheVariants.{Less}
 use Rattle.std.proofs.lemmas.Cmp.{nat_cmp_total}
 use Rattle.std.proofs.lemmas.List.Elements.{All-contains_itself}
 use Rattle.std.proofs.lemmas.List.Kept.{AllPairs-cons, AllPairs-from_increasing}
-use Rattle.units.proofs.Members.{contains_first, contains_later, member_cases, no_members}
+use Rattle.faults.proofs.Members.{contains_first, contains_later, member_cases, no_members}
 
 -- each element is below all behind it
 abbrev pub Rising : {X : Type 0} → (X → X → Ordering) → List X → Type 0

@@ -1,0 +1,4 @@
+pub mod Ascending
+pub mod FirstPlaces
+pub mod Members
+pub mod Sets
