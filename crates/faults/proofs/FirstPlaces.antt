@@ -61,8 +61,8 @@ halves_at c text i h =
     let whole = cut_at text i within ∙ ap (λ b. take i text ++ b ∷ drop (i + 1) text) is in
     let before : has_byte c (take i text) ≡ false =
     has_no_byte c (take i text) (λ k l.
-        let below : k < i = omega (arith, length-take i text) in
-        rw (get_or-take i text k 0 below) (h.0.before k (omega arith) below)) in
+    let below : k < i = omega (arith, length-take i text) in
+    rw (get_or-take i text k 0 below) (h.0.before k (omega arith) below)) in
     (rw (take_rest text (i + 1)) whole, before)
 
 -- what stands before the first that passes is all before it

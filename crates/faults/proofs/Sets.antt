@@ -145,8 +145,8 @@ sorted_set ts us moved sorted =
     same_set ts (dedup bytes_eq us) (rises (dedup bytes_eq us) strictly)
     (λ x member. Contains-permutation us ts x moved_back (Contains-from_dedup bytes_eq us x member))
     (λ x member.
-        let there = Contains-permutation ts us x moved member in
-        Contains-dedup nat_list_eq_equiv (λ t u. (bytes_decides t u).0) us x there)
+    let there = Contains-permutation ts us x moved member in
+    Contains-dedup nat_list_eq_equiv (λ t u. (bytes_decides t u).0) us x there)
 
 module _ {X : Type 0} (f : X → Text) where
   -- their texts are the same

@@ -130,7 +130,7 @@ impl PkgName {
 fn version_length(text: &[u8]) -> Result<usize, NameFault>
     ensures ok { IfOk result (λ n. (n ≤ length text.now)
         × (pieces_at dash text.now
-            ≡ take n text.now ∷ pieces_behind dash (behind_place text.now n))
+        ≡ take n text.now ∷ pieces_behind dash (behind_place text.now n))
         × (list_any is_empty (drop 1 (pieces_at dash text.now)) ≡ false)) }
     ensures err { IfErr result (λ e. (e ≡ NameFault.BadByte)
         × (list_any is_empty (drop 1 (pieces_at dash text.now)) ≡ true)) }
