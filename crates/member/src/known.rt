@@ -42,9 +42,20 @@ impl Known {
             Fact::Voted(claim, build) => self.voter.apply(Some(Fact::Voted(claim, build))),
             Fact::Held(build) => {
                 if self.held.is_none() {
-                    self.held = Some(build);
+                    self.held = Some(self.shared(build));
                 }
             }
+        }
+    }
+
+    /// The build, as the last vote has it, if that is for an equal one: most builds that a member
+    /// holds are those that it voted for, and copies share what they say.
+    fn shared(&self, build: Build) -> Build
+        ensures { result ≡ build }
+    {
+        match &self.voter.voted {
+            Some((_, voted)) if voted.is_same(&build) => voted.copy().unwrap_or(build),
+            _ => build,
         }
     }
 }

@@ -7,6 +7,7 @@ pub mod BuildsRead
 pub mod BuildsTaken
 pub mod Cuts
 pub mod Digests
+pub mod Equals
 pub mod FileBytes
 pub mod FirstBad
 pub mod Following

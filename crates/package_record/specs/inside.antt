@@ -2,3 +2,4 @@ pub mod Cursor
 pub mod Given
 pub mod Heads
 pub mod Names
+pub mod Same

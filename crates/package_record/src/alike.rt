@@ -17,7 +17,8 @@ fn is_same_dep(dep: &Dep, other: &Dep) -> bool
     dep.path == other.path && dep.name == other.name && dep.digest == other.digest
 }
 
-fn are_same_deps(deps: &[Dep], others: &[Dep]) -> bool
+/// Whether these are the same, in the same order.
+pub fn are_same_deps(deps: &[Dep], others: &[Dep]) -> bool
     ensures { result ≡ pointwise is_same_dep deps.now others.now }
 {
     if deps.len() != others.len() {

@@ -1,5 +1,6 @@
 //! A build, which contracts see as what its records say.
 ghost use Rattle.std.specs.Prelude.{◌≡◌, ◌≤◌, ◌<◌, ◌++◌, All, Ok, drop, length, map, take, true, IfOk, OnOk, OnErr};
+ghost use Rattle.std.specs.Bool.{Decides};
 ghost use Rattle.faults.specs.Answers.{IsRightUnless, map_ok, unless_fault};
 ghost use Rattle.claims.specs.Claim.{IsClaim};
 ghost use Rattle.claims.specs.Deps.{AreInOrder, is_ascending};
@@ -9,6 +10,7 @@ ghost use Rattle.package_record.specs.Making.{build_fault};
 ghost use Rattle.package_record.specs.Packages.{AreOfOneGroup, contents_of};
 
 use crate::gathering::{gather, test_all_names};
+use crate::same::are_same_records;
 use crate::{Files, Record, RecordFault, build_writing, several};
 use claims::{Claim, Deps};
 use faults::Memory;
@@ -168,6 +170,13 @@ impl Build {
         ensures ascending { is_ascending (paths_of result.now) ≡ true }
     {
         self.made.records.as_slice()
+    }
+
+    /// Whether both say the same.
+    pub fn is_same(&self, other: &Build) -> bool
+        ensures { Decides result (self.now ≡ other.now) }
+    {
+        are_same_records(self.made.records.as_slice(), other.made.records.as_slice())
     }
 
     /// An equal build, which shares what it says with this one.

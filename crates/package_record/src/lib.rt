@@ -27,6 +27,7 @@ mod number;
 mod package;
 mod parsing;
 mod reading;
+mod same;
 mod several;
 mod writing;
 

@@ -1,12 +1,15 @@
 // The answer to a line.
 use crate::{builds, making, pairs, records};
-use faults::Fault;
+use faults::{Fault, split_once};
 use package_record::RecordFault;
 use std::alloc::{AllocError, Global};
 
 pub fn answer(alloc: Global, line: &[u8]) -> Result<String, AllocError> {
     if let Some(digits) = line.strip_prefix(b"build ") {
         return builds::read(alloc, text_of(alloc, digits).as_slice());
+    }
+    if let Some(digits) = line.strip_prefix(b"same ") {
+        return compared(alloc, digits);
     }
     if let Some(name) = line.strip_prefix(b"pair ") {
         return pairs::made(alloc, name);
@@ -22,6 +25,13 @@ pub fn answer(alloc: Global, line: &[u8]) -> Result<String, AllocError> {
         b"make 4194159" => making::large(alloc, 4_194_159),
         _ => records::read(alloc, text_of(alloc, line).as_slice()),
     }
+}
+
+// Whether two texts, with a blank between their digits, are builds that say the same.
+fn compared(alloc: Global, digits: &[u8]) -> Result<String, AllocError> {
+    let (one, other) = split_once(digits, b' ').unwrap_or((digits, digits));
+    let text = text_of(alloc, one);
+    builds::compared(alloc, text.as_slice(), text_of(alloc, other).as_slice())
 }
 
 // The text that the digits write.

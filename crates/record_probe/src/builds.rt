@@ -42,3 +42,25 @@ fn copied(alloc: Global, build: &Build) -> Result<(Build, usize), Memory> {
     copy.write_to(&mut text)?;
     Ok((copy, text.len()))
 }
+
+// Whether the builds that two texts are say the same.
+pub fn compared(alloc: Global, text: &[u8], other: &[u8]) -> Result<String, AllocError> {
+    match Build::parse(alloc, text) {
+        Ok(build) => compared_with(alloc, &build, other),
+        Err(fault) => refused(alloc, fault),
+    }
+}
+
+fn compared_with(alloc: Global, build: &Build, text: &[u8]) -> Result<String, AllocError> {
+    match Build::parse(alloc, text) {
+        Ok(other) => {
+            let answer = if build.is_same(&other) {
+                "same"
+            } else {
+                "different"
+            };
+            String::from_str(alloc, answer)
+        }
+        Err(fault) => refused(alloc, fault),
+    }
+}
