@@ -32,7 +32,8 @@ impl Known {
         }
     }
 
-    /// Keeps the fact. It moves what it is given, and takes no memory.
+    /// Keeps the fact. It takes no memory for what a build says: that is moved, or shared with the
+    /// last vote.
     pub(crate) fn keep(&mut self, fact: Fact)
         ensures { facts_of_known self.new ≡ noted (facts_of_known self.old) (note_of fact) }
     {

@@ -119,8 +119,9 @@ impl Build {
     }
 
     /// The build at the front of the text, and how many bytes its own text takes. Anything may
-    /// stand behind it. The tests are those of `parse`, without the last, and with another one of
-    /// the length: that of what was read so far, right after each record.
+    /// stand behind it. A text of one package is read by `Record::read_first`. Of two or more the
+    /// tests are those of `parse`, without the last, and with another one of the length: that of
+    /// what was read so far, right after each record.
     pub fn read_first(alloc: Global, text: &[u8]) -> Result<(Build, usize), RecordFault>
         ensures text { IfOk result (λ first.
             IsBuild first.0 × (take first.1 text.now ≡ build_text first.0)) }

@@ -54,8 +54,9 @@ pub const LIMIT: usize = 4_194_304;
 /// The most packages that one build may make.
 pub const MOST_PACKAGES: usize = 16_384;
 
-/// Why a text is no record, or why none can be made: the first fault. A number is that of a line,
-/// counted from 1; within a build of two or more, that of a line of its record; where a record is
+/// Why a text is read as no record, or why none can be made: want of memory, or else the first
+/// fault. A number is that of a line, counted from 1; within a build of two or more, that of a line
+/// of its record, but for `BadLine(2)` of the line that says how many there are; where a record is
 /// made, that of `BadFileName` is the number of a file of its package, counted from 1.
 #[derive(Clone, Copy, Debug, PartialEq, Eq, Error)]
 pub enum RecordFault {

@@ -114,8 +114,9 @@ impl Record {
     ///
     /// 1. The length of the whole text, which is `TooLarge` over `LIMIT`.
     /// 2. The header, line by line: a line without its LF is `Truncated`; where a file's name may
-    ///    stand, a bad one, or one that stood before, is `BadFileName`; a size with which the files
-    ///    so far are over `LIMIT` is `TooLarge`; all else that does not fit is `BadLine`.
+    ///    stand, a bad one, or one that stood before, is `BadFileName`, unless it begins with `@`;
+    ///    a size with which the files so far are over `LIMIT` is `TooLarge`; all else that does not
+    ///    fit is `BadLine`.
     /// 3. The files' bytes: fewer than the sizes say are `Truncated`.
     /// 4. The digests of the files: `DigestDiffers` has the `@sha` line of the first file that has
     ///    another one.

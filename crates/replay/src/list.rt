@@ -13,7 +13,8 @@ use faults::{Fault, Memory, WantOfMemory};
 use std::alloc::{AllocError, Global};
 use thiserror::Error;
 
-/// Why a text is no list of packages: its first line that belongs to none, counted from 1.
+/// Why a text is read as no list of packages: want of memory, or else its first line that belongs
+/// to none, counted from 1.
 #[derive(Clone, Copy, Debug, PartialEq, Eq, Error)]
 pub enum ListFault {
     #[error("out of memory")]
