@@ -1,4 +1,4 @@
-//! Letters and audits of a bulk build of ports, from files.
+//! Letters, audits and runs of a bulk build of ports, from files.
 #![tactic(auto)]
 
 use replay::dpbr_main;
