@@ -10,6 +10,7 @@ pub mod NumberedLines
 pub mod OneList
 pub mod PackageLines
 pub mod Positions
+pub mod ReadAgain
 pub mod Refusing
 pub mod Saying
 pub mod Slices

@@ -17,7 +17,7 @@ mod verdict;
 mod writing;
 
 pub use crate::held::{HeldFault, held_engine};
-pub use crate::laws::lists_and_faults;
+pub use crate::laws::{lists_and_faults, printed_lists_are_read};
 pub use crate::list::{ListFault, read_list};
 pub use crate::outcome::{run_of_trace, run_text};
 pub use crate::program::{dpbr_call, dpbr_main};
