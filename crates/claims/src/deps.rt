@@ -29,6 +29,26 @@ impl Dep {
             digest: self.digest,
         })
     }
+
+    /// An equal signature, with the texts that are had of its package.
+    fn with_texts<T: Texts>(self, texts: &T) -> Dep
+        ensures { result ≡ self }
+    {
+        let digest = self.digest;
+        let (path, name) = texts.package(self.path, self.name);
+        Dep { path, name, digest }
+    }
+}
+
+/// Who has the texts of paths and names, so that others need none of their own.
+pub trait Texts {
+    /// An equal path, which shares the text that is had of it, if one is.
+    fn path(&self, path: PkgPath) -> PkgPath
+        ensures { result ≡ path };
+
+    /// An equal path and an equal name of one package, which share what texts are had of them.
+    fn package(&self, path: PkgPath, name: PkgName) -> (PkgPath, PkgName)
+        ensures { result ≡ (path, name) };
 }
 
 /// A list of dependencies, in any order, which contracts see as such.
@@ -77,6 +97,18 @@ impl Deps {
         let mut items = Vec::with_capacity(alloc, all.len())?;
         for dep in all {
             items.push(dep.copy()?)?;
+        }
+        Ok(Deps { items })
+    }
+
+    /// An equal list, with the texts that are had of its packages, and no room to spare.
+    pub fn with_texts<T: Texts>(self, texts: &T) -> Result<Deps, Memory>
+        ensures { IfOk result (λ deps. deps ≡ self) }
+    {
+        let alloc: Global = *self.items.allocator();
+        let mut items = Vec::with_capacity(alloc, self.items.len())?;
+        for dep in self.items {
+            items.push(dep.with_texts(texts))?;
         }
         Ok(Deps { items })
     }

@@ -11,7 +11,7 @@ ghost use Rattle.claims.specs.Claim.{claim_cmp, greatest_round, promised_cmp};
 mod deps;
 mod job;
 
-pub use crate::deps::{Dep, Deps};
+pub use crate::deps::{Dep, Deps, Texts};
 pub use crate::job::Job;
 pub use agreement::Claim;
 use faults::Fault;

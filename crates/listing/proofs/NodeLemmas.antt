@@ -147,7 +147,7 @@ is_name text name e = ap pkgname.name_of (sym (same_name text name e)) ∙ e
 
 -- the name in a row is what the path's name is set to
 read_name : (words : List Text) (text name : Text) (r : Reading) → IsReadAs words FullName text r → name_read r ≡ Some name → pkgname.name_of text ≡ Ok name
-read_name words text name (Name n) h e = h.1 ∙ ap Ok (let same : n.value ≡ name = cc in same)
+read_name words text name (Name n) h e = h.1 ∙ ap Ok (let same : n ≡ name = cc in same)
 read_name words text name (Numbers numbers) h e = cc
 read_name words text name Unread h e = cc
 

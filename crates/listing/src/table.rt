@@ -26,7 +26,7 @@ const MOST_PATHS: usize = 16_384;
 /// What a value was read as: a name, the numbers of dependencies, or a text that is not read.
 #[derive(Drop)]
 pub enum Reading {
-    Name(Box<PkgName>),
+    Name(PkgName),
     Numbers(Vec<usize>),
     Unread,
 }
@@ -100,7 +100,7 @@ impl<'a> Row<'a> {
                     reading: Reading::Name(name),
                     ..
                 },
-            ) => Some(&**name),
+            ) => Some(name),
             _ => None,
         }
     }
@@ -327,10 +327,7 @@ impl<'a> Table<'a> {
         ensures grows { Grows self.old.dependencies self.new.dependencies }
     {
         match variable {
-            Variable::FullName => {
-                let name = read_name(alloc, line, text)?;
-                Ok(Reading::Name(Box::new(alloc, name)?))
-            }
+            Variable::FullName => Ok(Reading::Name(read_name(alloc, line, text)?)),
             Variable::Ignore => Ok(Reading::Unread),
             Variable::BuildDepends | Variable::LibDepends | Variable::RunDepends => {
                 Ok(Reading::Numbers(self.dependencies.read(alloc, line, text)?))

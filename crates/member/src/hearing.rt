@@ -10,6 +10,7 @@ ghost use Rattle.member.specs.inside.Waiting.{is_for};
 
 use crate::naming::unit_named;
 use crate::receivers::{everyone, one, others};
+use crate::texts::Listed;
 use crate::{ClaimChange, Member, OpenClaim, Step};
 use arrayvec::ArrayVec;
 use ballots::{Body, ClaimerChange, ClaimerStep, Fact, Message, Next, VoterStep};
@@ -32,7 +33,10 @@ impl<'a> Member<'a> {
         let members = members_of(sender, &body);
         self.test_header(&tree, members.as_slice(), &path)?;
         match unit_named(&self.units, &path) {
-            Some(unit) => Ok(self.answered(unit, sender, body)?),
+            Some(unit) => {
+                let body = Listed { tree: self.tree }.body(body)?;
+                Ok(self.answered(unit, sender, body)?)
+            }
             None => Err(Refusal::Unlisted),
         }
     }

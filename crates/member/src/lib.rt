@@ -19,6 +19,7 @@ mod open_claim;
 mod packages;
 mod receivers;
 mod step;
+mod texts;
 
 pub use crate::member::Member;
 pub use crate::open_claim::OpenClaim;

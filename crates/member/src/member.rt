@@ -79,8 +79,8 @@ impl<'a> Member<'a> {
         ensures division { IfOk result (λ m. IsDivision m.division) }
     {
         prove!(usize::from(me) < weights.as_slice().len());
-        let units = Units::new(alloc, tree)?;
         let engine = Engine::new(alloc, tree)?;
+        let units = engine.units().copy()?;
         let known = all_unknown(alloc, units.len())?;
         Ok(Member {
             tree,

@@ -12,7 +12,7 @@ ghost use Rattle.package_record.specs.Packages.{AreOfOneGroup, contents_of};
 use crate::gathering::{gather, test_all_names};
 use crate::same::are_same_records;
 use crate::{Files, Record, RecordFault, build_writing, several};
-use claims::{Claim, Deps};
+use claims::{Claim, Deps, Texts};
 use faults::Memory;
 use pkgname::PkgName;
 use pkgpath::PkgPath;
@@ -180,6 +180,17 @@ impl Build {
         are_same_records(self.made.records.as_slice(), other.made.records.as_slice())
     }
 
+    /// An equal build, with the texts that are had of the packages that it names, unless another
+    /// build shares what this one says.
+    pub fn with_texts<T: Texts>(self, texts: &T) -> Result<Build, Memory>
+        ensures { IfOk result (λ b. b ≡ self) }
+    {
+        match Rc::try_unwrap(self.made) {
+            Ok(made) => Build::of(records_with_texts(made.records, texts)?),
+            Err(made) => Ok(Build { made }),
+        }
+    }
+
     /// An equal build, which shares what it says with this one.
     pub fn copy(&self) -> Result<Build, Memory>
         ensures { IfOk result (λ b. b ≡ self.now) }
@@ -187,6 +198,18 @@ impl Build {
         let made = self.made.clone()?;
         Ok(Build { made })
     }
+}
+
+/// Equal records, with the texts that are had of the packages that they name.
+fn records_with_texts<T: Texts>(records: Vec<Record>, texts: &T) -> Result<Vec<Record>, Memory>
+    ensures { IfOk result (λ same. same.items ≡ records.items) }
+{
+    let alloc: Global = *records.allocator();
+    let mut same = Vec::with_capacity(alloc, records.len())?;
+    for record in records {
+        same.push(record.with_texts(texts)?)?;
+    }
+    Ok(same)
 }
 
 /// The name of the unit that these records are of.

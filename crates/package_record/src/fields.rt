@@ -1,8 +1,13 @@
 //! What a record says, field by field.
+ghost use Rattle.std.specs.Prelude.{◌≡◌, IfOk};
+ghost use Rattle.package_record.specs.Views.{content_of};
+
 use crate::File;
-use claims::{Claim, Deps};
+use claims::{Claim, Deps, Texts};
+use faults::Memory;
 use pkgname::PkgName;
 use pkgpath::PkgPath;
+use std::alloc::Global;
 
 /// What a record says, as it was handed in or read.
 #[derive(Drop)]
@@ -14,4 +19,36 @@ pub struct Fields {
     pub built: Deps,
     pub run: Vec<PkgPath>,
     pub files: Vec<File>,
+}
+
+impl Fields {
+    /// The same, with the texts that are had of the packages that are named.
+    pub(crate) fn with_texts<T: Texts>(self, texts: &T) -> Result<Fields, Memory>
+        ensures { IfOk result (λ fields. content_of fields ≡ content_of self) }
+    {
+        let (path, name) = texts.package(self.path, self.name);
+        let built = self.built.with_texts(texts)?;
+        let run = paths_with_texts(self.run, texts)?;
+        Ok(Fields {
+            path,
+            name,
+            host: self.host,
+            claim: self.claim,
+            built,
+            run,
+            files: self.files,
+        })
+    }
+}
+
+/// Equal paths, with the texts that are had of them, and no room to spare.
+fn paths_with_texts<T: Texts>(paths: Vec<PkgPath>, texts: &T) -> Result<Vec<PkgPath>, Memory>
+    ensures { IfOk result (λ same. same.items ≡ paths.items) }
+{
+    let alloc: Global = *paths.allocator();
+    let mut same = Vec::with_capacity(alloc, paths.len())?;
+    for path in paths {
+        same.push(texts.path(path))?;
+    }
+    Ok(same)
 }

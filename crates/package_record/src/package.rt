@@ -12,7 +12,7 @@ ghost use Rattle.package_record.specs.Reading.{first_of, whole_of};
 use crate::fields::Fields;
 use crate::making::{test_names, text_length};
 use crate::{File, LIMIT, RecordFault, parsing, writing};
-use claims::{Claim, Dep, Deps};
+use claims::{Claim, Dep, Deps, Texts};
 use faults::Memory;
 use pkgname::PkgName;
 use pkgpath::PkgPath;
@@ -225,6 +225,18 @@ impl Record {
         ensures { map file_view result.now ≡ self.now.files }
     {
         self.fields.files.as_slice()
+    }
+
+    /// An equal record, with the texts that are had of the packages that it names, unless another
+    /// record shares what this one says.
+    pub(crate) fn with_texts<T: Texts>(self, texts: &T) -> Result<Record, Memory>
+        ensures { IfOk result (λ r. r ≡ self) }
+    {
+        let alloc = self.allocator();
+        match Rc::try_unwrap(self.fields) {
+            Ok(fields) => Record::of(alloc, fields.with_texts(texts)?),
+            Err(fields) => Ok(Record { fields }),
+        }
     }
 
     /// An equal record, which shares what it says with this one.

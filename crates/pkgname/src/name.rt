@@ -20,15 +20,17 @@ use std::alloc::Global;
 use std::cmp::Ordering;
 use std::hash::{Hash, Hasher};
 use std::marker::Model;
+use std::rc::Rc;
 
 /// The most bytes that a name may have.
 const LONGEST: usize = 255;
 
 /// A package name of packages-specs(7), `stem-version[-flavors]`, of at most 255 bytes. Names are
 /// equal, ordered and hashed by the bytes of their texts, so `q-1` and `q-1.0` are two names.
+/// Copies share their text.
 #[derive(Drop)]
 pub struct PkgName {
-    text: Vec<u8>,
+    text: Rc<Vec<u8>>,
     stem_length: u8,
     version_length: u8,
 }
@@ -65,7 +67,8 @@ impl PkgName {
             return Err(NameFault::NoVersion);
         };
         let version_length = version_length(&text[dash + 1..])?;
-        let text = Vec::from_slice(alloc, text)?;
+        let bytes = Vec::from_slice(alloc, text)?;
+        let text = Rc::new(alloc, bytes)?;
         Ok(PkgName {
             text,
             stem_length: dash as u8,
@@ -94,7 +97,7 @@ impl PkgName {
     pub fn stem(&self) -> &[u8]
         ensures { result.now ≡ stem_of self.now }
     {
-        &self.text[..usize::from(self.stem_length)]
+        &self.as_bytes()[..usize::from(self.stem_length)]
     }
 
     /// The version, which begins with a digit and has no dash.
@@ -102,7 +105,7 @@ impl PkgName {
         ensures { result ≡ version_of self.now }
     {
         let start = usize::from(self.stem_length) + 1;
-        Version::new(&self.text[start..start + usize::from(self.version_length)])
+        Version::new(&self.as_bytes()[start..start + usize::from(self.version_length)])
     }
 
     /// The flavors in the order of the text, none empty. One that stands there twice is here twice.
@@ -110,10 +113,10 @@ impl PkgName {
         ensures { result ≡ flavors_of self.now }
     {
         let end = usize::from(self.stem_length) + 1 + usize::from(self.version_length);
-        Pieces::behind(self.text.get(end + 1..), b'-')
+        Pieces::behind(self.as_bytes().get(end + 1..), b'-')
     }
 
-    /// An equal name, or `Memory`.
+    /// An equal name, which shares its text.
     pub fn copy(&self) -> Result<PkgName, Memory>
         ensures { IfOk result (λ name. name ≡ self.now) }
     {

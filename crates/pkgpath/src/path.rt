@@ -15,15 +15,16 @@ use std::alloc::Global;
 use std::cmp::Ordering;
 use std::hash::{Hash, Hasher};
 use std::marker::Model;
+use std::rc::Rc;
 
 /// A path of pkgpath(7), as its canonical text: the directory, then behind a comma each the
 /// flavors in byte order and the subpackage with its dash. A path that says that it has no flavor
 /// has an empty part in their place.
 ///
-/// Paths are compared, ordered and hashed by the bytes of that text.
+/// Paths are compared, ordered and hashed by the bytes of that text, which copies share.
 #[derive(Drop)]
 pub struct PkgPath {
-    text: Vec<u8>,
+    text: Rc<Vec<u8>>,
 }
 
 impl Model for PkgPath {
@@ -32,9 +33,9 @@ impl Model for PkgPath {
 
     ghost Value = { List ℕ };
 
-    ghost view = { λ p. p.text.items };
+    ghost view = { λ p. p.text.value.items };
 
-    ghost invariant = { λ p. IsPath p.text.items };
+    ghost invariant = { λ p. IsPath p.text.value.items };
 }
 
 impl PkgPath {
@@ -50,6 +51,7 @@ impl PkgPath {
         ensures { IsRightUnless PathFault.Memory result (path_of text.now) }
     {
         let text = canonical_text(alloc, text)?;
+        let text = Rc::new(alloc, text)?;
         Ok(PkgPath { text })
     }
 
@@ -74,12 +76,14 @@ impl PkgPath {
     pub fn without_subpackage(&self) -> Result<PkgPath, Memory>
         ensures { IfOk result (λ path. path ≡ without_subpackage self.now) }
     {
-        let mut text = self.text.clone()?;
-        text.truncate(len_without_subpackage(self.as_bytes()));
+        let alloc: Global = *self.text.allocator();
+        let path = self.as_bytes();
+        let bytes = Vec::from_slice(alloc, &path[..len_without_subpackage(path)])?;
+        let text = Rc::new(alloc, bytes)?;
         Ok(PkgPath { text })
     }
 
-    /// A path that is equal to this one, with room of its own.
+    /// A path that is equal to this one, and shares its text.
     pub fn copy(&self) -> Result<PkgPath, Memory>
         ensures { IfOk result (λ path. path ≡ self.now) }
     {

@@ -177,7 +177,8 @@ pub(crate) fn canonical_text(alloc: Global, text: &[u8]) -> Result<Vec<u8>, Path
 /// How many bytes of a path stand before the comma and its subpackage: all, where it has none.
 pub(crate) fn len_without_subpackage(text: &[u8]) -> usize
     requires { grammar.IsPath text.now }
-    ensures { take result text.now ≡ grammar.without_subpackage text.now }
+    ensures text { take result text.now ≡ grammar.without_subpackage text.now }
+    ensures within { result ≤ length text.now }
 {
     match text.iter().rposition(|byte| *byte == b',') {
         None => text.len(),

@@ -6,6 +6,7 @@ use Rattle.engine.specs.State.{AreCounts}
 use Rattle.engine.specs.declared.Counts.{Counts}
 use Rattle.faults.specs.Bytes.{Text, line_feed}
 use Rattle.protocol.specs.State.{engine_of}
+use Rattle.replay.specs.inside.NodeLines.{HasNodeLines}
 use Rattle.replay.specs.Runs.{IsNodeLine, node_front}
 use Rattle.replay.specs.Status.{counts_line}
 use Rattle.world.specs.Happening.{is_up, up_of}
@@ -28,13 +29,6 @@ pub up_line : (w : World) (k : ℕ) (c : Counts) (line : Text) → is_up w k ≡
 up_line w k c line up counts is x stands = inr (its_state w k true up x stands, (c, counts x stands, is))
 
 -- ---- all of them
-
--- the text has the lines of the nodes below a number
-pub record HasNodeLines (w : World) (n : ℕ) (text : Text) : Type 0 where
-  pub lines : List Text
-  pub count : length lines ≡ n
-  pub are_lines : (k : ℕ) (line : Text) → slice_get lines k ≡ Some line → IsNodeLine w k line
-  pub text_is : text ≡ flat_map (λ line. line) lines
 
 -- what holds of each and of one more
 one_more : (P : ℕ → Text → Type 0) (lines : List Text) (line : Text) → ((k : ℕ) (l : Text) → slice_get lines k ≡ Some l → P k l) → P (length lines) line

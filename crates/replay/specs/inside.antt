@@ -2,3 +2,4 @@
 pub mod Files
 pub mod Holding
 pub mod Listed
+pub mod NodeLines

@@ -1,7 +1,8 @@
 //! The text of `dpbr run`.
-ghost use Rattle.std.specs.Prelude.{◌≡◌, ◌⊎◌, IfErr, IfOk, Ok, string_bytes};
+ghost use Rattle.std.specs.Prelude.{◌≡◌, ◌⊎◌, IfErr, IfOk, Ok, length, string_bytes};
 ghost use Rattle.faults.specs.Bytes.{Text};
 ghost use Rattle.replay.specs.Refusals.{memory_refusal};
+ghost use Rattle.replay.specs.inside.NodeLines.{HasNodeLines};
 ghost use Rattle.replay.specs.Runs.{IsNodeLine, IsOutcome, IsRunOf, RefusesEvent, RefusesTrace};
 ghost use Rattle.traces.specs.Faults.{trace_view};
 ghost use Rattle.traces.specs.Trace.{trace_of};
@@ -43,20 +44,31 @@ pub(crate) fn run_of_events(alloc: Global, tree: &Tree, trace: Trace) -> Result<
 {
     let Trace { weights, events } = trace;
     let world = run(alloc, tree, &weights, events)?;
-    let text = run_text(alloc, &world)?;
+    let text = run_text(alloc, world)?;
     Ok(text)
 }
 
-/// What is printed of a world.
-pub fn run_text(alloc: Global, world: &World<'_>) -> Result<Vec<u8>, Memory>
-    ensures { IfOk result (λ text. IsOutcome world.now.world text.items) }
+/// What is printed of a world. The world goes before its list is written, so that both never stand
+/// side by side.
+pub fn run_text(alloc: Global, world: World<'_>) -> Result<Vec<u8>, Memory>
+    ensures { IfOk result (λ text. IsOutcome world.entry.world text.items) }
+{
+    let mut text = nodes_text(alloc, &world)?;
+    let agreed = world.into_agreed();
+    put_list(&mut text, agreed.as_slice())?;
+    Ok(text)
+}
+
+/// The lines of the nodes, by number.
+fn nodes_text(alloc: Global, world: &World<'_>) -> Result<Vec<u8>, Memory>
+    ensures { IfOk result (λ text.
+        HasNodeLines world.now.world (length world.now.world.nodes) text.items) }
 {
     let mut text = Vec::new(alloc);
     for node in 0..world.len() {
         let line = node_text(alloc, world, node)?;
         text.extend_from_slice(line.as_bytes())?;
     }
-    put_list(&mut text, world.agreed())?;
     Ok(text)
 }
 

@@ -72,6 +72,15 @@ impl<'a> World<'a> {
         self.scene.posted.agreed.as_slice()
     }
 
+    /// The agreed list, for which the rest of the world goes.
+    pub fn into_agreed(self) -> Vec<Record>
+        ensures { result.items ≡ self.entry.world.agreed }
+    {
+        let scene = self.scene;
+        let posted = scene.posted;
+        posted.agreed
+    }
+
     /// The events that were taken, in turn. They led to this world from its start, so that all
     /// holds of it that holds of each run.
     pub fn events(&self) -> &[Event]

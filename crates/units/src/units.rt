@@ -13,12 +13,20 @@ use listing::Tree;
 use pkgpath::PkgPath;
 use std::alloc::Global;
 use std::marker::Model;
+use std::rc::Rc;
 
 /// The units of a tree: one build makes all packages of a group that are not ignored. Units are
 /// numbered from 0 in the order of their least positions.
+/// Copies share what they say, which nothing changes.
 #[derive(Drop)]
 pub struct Units<'a> {
     tree: &'a Tree,
+    parts: Rc<Parts>,
+}
+
+/// What is kept of the units.
+#[derive(Drop)]
+struct Parts {
     units: Vec<Made>,
     /// The path that names the group of each unit.
     groups: IndexSet<PkgPath>,
@@ -32,11 +40,11 @@ impl<'a> Model for Units<'a> {
 
     ghost Value = { Division };
 
-    ghost view = { λ u. division_made u.tree.now u.units.items };
+    ghost view = { λ u. division_made u.tree.now u.parts.value.units.items };
 
-    ghost invariant = { λ u. IsDivision (division_made u.tree.now u.units.items)
-        × AreNumbers (division_made u.tree.now u.units.items) u.numbers.items
-        × AreGroups (division_made u.tree.now u.units.items) u.groups.keys };
+    ghost invariant = { λ u. let d = division_made u.tree.now u.parts.value.units.items in
+        IsDivision d × AreNumbers d u.parts.value.numbers.items
+        × AreGroups d u.parts.value.groups.keys };
 }
 
 impl<'a> Units<'a> {
@@ -51,11 +59,23 @@ impl<'a> Units<'a> {
             numbers,
         } = gather(alloc, tree, ignored.as_slice())?;
         let units = units_of(alloc, tree, packages.as_slice())?;
-        Ok(Units {
-            tree,
+        let parts = Parts {
             units,
             groups,
             numbers,
+        };
+        let parts = Rc::new(alloc, parts)?;
+        Ok(Units { tree, parts })
+    }
+
+    /// Equal units, which share what they say with these.
+    pub fn copy(&self) -> Result<Units<'a>, Memory>
+        ensures { IfOk result (λ units. units ≡ self.now) }
+    {
+        let parts = self.parts.clone()?;
+        Ok(Units {
+            tree: self.tree,
+            parts,
         })
     }
 
@@ -64,7 +84,7 @@ impl<'a> Units<'a> {
         ensures count { result ≡ length self.now.units }
         ensures division { IsDivision self.now }
     {
-        self.units.len() as u32
+        self.parts.units.len() as u32
     }
 
     /// The unit of the package at the position. An ignored package has none.
@@ -73,7 +93,7 @@ impl<'a> Units<'a> {
         ensures number { result ≡ number_of self.now position }
         ensures division { IsDivision self.now }
     {
-        self.numbers[position as usize]
+        self.parts.numbers[position as usize]
     }
 
     /// Whether the package at the position is ignored.
@@ -104,7 +124,7 @@ impl<'a> Units<'a> {
         ensures some { 0 < length result.now }
         ensures listed { All (λ p. p < length self.now.tree) result.now }
     {
-        let made = &self.units[unit as usize];
+        let made = &self.parts.units[unit as usize];
         made.packages.as_slice()
     }
 
@@ -119,7 +139,7 @@ impl<'a> Units<'a> {
         if packages.len() == 1 {
             return self.tree.build_deps(packages[0]);
         }
-        let made = &self.units[unit as usize];
+        let made = &self.parts.units[unit as usize];
         made.build.as_slice()
     }
 
@@ -142,8 +162,8 @@ impl<'a> Units<'a> {
             ≡ option_and_then (number_of self.now) (position_of self.now.tree path.now))
             (λ k. number_found self.now path.now ≡ Some k) }
     {
-        let unit = self.groups.get_index_of(path)?;
-        let made = &self.units[unit];
+        let unit = self.parts.groups.get_index_of(path)?;
+        let made = &self.parts.units[unit];
         if made.packages.len() > 1 {
             return Some(unit as u32);
         }

@@ -84,7 +84,7 @@ pub record AreNumbersOf (words : List Text) (numbers : List ℕ) (these : List T
 
 -- the value of the variable was read as this
 abbrev pub IsReadAs : List Text → Variable → Text → Reading → Type 0
-IsReadAs words v text (Name name) = (has_name v ≡ true) × (name_of text ≡ Ok name.value)
+IsReadAs words v text (Name name) = (has_name v ≡ true) × (name_of text ≡ Ok name)
 IsReadAs words v text (Numbers numbers) =
     (has_dependencies v ≡ true) × AreNumbersOf words numbers.items (words_of text)
 IsReadAs words v text Unread = v ≡ Ignore

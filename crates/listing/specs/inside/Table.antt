@@ -52,7 +52,7 @@ setting line path variable value = record {
 
 -- the name, where the value was read as one
 abbrev pub name_read : Reading → Option Text
-name_read (Name name) = Some name.value
+name_read (Name name) = Some name
 name_read (Numbers numbers) = None
 name_read Unread = None
 

@@ -1,4 +1,4 @@
-use Rattle.std.proofs.Common.{◌≡◌, ap, sym, rules, ◌∙◌}
+use Rattle.std.proofs.Common.{ap, sym, rules, ◌∙◌}
 use Rattle.std.proofs.lemmas.Fn.{always_returns_same}
 use Rattle.faults.specs.Pieces.{text_cmp}
 use Rattle.package_record.specs.Content.{Content}

@@ -1,4 +1,4 @@
-use Rattle.std.proofs.Common.{◌≡◌, ◌<◌, ◌+◌, ◌-◌, ◌==◌, ℕ, true, false, codes, drop, get_or, length, take, ap, sym, ◌∙◌, rules}
+use Rattle.std.proofs.Common.{◌≡◌, ◌<◌, ◌+◌, ◌-◌, ◌==◌, ℕ, true, false, codes, drop, get_or, length, take, ap, sym, ◌∙◌, arith, rules}
 use Rattle.std.proofs.Math.Seq.{take-length}
 use Rattle.std.proofs.lemmas.List.{take_rest}
 use Rattle.faults.specs.Bytes.{begins_with, comma}
@@ -9,7 +9,7 @@ pub returns-in-None : goal.returns-in-None
 returns-in-None c =
     let path = c.args.text.now in
     let none : (k : ℕ) → k < length path → (get_or path k 0 == comma) ≡ false = λ k l. search rules in
-    take-length path ∙ kept-no_comma path c.requires none
+    record { text = take-length path ∙ kept-no_comma path c.requires none; within = omega arith }
 
 pub returns-then-starts_with : goal.returns-then-starts_with
 returns-then-starts_with c =
@@ -19,7 +19,7 @@ returns-then-starts_with c =
     let here : get_or path j 0 ≡ comma = search rules in
     let last : (k : ℕ) → j < k → k < length path → (get_or path k 0 == comma) ≡ false = λ k above below. search rules in
     let dashed : begins_with (codes "-") (take (length path - (j + 1)) (drop (j + 1) path)) ≡ true = search rules in
-    cut-dashed path c.requires j within here last (ap (begins_with (codes "-")) (sym (take_rest path (j + 1))) ∙ dashed)
+    record { text = cut-dashed path c.requires j within here last (ap (begins_with (codes "-")) (sym (take_rest path (j + 1))) ∙ dashed); within = omega (arith, within) }
 
 pub returns-else-starts_with : goal.returns-else-starts_with
 returns-else-starts_with c =
@@ -29,4 +29,4 @@ returns-else-starts_with c =
     let here : get_or path j 0 ≡ comma = search rules in
     let last : (k : ℕ) → j < k → k < length path → (get_or path k 0 == comma) ≡ false = λ k above below. search rules in
     let dashed : begins_with (codes "-") (take (length path - (j + 1)) (drop (j + 1) path)) ≡ false = search rules in
-    take-length path ∙ kept-undashed path c.requires j within here last (ap (begins_with (codes "-")) (sym (take_rest path (j + 1))) ∙ dashed)
+    record { text = take-length path ∙ kept-undashed path c.requires j within here last (ap (begins_with (codes "-")) (sym (take_rest path (j + 1))) ∙ dashed); within = omega arith }

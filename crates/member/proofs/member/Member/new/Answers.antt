@@ -11,18 +11,19 @@ use Rattle.member.proofs.member.Member.new.Goals as goal
 pub invariant_of-result : goal.invariant_of-result
 invariant_of-result c =
     let d = c.in_ok-units.units in
+    let tree : d.tree ≡ c.args.tree.now = ap (λ u. u.tree) c.in_ok-units.ensures ∙ (c.units.ensures ∙ ap (λ e. e.tree) c.in_ok-engine.ensures) in
     let facts : map facts_of_known c.in_ok-known.known.items ≡ map (λ x. no_facts) d.units =
     c.in_ok-known.ensures
     ∙ (ap (λ n. replicate n no_facts) c.len.ensures.count ∙ sym (each_alike no_facts d.units)) in
     let state : fresh d c.args.weights.now c.args.me ≡ record {
       division = d;
-      weights = c.copy.result;
+      weights = c.copy-2.result;
       me = c.args.me;
       facts = map facts_of_known c.in_ok-known.known.items;
       claim = None;
     } = λ i. record {
       division = d;
-      weights = sym c.copy.ensures i;
+      weights = sym c.copy-2.ensures i;
       me = c.args.me;
       facts = sym facts i;
       claim = None;
@@ -30,10 +31,10 @@ invariant_of-result c =
     record {
       member = subst IsMember state (fresh_member d c.args.weights.now c.args.me
           c.len.ensures.division c.as_slice.ensures.are_weights c.requires);
-      tree = sym c.in_ok-units.ensures;
-      digest = c.digest.ensures ∙ ap tree_digest (sym c.in_ok-units.ensures);
+      tree = sym tree;
+      digest = c.digest.ensures ∙ ap tree_digest (sym tree);
       engine = c.in_ok-engine.ensures
-          ∙ (ap (λ t. record { tree = t; agreed = set.empty }) (sym c.in_ok-units.ensures)
+          ∙ (ap (λ t. record { tree = t; agreed = set.empty }) (sym tree)
           ∙ (sym (fresh_engine d) ∙ ap (engine_with d) (sym facts)));
       weighed = λ o e. absurd (let no : None ≡ Some o = e in cc);
       job = refl;
@@ -47,7 +48,7 @@ returns-clause-fresh c =
     ∙ (ap (λ n. replicate n no_facts) c.len.ensures.count ∙ sym (each_alike no_facts d.units)) in
     λ i. record {
       division = d;
-      weights = c.copy.ensures i;
+      weights = c.copy-2.ensures i;
       me = c.args.me;
       facts = facts i;
       claim = None;

@@ -4,25 +4,26 @@ use Rattle.listing.specs.Tree.{ArePositions, build_at}
 use Rattle.units.proofs.Kept.{build_one, build_several, kept_at, stands_at, unit_good}
 use Rattle.units.specs.Division.{Division, unit_at}
 use Rattle.units.specs.declared.making.Made.{Made}
+use Rattle.units.specs.declared.units.Parts.{Parts}
 use Rattle.units.specs.inside.Keeping.{unit_made}
 use Rattle.units.proofs.units.Units.build_deps.Goals as goal
 
 pub build_deps-requires : goal.build_deps-requires
 build_deps-requires c =
-    let d : Division = record { tree = c.self.inside.tree.now; units = map (unit_made c.self.inside.tree.now) c.self.inside.units.items } in
+    let d : Division = record { tree = c.self.inside.tree.now; units = map (unit_made c.self.inside.tree.now) c.self.inside.parts.value.units.items } in
     let seen : d ≡ c.args.self.now = c.self.view_is in
     let lt = c.packages-packages.ensures.listed 0 0 c.packages-packages.ensures.some in
     omega (arith, lt, ap (λ (e : Division). length e.tree) seen)
 
 pub returns-then-packages-eq1-clause-value : goal.returns-then-packages-eq1-clause-value
 returns-then-packages-eq1-clause-value c =
-    let d : Division = record { tree = c.self.inside.tree.now; units = map (unit_made c.self.inside.tree.now) c.self.inside.units.items } in
+    let d : Division = record { tree = c.self.inside.tree.now; units = map (unit_made c.self.inside.tree.now) c.self.inside.parts.value.units.items } in
     let seen : d ≡ c.args.self.now = c.self.view_is in
     let lt : c.args.unit < length d.units = subst (λ (e : Division). c.args.unit < length e.units) (sym seen) c.requires in
-    let within : c.args.unit < length c.self.inside.units.items = omega (arith, lt, length-map c.self.inside.units.items (unit_made c.self.inside.tree.now)) in
-    let stands = stands_at c.self.inside.units.items c.args.unit within in
+    let within : c.args.unit < length c.self.inside.parts.value.units.items = omega (arith, lt, length-map c.self.inside.parts.value.units.items (unit_made c.self.inside.tree.now)) in
+    let stands = stands_at c.self.inside.parts.value.units.items c.args.unit within in
     let made : Made = stands.0 in
-    let same = kept_at d.tree c.self.inside.units.items c.args.unit made within stands.1 in
+    let same = kept_at d.tree c.self.inside.parts.value.units.items c.args.unit made within stands.1 in
     let packages : c.packages-packages.result.now ≡ made.packages.items = c.packages-packages.ensures.value ∙ sym (ap (λ (e : Division). (unit_at e c.args.unit).packages) seen) ∙ ap (λ u. u.packages) same in
     let one : length made.packages.items ≡ 1 = sym (ap length packages) ∙ c.if-packages-eq1.true in
     c.build_deps.ensures.value
@@ -33,18 +34,18 @@ returns-then-packages-eq1-clause-value c =
 
 pub returns-then-packages-eq1-clause-positions : goal.returns-then-packages-eq1-clause-positions
 returns-then-packages-eq1-clause-positions c =
-    let d : Division = record { tree = c.self.inside.tree.now; units = map (unit_made c.self.inside.tree.now) c.self.inside.units.items } in
+    let d : Division = record { tree = c.self.inside.tree.now; units = map (unit_made c.self.inside.tree.now) c.self.inside.parts.value.units.items } in
     let seen : d ≡ c.args.self.now = c.self.view_is in
     subst (λ (e : Division). ArePositions e.tree c.build_deps.result.now) seen c.build_deps.ensures.positions
 
 pub returns-clause-value : goal.returns-clause-value
 returns-clause-value c =
-    let d : Division = record { tree = c.self.inside.tree.now; units = map (unit_made c.self.inside.tree.now) c.self.inside.units.items } in
+    let d : Division = record { tree = c.self.inside.tree.now; units = map (unit_made c.self.inside.tree.now) c.self.inside.parts.value.units.items } in
     let seen : d ≡ c.args.self.now = c.self.view_is in
     let lt : c.args.unit < length d.units = subst (λ (e : Division). c.args.unit < length e.units) (sym seen) c.requires in
-    let within : c.args.unit < length c.self.inside.units.items = omega (arith, lt, length-map c.self.inside.units.items (unit_made c.self.inside.tree.now)) in
+    let within : c.args.unit < length c.self.inside.parts.value.units.items = omega (arith, lt, length-map c.self.inside.parts.value.units.items (unit_made c.self.inside.tree.now)) in
     let made = c.index-made.result.now in
-    let same = kept_at d.tree c.self.inside.units.items c.args.unit made within c.index-made.ensures in
+    let same = kept_at d.tree c.self.inside.parts.value.units.items c.args.unit made within (c.index-made.ensures ∙ ap (λ (p : Parts). get_or p.units.items c.args.unit made) c.deref.ensures) in
     let packages : c.packages-packages.result.now ≡ made.packages.items = c.packages-packages.ensures.value ∙ sym (ap (λ (e : Division). (unit_at e c.args.unit).packages) seen) ∙ ap (λ u. u.packages) same in
     let more : length made.packages.items ≢ 1 = λ e. c.if-packages-eq1.false (ap length packages ∙ e) in
     c.as_slice.ensures.value
@@ -54,12 +55,12 @@ returns-clause-value c =
 
 pub returns-clause-positions : goal.returns-clause-positions
 returns-clause-positions c =
-    let d : Division = record { tree = c.self.inside.tree.now; units = map (unit_made c.self.inside.tree.now) c.self.inside.units.items } in
+    let d : Division = record { tree = c.self.inside.tree.now; units = map (unit_made c.self.inside.tree.now) c.self.inside.parts.value.units.items } in
     let seen : d ≡ c.args.self.now = c.self.view_is in
     let lt : c.args.unit < length d.units = subst (λ (e : Division). c.args.unit < length e.units) (sym seen) c.requires in
-    let within : c.args.unit < length c.self.inside.units.items = omega (arith, lt, length-map c.self.inside.units.items (unit_made c.self.inside.tree.now)) in
+    let within : c.args.unit < length c.self.inside.parts.value.units.items = omega (arith, lt, length-map c.self.inside.parts.value.units.items (unit_made c.self.inside.tree.now)) in
     let made = c.index-made.result.now in
-    let same = kept_at d.tree c.self.inside.units.items c.args.unit made within c.index-made.ensures in
+    let same = kept_at d.tree c.self.inside.parts.value.units.items c.args.unit made within (c.index-made.ensures ∙ ap (λ (p : Parts). get_or p.units.items c.args.unit made) c.deref.ensures) in
     let packages : c.packages-packages.result.now ≡ made.packages.items = c.packages-packages.ensures.value ∙ sym (ap (λ (e : Division). (unit_at e c.args.unit).packages) seen) ∙ ap (λ u. u.packages) same in
     let more : length made.packages.items ≢ 1 = λ e. c.if-packages-eq1.false (ap length packages ∙ e) in
     let build : (unit_at d c.args.unit).build ≡ c.as_slice.result.now =

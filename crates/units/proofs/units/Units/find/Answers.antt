@@ -7,7 +7,7 @@ use Rattle.units.proofs.units.Units.find.Goals as goal
 
 pub returns-in_err-position : goal.returns-in_err-position
 returns-in_err-position c =
-    let d : Division = record { tree = c.self.inside.tree.now; units = map (unit_made c.self.inside.tree.now) c.self.inside.units.items } in
+    let d : Division = record { tree = c.self.inside.tree.now; units = map (unit_made c.self.inside.tree.now) c.self.inside.parts.value.units.items } in
     let seen : d ≡ c.args.self.now = c.self.view_is in
     let none : position_of c.args.self.now.tree c.args.path.now ≡ None =
     sym (ap (λ (e : Division). position_of e.tree c.args.path.now) seen) ∙ sym c.position.ensures ∙ c.in_err-position.was in
@@ -15,7 +15,7 @@ returns-in_err-position c =
 
 pub returns : goal.returns
 returns c =
-    let d : Division = record { tree = c.self.inside.tree.now; units = map (unit_made c.self.inside.tree.now) c.self.inside.units.items } in
+    let d : Division = record { tree = c.self.inside.tree.now; units = map (unit_made c.self.inside.tree.now) c.self.inside.parts.value.units.items } in
     let seen : d ≡ c.args.self.now = c.self.view_is in
     let some : position_of c.args.self.now.tree c.args.path.now ≡ Some c.in_ok-position.field-0 =
     sym (ap (λ (e : Division). position_of e.tree c.args.path.now) seen) ∙ sym c.position.ensures ∙ c.in_ok-position.was in

@@ -1,9 +1,10 @@
-use Rattle.std.proofs.Common.{arith}
+use Rattle.std.proofs.Common.{ap, arith, length}
 use Rattle.std.proofs.lemmas.List.{length-map}
 use Rattle.units.proofs.Kept.{few_units}
+use Rattle.units.specs.declared.units.Parts.{Parts}
 use Rattle.units.specs.inside.Keeping.{unit_made}
 use Rattle.units.proofs.units.Units.len.Goals as goal
 
 pub overflow_cast-result : goal.overflow_cast-result
 overflow_cast-result c =
-    omega (arith, few_units _ c.self.invariant.0, c.self.invariant.0.tree.few, length-map c.self.inside.units.items (unit_made c.self.inside.tree.now))
+    omega (arith, few_units _ c.self.invariant.0, c.self.invariant.0.tree.few, ap (λ (p : Parts). length p.units.items) c.deref.ensures, length-map c.self.inside.parts.value.units.items (unit_made c.self.inside.tree.now))

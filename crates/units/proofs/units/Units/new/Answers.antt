@@ -3,7 +3,9 @@ use Rattle.std.specs.Prelude.{All}
 use Rattle.units.proofs.Kept.{gathered_alike, kept_whole}
 use Rattle.units.specs.Units.{unit_from}
 use Rattle.units.specs.inside.Gathering.{lists_of}
-use Rattle.units.specs.inside.Keeping.{AreAlike}
+use Rattle.units.specs.declared.units.Parts.{Parts}
+use Rattle.units.specs.Division.{IsDivision}
+use Rattle.units.specs.inside.Keeping.{AreAlike, AreGroups, AreNumbers, division_made}
 use Rattle.units.specs.inside.Marks.{AreIgnored, has_mark}
 use Rattle.units.proofs.units.Units.new.Goals as goal
 
@@ -16,6 +18,7 @@ units_of-requires-clause-alike c =
 pub invariant_of-result : goal.invariant_of-result
 invariant_of-result c =
     let tree = c.args.tree.now in
-    kept_whole tree c.as_slice.result.now c.in_ok-groups.field-0 c.in_ok-units.units.items c.in_ok-groups.ensures.tree
+    subst (λ (p : Parts). let d = division_made tree p.units.items in IsDivision d × AreNumbers d p.numbers.items × AreGroups d p.groups.keys) (sym c.in_ok-parts.ensures.ok)
+    (kept_whole tree c.as_slice.result.now c.in_ok-groups.field-0 c.in_ok-units.units.items c.in_ok-groups.ensures.tree
     (subst (AreIgnored tree) (sym c.as_slice.ensures.value) c.in_ok-ignored.ensures) c.in_ok-groups.ensures.gathered
-    (c.in_ok-units.ensures ∙ ap (λ vs. map (unit_from tree) (lists_of vs)) c.as_slice-2.ensures.value)
+    (c.in_ok-units.ensures ∙ ap (λ vs. map (unit_from tree) (lists_of vs)) c.as_slice-2.ensures.value))

@@ -1,7 +1,7 @@
 use Rattle.std.proofs.Common.{◌∙◌, ◌++◌, string_bytes, ap}
 use Rattle.faults.specs.Bytes.{Text}
 use Rattle.replay.proofs.NodeLines.{node_lines_more}
-use Rattle.replay.proofs.outcome.run_text.Goals as goal
+use Rattle.replay.proofs.outcome.nodes_text.Goals as goal
 
 pub loop-node-preserved : goal.loop-node-preserved
 loop-node-preserved c =

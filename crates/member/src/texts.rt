@@ -1,0 +1,69 @@
+//! The texts of listed packages, which what a member keeps of builds shares.
+ghost use Rattle.std.specs.Prelude.{◌≡◌, IfOk};
+
+use ballots::Body;
+use claims::Texts;
+use faults::Memory;
+use listing::Tree;
+use pkgname::PkgName;
+use pkgpath::PkgPath;
+
+/// The texts of a tree's paths and names.
+#[derive(Drop)]
+pub(crate) struct Listed<'a> {
+    pub(crate) tree: &'a Tree,
+}
+
+impl<'a> Listed<'a> {
+    /// An equal body. What it says to be built or agreed names packages by the tree's texts.
+    pub(crate) fn body(&self, body: Body) -> Result<Body, Memory>
+        ensures { IfOk result (λ same. same ≡ body) }
+    {
+        match body {
+            Body::Propose(claim, build) => Ok(Body::Propose(claim, build.with_texts(self)?)),
+            Body::Agreed(build) => Ok(Body::Agreed(build.with_texts(self)?)),
+            body => Ok(body),
+        }
+    }
+}
+
+impl<'a> Texts for Listed<'a> {
+    fn path(&self, path: PkgPath) -> PkgPath {
+        match self.tree.position(&path) {
+            Some(position) => same_path(self.tree.path(position), path),
+            None => path,
+        }
+    }
+
+    fn package(&self, path: PkgPath, name: PkgName) -> (PkgPath, PkgName) {
+        match self.tree.position(&path) {
+            Some(position) => (
+                same_path(self.tree.path(position), path),
+                same_name(self.tree.name(position), name),
+            ),
+            None => (path, name),
+        }
+    }
+}
+
+/// The path, which shares the text of this one, if it is equal.
+fn same_path(listed: &PkgPath, path: PkgPath) -> PkgPath
+    ensures { result ≡ path }
+{
+    if *listed == path {
+        listed.copy().unwrap_or(path)
+    } else {
+        path
+    }
+}
+
+/// The name, which shares the text of this one, if it is equal.
+fn same_name(listed: &PkgName, name: PkgName) -> PkgName
+    ensures { result ≡ name }
+{
+    if *listed == name {
+        listed.copy().unwrap_or(name)
+    } else {
+        name
+    }
+}
