@@ -72,13 +72,18 @@ impl PkgPath {
         self.text.as_slice()
     }
 
-    /// The path without its subpackage, which is an equal path where it has none.
+    /// The path without its subpackage. Where it has none, that is an equal path, which shares its
+    /// text.
     pub fn without_subpackage(&self) -> Result<PkgPath, Memory>
         ensures { IfOk result (λ path. path ≡ without_subpackage self.now) }
     {
-        let alloc: Global = *self.text.allocator();
         let path = self.as_bytes();
-        let bytes = Vec::from_slice(alloc, &path[..len_without_subpackage(path)])?;
+        let len = len_without_subpackage(path);
+        if len == path.len() {
+            return self.copy();
+        }
+        let alloc: Global = *self.text.allocator();
+        let bytes = Vec::from_slice(alloc, &path[..len])?;
         let text = Rc::new(alloc, bytes)?;
         Ok(PkgPath { text })
     }
