@@ -13,7 +13,7 @@ pub enum Reason {
     OtherName,
     /// An earlier package has the path.
     PathTwice,
-    /// The package was not built on exactly the build dependencies of its path, each once.
+    /// The package was not built on exactly what the build of its unit needs, each once.
     OtherDependencies,
     /// A package that it was built on does not stand earlier with that path, name and digest.
     DependencyNotEarlier,

@@ -1,4 +1,4 @@
-//! The claimer of one path, from its offer to the agreed value.
+//! The claimer of one unit, from its offer to the agreed value.
 ghost use Rattle.std.specs.Prelude.{◌≡◌, IfOk};
 ghost use Rattle.std.specs.Option.{option_copied};
 ghost use Rattle.ballots.specs.InTheAgreement.{
@@ -25,7 +25,7 @@ use claims::Claim;
 use faults::Memory;
 use package_record::Build;
 
-/// An open claim of one path, and how far it is. What members weigh stays with it.
+/// An open claim of one unit, and how far it is. What members weigh stays with it.
 #[derive(Drop)]
 pub enum Claimer<V = Build> {
     /// Promises come in, from those in `promised` so far. Of the votes they report, the one under

@@ -1,4 +1,4 @@
-//! The ballots of one path: what a voter answers to offers and proposals, and what a claimer does
+//! The ballots of one unit: what a voter answers to offers and proposals, and what a claimer does
 //! with the answers.
 //!
 //! They are generic in the value that is agreed on. No rule is stated here a second time: contracts

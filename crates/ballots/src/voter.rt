@@ -1,4 +1,4 @@
-//! The voter of one path: what it promised, and what it last voted for.
+//! The voter of one unit: what it promised, and what it last voted for.
 ghost use Rattle.std.specs.Prelude.{◌≡◌, IfOk, Some};
 ghost use Rattle.agreement.specs.Member.{greater};
 ghost use Rattle.agreement.specs.Step.{on_offer, on_propose};
@@ -14,7 +14,7 @@ use faults::Memory;
 use package_record::Build;
 use std::marker::Model;
 
-/// What a member promised, and its last vote, for one path. Each vote raises what is promised, so
+/// What a member promised, and its last vote, for one unit. Each vote raises what is promised, so
 /// who voted has promised; whoever makes a voter proves that.
 #[derive(Drop)]
 pub struct Voter<V = Build> {
