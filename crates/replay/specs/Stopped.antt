@@ -6,7 +6,7 @@ use Rattle.clap.specs.declared.error.Error.{Error}
 use Rattle.clap.specs.declared.error.kind.ErrorKind.TheVariants.{OutOfMemory}
 use Rattle.faults.specs.Bytes.{Text}
 use Rattle.replay.specs.Printed.{HasBegun}
-use Rattle.replay.specs.Refusals.{IsSystemRefusal, RefusesAudit, RefusesStatus, memory_refusal}
+use Rattle.replay.specs.Refusals.{IsSystemRefusal, RefusesAudit, RefusesStatus, device_refusal, memory_refusal}
 use Rattle.replay.specs.Rules.{rules_for}
 use Rattle.replay.specs.Runs.{RefusesRun}
 use Rattle.replay.specs.declared.refusal.Refusal.{Refusal}
@@ -52,12 +52,12 @@ RefusesCall (Status listing held is_single) r = RefusesStatusFiles is_single r
 RefusesCall (Audit listing list is_single) r = RefusesAuditFiles is_single r
 RefusesCall (Run listing trace is_single) r = RefusesRunFiles is_single r
 
--- A refusal comes before anything was written. Only where a write was refused, a beginning of the
--- answer was written.
+-- A refusal comes before anything was written. Only where a write was refused, whatever the reason,
+-- a beginning of the answer was written, and that is told as fault 2.
 abbrev pub CannotCarryOut : Call → Stop → Option (List ℕ) → Option (List ℕ) → Type 0
 CannotCarryOut call (WrongWords e) before after = ⊥
 CannotCarryOut call (Refused r) before after = RefusesCall call r × Keeps before after
-CannotCarryOut call (Unwritten r) before after = IsSystemRefusal r × HasBegun call before after
+CannotCarryOut call (Unwritten r) before after = (r ≡ device_refusal) × HasBegun call before after
 
 -- clap takes the words, and the call that it matches can't be carried out
 pub record HasFailedAt (words : List Word) (stop : Stop)

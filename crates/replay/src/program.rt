@@ -90,7 +90,7 @@ fn carry_out<R: Files + AllocGlobal, O: Write>(
     let answer = answer_of_files(rt, call)?;
     match print(out, answer.text.as_slice()) {
         Ok(()) => Ok(answer.status),
-        Err(error) => Err(Stop::Unwritten(Refusal::from(error))),
+        Err(_) => Err(Stop::Unwritten(Refusal::device())),
     }
 }
 

@@ -42,7 +42,7 @@ impl Refusal {
     }
 
     /// A file can't be read or written.
-    fn device() -> Refusal
+    pub(crate) fn device() -> Refusal
         ensures { result ≡ device_refusal }
     {
         Refusal {

@@ -15,7 +15,7 @@ pub enum Stop {
     WrongWords(Error),
     /// The call can't be carried out. Nothing was written.
     Refused(Refusal),
-    /// The answer, or its end, can't be written.
+    /// The answer, or its end, can't be written: fault 2.
     Unwritten(Refusal),
 }
 
