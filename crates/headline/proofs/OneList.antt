@@ -108,6 +108,7 @@ module _ (runs : EachRunIsActs) (again : BuildTextIsReadAgain) (division : Divis
     built = always_built;
     fits = always_fits;
     held = always_listed runs again division weights made events last led;
+    alike = always_alike runs again division weights made events last led;
     installable = always_installable;
     allowed = always_allowed;
   }

@@ -105,6 +105,6 @@ pub fn worlds_have_one_list()
         (λ last early w. JobsStood last.division last.weights early w) }
     ensures equal_headers { InEachRun (λ last early w. EqualHeaders w × EachIsOfAMessage w) }
 
-    // All of it but `alike`, by the names of two definitions.
+    // All of it, by the names of two definitions.
     ensures together { EachRunHasOneList }
 {}

@@ -153,8 +153,9 @@ AuditSaysYes w = IsAllowed w.division.tree (map entry_of w.agreed)
 -- The headline: at each moment there is one list of packages, which only grows, with at most one
 -- package a path; each was built by a host under a claim for its unit, after every dependency in
 -- its signature stood in the list with that very signature; every package that a node holds is in
--- it; and a path that a node shows as installable has its run closure held there. Besides, each
--- package fits the tree, and an audit of the list says yes.
+-- it, so that no node holds then another package for a path than a node does at the end; and a path
+-- that a node shows as installable has its run closure held there. Besides, each package fits the
+-- tree, and an audit of the list says yes.
 pub record HasOneList (division : Division) (weights : List ℕ) (events : List Event) (last : World)
     : Type 0 where
   pub grows : AtEachMoment division weights events last
@@ -164,5 +165,6 @@ pub record HasOneList (division : Division) (weights : List ℕ) (events : List 
       (λ early w. All (WasBuilt division weights early) w.agreed)
   pub fits : AtEachMoment division weights events last (λ early w. AllFit w)
   pub held : AtEachMoment division weights events last (λ early w. HeldIsListed w)
+  pub alike : AtEachMoment division weights events last (λ early w. HoldAlike w last)
   pub installable : AtEachMoment division weights events last (λ early w. InstallableIsHeld w)
   pub allowed : AtEachMoment division weights events last (λ early w. AuditSaysYes w)
