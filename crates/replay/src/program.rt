@@ -1,4 +1,5 @@
-//! The program `dpbr`.
+//! The program `dpbr`. It ends once its answer is printed, so it leaves what is large by then, the
+//! tree and the engine, to the system, which takes their memory back at once.
 ghost use Rattle.std.specs.Prelude.{◌≡◌, ◌≤◌, ◌⊎◌, Bool, IfErr, IfOk, map, string_bytes};
 ghost use Rattle.std.specs.Io.KnownBytes.{Keeps};
 ghost use Rattle.replay.specs.Printed.{HasCarriedOut, HasPrinted, IsAudit, IsOutputOf, IsRun, IsStatus};
@@ -10,13 +11,14 @@ ghost use Rattle.words.specs.Calls.{AreTaken};
 use crate::outcome::run_of_events;
 use crate::printing::print;
 use crate::refusal::Refusal;
-use crate::report::status;
+use crate::report::status_by_engine;
 use crate::stop::Stop;
 use crate::texts::tree_of_text;
 use crate::verdict::{audit_list, status_after, verdict_text};
 use listing::Tree;
 use std::fs;
 use std::io::Write;
+use std::mem::forget;
 use std::rt::Files;
 use traces::{Trace, read_trace};
 use words::{Call, dpbr_words};
@@ -150,7 +152,9 @@ fn status_of_files<R: Files + AllocGlobal>(
     ensures refused { IfErr result (RefusesStatusFiles is_single) }
 {
     let tree = tree_of_file(rt, listing, is_single)?;
-    status_in_file(rt, &tree, held)
+    let answer = status_in_file(rt, &tree, held);
+    forget(tree);
+    answer
 }
 
 /// What is printed of the tree that a listing describes and the held package paths in a file.
@@ -165,7 +169,8 @@ fn status_in_file<R: Files + AllocGlobal>(
         → IfErr result (RefusesStatusFiles is_single) }
 {
     let held = fs::read(rt, held)?;
-    let text = status(rt.alloc(), tree, held.as_slice())?;
+    let (text, engine) = status_by_engine(rt.alloc(), tree, held.as_slice())?;
+    forget(engine);
     Ok(Answer { text, status: 0 })
 }
 
@@ -180,7 +185,9 @@ fn audit_of_files<R: Files + AllocGlobal>(
     ensures refused { IfErr result (RefusesAuditFiles is_single) }
 {
     let tree = tree_of_file(rt, listing, is_single)?;
-    audit_in_file(rt, &tree, list)
+    let answer = audit_in_file(rt, &tree, list);
+    forget(tree);
+    answer
 }
 
 /// The verdict on the list of packages in a file, by the tree that a listing describes.

@@ -18,9 +18,23 @@ pub fn status(alloc: Global, tree: &Tree, held: &[u8]) -> Result<Vec<u8>, HeldFa
     ensures refused { IfErr result
         (λ e. (e ≡ HeldFault.Memory) ⊎ IsFirstFault tree.now held.now e) }
 {
+    let (text, _engine) = status_by_engine(alloc, tree, held)?;
+    Ok(text)
+}
+
+/// The same, and the engine that tells it.
+pub(crate) fn status_by_engine<'a>(
+    alloc: Global,
+    tree: &'a Tree,
+    held: &[u8],
+) -> Result<(Vec<u8>, Engine<'a>), HeldFault>
+    ensures ok { IfOk result (λ told. IsStatusOf tree.entry.now held.now told.0.items) }
+    ensures refused { IfErr result
+        (λ e. (e ≡ HeldFault.Memory) ⊎ IsFirstFault tree.entry.now held.now e) }
+{
     let engine = held_engine(alloc, tree, held)?;
     let text = status_text(alloc, tree, &engine)?;
-    Ok(text)
+    Ok((text, engine))
 }
 
 fn status_text(alloc: Global, tree: &Tree, engine: &Engine<'_>) -> Result<Vec<u8>, Memory>

@@ -8,7 +8,7 @@ returns-in_err-tree-clause-refused g c =
     rw (p.1, p.2) (status_by_listing c.args.is_single _ c.in_err-tree.ensures.refused)
 
 pub returns-clause-ok : goal.returns-clause-ok
-returns-clause-ok g c = c.status_in_file.ensures.ok c.args.is_single c.in_ok-tree.ensures.ok
+returns-clause-ok g c = c.status_in_file-answer.ensures.ok c.args.is_single c.in_ok-tree.ensures.ok
 
 pub returns-clause-refused : goal.returns-clause-refused
-returns-clause-refused g c = c.status_in_file.ensures.refused c.args.is_single c.in_ok-tree.ensures.ok
+returns-clause-refused g c = c.status_in_file-answer.ensures.refused c.args.is_single c.in_ok-tree.ensures.ok

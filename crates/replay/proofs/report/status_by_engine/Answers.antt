@@ -1,4 +1,4 @@
-use Rattle.replay.proofs.report.status.Goals as goal
+use Rattle.replay.proofs.report.status_by_engine.Goals as goal
 
 pub returns-clause-ok : goal.returns-clause-ok
 returns-clause-ok c = record {
