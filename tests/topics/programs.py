@@ -1,12 +1,13 @@
 """dpbr as it is built: stored cases, words and files that are refused, listings at their limits."""
 import os
+import re
 import subprocess
 import tempfile
 
 from topics.tally import EXAMPLES, PROGRAM, TESTS, TOP, answer, contents, difference
 
-# The folders of stored cases of `dpbr status` and `dpbr audit`.
-STORED = ("status", "audit")
+# The folders of stored cases of `dpbr status` and `dpbr audit`, and of those that the manual page shows.
+STORED = ("status", "audit", "manual")
 
 
 def stored_cases(tally, kinds):
@@ -19,8 +20,43 @@ def stored_cases(tally, kinds):
             tally.add(f"{kind}/{number}", difference(answer(words, folder), wanted))
 
 
+def shown(page):
+    """The lines that a manual page shows behind a `$`, and with each the text that it shows below it."""
+    for block in re.findall(r"^\.Bd -literal.*?\n(.*?)^\.Ed$", page, re.DOTALL | re.MULTILINE):
+        for part in re.split(r"^\$ ", block, flags=re.MULTILINE)[1:]:
+            line, _, text = part.partition("\n")
+            yield line, text
+
+
+def cut_short(text):
+    """The text as the manual page shows it: eight digits of each digest."""
+    return re.sub(r"\b([0-9a-f]{8})[0-9a-f]{56}\b", r"\1...", text)
+
+
+def stored_for(line, folders, left):
+    """What is stored for a line of the page: a file of each case that has it, or what a case prints, and its status if asked."""
+    command, _, words = line.partition(" ")
+    if command == "cat":
+        return [contents(f"{folder}/{words}") for folder in folders if os.path.exists(f"{folder}/{words}")]
+    words, _, asked = words.partition("; echo ")
+    if words not in left:
+        return []
+    folder = left.pop(words)
+    return [contents(f"{folder}/stdout") + (contents(f"{folder}/status") if asked else b"")]
+
+
+def manual_page(tally):
+    """dpbr(1) shows what is stored: each case, and files of them."""
+    folders = [f"{TESTS}/manual/{name}" for name in sorted(os.listdir(f"{TESTS}/manual"))]
+    left = {contents(f"{folder}/words").decode().strip(): folder for folder in folders}
+    for line, text in shown(contents(f"{TOP}/man/dpbr.1").decode()):
+        stored = {cut_short(one.decode()) for one in stored_for(line, folders, left)}
+        tally.add(f"man/dpbr.1, {line}", "" if stored == {text} else f"it shows {text!r:.300}, not {stored!r:.300}")
+    tally.add("man/dpbr.1, its examples", f"{list(left)} are stored, and not shown" if left else "")
+
+
 def examples(tally):
-    """What the README and the manual page show."""
+    """What the README shows."""
     letters = contents(f"{TESTS}/examples.stdout")
     late = b"no: package 5: dependency not earlier\n"
     ran = contents(f"{TESTS}/examples.run.stdout")
@@ -118,6 +154,7 @@ def wrapper(tally):
 def run(tally):
     wrapper(tally)
     stored_cases(tally, STORED)
+    manual_page(tally)
     examples(tally)
     no_calls(tally)
     faults(tally)
