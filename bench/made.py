@@ -8,7 +8,6 @@ import os
 import statistics
 import subprocess
 import sys
-import time
 
 TOP = os.path.dirname(os.path.dirname(os.path.abspath(__file__)))
 PROGRAM = f"{TOP}/crates/dpbr/out/dpbr"
@@ -84,19 +83,28 @@ def run_chain(paths):
     return "\n".join(lines) + "\n", [f"devel/link{n}" for n in range(paths)]
 
 
+# Runs the words, and tells on standard error the seconds, the peak memory in KiB and the status. What the system says of a
+# process's peak is never less than what the process had that started it, so that a small one has to.
+RUN = """
+import os, subprocess, sys, time
+began = time.perf_counter()
+child = subprocess.Popen(sys.argv[1:])
+_, status, usage = os.wait4(child.pid, 0)
+print(time.perf_counter() - began, usage.ru_maxrss, os.waitstatus_to_exitcode(status), file=sys.stderr)
+"""
+
+
 def measured(words, folder):
-    """The median of the seconds of some runs, and the peak memory in KiB of the last. What that run wrote is in the folder's
-    file `answer`."""
+    """The median of the seconds of some runs, and the peak memory in KiB of the last, which is at least the 11 MiB or so of the
+    process that starts it. What that run wrote is in the folder's file `answer`."""
     times = []
     for _ in range(5):
         with open(f"{folder}/answer", "wb") as out:
-            began = time.perf_counter()
-            child = subprocess.Popen(words, stdout=out, cwd=folder)
-            _, status, usage = os.wait4(child.pid, 0)
-            times.append(time.perf_counter() - began)
-            child.returncode = os.waitstatus_to_exitcode(status)
-        if child.returncode:
-            sys.exit(f"{sys.argv[0]}: {words} ended with {child.returncode}")
+            told = subprocess.run([sys.executable, "-I", "-S", "-c", RUN, *words], stdout=out, stderr=subprocess.PIPE, cwd=folder)
+        seconds, memory, status = told.stderr.decode().split()[-3:]
+        if status != "0":
+            sys.exit(f"{sys.argv[0]}: {words} ended with {status}")
+        times.append(float(seconds))
         if times[-1] > 5:
             break
-    return statistics.median(times), usage.ru_maxrss
+    return statistics.median(times), int(memory)
