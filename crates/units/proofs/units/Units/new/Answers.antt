@@ -3,7 +3,8 @@ use Rattle.units.proofs.Kept.{gathered_alike, kept_whole}
 use Rattle.units.specs.declared.units.Parts.{Parts}
 use Rattle.units.specs.Division.{IsDivision}
 use Rattle.units.specs.inside.Keeping.{AreGroups, AreNumbers, division_made}
-use Rattle.units.specs.inside.Marks.{AreIgnored, has_mark}
+use Rattle.graph.specs.Marks.{has_mark}
+use Rattle.units.specs.inside.Marks.{AreIgnored}
 use Rattle.units.proofs.units.Units.new.Goals as goal
 
 pub units_of-requires-clause-alike : goal.units_of-requires-clause-alike
