@@ -9,21 +9,24 @@ use Rattle.units.specs.Division.{Division, number_of}
 use Rattle.engine.specs.State.{State}
 use Rattle.engine.specs.declared.Letter.{Letter}
 use Rattle.engine.specs.declared.Letter.TheVariants.{T, Q, B, I, Ignored}
-use Rattle.engine.specs.declared.reversed.Reversed.{Reversed}
-use Rattle.engine.specs.declared.walk.Walk.{Walk}
+use Rattle.graph.specs.Walked.{Walked}
 use Rattle.engine.specs.inside.Agreed.{held_marks}
 use Rattle.engine.specs.inside.Keeping.{AreKept, holds}
 use Rattle.engine.specs.inside.Lacking.{IsLacking}
-use Rattle.engine.specs.inside.Lists.{AreReached, IsReached, list_at, lists_of, times}
+use Rattle.graph.specs.Lists.{list_at, times}
+use Rattle.graph.specs.Reach.{AreReached, IsReached}
 use Rattle.engine.specs.inside.Queueing.{AreQueueing, FitsUnit, needs_of}
 use Rattle.engine.specs.inside.Shown.{is_held, is_installed, letter_at}
-use Rattle.engine.specs.inside.Walks.{IsIdle, has_mark}
+use Rattle.graph.specs.Marks.{has_mark}
 use Rattle.engine.proofs.Beginning.{not_held_installed}
-use Rattle.engine.proofs.Lists.{contained-times}
-use Rattle.engine.proofs.Marked.{has_mark-other, has_mark-same, marked_set-like, marked_set-more, marked_set-same}
+use Rattle.graph.proofs.Lists.{contained-times}
+use Rattle.engine.proofs.Marked.{marked_set-like, marked_set-more, marked_set-same}
+use Rattle.graph.proofs.Marked.{has_mark-other, has_mark-same}
 use Rattle.engine.proofs.Reading.{held_mark, state_of}
-use Rattle.engine.proofs.SoMany.{AreLacks-held, AreTurned, reached-back, reached-itself, so_many-some}
-use Rattle.engine.proofs.Turned.{run_listed, turned, turned_back}
+use Rattle.engine.proofs.SoMany.{AreLacks-held, so_many-some}
+use Rattle.graph.proofs.Turned.{AreTurned, reached-back, reached-itself}
+use Rattle.units.proofs.Dependents.{run_listed}
+use Rattle.graph.proofs.Turned.{turned, turned_back}
 use Rattle.engine.proofs.Waiting.{waited_for-same}
 
 -- a package that is not ignored has a unit
@@ -61,25 +64,25 @@ module _ (d : Division) (letters now : List Letter) (p : ℕ) (s : State) (is : 
 
 -- ---- what is kept
 
-module _ {d : Division} {letters : List Letter} {lacks waits : List ℕ} {runs needs : Reversed} {walk : Walk} (kept : AreKept d letters lacks waits runs needs walk)
+module _ {d : Division} {letters : List Letter} {lacks waits : List ℕ} {runs needs : List (List ℕ)} {walk : Walked} (kept : AreKept d letters lacks waits runs needs walk)
     (p : ℕ) (within : p < length d.tree) (not_held : holds letters p ≡ false) where
   inside : p < length letters
   inside = omega (arith, within, kept.queueing.are_fitting.each_letter)
 
-  there : AreTurned (run_at d.tree) (list_at (lists_of runs))
+  there : AreTurned (run_at d.tree) (list_at runs)
   there = turned kept.runs_turned (run_listed d.tree kept.queueing.are_fitting.division.tree)
 
-  back : AreTurned (list_at (lists_of runs)) (run_at d.tree)
+  back : AreTurned (list_at runs) (run_at d.tree)
   back = turned_back kept.runs_turned
 
   -- each that is reached lacks the package
-  pub some_lacking : (found : List ℕ) → AreReached (list_at (lists_of runs)) p found → (q : ℕ) → q < length lacks → times q found ≤ get_or lacks q 0
+  pub some_lacking : (found : List ℕ) → AreReached (list_at runs) p found → (q : ℕ) → q < length lacks → times q found ≤ get_or lacks q 0
   some_lacking found reached q listed = elim (reached q) [
     | inl (leads, one) ↦ omega (
       arith,
       one,
       so_many-some (IsLacking (run_at d.tree) (holds letters) q) (length d.tree) (get_or lacks q 0) p (kept.are_lacks q listed) within
-          (reached-back (list_at (lists_of runs)) (run_at d.tree) p q back leads, not_held),
+          (reached-back (list_at runs) (run_at d.tree) p q back leads, not_held),
     )
     | inr (leads_not, none) ↦ omega (arith, none)
   ]
@@ -107,8 +110,8 @@ module _ {d : Division} {letters : List Letter} {lacks waits : List ℕ} {runs n
   }
 
   -- all that lead to the package lack one less, and those that lack nothing are installed
-  module _ (now : List Letter) (less fewer found : List ℕ) (after : Walk)
-      (reached : AreReached (list_at (lists_of runs)) p found) (each : length less ≡ length lacks)
+  module _ (now : List Letter) (less fewer found : List ℕ) (after : Walked)
+      (reached : AreReached (list_at runs) p found) (each : length less ≡ length lacks)
       (lowered : (q : ℕ) → q < length lacks → get_or less q 0 + times q found ≡ get_or lacks q 0)
       (held : (q : ℕ) → is_held (letter_at now q) ≡ is_held (letter_at (set letters p B) q)) where
     -- the letter of another is as it was
@@ -135,11 +138,11 @@ module _ {d : Division} {letters : List Letter} {lacks waits : List ℕ} {runs n
         → ((q : ℕ) → letter_at now q ≡ B → letter_at (set letters p B) q ≡ B)
         → ((q : ℕ) → letter_at now q ≡ I → (letter_at (set letters p B) q ≡ I) ⊎ (get_or less q 0 ≡ 0))
         → All (λ q. letter_at now q ≡ B → 0 < get_or less q 0) found
-        → IsIdle (length d.tree) after → AreKept d now less fewer runs needs after
-    AreKept-agreed queueing built installed all idle = record {
+        → after.len ≡ length d.tree → AreKept d now less fewer runs needs after
+    AreKept-agreed queueing built installed all over_all = record {
       queueing = queueing;
       each = each ∙ kept.each;
-      are_lacks = AreLacks-held (run_at d.tree) (list_at (lists_of runs)) there back (holds letters) (holds now) (length d.tree) lacks less found p within not_held
+      are_lacks = AreLacks-held (run_at d.tree) (list_at runs) there back (holds letters) (holds now) (length d.tree) lacks less found p within not_held
           (held p ∙ ap is_held (get_or-set_same letters p B Ignored inside))
           (λ q other. held q ∙ ap is_held (get_or-set_other letters p q B Ignored other))
           reached each lowered kept.are_lacks;
@@ -147,9 +150,9 @@ module _ {d : Division} {letters : List Letter} {lacks waits : List ℕ} {runs n
       built = λ q is. elim (reached q) [
         | inl (leads, one) ↦ All-contains (λ x. letter_at now x ≡ B → 0 < get_or less x 0) found q all (contained-times q found (omega (arith, one))) is
         | inr (leads_not, none) ↦ built_lacks q (built q is) none
-            (λ same. leads_not (subst (IsReached (list_at (lists_of runs)) p) (sym same) (reached-itself (list_at (lists_of runs)) p)))
+            (λ same. leads_not (subst (IsReached (list_at runs) p) (sym same) (reached-itself (list_at runs) p)))
       ];
       runs_turned = kept.runs_turned;
       needs_turned = kept.needs_turned;
-      idle = idle;
+      over_all = over_all;
     }

@@ -8,14 +8,13 @@ use Rattle.listing.specs.Tree.{run_at}
 use Rattle.units.specs.Division.{Division}
 use Rattle.engine.specs.declared.Letter.{Letter}
 use Rattle.engine.specs.declared.Letter.TheVariants.{T, Q, B, I, Ignored}
-use Rattle.engine.specs.declared.reversed.Reversed.{Reversed}
-use Rattle.engine.specs.declared.walk.Walk.{Walk}
+use Rattle.graph.specs.Walked.{Walked}
 use Rattle.engine.specs.inside.Keeping.{AreKept, holds}
 use Rattle.engine.specs.inside.Lacking.{AreLacks}
-use Rattle.engine.specs.inside.Lists.{AreReached, AreReversed, lists_of, times}
+use Rattle.graph.specs.Lists.{AreReversed, times}
+use Rattle.graph.specs.Reach.{AreReached}
 use Rattle.engine.specs.inside.Queueing.{AreFitting, FitsUnit, needs_of, waited_for}
 use Rattle.engine.specs.inside.Shown.{is_held, is_installed, letter_at}
-use Rattle.engine.specs.inside.Walks.{IsIdle}
 use Rattle.engine.proofs.SoMany.{so_many-few}
 
 pub not_held_installed : (l : Letter) → is_held l ≡ false → is_installed l ≡ false
@@ -33,14 +32,14 @@ all_waited letters (p ∷ ps) none =
     let one : test p ≡ 1 = ap (λ b. cond (not b) 1 0) (not_held_installed (letter_at letters p) (none p)) in
     omega (arith, one, sum_by-cons test p ps, all_waited letters ps none)
 
-pub AreKept-first : (d : Division) (letters : List Letter) (lacks waits : List ℕ) (runs needs : Reversed) (walk : Walk) → AreFitting d letters waits
+pub AreKept-first : (d : Division) (letters : List Letter) (lacks waits : List ℕ) (runs needs : List (List ℕ)) (walk : Walked) → AreFitting d letters waits
     → ((p : ℕ) → holds letters p ≡ false)
     → ((u : ℕ) → u < length d.units → get_or waits u 0 ≡ length (needs_of d u))
     → length lacks ≡ length d.tree → AreLacks (run_at d.tree) (λ p. false) (length d.tree) lacks
-    → AreReversed (length d.tree) (length d.tree) (run_at d.tree) (lists_of runs)
-    → AreReversed (length d.tree) (length d.units) (needs_of d) (lists_of needs)
-    → IsIdle (length d.tree) walk → AreKept d letters lacks waits runs needs walk
-AreKept-first d letters lacks waits runs needs walk fitting none counted each are_lacks runs_turned needs_turned idle = record {
+    → AreReversed (length d.tree) (length d.tree) (run_at d.tree) runs
+    → AreReversed (length d.tree) (length d.units) (needs_of d) needs
+    → walk.len ≡ length d.tree → AreKept d letters lacks waits runs needs walk
+AreKept-first d letters lacks waits runs needs walk fitting none counted each are_lacks runs_turned needs_turned over_all = record {
   queueing = record {
     are_fitting = fitting;
     waited = λ u listed. counted u listed ∙ sym (all_waited letters (needs_of d u) none);
@@ -53,7 +52,7 @@ AreKept-first d letters lacks waits runs needs walk fitting none counted each ar
   built = λ p is. absurd (true≢false (sym (ap is_held is) ∙ none p));
   runs_turned = runs_turned;
   needs_turned = needs_turned;
-  idle = idle;
+  over_all = over_all;
 }
 
 -- ---- letters are put

@@ -7,7 +7,7 @@ use Rattle.std.proofs.lemmas.Nat.Bits.{bit_at-trailing_zeros, bit_at-zero}
 use Rattle.engine.specs.declared.Letter.{Letter}
 use Rattle.engine.specs.declared.Letter.TheVariants.{T, Q, B, I, Ignored}
 use Rattle.engine.specs.declared.row.Row.{Row}
-use Rattle.engine.specs.inside.Lists.{one_if}
+use Rattle.graph.specs.Lists.{one_if}
 use Rattle.engine.specs.inside.Row.{HasQueued, bit_of, is_queued}
 use Rattle.engine.specs.inside.Shown.{letter_at}
 

@@ -2,7 +2,6 @@ pub mod Agreeing
 pub mod Beginning
 pub mod Bits
 mod Examples
-pub mod Lists
 pub mod Lowering
 pub mod Marked
 pub mod Numbered
@@ -12,8 +11,6 @@ pub mod Shown
 pub mod SoMany
 pub mod Tally
 pub mod Together
-pub mod Turned
 mod UnitExamples
 pub mod Unmarked
 pub mod Waiting
-pub mod Walks

@@ -3,8 +3,8 @@ use Rattle.std.proofs.Common.{◌≡◌, ◌+◌, ◌<◌, ◌≤◌, ℕ, List,
 use Rattle.std.proofs.lemmas.Bool.{cases_eq, eq-eqb, ne_eqb}
 use Rattle.std.proofs.lemmas.List.{get_or-set_other, get_or-set_same}
 use Rattle.std.proofs.lemmas.List.Sums.{sum_by-take-le}
-use Rattle.engine.specs.inside.Lists.{one_if, times}
-use Rattle.engine.proofs.Lists.{times-more}
+use Rattle.graph.specs.Lists.{one_if, times}
+use Rattle.graph.proofs.Lists.{times-more}
 use Rattle.std.proofs.Common.{All, ◌^◌, cond, nat_eq, refl}
 
 pub times-take : (p : ℕ) (ps : List ℕ) (i : ℕ) → i < length ps → times p (take i ps) + one_if (nat_eq (get_or ps i 0) p) ≤ times p ps

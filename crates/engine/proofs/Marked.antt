@@ -7,7 +7,7 @@ use Rattle.std.specs.Cmp.{nat_cmp_total, unsigned_tied}
 use Rattle.std.specs.FinSet as finset
 use Rattle.std.specs.FinSet.{nat_cmp-IsAntisymmetric}
 use Rattle.std.specs.Ordering.{nat_cmp}
-use Rattle.engine.specs.inside.Walks.{has_mark}
+use Rattle.graph.specs.Marks.{has_mark}
 use Rattle.engine.specs.inside.Agreed.{marked_set, set_below}
 
 pub has_mark-same : (marks : List Bool) (p : ℕ) (mark : Bool) → p < length marks → has_mark (set marks p mark) p ≡ mark

@@ -14,14 +14,13 @@ use Rattle.engine.specs.Letters.{IsInstallable}
 use Rattle.engine.specs.State.{AreCounts, HasLetter, IsEngine, IsNextQueued, State, counts_of, has_agreed}
 use Rattle.engine.specs.declared.Letter.{Letter}
 use Rattle.engine.specs.declared.Letter.TheVariants.{T, Q, B, I, Ignored}
-use Rattle.engine.specs.declared.reversed.Reversed.{Reversed}
-use Rattle.engine.specs.declared.walk.Walk.{Walk}
+use Rattle.graph.specs.Walked.{Walked}
 use Rattle.engine.specs.inside.Agreed.{held_marks, marked_set}
 use Rattle.engine.specs.inside.Keeping.{AreKept, holds}
 use Rattle.engine.specs.inside.Lacking.{IsLacking}
 use Rattle.engine.specs.inside.Queueing.{FitsUnit, needs_of, waited_for}
 use Rattle.engine.specs.inside.Shown.{is_held, is_installed, letter_at}
-use Rattle.engine.proofs.Lists.{get_or-same}
+use Rattle.graph.proofs.Lists.{get_or-same}
 use Rattle.engine.proofs.Marked.{contains-marked_set}
 use Rattle.engine.proofs.Numbered.{numbered_unit, unnumbered_ignored}
 use Rattle.engine.proofs.OneLetter.{only_one_letter}
@@ -85,7 +84,7 @@ zip_from R a (l ∷ ls) each = (
   zip_from R (a + 1) ls (λ k within. let e : a + suc k ≡ a + 1 + k = omega arith in subst (λ (x : ℕ). R x (get_or ls k Ignored)) e (each (suc k) (omega arith))),
 )
 
-module _ {d : Division} {letters : List Letter} {lacks waiting : List ℕ} {runs needs : Reversed} {walk : Walk} (kept : AreKept d letters lacks waiting runs needs walk) where
+module _ {d : Division} {letters : List Letter} {lacks waiting : List ℕ} {runs needs : List (List ℕ)} {walk : Walked} (kept : AreKept d letters lacks waiting runs needs walk) where
   is_division : IsDivision d
   is_division = kept.queueing.are_fitting.division
 

@@ -6,7 +6,7 @@ use Rattle.engine.specs.declared.Counts.{Counts}
 use Rattle.engine.specs.declared.Letter.{Letter}
 use Rattle.engine.specs.declared.Letter.TheVariants.{T, Q, B, I, Ignored}
 use Rattle.engine.specs.inside.Shown.{same_letter, tally}
-use Rattle.engine.proofs.Lists.{get_or-same}
+use Rattle.graph.proofs.Lists.{get_or-same}
 
 pub tally-counts : (letters : List Letter) (l : Letter) → tally (counts_of letters) l ≡ count_of l letters
 tally-counts letters T = refl

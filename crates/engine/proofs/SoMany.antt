@@ -1,7 +1,9 @@
 -- How many positions meet a condition.
-use Rattle.std.proofs.Common.{◌≡◌, ◌≢◌, ◌+◌, ◌<◌, ◌≤◌, ◌⊎◌, ℕ, zero, suc, Bool, true, false, not, List, get_or, length, Contains, sym, ap, ◌∙◌, subst, inl, inr, arith}
+use Rattle.std.proofs.Common.{◌≡◌, ◌≢◌, ◌+◌, ◌<◌, ◌≤◌, ◌⊎◌, ℕ, zero, suc, Bool, true, false, List, get_or, length, Contains, sym, ap, ◌∙◌, subst, inl, inr, arith}
 use Rattle.std.proofs.lemmas.Bool.{cases_Bool, cases_eq, true≢false}
-use Rattle.engine.specs.inside.Lists.{AreReached, IsReached, times}
+use Rattle.graph.specs.Lists.{times}
+use Rattle.graph.specs.Reach.{AreReached, IsReached}
+use Rattle.graph.proofs.Turned.{AreTurned, reached-back, reached-itself, reached-through}
 use Rattle.engine.specs.inside.Lacking.{AreLacks, AreSoMany, IsLacking}
 
 pub so_many-few : (P : ℕ → Type 0) (n m : ℕ) → AreSoMany P n m → m ≤ n
@@ -65,31 +67,6 @@ pub so_many-no : (P : ℕ → Type 0) (n m : ℕ) → ¬ P n → AreSoMany P n m
 so_many-no P n m not_here are =
     let e : suc n ≡ n + 1 = omega arith in
     subst (λ (k : ℕ). AreSoMany P k m) e (inr (not_here, are))
-
--- ---- what is reached, there and back
-
--- lists that have each position where the others have it the other way round
-abbrev pub AreTurned : (ℕ → List ℕ) → (ℕ → List ℕ) → Type 0
-AreTurned next before = (x d : ℕ) → Contains (next x) d → Contains (before d) x
-
-pub reached-back : (next before : ℕ → List ℕ) (p q : ℕ) → AreTurned next before → IsReached next p q → IsReached before q p
-reached-back next before p q turned reached S in_S closed = elim (cases_Bool (S p)) [
-  | inl is ↦ is
-  | inr is_not ↦
-      let out : ℕ → Bool = λ x. not (S x) in
-      let left_out : out q ≡ true = reached out (ap not is_not) (λ x d x_out listed. stays x d (cases_Bool (S d)) x_out listed) in
-      absurd (true≢false (sym left_out ∙ ap not in_S))
-]
-  where
-    stays : (x d : ℕ) → (S d ≡ true) ⊎ (S d ≡ false) → not (S x) ≡ true → Contains (next x) d → not (S d) ≡ true
-    stays x d (inl d_in) x_out listed = absurd (true≢false (sym x_out ∙ ap not (closed d x d_in (turned x d listed))))
-    stays x d (inr d_out) x_out listed = ap not d_out
-
-pub reached-itself : (next : ℕ → List ℕ) (p : ℕ) → IsReached next p p
-reached-itself next p = λ S in_S closed. in_S
-
-pub reached-through : (next : ℕ → List ℕ) (p d q : ℕ) → Contains (next p) d → IsReached next d q → IsReached next p q
-reached-through next p d q listed reached = λ S in_S closed. reached S (closed p d in_S listed) closed
 
 -- ---- lacks
 

@@ -1,9 +1,9 @@
 -- What changes where a package becomes installable.
 use Rattle.std.proofs.Common.{◌≡◌, ◌≢◌, ◌+◌, ◌-◌, ◌<◌, ◌≤◌, ◌⊎◌, ℕ, zero, suc, Bool, not, cond, nat_eq, List, [], ◌∷◌, Some, All, Contains, count_by, drop, get_or, length, set, refl, sym, ap, ◌∙◌, subst, inl, inr, arith}
 use borrow.Author.Count.{below_more}
-use Rattle.std.proofs.lemmas.Bool.{cases_eq, cases_lt, eq-eqb, ne_eqb}
+use Rattle.std.proofs.lemmas.Bool.{cases_eq, eq-eqb, ne_eqb}
 use Rattle.std.proofs.lemmas.List.{get_or-set_other, get_or-set_same, length-set}
-use Rattle.std.proofs.lemmas.List.Elements.{All-contains, Contains-get_or}
+use Rattle.std.proofs.lemmas.List.Elements.{All-contains}
 use Rattle.std.proofs.lemmas.List.Sums.{sum_by-cons, sum_by-drop_more}
 use Rattle.std.proofs.lemmas.List.Quantifiers.{position-Some}
 use Rattle.units.specs.Division.{Division, no_unit, number_of, unit_at}
@@ -11,10 +11,9 @@ use Rattle.units.specs.Units.{Unit, is_in}
 use Rattle.units.proofs.Lists.{in_contains}
 use Rattle.engine.specs.declared.Letter.{Letter}
 use Rattle.engine.specs.declared.Letter.TheVariants.{T, Q, B, I, Ignored}
-use Rattle.engine.specs.inside.Lists.{AreReversed, list_at, one_if, times}
+use Rattle.graph.specs.Lists.{one_if, times}
 use Rattle.engine.specs.inside.Queueing.{AreFitting, AreQueued, AreQueueing, FitsUnit, needs_of, waited_for}
 use Rattle.engine.specs.inside.Shown.{is_held, is_installed, letter_at}
-use Rattle.engine.proofs.Lists.{times-contained}
 use Rattle.units.proofs.WellMade.{one_unit_has}
 
 -- ---- letters
@@ -288,10 +287,3 @@ module _ {d : Division} {before letters : List Letter} {waits lacks found : List
     where
       after : (q : ℕ) → ((q ≡ get_or found n 0) × (letter_at more q ≡ I) × (letter_at letters q ≡ B)) ⊎ ((q ≢ get_or found n 0) × ((letter_at more q ≡ letter_at letters q) ⊎ ((letter_at letters q ≡ T) × (letter_at more q ≡ Q))))
       after = letter_after letters more (get_or found n 0) within was queued
-
--- what is named at a position is one of those that name
-pub named_within : (n m : ℕ) (next : ℕ → List ℕ) (lists : List (List ℕ)) (p : ℕ) → AreReversed n m next lists → All (λ u. u < m) (list_at lists p)
-named_within n m next lists p are = λ k d inside. elim (cases_lt (get_or (list_at lists p) k d) m) [
-  | inl within ↦ within
-  | inr past ↦ absurd (omega (arith, are.no_more p (get_or (list_at lists p) k d) past, times-contained (get_or (list_at lists p) k d) (list_at lists p) (Contains-get_or (list_at lists p) k d inside)))
-]

@@ -1,8 +1,6 @@
 pub mod Agreed
 pub mod Keeping
 pub mod Lacking
-pub mod Lists
 pub mod Queueing
 pub mod Row
 pub mod Shown
-pub mod Walks

@@ -3,18 +3,17 @@ ghost use Rattle.std.specs.Prelude.{◌≡◌, ◌<◌, ℕ, IfOk, OnOk, false, 
 ghost use Rattle.listing.specs.Tree.{run_at};
 ghost use Rattle.units.specs.Division.{IsDivision};
 ghost use Rattle.engine.specs.inside.Lacking.{AreLacks};
-ghost use Rattle.engine.specs.inside.Lists.{AreReversed, lists_of};
+ghost use Rattle.graph.specs.Lists.{AreReversed};
 ghost use Rattle.engine.specs.inside.Queueing.{AreFitting, FitsUnit, needs_of};
 ghost use Rattle.engine.specs.inside.Shown.{is_held};
 ghost use Rattle.engine.specs.inside.Keeping.{AreKept, holds};
-ghost use Rattle.engine.specs.inside.Walks.{IsIdle};
 
 use crate::Letter;
 use crate::lacks::raise;
 use crate::letters::Letters;
-use crate::reversed::Reversed;
-use crate::walk::Walk;
+use crate::turned::turned_lists;
 use faults::Memory;
+use graph::{Reversed, Walk};
 use listing::Tree;
 use std::alloc::Global;
 use units::Units;
@@ -45,58 +44,14 @@ pub(crate) fn first_parts(
     Ok((first, turned, counted))
 }
 
-/// At each package the units whose build needs it, and the packages that need it to run.
-fn turned_lists(
-    alloc: Global,
-    tree: &Tree,
-    units: &Units<'_>,
-) -> Result<(Reversed, Reversed), Memory>
-    requires { units.now.tree ≡ tree.now }
-    ensures needs { IfOk result (λ lists.
-        AreReversed (length tree.now) (length units.now.units) (needs_of units.now)
-        (lists_of lists.0)) }
-    ensures runs { IfOk result (λ lists.
-        AreReversed (length tree.now) (length tree.now) (run_at tree.now) (lists_of lists.1)) }
-{
-    let needs = turned_needs(alloc, tree, units)?;
-    let runs = turned_runs(alloc, tree)?;
-    Ok((needs, runs))
-}
-
-/// At each package those that need it to run.
-fn turned_runs(alloc: Global, tree: &Tree) -> Result<Reversed, Memory>
-    ensures { IfOk result (λ runs.
-        AreReversed (length tree.now) (length tree.now) (run_at tree.now) (lists_of runs)) }
-{
-    let mut runs = Reversed::new(alloc, tree.len())?;
-    for position in 0..tree.len() {
-        runs.add(position, tree.run_deps(position))?;
-    }
-    Ok(runs)
-}
-
-/// At each package the units whose build needs it.
-fn turned_needs(alloc: Global, tree: &Tree, units: &Units<'_>) -> Result<Reversed, Memory>
-    requires { units.now.tree ≡ tree.now }
-    ensures { IfOk result (λ needs.
-        AreReversed (length tree.now) (length units.now.units) (needs_of units.now)
-        (lists_of needs)) }
-{
-    let mut needs = Reversed::new(alloc, tree.len())?;
-    for unit in 0..units.len() {
-        needs.add(unit, units.build_deps(unit))?;
-    }
-    Ok(needs)
-}
-
 /// For each package how many it needs to run, through others too, itself included, and the walk
 /// that counted them.
 fn walked_lacks(alloc: Global, tree: &Tree, runs: &Reversed) -> Result<(Vec<u32>, Walk), Memory>
     requires { AreReversed (length tree.now) (length tree.now) (run_at tree.now)
-        (lists_of runs.now) }
+        runs.now }
     ensures lacks { IfOk result (λ counted. (length counted.0.items ≡ length tree.now)
         × AreLacks (run_at tree.now) (λ p. false) (length tree.now) counted.0.items) }
-    ensures idle { IfOk result (λ counted. IsIdle (length tree.now) counted.1) }
+    ensures over_all { IfOk result (λ counted. counted.1.len ≡ length tree.now) }
 {
     let mut walk = Walk::new(alloc, tree.len())?;
     let lacks = first_lacks(alloc, tree, runs, &mut walk)?;
@@ -111,11 +66,11 @@ fn first_lacks(
     walk: &mut Walk,
 ) -> Result<Vec<u32>, Memory>
     requires runs { AreReversed (length tree.now) (length tree.now) (run_at tree.now)
-        (lists_of runs.now) }
-    requires idle { IsIdle (length tree.now) walk.old }
+        runs.now }
+    requires over_all { walk.old.len ≡ length tree.now }
     ensures lacks { IfOk result (λ lacks. (length lacks.items ≡ length tree.now)
         × AreLacks (run_at tree.now) (λ p. false) (length tree.now) lacks.items) }
-    ensures idle { IsIdle (length tree.now) walk.new }
+    ensures over_all { walk.new.len ≡ length tree.now }
 {
     let mut lacks = vec![in alloc; 0u32; tree.len() as usize]?;
     for position in 0..tree.len() {

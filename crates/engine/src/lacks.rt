@@ -1,6 +1,6 @@
 //! Counts by position of what is lacking.
 ghost use Rattle.std.specs.Prelude.{◌≡◌, ◌<◌, ◌≤◌, ◌+◌, ◌^◌, ℕ, All, length, slice_index};
-ghost use Rattle.engine.specs.inside.Lists.{times};
+ghost use Rattle.graph.specs.Lists.{times};
 
 /// Each of the positions lacks one more.
 pub(crate) fn raise(lacks: &mut [u32], positions: &[u32])

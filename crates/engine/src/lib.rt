@@ -8,9 +8,8 @@ mod lacks;
 mod laws;
 mod letters;
 mod queueing;
-mod reversed;
 mod row;
-mod walk;
+mod turned;
 
 pub use crate::engine::Engine;
 pub use crate::laws::{

@@ -1,13 +1,13 @@
 //! Which units wait, and for how many packages; what changes when a package becomes installable.
 ghost use Rattle.std.specs.Prelude.{◌≡◌, ◌<◌, ◌-◌, ◌⊎◌, ◌≢◌, ℕ, All, Contains, length, set, slice_index};
-ghost use Rattle.engine.specs.inside.Lists.{AreReversed, lists_of, times};
+ghost use Rattle.graph.specs.Lists.{AreReversed, times};
 ghost use Rattle.engine.specs.inside.Queueing.{AreFitting, AreQueued, AreQueueing, needs_of};
 ghost use Rattle.engine.specs.inside.Shown.{is_held, is_installed, letter_at};
 ghost use Rattle.engine.specs.declared.Letter.TheVariants.{T, Q, B, I};
 
 use crate::Letter;
 use crate::letters::Letters;
-use crate::reversed::Reversed;
+use graph::Reversed;
 use units::Units;
 
 /// Shows those of the packages that wait as queued.
@@ -75,7 +75,7 @@ pub(crate) fn install_all(
 )
     requires queueing { AreQueueing units.now letters.old waits.old }
     requires needs { AreReversed (length letters.old) (length units.now.units) (needs_of units.now)
-        (lists_of needs.now) }
+        needs.now }
     requires each { length lacks.now ≡ length letters.old }
     requires found { All (λ p. p < length letters.old) found.now }
     ensures queueing { AreQueueing units.now letters.new waits.new }

@@ -1,6 +1,6 @@
 //! A row of bits, one for each position.
 ghost use Rattle.std.specs.Prelude.{◌≡◌, ◌<◌, ◌≤◌, ◌≢◌, ◌/◌, ◌+◌, ◌^◌, ℕ, IfOk, MatchOption, length};
-ghost use Rattle.engine.specs.inside.Lists.{one_if};
+ghost use Rattle.graph.specs.Lists.{one_if};
 ghost use Rattle.engine.specs.inside.Row.{bit_of};
 
 use faults::Memory;

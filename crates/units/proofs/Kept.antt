@@ -29,7 +29,8 @@ use Rattle.units.specs.Units.{Unit, in_order_of_path, is_in, is_least, name_of, 
 use Rattle.units.specs.inside.Gathering.{AreGathered, firsts, lists_of, made_below, place_of}
 use Rattle.units.specs.inside.Keeping.{AreAlike, AreGroups, AreNumbers, build_kept, unit_made}
 use Rattle.units.specs.declared.making.Made.{Made}
-use Rattle.units.specs.inside.Marks.{AreIgnored, has_mark}
+use Rattle.graph.specs.Marks.{has_mark}
+use Rattle.units.specs.inside.Marks.{AreIgnored}
 use Rattle.units.specs.declared.gathering.Gathered.{Gathered}
 
 -- marks of the ignored packages tell them

@@ -155,13 +155,11 @@ skip_own own ps first before after k lt was mine is =
 
 -- ---- one unit more
 
-pub unit_more : {Z : Type 0} (tree : Tree) (ms after : List Made) (vs : List (Vec ℕ Z)) (k : ℕ) (v : Vec ℕ Z) (m : Made) → k < length vs → v ≡ get_or vs k v
-    → unit_made tree m ≡ unit_from tree v.items → map (unit_made tree) ms ≡ map (unit_from tree) (lists_of (take k vs)) → after ≡ ms ++ m ∷ []
-    → map (unit_made tree) after ≡ map (unit_from tree) (lists_of (take (k + 1) vs))
-unit_more {Z} tree ms after vs k v m lt here one was is =
+pub unit_more : {Z : Type 0} (tree : Tree) (ms after : List Made) (vs : List (Vec ℕ Z)) (v : Vec ℕ Z) (m : Made)
+    → unit_made tree m ≡ unit_from tree v.items → map (unit_made tree) ms ≡ map (unit_from tree) (lists_of vs) → after ≡ ms ++ m ∷ []
+    → map (unit_made tree) after ≡ map (unit_from tree) (lists_of (vs ++ v ∷ []))
+unit_more {Z} tree ms after vs v m one was is =
     let items : Vec ℕ Z → List ℕ = λ w. w.items in
-    let last : unit_made tree m ≡ unit_from tree (items (get_or vs k v)) = one ∙ ap (λ w. unit_from tree (items w)) here in
-    ap (map (unit_made tree)) is ∙ map-append (unit_made tree) ms (m ∷ []) ∙ (λ i. was i ++ last i ∷ [])
-    ∙ sym (map-append (unit_from tree) (lists_of (take k vs)) (items (get_or vs k v) ∷ []))
-    ∙ ap (map (unit_from tree)) (sym (map-append items (take k vs) (get_or vs k v ∷ [])))
-    ∙ ap (λ ws. map (unit_from tree) (lists_of ws)) (sym (take_more vs k v lt))
+    ap (map (unit_made tree)) is ∙ map-append (unit_made tree) ms (m ∷ []) ∙ (λ i. was i ++ one i ∷ [])
+    ∙ sym (map-append (unit_from tree) (lists_of vs) (items v ∷ []))
+    ∙ ap (map (unit_from tree)) (sym (map-append items vs (v ∷ [])))

@@ -4,7 +4,7 @@ ghost use Rattle.std.specs.Str.{bytes_eq};
 ghost use Rattle.indexmap.specs.IndexSet.{insert_key};
 ghost use Rattle.listing.specs.Tree.{IsTree, group_at};
 ghost use Rattle.units.specs.inside.Gathering.{AreGathered, Takes, lists_of, put_at};
-ghost use Rattle.units.specs.inside.Marks.{has_mark};
+ghost use Rattle.graph.specs.Marks.{has_mark};
 
 use faults::Memory;
 use indexmap::IndexSet;

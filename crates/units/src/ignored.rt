@@ -1,10 +1,11 @@
-//! The ignored packages: marks spread from the marked ones to all that depend on them.
-ghost use Rattle.std.specs.Prelude.{◌≡◌, ◌<◌, ◌↔◌, IfOk, IsTrue, count_by, false, length, not, true};
-ghost use Rattle.listing.specs.Tree.{IsTree};
-ghost use Rattle.units.specs.inside.Marks.{AreIgnored, AreIgnoredSoFar, DependsOnMarked};
+//! The ignored packages: the marked ones, and all that depend on them, found along lists of who
+//! depends on whom, each package once.
+ghost use Rattle.std.specs.Prelude.{◌≡◌, ◌<◌, All, IfOk, length};
+ghost use Rattle.graph.specs.Lists.{AreReversed};
+ghost use Rattle.units.specs.inside.Marks.{AreIgnored, AreMarksOf, deps_at, marked_of};
 
-use crate::marks::is_any_marked;
 use faults::Memory;
+use graph::{Reversed, Room, Walk};
 use listing::Tree;
 use std::alloc::Global;
 
@@ -12,45 +13,63 @@ use std::alloc::Global;
 pub(crate) fn ignored_marks(alloc: Global, tree: &Tree) -> Result<Vec<bool>, Memory>
     ensures { IfOk result (λ marks. AreIgnored tree.now marks.items) }
 {
-    let mut marks = first_marks(alloc, tree)?;
-    'passes: while spread(tree, marks.as_mut_slice()) {}
-    Ok(marks)
-}
-
-/// The marks that the tree itself gives.
-fn first_marks(alloc: Global, tree: &Tree) -> Result<Vec<bool>, Memory>
-    ensures { IfOk result (λ marks. AreIgnoredSoFar tree.now marks.items) }
-{
-    let mut marks = vec![in alloc; false; tree.len() as usize]?;
-    for position in 0..tree.len() {
-        marks[position as usize] = tree.marked(position);
+    let marked = marked_packages(alloc, tree)?;
+    if marked.is_empty() {
+        return marks_of(alloc, tree.len(), marked.as_slice());
     }
-    Ok(marks)
+    let dependents = dependents(alloc, tree)?;
+    let mut walk = Walk::new(alloc, tree.len())?;
+    walk.reach_all(&dependents, marked.as_slice());
+    marks_of(alloc, tree.len(), walk.found())
 }
 
-/// Goes over all packages once and marks each that depends on a marked one. Whether it marked any.
-fn spread(tree: &Tree, marks: &mut [bool]) -> bool
-    requires { AreIgnoredSoFar tree.now marks.old }
-    ensures so_far { AreIgnoredSoFar tree.now marks.new }
-    ensures complete { result ≡ false → AreIgnored tree.now marks.new }
-    ensures fewer_left { result ≡ true → count_by not marks.new < count_by not marks.old }
+/// The packages that the tree itself marks.
+fn marked_packages(alloc: Global, tree: &Tree) -> Result<Vec<u32>, Memory>
+    ensures { IfOk result (λ marked. marked.items ≡ marked_of tree.now) }
 {
-    let mut has_spread = false;
+    let mut marked = Vec::new(alloc);
     for position in 0..tree.len() {
-        let place = position as usize;
-        if !marks[place] && depends_on_marked(tree, marks, position) {
-            marks[place] = true;
-            has_spread = true;
+        if tree.marked(position) {
+            marked.push(position)?;
         }
     }
-    has_spread
+    Ok(marked)
 }
 
-/// Whether a dependency of the package is marked.
-fn depends_on_marked(tree: &Tree, marks: &[bool], position: u32) -> bool
-    requires listed { position < length tree.now }
-    requires each { length marks.now ≡ length tree.now }
-    ensures { IsTrue result ↔ DependsOnMarked tree.now marks.now position }
+/// At each package those that depend on it.
+fn dependents(alloc: Global, tree: &Tree) -> Result<Reversed, Memory>
+    ensures { IfOk result (λ lists.
+        AreReversed (length tree.now) (length tree.now) (deps_at tree.now) lists) }
 {
-    is_any_marked(marks, tree.build_deps(position)) || is_any_marked(marks, tree.run_deps(position))
+    let room = room_for_dependents(alloc, tree)?;
+    let mut lists = Reversed::with_room(alloc, &room)?;
+    for position in 0..tree.len() {
+        lists.add(position, tree.build_deps(position))?;
+        lists.add(position, tree.run_deps(position))?;
+    }
+    Ok(lists)
+}
+
+/// For each package how many depend on it.
+fn room_for_dependents(alloc: Global, tree: &Tree) -> Result<Room, Memory>
+    ensures { IfOk result (λ room. room ≡ length tree.now) }
+{
+    let mut room = Room::new(alloc, tree.len())?;
+    for position in 0..tree.len() {
+        room.count(tree.build_deps(position));
+        room.count(tree.run_deps(position));
+    }
+    Ok(room)
+}
+
+/// So many marks, of which those at these positions are set.
+fn marks_of(alloc: Global, len: u32, positions: &[u32]) -> Result<Vec<bool>, Memory>
+    requires { All (λ p. p < len) positions.now }
+    ensures { IfOk result (λ marks. AreMarksOf len positions.now marks.items) }
+{
+    let mut marks = vec![in alloc; false; len as usize]?;
+    for position in positions {
+        marks[*position as usize] = true;
+    }
+    Ok(marks)
 }

@@ -5,7 +5,6 @@ mod gathering;
 mod ignored;
 mod laws;
 mod making;
-mod marks;
 mod units;
 
 pub use crate::laws::{

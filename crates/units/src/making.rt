@@ -23,35 +23,34 @@ pub(crate) struct Made {
 pub(crate) fn units_of(
     alloc: Global,
     tree: &Tree,
-    packages: &[Vec<u32>],
+    packages: Vec<Vec<u32>>,
 ) -> Result<Vec<Made>, Memory>
     requires is_tree { IsTree tree.now }
-    requires alike { All (λ v. AreAlike tree.now v.items) packages.now }
+    requires alike { All (λ v. AreAlike tree.now v.items) packages.items }
     ensures { IfOk result (λ units. map (unit_made tree.now) units.items
-        ≡ map (unit_from tree.now) (lists_of packages.now)) }
+        ≡ map (unit_from tree.now) (lists_of packages.items)) }
 {
     let mut units = Vec::with_capacity(alloc, packages.len())?;
     for positions in packages {
-        units.push(unit_of(alloc, tree, positions.as_slice())?)?;
+        units.push(unit_of(alloc, tree, positions)?)?;
     }
     Ok(units)
 }
 
-/// The unit of these packages.
-fn unit_of(alloc: Global, tree: &Tree, packages: &[u32]) -> Result<Made, Memory>
+/// The unit of these packages. One that is alone stands in its vector already.
+fn unit_of(alloc: Global, tree: &Tree, packages: Vec<u32>) -> Result<Made, Memory>
     requires is_tree { IsTree tree.now }
-    requires alike { AreAlike tree.now packages.now }
-    ensures { IfOk result (λ made. unit_made tree.now made ≡ unit_from tree.now packages.now) }
+    requires alike { AreAlike tree.now packages.items }
+    ensures { IfOk result (λ made. unit_made tree.now made ≡ unit_from tree.now packages.items) }
 {
     if packages.len() == 1 {
-        let packages = Vec::from_slice(alloc, packages)?;
         return Ok(Made {
             packages,
             build: Vec::new(alloc),
         });
     }
-    let build = needed(alloc, tree, packages)?;
-    let packages = in_order(alloc, tree, packages)?;
+    let build = needed(alloc, tree, packages.as_slice())?;
+    let packages = in_order(alloc, tree, packages.as_slice())?;
     Ok(Made { packages, build })
 }
 

@@ -58,7 +58,7 @@ impl<'a> Units<'a> {
             packages,
             numbers,
         } = gather(alloc, tree, ignored.as_slice())?;
-        let units = units_of(alloc, tree, packages.as_slice())?;
+        let units = units_of(alloc, tree, packages)?;
         let parts = Parts {
             units,
             groups,

@@ -4,7 +4,7 @@ use Rattle.std.specs.FinSet as set
 use Rattle.std.specs.Ordering.{nat_cmp}
 use Rattle.engine.specs.declared.Letter.{Letter}
 use Rattle.engine.specs.inside.Shown.{is_held}
-use Rattle.engine.specs.inside.Walks.{has_mark}
+use Rattle.graph.specs.Marks.{has_mark}
 
 -- the positions below n that pass the test
 unfoldable pub set_below : (ℕ → Bool) → ℕ → set.FinSet nat_cmp

@@ -1,6 +1,6 @@
 -- How many positions meet a condition.
 use Rattle.std.specs.Prelude.{◌≡◌, ◌<◌, ◌⊎◌, ℕ, zero, suc, Bool, false, List, length, slice_index_or}
-use Rattle.engine.specs.inside.Lists.{IsReached}
+use Rattle.graph.specs.Reach.{IsReached}
 
 -- so many of the positions below n meet the condition
 abbrev pub AreSoMany : (ℕ → Type 0) → ℕ → ℕ → Type 0

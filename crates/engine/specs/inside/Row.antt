@@ -4,7 +4,7 @@ use Rattle.std.specs.Int.{bit_at}
 use Rattle.engine.specs.declared.Letter.{Letter}
 use Rattle.engine.specs.declared.Letter.TheVariants.{T, Q, B, I, Ignored}
 use Rattle.engine.specs.declared.row.Row.{Row}
-use Rattle.engine.specs.inside.Lists.{one_if}
+use Rattle.graph.specs.Lists.{one_if}
 use Rattle.engine.specs.inside.Shown.{letter_at}
 
 -- the bit of a position: 1 where it is set, and else 0

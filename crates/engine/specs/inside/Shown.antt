@@ -1,7 +1,7 @@
 -- The letters of all packages by position, as they are kept.
 use Rattle.std.specs.Prelude.{◌==◌, ℕ, Bool, true, false, List, slice_index_or}
 use Rattle.engine.specs.State.{index_of}
-use Rattle.engine.specs.inside.Lists.{one_if}
+use Rattle.graph.specs.Lists.{one_if}
 use Rattle.engine.specs.declared.Counts.{Counts}
 use Rattle.engine.specs.declared.Letter.{Letter}
 use Rattle.engine.specs.declared.Letter.TheVariants.{T, Q, B, I, Ignored}

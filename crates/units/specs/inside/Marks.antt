@@ -1,23 +1,22 @@
 -- Marks of ignored packages, by position.
-use Rattle.std.specs.Prelude.{◌≡◌, ◌<◌, ◌⊎◌, ℕ, Bool, true, false, List, Contains, length, slice_index_or}
+use Rattle.std.specs.Prelude.{◌≡◌, ◌++◌, ◌↔◌, ℕ, Bool, true, List, Contains, filter, length}
+use Rattle.graph.specs.Marks.{has_mark}
 use Rattle.listing.specs.Tree.{Tree, build_at, is_marked_at, run_at}
 use Rattle.units.specs.Ignored.{HoldsTheMarked, IsIgnored}
+use Rattle.units.specs.Units.{positions}
 
--- the marks as a set of positions: nothing past their end is in it
-abbrev pub has_mark : List Bool → ℕ → Bool
-has_mark marks p = slice_index_or marks p false
+-- what the package at a position depends on
+abbrev pub deps_at : Tree → ℕ → List ℕ
+deps_at tree p = build_at tree p ++ run_at tree p
 
--- a dependency of the package is marked
-abbrev pub DependsOnMarked : Tree → List Bool → ℕ → Type 0
-DependsOnMarked tree marks p =
-    (d : ℕ) × (Contains (build_at tree p) d ⊎ Contains (run_at tree p) d)
-    × (has_mark marks d ≡ true)
+-- the packages that the tree itself marks
+abbrev pub marked_of : Tree → List ℕ
+marked_of tree = filter (is_marked_at tree) (positions tree)
 
--- Marks of ignored packages, not yet of all: each of the tree's own marks is among them.
-pub record AreIgnoredSoFar (tree : Tree) (marks : List Bool) : Type 0 where
-  pub each : length marks ≡ length tree
-  pub first : (p : ℕ) → p < length tree → is_marked_at tree p ≡ true → has_mark marks p ≡ true
-  pub ignored : (p : ℕ) → has_mark marks p ≡ true → IsIgnored tree p
+-- so many marks, of which those at these positions are set
+pub record AreMarksOf (len : ℕ) (ps : List ℕ) (marks : List Bool) : Type 0 where
+  pub each : length marks ≡ len
+  pub are : (p : ℕ) → (has_mark marks p ≡ true) ↔ Contains ps p
 
 -- the marks of the ignored packages
 pub record AreIgnored (tree : Tree) (marks : List Bool) : Type 0 where

@@ -1,12 +1,11 @@
 use Rattle.std.proofs.Common.{◌≡◌, false, length}
 use Rattle.listing.specs.Tree.{run_at}
 use Rattle.engine.specs.inside.Lacking.{AreLacks}
-use Rattle.engine.specs.inside.Walks.{IsIdle}
 use Rattle.engine.proofs.first.first_lacks.Given as goal
 
 abbrev pub invariant-loop-position : goal.invariant-loop-position
 invariant-loop-position l = record {
   each : length l.lacks.items ≡ length l.tree;
   are_lacks : AreLacks (run_at l.tree) (λ p. false) l.position l.lacks.items;
-  idle : IsIdle (length l.tree) l.walk;
+  over_all : l.walk.len ≡ length l.tree;
 }

@@ -1,9 +1,8 @@
-use Rattle.std.proofs.Common.{◌≡◌, sym, subst, false, length}
+use Rattle.std.proofs.Common.{◌≡◌, ◌∙◌, ap, sym, subst, false, length}
 use Rattle.listing.specs.Tree.{Tree, run_at}
 use Rattle.engine.specs.inside.Lacking.{AreLacks}
-use Rattle.engine.specs.inside.Lists.{AreReversed, lists_of}
+use Rattle.graph.specs.Lists.{AreReversed}
 use Rattle.engine.specs.inside.Queueing.{needs_of}
-use Rattle.engine.specs.inside.Walks.{IsIdle}
 use Rattle.engine.proofs.Beginning.{AreKept-first}
 use Rattle.engine.proofs.first.first_parts.Goals as goal
 
@@ -16,6 +15,6 @@ returns-clause-kept c =
     let counted = subst (λ (t : Tree). (length lacks ≡ length t) × AreLacks (run_at t) (λ p. false) (length t) lacks) of_tree c.in_ok-counted.ensures.lacks in
     AreKept-first units letters lacks c.in_ok-first.first.0.items c.in_ok-turned.turned.1 c.in_ok-turned.turned.0 c.in_ok-counted.counted.1
     c.in_ok-first.ensures.fitting c.in_ok-first.ensures.none_held c.in_ok-first.ensures.waits counted.0 counted.1
-    (subst (λ (t : Tree). AreReversed (length t) (length t) (run_at t) (lists_of c.in_ok-turned.turned.1)) of_tree c.in_ok-turned.ensures.runs)
-    (subst (λ (t : Tree). AreReversed (length t) (length units.units) (needs_of units) (lists_of c.in_ok-turned.turned.0)) of_tree c.in_ok-turned.ensures.needs)
-    (subst (λ (t : Tree). IsIdle (length t) c.in_ok-counted.counted.1) of_tree c.in_ok-counted.ensures.idle)
+    (subst (λ (t : Tree). AreReversed (length t) (length t) (run_at t) (c.in_ok-turned.turned.1)) of_tree c.in_ok-turned.ensures.runs)
+    (subst (λ (t : Tree). AreReversed (length t) (length units.units) (needs_of units) (c.in_ok-turned.turned.0)) of_tree c.in_ok-turned.ensures.needs)
+    (c.in_ok-counted.ensures.over_all ∙ ap length of_tree)

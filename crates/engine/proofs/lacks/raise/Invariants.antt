@@ -1,5 +1,5 @@
 use Rattle.std.proofs.Common.{◌≡◌, ◌+◌, ◌<◌, ℕ, get_or, length, take}
-use Rattle.engine.specs.inside.Lists.{times}
+use Rattle.graph.specs.Lists.{times}
 use Rattle.engine.proofs.lacks.raise.Given as goal
 
 abbrev pub invariant-loop-position : goal.invariant-loop-position

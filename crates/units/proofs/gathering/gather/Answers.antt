@@ -2,7 +2,7 @@ use Rattle.std.proofs.Common.{◌∙◌, ap, subst, sym}
 use Rattle.listing.specs.Tree.{group_at}
 use Rattle.units.proofs.OneMore.{few_groups, gathered_ignored, gathered_more}
 use Rattle.units.specs.inside.Gathering.{Takes}
-use Rattle.units.specs.inside.Marks.{has_mark}
+use Rattle.graph.specs.Marks.{has_mark}
 use Rattle.units.proofs.gathering.gather.Goals as goal
 use Rattle.units.proofs.gathering.gather.Goals.{then-ignored-position+in_ok-push, else-ignored-position+in_ok-take}
 

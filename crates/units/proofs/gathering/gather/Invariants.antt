@@ -1,5 +1,5 @@
 use Rattle.units.specs.inside.Gathering.{AreGathered}
-use Rattle.units.specs.inside.Marks.{has_mark}
+use Rattle.graph.specs.Marks.{has_mark}
 use Rattle.units.proofs.gathering.gather.Given as goal
 
 abbrev pub invariant-loop-position : goal.invariant-loop-position

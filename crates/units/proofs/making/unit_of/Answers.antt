@@ -1,14 +1,18 @@
-use Rattle.std.proofs.Common.{◌∙◌, ap}
+use Rattle.std.proofs.Common.{◌≡◌, ◌∙◌, arith, length, ap}
+use Rattle.units.specs.Units.{in_order_of_path}
+use Rattle.units.specs.inside.Keeping.{needed_by}
 use Rattle.units.proofs.OneUnit.{alone_kept, kept, several_kept}
 use Rattle.units.proofs.making.unit_of.Goals as goal
 
-pub returns-then-packages-eq1 : goal.returns-then-packages-eq1
-returns-then-packages-eq1 c =
-    ap (λ ps. kept c.args.tree.now ps c.new.result.items) c.in_ok-packages.ensures.items
-    ∙ alone_kept c.args.tree.now c.args.packages.now c.new.result.items c.requires.is_tree c.requires.alike c.if-packages-eq1.true
+pub returns-then-len-eq1 : goal.returns-then-len-eq1
+returns-then-len-eq1 c =
+    let one : length c.args.packages.items ≡ 1 = omega (arith, c.if-len-eq1.true, c.len.ensures, c.args.packages.ok) in
+    alone_kept c.args.tree.now c.args.packages.items c.new.result.items c.requires.is_tree c.requires.alike one
 
 pub returns : goal.returns
 returns c =
-    let packages = c.in_ok-packages-2.ensures in
-    let build = c.in_ok-build.ensures in
-    (λ i. kept c.args.tree.now (packages i) (build i)) ∙ several_kept c.args.tree.now c.args.packages.now c.requires.is_tree c.requires.alike c.if-packages-eq1.false
+    let tree = c.args.tree.now in
+    let packages = c.in_ok-packages.ensures ∙ ap (in_order_of_path tree) c.as_slice-2.ensures.value in
+    let build = c.in_ok-build.ensures ∙ ap (needed_by tree) c.as_slice.ensures.value in
+    (λ i. kept tree (packages i) (build i))
+    ∙ several_kept tree c.args.packages.items c.requires.is_tree c.requires.alike (λ one. c.if-len-eq1.false (omega (arith, one, c.len.ensures, c.args.packages.ok)))

@@ -1,5 +1,7 @@
-use Rattle.std.proofs.Common.{◌∙◌, map, ap, subst, sym, arith}
-use Rattle.std.proofs.lemmas.List.{take_all}
+use Rattle.std.proofs.Common.{◌∙◌, length, map, ap, subst, sym}
+use Rattle.std.proofs.lemmas.Iterator.Adapters.{YieldsList-from_vec}
+use Rattle.std.proofs.lemmas.Iterator.Consumers.{YieldsList-end, YieldsList-turn}
+use Rattle.std.proofs.lemmas.List.{map-id}
 use Rattle.units.proofs.OneUnit.{unit_more}
 use Rattle.units.specs.Units.{unit_from}
 use Rattle.units.specs.inside.Gathering.{lists_of}
@@ -8,17 +10,19 @@ use Rattle.units.proofs.making.units_of.Goals as goal
 
 pub unit_of-requires-clause-alike : goal.unit_of-requires-clause-alike
 unit_of-requires-clause-alike c =
-    subst (AreAlike c.args.tree.now) (sym c.as_slice.ensures.value)
-    (subst (λ v. AreAlike c.args.tree.now v.items) (sym c.positions-item.is) (c.requires.alike c.loop-positions.positions-index c.positions-item.result c.loop-positions-test.true))
+    let gives = c.into_iter-positions-iterator.ensures.into_iter_gives in
+    let all = YieldsList-from_vec {s = c.into_iter-positions-iterator.result} c.args.packages.items gives.0 (gives.1 ∙ c.args.packages.ok.0) in
+    let turn = YieldsList-turn all c.loop-positions.yielded c.loop-positions.positions-iterator c.loop-positions.yielded_by c.next.result c.next.new.self c.in-Some.positions c.in-Some.is c.next.ensures.steps in
+    subst (λ v. AreAlike c.args.tree.now v.items) (sym turn.1) (c.requires.alike (length c.loop-positions.yielded) c.in-Some.positions turn.0)
 
 pub loop-positions-preserved : goal.loop-positions-preserved
 loop-positions-preserved c =
-    let tree = c.args.tree.now in
-    unit_more tree c.loop-positions.units.items c.push.new.self.items c.args.packages.now c.loop-positions.positions-index c.positions-item.result c.in_ok-unit_of.field-0
-    c.loop-positions-test.true c.positions-item.is (c.in_ok-unit_of.ensures ∙ ap (unit_from tree) c.as_slice.ensures.value) c.loop-positions.invariant c.in_ok-push.ensures.items
+    unit_more c.args.tree.now c.loop-positions.units.items c.push.new.self.items c.loop-positions.yielded c.in-Some.positions c.in_ok-unit_of.field-0
+    c.in_ok-unit_of.ensures c.loop-positions.invariant c.in_ok-push.ensures.items
 
 pub returns : goal.returns
 returns c =
-    let vs = c.args.packages.now in
-    c.loop-positions.invariant
-    ∙ ap (λ ws. map (unit_from c.args.tree.now) (lists_of ws)) (take_all c.loop-positions.positions-index vs (omega (arith, c.loop-positions-test.false)))
+    let gives = c.into_iter-positions-iterator.ensures.into_iter_gives in
+    let all = YieldsList-from_vec {s = c.into_iter-positions-iterator.result} c.args.packages.items gives.0 (gives.1 ∙ c.args.packages.ok.0) in
+    let end = YieldsList-end all c.loop-positions.yielded c.loop-positions.positions-iterator c.loop-positions.yielded_by c.next.result c.next.new.self c.in-None.is c.next.ensures.steps in
+    c.loop-positions.invariant ∙ ap (λ vs. map (unit_from c.args.tree.now) (lists_of vs)) (sym (map-id c.loop-positions.yielded) ∙ end.0)

@@ -4,11 +4,10 @@ use Rattle.listing.specs.Tree.{run_at}
 use Rattle.engine.specs.State.{HasLetter, State}
 use Rattle.engine.specs.declared.Letter.TheVariants.{Ignored}
 use Rattle.engine.specs.inside.Keeping.{holds}
-use Rattle.engine.specs.inside.Lists.{lists_of}
 use Rattle.engine.specs.inside.Shown.{is_held}
 use Rattle.engine.proofs.Agreeing.{AreKept-agreed, AreQueueing-built, agreed_again, agreed_more, some_lacking}
 use Rattle.engine.proofs.Reading.{other_than_ignored}
-use Rattle.engine.proofs.Waiting.{named_within}
+use Rattle.graph.proofs.Turned.{named_within}
 use Rattle.engine.proofs.engine.Engine.agree.Goals as goal
 
 pub returns-then-is_held : goal.returns-then-is_held
@@ -19,13 +18,13 @@ pub reach-requires-clause-listed : goal.reach-requires-clause-listed
 reach-requires-clause-listed c =
     let tree = c.self.inside.units.tree in
     let turned = c.self.invariant.runs_turned in
-    λ p k d inside. omega (arith, turned.each, named_within (length tree) (length tree) (run_at tree) (lists_of c.self.inside.runs) p turned k d inside)
+    λ p k d inside. omega (arith, turned.each, named_within (length tree) (length tree) (run_at tree) c.self.inside.runs p turned k d inside)
 
 pub lower-requires-clause-some : goal.lower-requires-clause-some
 lower-requires-clause-some c =
     let within = subst (λ (s : State). c.args.position < length s.tree) (sym c.self.view_is) c.requires.listed in
     let not_held : holds c.self.inside.letters c.args.position ≡ false = ap is_held (sym c.at.ensures) ∙ sym c.is_held.ensures ∙ c.if-is_held.false in
-    rw (c.as_mut_slice.ensures.value, c.found.ensures) (some_lacking c.self.invariant c.args.position within not_held c.reach.new.self.found.items c.reach.ensures.reached)
+    rw (c.as_mut_slice.ensures.value, c.found.ensures) (some_lacking c.self.invariant c.args.position within not_held c.reach.new.self.found c.reach.ensures.reached)
 
 pub install_all-requires-clause-queueing : goal.install_all-requires-clause-queueing
 install_all-requires-clause-queueing c =
@@ -48,9 +47,9 @@ invariant_of-self c =
     take_at fewer (drop (length fewer) waits.items) waits.len (omega (arith, c.install_all.auto.waits, ap length c.as_mut_slice-2.ensures.value, waits.ok)) in
     let lowered = rw (c.as_mut_slice.ensures.value, c.found.ensures) at c.lower.ensures in
     let installed = rw (c.set.ensures, c.as_slice.ensures.value ∙ lacks_now, c.found-2.ensures) at c.install_all.ensures in
-    rw (lacks_now, waits_now) (AreKept-agreed c.self.invariant c.args.position within not_held c.install_all.new.letters less fewer c.reach.new.self.found.items c.reach.new.self
+    rw (lacks_now, waits_now) (AreKept-agreed c.self.invariant c.args.position within not_held c.install_all.new.letters less fewer c.reach.new.self.found c.reach.new.self
     c.reach.ensures.reached each lowered installed.held installed.queueing installed.built installed.installed installed.all
-    (rw c.self.invariant.runs_turned.each at c.reach.ensures.idle))
+    (c.reach.ensures.each ∙ c.self.invariant.over_all))
 
 pub returns : goal.returns
 returns c =

@@ -1,7 +1,7 @@
 use Rattle.std.proofs.Common.{◌≡◌, ◌<◌, ◌∙◌, List, ap, arith, length, subst, sym}
 use Rattle.engine.specs.declared.Letter.{Letter}
 use Rattle.std.proofs.lemmas.List.{length-set}
-use Rattle.engine.specs.inside.Lists.{one_if}
+use Rattle.graph.specs.Lists.{one_if}
 use Rattle.engine.specs.inside.Row.{is_queued}
 use Rattle.engine.proofs.Bits.{HasQueued-set, not_queued}
 use Rattle.engine.proofs.Shown.{counts-set}

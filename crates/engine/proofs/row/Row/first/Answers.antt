@@ -1,6 +1,6 @@
 use Rattle.std.proofs.Common.{◌∙◌, ◌≡◌, ◌<◌, ◌^◌, arith, get_or}
 use Rattle.engine.proofs.Bits.{first-before, first-set}
-use Rattle.engine.proofs.Lists.{get_or-same}
+use Rattle.graph.proofs.Lists.{get_or-same}
 use Rattle.engine.proofs.row.Row.first.Goals as goal
 
 pub returns-then-word-ne0 : goal.returns-then-word-ne0

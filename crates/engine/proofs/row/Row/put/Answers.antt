@@ -1,9 +1,9 @@
 use Rattle.std.proofs.Common.{◌∙◌, ◌/◌, ◌%◌, ap, sym, w64, arith}
 use Rattle.std.specs.Int.{bit_at}
 use Rattle.std.proofs.lemmas.Nat.Bits.{bit_at_clear_other, bit_at_clear_same, bit_at_set_other, bit_at_set_same}
-use Rattle.engine.specs.inside.Lists.{one_if}
+use Rattle.graph.specs.Lists.{one_if}
 use Rattle.engine.proofs.Bits.{bit-other, bit-put}
-use Rattle.engine.proofs.Lists.{get_or-same}
+use Rattle.graph.proofs.Lists.{get_or-same}
 use Rattle.engine.proofs.row.Row.put.Goals as goal
 
 pub returns-then-bit-clause-here : goal.returns-then-bit-clause-here

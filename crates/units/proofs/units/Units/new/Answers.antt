@@ -1,24 +1,20 @@
-use Rattle.std.proofs.Common.{◌∙◌, map, ap, subst, sym}
-use Rattle.std.specs.Prelude.{All}
+use Rattle.std.proofs.Common.{subst, sym}
 use Rattle.units.proofs.Kept.{gathered_alike, kept_whole}
-use Rattle.units.specs.Units.{unit_from}
-use Rattle.units.specs.inside.Gathering.{lists_of}
 use Rattle.units.specs.declared.units.Parts.{Parts}
 use Rattle.units.specs.Division.{IsDivision}
-use Rattle.units.specs.inside.Keeping.{AreAlike, AreGroups, AreNumbers, division_made}
-use Rattle.units.specs.inside.Marks.{AreIgnored, has_mark}
+use Rattle.units.specs.inside.Keeping.{AreGroups, AreNumbers, division_made}
+use Rattle.graph.specs.Marks.{has_mark}
+use Rattle.units.specs.inside.Marks.{AreIgnored}
 use Rattle.units.proofs.units.Units.new.Goals as goal
 
 pub units_of-requires-clause-alike : goal.units_of-requires-clause-alike
 units_of-requires-clause-alike c =
     let tree = c.args.tree.now in
-    subst (λ vs. All (λ v. AreAlike tree v.items) vs) (sym c.as_slice-2.ensures.value)
-    (gathered_alike tree (has_mark c.as_slice.result.now) c.in_ok-groups.field-0.packages.items c.in_ok-groups.ensures.gathered.packages)
+    gathered_alike tree (has_mark c.as_slice.result.now) c.in_ok-groups.field-0.packages.items c.in_ok-groups.ensures.gathered.packages
 
 pub invariant_of-result : goal.invariant_of-result
 invariant_of-result c =
     let tree = c.args.tree.now in
     subst (λ (p : Parts). let d = division_made tree p.units.items in IsDivision d × AreNumbers d p.numbers.items × AreGroups d p.groups.keys) (sym c.in_ok-parts.ensures.ok)
     (kept_whole tree c.as_slice.result.now c.in_ok-groups.field-0 c.in_ok-units.units.items c.in_ok-groups.ensures.tree
-    (subst (AreIgnored tree) (sym c.as_slice.ensures.value) c.in_ok-ignored.ensures) c.in_ok-groups.ensures.gathered
-    (c.in_ok-units.ensures ∙ ap (λ vs. map (unit_from tree) (lists_of vs)) c.as_slice-2.ensures.value))
+    (subst (AreIgnored tree) (sym c.as_slice.ensures.value) c.in_ok-ignored.ensures) c.in_ok-groups.ensures.gathered c.in_ok-units.ensures)

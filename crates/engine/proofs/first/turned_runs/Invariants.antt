@@ -1,7 +1,0 @@
-use Rattle.std.proofs.Common.{length}
-use Rattle.listing.specs.Tree.{run_at}
-use Rattle.engine.specs.inside.Lists.{AreReversed, lists_of}
-use Rattle.engine.proofs.first.turned_runs.Given as goal
-
-abbrev pub invariant-loop-position : goal.invariant-loop-position
-invariant-loop-position l = AreReversed (length l.tree) l.position (run_at l.tree) (lists_of l.runs)

@@ -1,0 +1,78 @@
+//! At each package what needs it: the lists of a tree and its units, turned around.
+ghost use Rattle.std.specs.Prelude.{◌≡◌, IfOk, length};
+ghost use Rattle.graph.specs.Lists.{AreReversed};
+ghost use Rattle.listing.specs.Tree.{run_at};
+ghost use Rattle.engine.specs.inside.Queueing.{needs_of};
+
+use faults::Memory;
+use graph::{Reversed, Room};
+use listing::Tree;
+use std::alloc::Global;
+use units::Units;
+
+/// At each package the units whose build needs it, and the packages that need it to run.
+pub(crate) fn turned_lists(
+    alloc: Global,
+    tree: &Tree,
+    units: &Units<'_>,
+) -> Result<(Reversed, Reversed), Memory>
+    requires { units.now.tree ≡ tree.now }
+    ensures needs { IfOk result (λ lists.
+        AreReversed (length tree.now) (length units.now.units) (needs_of units.now) lists.0) }
+    ensures runs { IfOk result (λ lists.
+        AreReversed (length tree.now) (length tree.now) (run_at tree.now) lists.1) }
+{
+    let needs = turned_needs(alloc, tree, units)?;
+    let runs = turned_runs(alloc, tree)?;
+    Ok((needs, runs))
+}
+
+/// At each package those that need it to run.
+fn turned_runs(alloc: Global, tree: &Tree) -> Result<Reversed, Memory>
+    ensures { IfOk result (λ runs.
+        AreReversed (length tree.now) (length tree.now) (run_at tree.now) runs) }
+{
+    let room = room_for_runs(alloc, tree)?;
+    let mut runs = Reversed::with_room(alloc, &room)?;
+    for position in 0..tree.len() {
+        runs.add(position, tree.run_deps(position))?;
+    }
+    Ok(runs)
+}
+
+/// For each package how many need it to run.
+fn room_for_runs(alloc: Global, tree: &Tree) -> Result<Room, Memory>
+    ensures { IfOk result (λ room. room ≡ length tree.now) }
+{
+    let mut room = Room::new(alloc, tree.len())?;
+    for position in 0..tree.len() {
+        room.count(tree.run_deps(position));
+    }
+    Ok(room)
+}
+
+/// At each package the units whose build needs it.
+fn turned_needs(alloc: Global, tree: &Tree, units: &Units<'_>) -> Result<Reversed, Memory>
+    requires { units.now.tree ≡ tree.now }
+    ensures { IfOk result (λ needs.
+        AreReversed (length tree.now) (length units.now.units) (needs_of units.now) needs) }
+{
+    let room = room_for_needs(alloc, tree, units)?;
+    let mut needs = Reversed::with_room(alloc, &room)?;
+    for unit in 0..units.len() {
+        needs.add(unit, units.build_deps(unit))?;
+    }
+    Ok(needs)
+}
+
+/// For each package how many units need it to be built.
+fn room_for_needs(alloc: Global, tree: &Tree, units: &Units<'_>) -> Result<Room, Memory>
+    requires { units.now.tree ≡ tree.now }
+    ensures { IfOk result (λ room. room ≡ length tree.now) }
+{
+    let mut room = Room::new(alloc, tree.len())?;
+    for unit in 0..units.len() {
+        room.count(units.build_deps(unit));
+    }
+    Ok(room)
+}

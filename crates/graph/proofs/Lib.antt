@@ -1,0 +1,4 @@
+pub mod Lists
+pub mod Marked
+pub mod Turned
+pub mod Walks

@@ -1,0 +1,5 @@
+pub mod Lists
+pub mod Marks
+pub mod Reach
+pub mod Walked
+pub mod inside

@@ -1,0 +1,21 @@
+-- Lists of positions, one for each position.
+use Rattle.std.specs.Prelude.{◌≡◌, ◌<◌, ◌≤◌, ℕ, Bool, cond, List, [], count_by, length, nat_eq, slice_index_or}
+
+-- one where the test passes
+abbrev pub one_if : Bool → ℕ
+one_if b = cond b 1 0
+
+-- how often the position stands in the list
+abbrev pub times : ℕ → List ℕ → ℕ
+times p ps = count_by (λ q. nat_eq q p) ps
+
+-- the list at a position
+abbrev pub list_at : List (List ℕ) → ℕ → List ℕ
+list_at lists p = slice_index_or lists p []
+
+-- Of the lists of the positions below m, these name at each of n positions those whose list has it,
+-- as often.
+pub record AreReversed (n m : ℕ) (next : ℕ → List ℕ) (lists : List (List ℕ)) : Type 0 where
+  pub each : length lists ≡ n
+  pub named : (d x : ℕ) → d < n → x < m → times x (list_at lists d) ≡ times d (next x)
+  pub no_more : (d x : ℕ) → m ≤ x → times x (list_at lists d) ≡ 0
