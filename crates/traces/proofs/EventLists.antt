@@ -1,15 +1,15 @@
 -- Events that are read item by item.
-use Rattle.std.proofs.Common.{◌≡◌, ℕ, ◌+◌, ◌-◌, ◌<◌, ◌≤◌, List, [], ◌∷◌, ◌++◌, length, map, Option, None, Some, Result, Ok, Err, refl, sym, ap, ◌∙◌, append-nil}
+use Rattle.std.proofs.Common.{◌≡◌, ℕ, ◌-◌, ◌<◌, ◌≤◌, List, length, map, Option, None, Some, Result, Ok, refl, ap, ◌∙◌, append-nil}
 use Rattle.events.specs.Events.{Event, event_view}
 use Rattle.json.specs.Token.{Token}
 use Rattle.json.specs.Json as json
 use Rattle.json.specs.Json.{Parse, after_end_array, items, parse_map}
 use Rattle.serde_json.specs.Data.{Data, Items, item, no_items}
 use Rattle.serde_json.specs.Read.{converted, of_items, of_json}
-use Rattle.traces.specs.Trace.{Place, events_from}
+use Rattle.traces.specs.Trace.{Place}
 use Rattle.traces.specs.declared.listed.Listed.{Listed}
 use Rattle.traces.specs.declared.listed.Listed.TheVariants.{Events, BadAt}
-use Rattle.traces.specs.inside.Listing.{answer, answer_behind, events_behind}
+use Rattle.traces.specs.inside.Listing.{answer, answer_behind}
 use Rattle.traces.proofs.Turns.{item_read, items_over}
 
 -- no items are to come

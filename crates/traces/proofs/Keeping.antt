@@ -1,5 +1,5 @@
 -- What is kept of members is found as in the members themselves, the events' items aside.
-use Rattle.std.proofs.Common.{◌≡◌, ◌<◌, ℕ, suc, List, length, subst, Option, Some, None, option_map, Bool, true, false, cond, codes, Ordering, Less, Equal, Greater, nat_cmp, is_eq, bytes_eq, true≢false, refl, sym, ap, ◌∙◌}
+use Rattle.std.proofs.Common.{◌≡◌, ◌<◌, ℕ, suc, List, length, subst, Option, Some, option_map, true, false, codes, Ordering, Less, Equal, Greater, nat_cmp, is_eq, bytes_eq, true≢false, refl, sym, ap, ◌∙◌}
 use Rattle.std.proofs.lemmas.Map.Text.{is_eq-slice_cmp}
 use Rattle.std.proofs.lemmas.Slice.Eq.{bytes_eq-Decides}
 use Rattle.std.specs.Cmp.Lexicographic.{slice_cmp}
@@ -13,7 +13,7 @@ use Rattle.serde_json.proofs.Views.{get_member-put, get_member-put_other}
 use Rattle.traces.specs.Fields.{◌>>=◌}
 use Rattle.traces.specs.declared.listed.Listed.{Listed}
 use Rattle.serde_json.specs.Find.{as_array, get_member}
-use Rattle.traces.specs.inside.Kept.{Keeps, KeepsEvents, Lists, hollow, items_of, kept, kept_at, value_read}
+use Rattle.traces.specs.inside.Kept.{Keeps, KeepsEvents, Lists, items_of, kept, kept_at, value_read}
 
 -- keys that compare as equal are one
 same_key : (k l : List ℕ) → slice_cmp nat_cmp k l ≡ Equal → k ≡ l
@@ -21,7 +21,7 @@ same_key k l is = (bytes_eq-Decides k l).0 (sym (is_eq-slice_cmp k l) ∙ ap is_
 
 kept_put_at : (o : Ordering) (k l : List ℕ) (d e : Data) (ms : Members) → slice_cmp nat_cmp k l ≡ o → kept (put k d ms) ≡ put k (kept_at k d) (kept ms)
     → kept (match_ordering o (member k d (member l e ms)) (member l d ms) (member l e (put k d ms)))
-      ≡ match_ordering o (member k (kept_at k d) (member l (kept_at l e) (kept ms))) (member l (kept_at k d) (kept ms)) (member l (kept_at l e) (put k (kept_at k d) (kept ms)))
+    ≡ match_ordering o (member k (kept_at k d) (member l (kept_at l e) (kept ms))) (member l (kept_at k d) (kept ms)) (member l (kept_at l e) (put k (kept_at k d) (kept ms)))
 kept_put_at Less k l d e ms is later = refl
 kept_put_at Equal k l d e ms is later = ap (λ q. member l (kept_at q d) (kept ms)) (sym (same_key k l is))
 kept_put_at Greater k l d e ms is later = ap (member l (kept_at l e)) later

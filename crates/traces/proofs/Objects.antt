@@ -1,14 +1,14 @@
 -- Values by the token that they begin with, and an object that is the whole of the tokens.
-use Rattle.std.proofs.Common.{◌≡◌, ◌<◌, ℕ, List, [], ◌∷◌, length, Bool, true, false, true≢false, Option, Some, None, option_and_then, option_map, refl, sym, ap, ◌∙◌, arith, rules}
+use Rattle.std.proofs.Common.{◌≡◌, ℕ, List, [], ◌∷◌, length, Bool, false, true≢false, Option, Some, None, option_and_then, option_map, refl, ap, ◌∙◌, arith, rules}
 use Rattle.std.specs.Prelude.{IsSome}
 use Rattle.json.specs.Token.{Token}
 use Rattle.json.specs.Token as token
 use Rattle.json.specs.Json as json
 use Rattle.json.specs.Json.{if_last, items, members, parse_map, value, value_with, Parse}
 use Rattle.json.proofs.Grammar.{value_is, value-begin_array, value-begin_object}
-use Rattle.serde_json.specs.Data.{Data, Items, Num, Members, array, boolean, null, number, object, string, no_members}
-use Rattle.serde_json.specs.Find.{as_array, as_object}
-use Rattle.serde_json.specs.Read.{converted, max_depth, number_of, of_json, of_items, of_members}
+use Rattle.serde_json.specs.Data.{Data, Items, Num, Members, array, boolean, null, number, object, string}
+use Rattle.serde_json.specs.Find.{as_object}
+use Rattle.serde_json.specs.Read.{converted, max_depth, number_of, of_json, of_items}
 use Rattle.traces.specs.Trace.{equals_in, outer_in}
 use Rattle.traces.specs.inside.Kept.{PassesMembers, PassesNoArray, items_read, members_read, opens_object, outer_of, value_read, whole_read}
 use Rattle.traces.proofs.Turns.{converted-array, converted-object, converted_some, refused}

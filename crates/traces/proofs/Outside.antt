@@ -1,12 +1,12 @@
 -- What stands outside the events, by what is kept of the members.
-use Rattle.std.proofs.Common.{◌≡◌, ℕ, List, Option, None, Some, Ok, Err, Bool, true, false, option_map, codes, refl, sym, ap, ◌∙◌, ◌==◌, is_some}
+use Rattle.std.proofs.Common.{◌≡◌, ℕ, List, Option, None, Some, Bool, true, false, option_map, codes, refl, sym, ap, ◌∙◌, ◌==◌, is_some}
 use Rattle.std.specs.Prelude.{if◌then◌else◌}
 use Rattle.faults.specs.Answers.{map_ok}
-use Rattle.serde_json.specs.Data.{Data, Items, Members, array, no_items, object}
+use Rattle.serde_json.specs.Data.{Data, Items, Members, no_items, object}
 use Rattle.serde_json.specs.Events.{members_len}
 use Rattle.serde_json.specs.Find.{as_array, get_member}
 use Rattle.traces.specs.Fields.{◌>>=◌, all_of, number_of}
-use Rattle.traces.specs.Trace.{equals_in, events_from, ones_of, outer_in, table_of, trace_from, trace_with, weighted_in}
+use Rattle.traces.specs.Trace.{equals_in, ones_of, outer_in, table_of, trace_from, trace_with, weighted_in}
 use Rattle.traces.specs.declared.listed.Listed.{Listed}
 use Rattle.traces.specs.inside.Kept.{Lists, hollow, hollow_of, items_of, kept, weights_in}
 use Rattle.traces.specs.inside.Listing.{answer}

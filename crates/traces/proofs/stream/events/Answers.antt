@@ -1,10 +1,10 @@
-use Rattle.std.proofs.Common.{◌≡◌, ◌∙◌, ◌∷◌, None, Some, sym, ap, arith, rules, subst, refl}
+use Rattle.std.proofs.Common.{◌≡◌, ◌∙◌, ◌∷◌, None, ap, arith, rules}
 use Rattle.json.specs.Json.{parse_map, value}
 use Rattle.json.specs.Token.{begin_array}
 use Rattle.json.proofs.Grammar.{value_is}
 use Rattle.serde_json.specs.Data.{array}
 use Rattle.serde_json.specs.Read.{converted, of_json}
-use Rattle.serde_json.specs.View.{items_view, view}
+use Rattle.serde_json.specs.View.{items_view}
 use Rattle.serde_json.proofs.Views.{view-Array}
 use Rattle.traces.specs.inside.Given.{Fails}
 use Rattle.traces.specs.inside.Kept.{items_read, value_read}

@@ -1,9 +1,8 @@
-use Rattle.std.proofs.Common.{◌≡◌, ◌∙◌, ◌∷◌, [], List, None, Some, Option, true, false, is_some, sym, ap, arith, rules, subst}
+use Rattle.std.proofs.Common.{◌≡◌, ◌∙◌, ◌∷◌, [], List, None, Some, Option, true, false, is_some, sym, ap, arith, rules}
 use Rattle.json.specs.Reads.{Yields, token_of}
 use Rattle.json.specs.Token.{Token, begin_object}
 use Rattle.json.specs.declared.token.Token.{Token as TokenRead}
 use Rattle.serde_json.specs.Data.{object}
-use Rattle.serde_json.specs.View.{members_view, view}
 use Rattle.serde_json.proofs.Views.{view-Object}
 use Rattle.traces.specs.inside.Given.{Fails}
 use Rattle.traces.specs.inside.Kept.{members_read, outer_of, whole_read}

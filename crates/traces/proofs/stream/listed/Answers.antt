@@ -1,7 +1,6 @@
 use Rattle.std.proofs.Common.{◌≡◌, ◌-◌, ◌<◌, length, None, Some, ap, ◌∙◌, arith, rules}
-use Rattle.json.specs.Json.{after_end_array, items, parse_map, value}
+use Rattle.json.specs.Json.{after_end_array, parse_map, value}
 use Rattle.json.proofs.Grammar.{after_end_array-shorter}
-use Rattle.serde_json.specs.Read.{converted, of_items}
 use Rattle.traces.specs.Trace.{events_from}
 use Rattle.traces.specs.inside.Given.{Fails}
 use Rattle.traces.specs.inside.Kept.{items_read, value_read}

@@ -1,4 +1,4 @@
-use Rattle.std.proofs.Common.{◌≡◌, ◌∙◌, sym, bytes_eq, codes, true, false, rules}
+use Rattle.std.proofs.Common.{◌≡◌, ◌∙◌, sym, bytes_eq, codes, true, false}
 use Rattle.std.proofs.lemmas.Result.{IfOk-weaker}
 use Rattle.traces.proofs.Keeping.{keeps_events, keeps_other}
 use Rattle.traces.proofs.stream.member.Goals as goal

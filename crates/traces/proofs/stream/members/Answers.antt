@@ -1,11 +1,11 @@
-use Rattle.std.proofs.Common.{◌≡◌, ◌-◌, ◌<◌, length, None, Some, string_bytes, sym, ap, ◌∙◌, arith, rules, refl}
-use Rattle.json.specs.Json.{members, read_key, value}
+use Rattle.std.proofs.Common.{◌≡◌, ◌-◌, length, None, Some, string_bytes, sym, ap, ◌∙◌, arith, rules, refl}
+use Rattle.json.specs.Json.{read_key, value}
 use Rattle.json.proofs.Grammar.{read_key-shorter}
 use Rattle.serde_json.specs.Data.{no_members, put}
 use Rattle.serde_json.specs.View.{members_view, view}
 use Rattle.serde_json.proofs.Views.{members_view-insert_entry}
 use Rattle.traces.specs.inside.Given.{Fails}
-use Rattle.traces.specs.inside.Kept.{kept, kept_at, members_read, value_read}
+use Rattle.traces.specs.inside.Kept.{members_read, value_read}
 use Rattle.traces.proofs.Given.{fails_along}
 use Rattle.traces.proofs.Keeping.{kept_put}
 use Rattle.traces.proofs.Turns.{key_refused, member_read, member_refused, members_over}

@@ -1,8 +1,7 @@
-use Rattle.std.proofs.Common.{◌≡◌, ◌∙◌, Option, None, sym, ap, subst, IsUtf8}
+use Rattle.std.proofs.Common.{◌∙◌, Option, sym, ap, subst}
 use Rattle.std.proofs.lemmas.Result.{IfOk-weaker, IfErr-weaker}
 use Rattle.serde_json.specs.Data.{Data}
 use Rattle.serde_json.specs.Read.{read}
-use Rattle.traces.specs.Trace.{value_of}
 use Rattle.traces.specs.inside.Given.{Fails}
 use Rattle.traces.specs.inside.Kept.{KeepsWhole, outer_of}
 use Rattle.traces.proofs.Values.{no_value, utf8_read}

@@ -6,7 +6,6 @@ use Rattle.json.specs.Token as spec
 use Rattle.json.specs.declared.token.Token.{Token}
 use Rattle.json.specs.declared.token.Token.TheVariants as variants
 use Rattle.serde_json.specs.Data.{number, object}
-use Rattle.serde_json.specs.Read.{number_of}
 use Rattle.std.specs.Prelude.{option_map}
 use Rattle.traces.specs.inside.Given.{Fails}
 use Rattle.traces.specs.inside.Kept.{PassesNoArray, value_read}
@@ -18,8 +17,8 @@ passes_plain : (t : Token) (ts : List spec.Token) → ((s : Bor (List ℕ)) × (
 passes_plain t ts is =
     let P = λ (u : Token). PassesNoArray (token_of u ∷ ts) ts in
     elim is [
-      inl text ↦ subst P (sym text.1) (passes_string text.0.now ts)
-    | inr more ↦ elim more [ inl b ↦ subst P (sym b.1) (passes_boolean b.0 ts) | inr null ↦ subst P (sym null) (passes_null ts) ]
+      | inl text ↦ subst P (sym text.1) (passes_string text.0.now ts)
+      | inr more ↦ elim more [ inl b ↦ subst P (sym b.1) (passes_boolean b.0 ts) | inr null ↦ subst P (sym null) (passes_null ts) ]
     ]
 
 none_other : (t : Token) (ts : List spec.Token) → (t ≡ variants.BeginArray → ⊥) → (t ≡ variants.BeginObject → ⊥) → ((s : Bor (List ℕ)) → t ≡ variants.String s → ⊥) → ((s : Bor (List ℕ)) → t ≡ variants.Number s → ⊥)

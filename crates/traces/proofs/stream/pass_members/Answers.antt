@@ -1,8 +1,7 @@
-use Rattle.std.proofs.Common.{◌≡◌, ◌-◌, ◌<◌, length, None, Some, ap, ◌∙◌, arith, rules, refl}
-use Rattle.json.specs.Json.{members, read_key, value}
+use Rattle.std.proofs.Common.{◌≡◌, ◌-◌, length, None, Some, ◌∙◌, arith, rules, refl}
+use Rattle.json.specs.Json.{read_key, value}
 use Rattle.json.proofs.Grammar.{read_key-shorter}
 use Rattle.serde_json.specs.Data.{no_members, put}
-use Rattle.serde_json.specs.Read.{converted, of_members}
 use Rattle.traces.specs.inside.Given.{Fails}
 use Rattle.traces.specs.inside.Kept.{members_read, value_read}
 use Rattle.traces.proofs.Given.{fails_along}
