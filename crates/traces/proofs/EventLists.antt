@@ -1,40 +1,49 @@
 -- Events that are read item by item.
-use Rattle.std.proofs.Common.{◌≡◌, ℕ, ◌+◌, ◌<◌, ◌≤◌, List, [], ◌∷◌, ◌++◌, length, get_or, drop, None, Some, Result, Ok, Err, refl, sym, ap, ◌∙◌, append_assoc, append-nil}
-use Rattle.std.proofs.lemmas.List.{drop_all, drop_more}
-use Rattle.events.specs.Events.{Event}
-use Rattle.faults.specs.Answers.{map_ok}
-use Rattle.serde_json.specs.View.{items_view, view}
-use Rattle.serde_json.specs.declared.value.Value.{Value}
-use Rattle.traces.specs.Events.{event_in}
-use Rattle.traces.specs.Trace.{Place, events_from, with_event}
+use Rattle.std.proofs.Common.{◌≡◌, ℕ, ◌-◌, ◌<◌, ◌≤◌, List, length, map, Option, None, Some, Result, Ok, refl, ap, ◌∙◌, append-nil}
+use Rattle.events.specs.Events.{Event, event_view}
+use Rattle.json.specs.Token.{Token}
+use Rattle.json.specs.Json as json
+use Rattle.json.specs.Json.{Parse, after_end_array, items, parse_map}
+use Rattle.serde_json.specs.Data.{Data, Items, item, no_items}
+use Rattle.serde_json.specs.Read.{converted, of_items, of_json}
+use Rattle.traces.specs.Trace.{Place}
+use Rattle.traces.specs.declared.listed.Listed.{Listed}
+use Rattle.traces.specs.declared.listed.Listed.TheVariants.{Events, BadAt}
+use Rattle.traces.specs.inside.Listing.{answer, answer_behind}
+use Rattle.traces.proofs.Turns.{item_read, items_over}
 
--- these, and those behind them
-abbrev pub events_behind : List Event → Result (List Event) Place → Result (List Event) Place
-events_behind done rest = map_ok (λ es. done ++ es) rest
+-- no items are to come
+pub answer_over : (listed : Listed) → answer_behind listed no_items ≡ answer listed
+answer_over (Events events) = ap Ok (append-nil (map event_view events.items))
+answer_over (BadAt place) = refl
 
-behind_more : (done : List Event) (e : Event) (place : Place) (rest : Result (List Event) Place) → events_behind done (with_event place (Some e) rest) ≡ events_behind (done ++ e ∷ []) rest
-behind_more done e place (Ok es) = ap Ok (sym (append_assoc done (e ∷ []) es))
-behind_more done e place (Err p) = refl
+twice : {A B C : Type 0} (f : B → C) (g : A → B) (h : A → C) → ((a : A) → f (g a) ≡ h a) → (o : Option (A × List Token)) → parse_map f (parse_map g o) ≡ parse_map h o
+twice f g h same None = refl
+twice f g h same (Some p) = ap (λ c. Some (c, p.1)) (same p.0)
 
-module _ (vs : List Value) where
-  -- the events of the items from the place on
-  abbrev pub rest_events : ℕ → Result (List Event) Place
-  rest_events i = events_from i (items_view (drop i vs))
+abbrev pick : {A : Type 0} → A → Option A → A
+pick d None = d
+pick d (Some a) = a
 
-  at_place : (i : ℕ) (v : Value) → i < length vs → v ≡ get_or vs i v → rest_events i ≡ with_event (i + 1) (event_in (view v)) (rest_events (i + 1))
-  at_place i v lt is = ap (λ ws. events_from i (items_view ws)) (drop_more vs i v lt) ∙ ap (λ w. with_event (i + 1) (event_in (view w)) (rest_events (i + 1))) (sym is)
+-- what was read under a function
+pub read_under : {A B : Type 0} (f : A → B) (o : Option (A × List Token)) (b : B) (r : List Token) → parse_map f o ≡ Some (b, r) → (a : A) × (o ≡ Some (a, r)) × (f a ≡ b)
+read_under f None b r e = absurd (cc)
+read_under f (Some p) b r e = let same = ap (pick (f p.0, p.1)) e in (p.0, ap (λ q. Some (p.0, q.1)) same, ap (λ q. q.0) same)
 
-  -- one event more
-  pub events_more : (all : Result (List Event) Place) (done : List Event) (i : ℕ) (v : Value) (x : Event) → i < length vs → v ≡ get_or vs i v → event_in (view v) ≡ Some x
-      → all ≡ events_behind done (rest_events i) → all ≡ events_behind (done ++ x ∷ []) (rest_events (i + 1))
-  events_more all done i v x lt is reads e =
-      e ∙ ap (events_behind done) (at_place i v lt is ∙ ap (λ o. with_event (i + 1) o (rest_events (i + 1))) reads) ∙ behind_more done x (i + 1) (rest_events (i + 1))
+pub none_under : {A B : Type 0} (f : A → B) (o : Option (A × List Token)) → parse_map f o ≡ None → o ≡ None
+none_under f None e = refl
+none_under f (Some p) e = absurd (cc)
 
-  -- an item that is no event
-  pub events_bad : (all : Result (List Event) Place) (done : List Event) (i : ℕ) (v : Value) → i < length vs → v ≡ get_or vs i v → event_in (view v) ≡ None
-      → all ≡ events_behind done (rest_events i) → all ≡ Err (i + 1)
-  events_bad all done i v lt is bad e = e ∙ ap (events_behind done) (at_place i v lt is ∙ ap (λ o. with_event (i + 1) o (rest_events (i + 1))) bad)
+module _ (p : Parse json.Json) (all : Option (Result (List Event) Place × List Token)) where
+  -- an item more
+  pub listing_more : (n : ℕ) (ts r : List Token) (d : Data) (before after : Listed) → 0 < n → after_end_array ts ≡ None → converted of_json (p ts) ≡ Some (d, r)
+      → ((rest : Items) → answer_behind before (item d rest) ≡ answer_behind after rest)
+      → all ≡ parse_map (answer_behind before) (converted of_items (items p n ts)) → all ≡ parse_map (answer_behind after) (converted of_items (items p (n - 1) r))
+  listing_more n ts r d before after some going reads lists e =
+      e ∙ ap (parse_map (answer_behind before)) (item_read p n ts r d some going reads) ∙ twice (answer_behind before) (item d) (answer_behind after) lists (converted of_items (items p (n - 1) r))
 
-  -- no item is left
-  pub events_done : (all : Result (List Event) Place) (done : List Event) (i : ℕ) → length vs ≤ i → all ≡ events_behind done (rest_events i) → all ≡ Ok done
-  events_done all done i le e = e ∙ ap (λ ws. events_behind done (events_from i (items_view ws))) (drop_all i vs le) ∙ ap Ok (append-nil done)
+  -- the end of the array
+  pub listing_over : (n : ℕ) (ts r : List Token) (listed : Listed) → length ts ≤ n → after_end_array ts ≡ Some r
+      → all ≡ parse_map (answer_behind listed) (converted of_items (items p n ts)) → all ≡ Some (answer listed, r)
+  listing_over n ts r listed enough closes e =
+      e ∙ ap (parse_map (answer_behind listed)) (items_over p n ts r enough closes) ∙ ap (λ a. Some (a, r)) (answer_over listed)

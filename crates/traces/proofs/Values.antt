@@ -17,3 +17,7 @@ none_read text false is refused = refl
 
 pub no_value : (text : Text) → (IsUtf8 text → read text ≡ None) → value_of text ≡ None
 no_value text refused = none_read text (is_utf8 text) refl refused
+
+-- in UTF-8 it is what the text is read as
+pub utf8_read : (text : Text) → IsUtf8 text → value_of text ≡ read text
+utf8_read text utf8 = rw (is_utf8-from_IsUtf8 text utf8) refl

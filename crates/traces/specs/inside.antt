@@ -1,2 +1,4 @@
 -- What only bodies and proofs need.
 pub mod Given
+pub mod Kept
+pub mod Listing

@@ -20,8 +20,10 @@ mod builds;
 mod event;
 mod fields;
 mod files;
+mod listed;
 mod read_error;
 mod reading;
+mod stream;
 mod writing;
 
 /// What each member weighs, and the events of a run, in turn.
@@ -80,10 +82,8 @@ pub fn read_trace(alloc: Global, text: &[u8]) -> Result<Trace, TraceFault>
     ensures ok { IfOk result (λ trace. trace_of text.now ≡ Ok (trace_view trace)) }
     ensures err { IfErr result (IsTraceFault text.now) }
 {
-    let value = reading::value(alloc, text)?;
-    let (weights, items) = reading::outer(alloc, &value)?;
-    let events = reading::events(alloc, items.as_slice())?;
-    Ok(Trace { weights, events })
+    let (weights, listed) = reading::parts(alloc, text)?;
+    reading::trace(weights, listed)
 }
 
 /// Appends the trace's text, which has no blanks, or nothing. Bytes of a file's name that are no

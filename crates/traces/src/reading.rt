@@ -1,26 +1,29 @@
 //! A trace, by its members.
-ghost use Rattle.std.specs.Prelude.{◌≡◌, ◌≤◌, IfErr, IfOk, Ok, map};
-ghost use Rattle.events.specs.Events.{event_view};
-ghost use Rattle.serde_json.specs.View.{items_view, view};
+ghost use Rattle.std.specs.Prelude.{◌≡◌, ◌≤◌, IfErr, IfOk, Ok};
+ghost use Rattle.faults.specs.Answers.{map_ok};
+ghost use Rattle.serde_json.specs.View.{view};
 ghost use Rattle.stable_record.specs.Magic.{are_ones};
 ghost use Rattle.traces.specs.Fields.{array_at, number_of};
+ghost use Rattle.traces.specs.Faults.{trace_view};
 ghost use Rattle.traces.specs.Trace.{
   equals_in,
-  events_from,
   ones_of,
   outer_in,
   table_of,
+  trace_of,
+  trace_with,
   value_of,
   weighted_in,
 };
-ghost use Rattle.traces.specs.inside.Given.{Gives, IsEventsFault};
+ghost use Rattle.traces.specs.inside.Given.{Fails, Gives, IsEventsFault};
+ghost use Rattle.traces.specs.inside.Kept.{outer_of, weights_in};
+ghost use Rattle.traces.specs.inside.Listing.{answer};
 
-use crate::TraceFault;
-use crate::event::event;
 use crate::fields::{array, members, number, number_of};
+use crate::listed::Listed;
 use crate::read_error::ReadError;
+use crate::{Trace, TraceFault, stream};
 use ballots::Weights;
-use events::Event;
 use serde_json::Value;
 use std::alloc::Global;
 
@@ -46,16 +49,15 @@ fn ones(members: u64) -> Result<Weights, ReadError>
     }
 }
 
-/// The members of equal weight, and the events' items.
+/// The members of equal weight, where the events are an array.
 #[tactic(auto, unfolding(crate::specs::Trace::equals_in))]
-fn equals<'a>(value: &'a Value) -> Result<(Weights, &'a Vec<Value>), ReadError>
-    ensures { Gives (λ o. (o.0, items_view o.1.now.items)) result
-        (equals_in (view value.entry.now)) }
+fn equals(value: &Value) -> Result<Weights, ReadError>
+    ensures { Gives (λ w. w) result (weights_in (equals_in (view value.now))) }
 {
-    let items = array(value, "events")?;
+    let _items = array(value, "events")?;
     let weights = ones(number(value, "members", 9)?)?;
     if members(value) == 2 {
-        Ok((weights, items))
+        Ok(weights)
     } else {
         Err(ReadError::Bad)
     }
@@ -86,17 +88,16 @@ fn table(members: u64, weights: &[u8]) -> Result<Weights, ReadError>
     }
 }
 
-/// The members' weights, which are not all 1, and the events' items.
+/// The members' weights, which are not all 1, where the events are an array.
 #[tactic(auto, unfolding(crate::specs::Trace::weighted_in))]
-fn weighted<'a>(alloc: Global, value: &'a Value) -> Result<(Weights, &'a Vec<Value>), ReadError>
-    ensures { Gives (λ o. (o.0, items_view o.1.now.items)) result
-        (weighted_in (view value.entry.now)) }
+fn weighted(alloc: Global, value: &Value) -> Result<Weights, ReadError>
+    ensures { Gives (λ w. w) result (weights_in (weighted_in (view value.now))) }
 {
-    let items = array(value, "events")?;
+    let _items = array(value, "events")?;
     let count = number(value, "members", 9)?;
     let weights = table(count, bytes(alloc, value, "weights")?.as_slice())?;
     if members(value) == 3 {
-        Ok((weights, items))
+        Ok(weights)
     } else {
         Err(ReadError::Bad)
     }
@@ -109,10 +110,9 @@ pub fn are_ones(weights: &[u8]) -> bool
     weights.iter().all(|weight| *weight == 1)
 }
 
-/// What stands outside the events, and the events' items.
-pub fn outer<'a>(alloc: Global, value: &'a Value) -> Result<(Weights, &'a Vec<Value>), ReadError>
-    ensures { Gives (λ o. (o.0, items_view o.1.now.items)) result
-        (outer_in (view value.entry.now)) }
+/// What stands outside the events, where those are an array.
+fn outer(alloc: Global, value: &Value) -> Result<Weights, ReadError>
+    ensures { Gives (λ w. w) result (weights_in (outer_in (view value.now))) }
 {
     if value.get("weights").is_some() {
         weighted(alloc, value)
@@ -121,19 +121,24 @@ pub fn outer<'a>(alloc: Global, value: &'a Value) -> Result<(Weights, &'a Vec<Va
     }
 }
 
-/// The events, in turn.
-pub fn events(alloc: Global, items: &[Value]) -> Result<Vec<Event>, TraceFault>
-    ensures ok { IfOk result
-        (λ es. events_from 0 (items_view items.now) ≡ Ok (map event_view es.items)) }
-    ensures err { IfErr result (IsEventsFault (events_from 0 (items_view items.now))) }
+/// What stands outside the events, and those.
+pub fn parts(alloc: Global, text: &[u8]) -> Result<(Weights, Listed), ReadError>
+    ensures ok { IfOk result (λ r. trace_of text.now ≡ map_ok (trace_with r.0) (answer r.1)) }
+    ensures err { IfErr result (λ e. Fails e (outer_of (value_of text.now))) }
 {
-    let mut events = Vec::with_capacity(alloc, items.len())?;
-    for (before, item) in items.iter().enumerate() {
-        match event(alloc, item) {
-            Ok(event) => events.push(event)?,
-            Err(ReadError::Memory) => return Err(TraceFault::Memory),
-            Err(ReadError::Bad) => return Err(TraceFault::BadTrace(before as u64 + 1)),
-        }
+    let (value, listed) = stream::object(alloc, text)?;
+    let weights = outer(alloc, &value)?;
+    Ok((weights, listed))
+}
+
+/// The trace of these weights and events.
+pub fn trace(weights: Weights, listed: Listed) -> Result<Trace, TraceFault>
+    ensures ok { IfOk result (λ t. map_ok (trace_with weights) (answer listed) ≡ Ok (trace_view t)) }
+    ensures err { IfErr result
+        (IsEventsFault (map_ok (trace_with weights) (answer listed))) }
+{
+    match listed {
+        Listed::Events(events) => Ok(Trace { weights, events }),
+        Listed::BadAt(place) => Err(TraceFault::BadTrace(place)),
     }
-    Ok(events)
 }

@@ -1,0 +1,39 @@
+//! What the items of an array are as events.
+ghost use Rattle.std.specs.Prelude.{◌≡◌, ◌≤◌, length, IfOk, IfErr};
+ghost use Rattle.serde_json.specs.Data.{Items, item as item_and};
+ghost use Rattle.serde_json.specs.View.{view};
+ghost use Rattle.traces.specs.declared.read_error.ReadError.TheVariants.{Memory as out_of_memory};
+ghost use Rattle.traces.specs.inside.Listing.{answer_behind};
+
+use crate::event::event;
+use crate::read_error::ReadError;
+use events::Event;
+use serde_json::Value;
+use std::alloc::Global;
+
+/// The events of the items so far, or the number of the first item that is none.
+#[derive(Drop)]
+pub enum Listed {
+    Events(Vec<Event>),
+    BadAt(u64),
+}
+
+impl Listed {
+    /// With one item more.
+    pub fn then(self, alloc: Global, item: &Value) -> Result<Listed, ReadError>
+        ensures ok { IfOk result (λ listed. (rest : Items)
+            → answer_behind self (item_and (view item.now) rest) ≡ answer_behind listed rest) }
+        ensures err { IfErr result (λ e. e ≡ out_of_memory) }
+    {
+        let mut events = match self {
+            Listed::Events(events) => events,
+            Listed::BadAt(place) => return Ok(Listed::BadAt(place)),
+        };
+        match event(alloc, item) {
+            Ok(event) => events.push(event)?,
+            Err(ReadError::Memory) => return Err(ReadError::Memory),
+            Err(ReadError::Bad) => return Ok(Listed::BadAt(events.len() as u64 + 1)),
+        }
+        Ok(Listed::Events(events))
+    }
+}
