@@ -55,7 +55,7 @@ def picture(tally, name, listing, trace, *words):
 
 def agreed(svg):
     """How many packages the bars stand for."""
-    return sum(paths.count(",") + 1 for paths in re.findall(">agreed: ([^<]*)", svg)) + sum(map(int, re.findall(">([0-9]+) packages agreed: ", svg)))
+    return sum(len(paths.split(", ")) for paths in re.findall(">agreed: ([^<]*)", svg)) + sum(map(int, re.findall(">([0-9]+) packages agreed: ", svg)))
 
 
 def pictures(tally):
