@@ -1,5 +1,5 @@
-"""Members and nodes whose memory runs out: each allocation of some rows of `member_probe` and `node_probe` refused in turn.
-Where that falls into a step, the program gives the same input again, and has to go on as if nothing had been."""
+"""Members, nodes and worlds whose memory runs out: each allocation of some rows of `member_probe`, `node_probe` and `world_probe`
+refused in turn. Where that falls into a step, the program gives the same input again, and has to go on as if nothing had been."""
 import os
 import subprocess
 import tempfile
@@ -12,7 +12,11 @@ ROWS = {
     "member_probe": (0, 4, 8),
     # a claim that a crash ends, a unit of two packages, and a build in pieces, which a stop loses
     "node_probe": (1, 4, 5),
+    # a take-over, and a build in pieces
+    "world_probe": (1, 10),
 }
+# What parts rows, where it is no blank line.
+ENDS = {"world_probe": b"\n"}
 
 
 def run_probe(probe, row, **more):
@@ -64,6 +68,6 @@ def run(tally):
     with tempfile.TemporaryDirectory() as folder:
         if built_shim(tally, folder, "refuse"):
             for probe, places in ROWS.items():
-                rows = contents(f"{TOP}/crates/{probe}/stdin").split(b"\n\n")
+                rows = contents(f"{TOP}/crates/{probe}/stdin").split(ENDS.get(probe, b"\n\n"))
                 for place in places:
                     refused_in_turn(tally, folder, probe, place, rows[place].strip() + b"\n")

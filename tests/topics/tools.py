@@ -1,46 +1,84 @@
-"""tools/expand-listing on stored dumps, and what dpbr makes of its output; tools/draw-trace on the example, and on a long trace."""
+"""tools/expand-listing on stored dumps, and what dpbr makes of its output; tools/draw-trace on the example, a short and a long trace."""
 import json
 import os
+import re
 import subprocess
 import tempfile
 import xml.dom.minidom
 
 from topics.tally import EXAMPLES, TESTS, TOP, answer, contents, difference
 
+ROW, MOST_HEIGHT = 24, 1700
+UNIT = "a/b,-docs.FULLPKGNAME=b-docs-1\na/b,-main.FULLPKGNAME=b-1\n"
 
-def drawn(listing, trace):
-    return subprocess.run([f"{TOP}/tools/draw-trace", listing, trace], capture_output=True, timeout=120)
+
+def drawn(*words):
+    return subprocess.run([f"{TOP}/tools/draw-trace", *words], capture_output=True, timeout=120)
 
 
-def long_trace(builds):
-    """A listing, and a trace in which three nodes build one package after the other, twelve events for each."""
-    events = []
-    for n in range(builds):
-        path, first, claimer, other, third = f"a/p{n}", 7 * n, n % 3, (n + 1) % 3, (n + 2) % 3
-        events.append({"above": 0, "event": "claim", "host": 3, "node": claimer, "path": path})
-        events += [{"datagram": first + d, "event": "deliver", "node": k} for d, k in ((0, claimer), (0, other), (1, claimer), (2, claimer))]
-        events.append({"event": "built", "files": [], "node": claimer, "path": path})
-        events += [{"datagram": first + d, "event": "deliver", "node": k}
-                   for d, k in ((3, claimer), (3, other), (4, claimer), (5, claimer), (6, other), (6, third))]
-    return "".join(f"a/p{n}.FULLPKGNAME=p{n}-1\n" for n in range(builds)), json.dumps({"events": events, "members": 3})
+def life(n):
+    """The events by which three nodes build a package, twelve of them, and bring it to the list by the eighth."""
+    path, first, claimer, other, third = f"a/p{n}", 7 * n, n % 3, (n + 1) % 3, (n + 2) % 3
+    events = [{"above": 0, "event": "claim", "host": 3, "node": claimer, "path": path}]
+    events += [{"datagram": first + d, "event": "deliver", "node": k} for d, k in ((0, claimer), (0, other), (1, claimer), (2, claimer))]
+    events.append({"event": "built", "files": [], "node": claimer, "path": path})
+    return events + [{"datagram": first + d, "event": "deliver", "node": k}
+                     for d, k in ((3, claimer), (3, other), (4, claimer), (5, claimer), (6, other), (6, third))]
+
+
+def builds(count, events):
+    """A listing of so many packages, and the trace of the first so many events of their builds, one after the other."""
+    listing = "".join(f"a/p{n}.FULLPKGNAME=p{n}-1\n" for n in range(count))
+    return listing, {"events": [event for n in range(count) for event in life(n)][:events], "members": 3}
+
+
+def lone():
+    """A trace in which one node builds one package of a unit of two."""
+    events = [{"above": 0, "event": "claim", "host": 3, "node": 0, "path": "a/b,-docs"}]
+    events += [{"datagram": d, "event": "deliver", "node": 0} for d in (0, 1)]
+    events.append({"event": "built", "files": [], "node": 0, "path": "a/b,-docs"})
+    return {"events": events + [{"datagram": d, "event": "deliver", "node": 0} for d in (2, 3)], "members": 1}
+
+
+def picture(tally, name, listing, trace, *words):
+    """The picture of the trace, and its height; or nothing, which is told."""
+    with tempfile.TemporaryDirectory() as folder:
+        for file, text in (("listing", listing), ("trace", json.dumps(trace))):
+            with open(f"{folder}/{file}", "w") as out:
+                out.write(text)
+        done = drawn(*words, f"{folder}/listing", f"{folder}/trace")
+    if done.returncode:
+        tally.add(name, f"{done.stderr!r:.300}, status {done.returncode}")
+        return "", 0
+    return done.stdout.decode(), int(xml.dom.minidom.parseString(done.stdout).documentElement.getAttribute("height"))
+
+
+def agreed(svg):
+    """How many packages the bars stand for."""
+    return sum(len(paths.split(", ")) for paths in re.findall(">agreed: ([^<]*)", svg)) + sum(map(int, re.findall(">([0-9]+) packages agreed: ", svg)))
 
 
 def pictures(tally):
-    """The README's picture is the example's, and a thousand events are folded into a picture of which each build is a bar."""
+    """The README's picture is the example's. Ten events have a row each, and a thousand are folded into a picture of some rows."""
     done = drawn(f"{EXAMPLES}/listing", f"{EXAMPLES}/trace")
     wanted = (contents(f"{EXAMPLES}/take-over.svg"), b"", 0)
     tally.add("draw-trace of the example", difference((done.stdout, done.stderr, done.returncode), wanted))
-    with tempfile.TemporaryDirectory() as folder:
-        for name, text in zip(("listing", "trace"), long_trace(84)):
-            with open(f"{folder}/{name}", "w") as file:
-                file.write(text)
-        done = drawn(f"{folder}/listing", f"{folder}/trace")
-    if done.returncode:
-        tally.add("draw-trace of a long trace", f"{done.stderr!r:.300}, status {done.returncode}")
-        return
-    picture = xml.dom.minidom.parseString(done.stdout).documentElement
-    bars, height = done.stdout.count(b">agreed: "), int(picture.getAttribute("height"))
-    tally.add("draw-trace of a long trace", "" if bars == 84 and height < 6000 else f"{bars} bars in {height} pixels")
+    name = "draw-trace of ten events"
+    svg, height = picture(tally, name, *builds(1, 10))
+    rows, notes = len(set(re.findall('<text x="8" y="([0-9]+)"', svg))), svg.count('width="6" height="6"')
+    if svg:
+        told = (rows, agreed(svg), notes, " events<" in svg, 10 * ROW < height < 15 * ROW)
+        tally.add(name, "" if told == (10, 1, 6, False, True) else f"{told} in {height} pixels")
+    name = "draw-trace of a thousand events"
+    svg, height = picture(tally, name, *builds(84, 1008))
+    if svg:
+        tally.add(name, "" if agreed(svg) == 84 and height < MOST_HEIGHT else f"{agreed(svg)} packages in {height} pixels")
+    for words, wanted in ((), (0, 1)), (("--single",), (1, 0)):
+        name = " ".join(["draw-trace", *words, "of one package of two"])
+        svg, _ = picture(tally, name, UNIT, lone(), *words)
+        if svg:
+            told = (agreed(svg), svg.count("refused: 910"))
+            tally.add(name, "" if told == wanted else f"{told}, not {wanted}")
 
 
 def run(tally):

@@ -3,14 +3,14 @@ ghost use Rattle.std.specs.Prelude.{◌≡◌, true};
 ghost use Rattle.world.specs.Happening.{is_up};
 
 use engine::Letter;
-use faults::Fault;
+use faults::{Fault, Memory};
 use listing::Tree;
 use running::{RunFault, World, run};
-use std::alloc::{AllocError, Global};
+use std::alloc::Global;
 use traces::Trace;
 
 // How many events the run took, and what each node shows; or what it is refused with.
-pub fn ended(alloc: Global, tree: &Tree, trace: Trace) -> Result<String, AllocError> {
+pub fn ended(alloc: Global, tree: &Tree, trace: Trace) -> Result<String, Memory> {
     let Trace { weights, events } = trace;
     match run(alloc, tree, &weights, events) {
         Ok(world) => shown(alloc, tree, &world),
@@ -18,16 +18,16 @@ pub fn ended(alloc: Global, tree: &Tree, trace: Trace) -> Result<String, AllocEr
     }
 }
 
-fn refused(alloc: Global, fault: RunFault) -> Result<String, AllocError> {
-    format!(in alloc;
+fn refused(alloc: Global, fault: RunFault) -> Result<String, Memory> {
+    Ok(format!(in alloc;
         "{} at {} for {}",
         fault.number(),
         fault.place().unwrap_or(0),
         fault.cause().unwrap_or(0)
-    )
+    )?)
 }
 
-fn shown(alloc: Global, tree: &Tree, world: &World<'_>) -> Result<String, AllocError>
+fn shown(alloc: Global, tree: &Tree, world: &World<'_>) -> Result<String, Memory>
     requires { world.now.world.division.tree ≡ tree.now }
 {
     let mut text = format!(in alloc; "{} events", world.events().len())?;
@@ -37,23 +37,18 @@ fn shown(alloc: Global, tree: &Tree, world: &World<'_>) -> Result<String, AllocE
     Ok(text)
 }
 
-fn add_node(text: &mut String, tree: &Tree, world: &World<'_>, node: u8) -> Result<(), AllocError>
+fn add_node(text: &mut String, tree: &Tree, world: &World<'_>, node: u8) -> Result<(), Memory>
     requires { world.now.world.division.tree ≡ tree.now }
 {
     if world.is_up(node) {
         text.push_str("; up ")?;
         add_letters(text, tree, world, node)
     } else {
-        text.push_str("; down")
+        Ok(text.push_str("; down")?)
     }
 }
 
-fn add_letters(
-    text: &mut String,
-    tree: &Tree,
-    world: &World<'_>,
-    node: u8,
-) -> Result<(), AllocError>
+fn add_letters(text: &mut String, tree: &Tree, world: &World<'_>, node: u8) -> Result<(), Memory>
     requires tree { world.now.world.division.tree ≡ tree.now }
     requires up { is_up world.now.world node ≡ true }
 {

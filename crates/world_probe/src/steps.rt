@@ -1,42 +1,76 @@
-// What each event of a trace sends, and what is agreed by it.
+// What each event of a trace notes and sends, and what is agreed by it.
 use crate::worlds::refusal;
 use events::Event;
+use faults::Memory;
 use running::World;
-use std::alloc::{AllocError, Global};
+use std::alloc::Global;
 
 // An item for each event.
-pub fn items(alloc: Global, world: &mut World<'_>, events: &[Event]) -> Result<String, AllocError> {
+pub fn items(
+    alloc: Global,
+    world: &mut World<'_>,
+    again: &mut u32,
+    events: &[Event],
+) -> Result<String, Memory> {
     let mut text = String::new(alloc);
     for event in events {
-        add_item(alloc, &mut text, world, event)?;
-        text.push_str(" ")?;
+        let before = Sizes::of(world);
+        match refusal(world, again, event) {
+            0 => add_taken(alloc, &mut text, world, before)?,
+            number => add_refusal(alloc, &mut text, number)?,
+        }
     }
     Ok(text)
 }
 
-// A point, and the kind of each datagram that is new, and each path that is new in the list; or a
-// mark, and the number of the refusal.
-fn add_item(
-    alloc: Global,
-    text: &mut String,
-    world: &mut World<'_>,
-    event: &Event,
-) -> Result<(), AllocError> {
-    let sent = world.datagrams().len();
-    let agreed = world.agreed().len();
-    match refusal(world, event) {
-        0 => {
-            text.push_str(".")?;
-            add_kinds(alloc, text, world, sent)?;
-            add_paths(alloc, text, world, agreed)
+// What there was of a world before an event.
+#[derive(Clone, Copy)]
+struct Sizes {
+    noted: u64,
+    sent: usize,
+    agreed: usize,
+}
+
+impl Sizes {
+    fn of(world: &World<'_>) -> Sizes {
+        Sizes {
+            noted: noted(world),
+            sent: world.datagrams().len(),
+            agreed: world.agreed().len(),
         }
-        number => add_refusal(alloc, text, number),
     }
 }
 
-fn add_refusal(alloc: Global, text: &mut String, number: u32) -> Result<(), AllocError> {
-    let number = format!(in alloc; "!{number}")?;
-    text.push_str(number.as_str())
+// How many bytes the logs have together. An event makes that of its node longer, or none.
+fn noted(world: &World<'_>) -> u64 {
+    let mut noted: u64 = 0;
+    for node in 0..world.len() {
+        noted = noted.saturating_add(world.log_len(node));
+    }
+    noted
+}
+
+// A point, a star for a note, and the kind of each datagram that is new, and each path that is new
+// in the list.
+fn add_taken(
+    alloc: Global,
+    text: &mut String,
+    world: &World<'_>,
+    before: Sizes,
+) -> Result<(), Memory> {
+    text.push_str(if noted(world) > before.noted {
+        ".*"
+    } else {
+        "."
+    })?;
+    add_kinds(alloc, text, world, before.sent)?;
+    add_paths(alloc, text, world, before.agreed)?;
+    Ok(text.push_str(" ")?)
+}
+
+fn add_refusal(alloc: Global, text: &mut String, number: u32) -> Result<(), Memory> {
+    let number = format!(in alloc; "!{number} ")?;
+    Ok(text.push_str(number.as_str())?)
 }
 
 fn add_kinds(
@@ -44,7 +78,7 @@ fn add_kinds(
     text: &mut String,
     world: &World<'_>,
     sent: usize,
-) -> Result<(), AllocError> {
+) -> Result<(), Memory> {
     for place in sent..world.datagrams().len() {
         if let Some(datagram) = world.datagrams().get_index(place) {
             add_kind(alloc, text, datagram.as_slice())?;
@@ -54,13 +88,13 @@ fn add_kinds(
 }
 
 // The kind of the message that the datagram is, or is a piece of.
-fn add_kind(alloc: Global, text: &mut String, datagram: &[u8]) -> Result<(), AllocError> {
+fn add_kind(alloc: Global, text: &mut String, datagram: &[u8]) -> Result<(), Memory> {
     let kind = match datagram {
         [_, _, _, _, kind, ..] => *kind,
         _ => 0,
     };
     let kind = format!(in alloc; "{kind}")?;
-    text.push_str(kind.as_str())
+    Ok(text.push_str(kind.as_str())?)
 }
 
 fn add_paths(
@@ -68,7 +102,7 @@ fn add_paths(
     text: &mut String,
     world: &World<'_>,
     agreed: usize,
-) -> Result<(), AllocError> {
+) -> Result<(), Memory> {
     for place in agreed..world.agreed().len() {
         if let Some(package) = world.agreed().get(place) {
             add_path(alloc, text, package.path().as_bytes())?;
@@ -77,8 +111,8 @@ fn add_paths(
     Ok(())
 }
 
-fn add_path(alloc: Global, text: &mut String, path: &[u8]) -> Result<(), AllocError> {
+fn add_path(alloc: Global, text: &mut String, path: &[u8]) -> Result<(), Memory> {
     let path = String::from_utf8_lossy(alloc, path)?;
     text.push_str("=")?;
-    text.push_str(path.as_str())
+    Ok(text.push_str(path.as_str())?)
 }
