@@ -133,7 +133,8 @@ pub fn parts(alloc: Global, text: &[u8]) -> Result<(Weights, Listed), ReadError>
 
 /// The trace of these weights and events.
 pub fn trace(weights: Weights, listed: Listed) -> Result<Trace, TraceFault>
-    ensures ok { IfOk result (λ t. map_ok (trace_with weights) (answer listed) ≡ Ok (trace_view t)) }
+    ensures ok { IfOk result
+        (λ t. map_ok (trace_with weights) (answer listed) ≡ Ok (trace_view t)) }
     ensures err { IfErr result
         (IsEventsFault (map_ok (trace_with weights) (answer listed))) }
 {

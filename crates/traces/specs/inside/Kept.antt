@@ -60,11 +60,14 @@ items_read depth ts = converted items_of_json (json.items (json.value depth) (le
 
 -- the rest of an object of such values
 abbrev pub members_read : ℕ → List Token → Option (Members × List Token)
-members_read depth ts = converted (λ ms. of_members ms no_members) (json.members (json.value depth) (length ts) ts)
+members_read depth ts =
+    converted (λ ms. of_members ms no_members) (json.members (json.value depth) (length ts) ts)
 
 -- the whole of the tokens, as one value
 abbrev pub whole_read : List Token → Option Data
-whole_read ts = option_and_then of_json (option_and_then (λ p. json.if_last p.0 p.1) (json.value max_depth ts))
+whole_read ts =
+    option_and_then of_json
+    (option_and_then (λ p. json.if_last p.0 p.1) (json.value max_depth ts))
 
 -- an object comes first
 abbrev pub opens_object : List Token → Bool
@@ -122,12 +125,14 @@ pub record KeepsEvents (old new : List Token) (value : Value) (listed : Listed) 
   pub lists : Lists (as_array datum) listed
 
 -- Of the value at the key this is kept, and these events, of which the others stood there before.
-pub record Keeps (key : List ℕ) (old new : List Token) (value : Value) (before after : Listed) : Type 0 where
+pub record Keeps (key : List ℕ) (old new : List Token) (value : Value)
+    (before after : Listed) : Type 0 where
   pub datum : Data
   pub reads : value_read 126 old ≡ Some (datum, new)
   pub shorter : length new < length old
   pub kept_is : view value ≡ kept_at key datum
-  pub lists : (ms : Members) → Lists (items_of ms) before → Lists (items_of (put key datum ms)) after
+  pub lists : (ms : Members) → Lists (items_of ms) before
+      → Lists (items_of (put key datum ms)) after
 
 -- Of the rest of an object these members are kept, and these events.
 pub record KeepsAll (old new : List Token) (members : Members) (listed : Listed) : Type 0 where

@@ -19,5 +19,6 @@ events_behind done rest = map_ok (λ es. done ++ es) rest
 
 -- the answer, where these items are still to come
 abbrev pub answer_behind : Listed → Items → Result (List Event) Place
-answer_behind (Events events) rest = events_behind (map event_view events.items) (events_from (length events.items) rest)
+answer_behind (Events events) rest =
+    events_behind (map event_view events.items) (events_from (length events.items) rest)
 answer_behind (BadAt place) rest = Err place
