@@ -11,7 +11,7 @@ use Rattle.faults.proofs.Sets.{from_set}
 use Rattle.agreement.specs.AgreedList.{Act}
 use Rattle.engine.specs.Letters.{IsInstallable}
 use Rattle.engine.specs.State as engine
-use Rattle.engine.proofs.Turned.{run_listed}
+use Rattle.units.proofs.Dependents.{run_listed}
 use Rattle.listing.specs.Tree.{IsTree, Tree, path_at, position_of, run_at}
 use Rattle.package_record.specs.Content.{Content}
 use Rattle.protocol.specs.State.{State, Value, engine_of, facts_at, held_record, holds_package, record_in, unit_with}
