@@ -1,5 +1,6 @@
-//! A trace's text, of whose events no more than one is held as a value at a time. Arrays and objects
-//! nest no deeper than 127 in a text, so in a value of its object 126, and in an event's 125.
+//! A trace's text, of whose events no more than one is held as a value at a time. Arrays and
+//! objects nest no deeper than 127 in a text, so in a value of its object 126, and in an event's
+//! 125.
 ghost use Rattle.std.specs.Prelude.{◌≡◌, ◌≢◌, ◌<◌, ◌≤◌, ◌∷◌, length, IfErr, IfOk, IsSome, OnOk, Some, MatchResult, false, option_map};
 ghost use Rattle.std.specs.Bool.{MatchBool};
 ghost use Rattle.json.specs.Json.{read_key};
