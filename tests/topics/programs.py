@@ -3,6 +3,7 @@ import os
 import re
 import subprocess
 import tempfile
+import time
 
 from topics.tally import EXAMPLES, PROGRAM, TESTS, TOP, answer, contents, difference
 
@@ -143,6 +144,36 @@ def run_chain(tally):
             tally.add(f"a run chain, {count} held", difference(got, (text.encode(), b"", 0)))
 
 
+def one_unit(tally):
+    """As many packages as a listing has, of one group: one build makes them, so that all wait where one of them needs another path."""
+    packages = 16384
+    listing = "".join(f"a/b,-p{n}.FULLPKGNAME=p{n}-1\n" for n in range(packages - 1)) + "a/c.FULLPKGNAME=c-1\n"
+    for needs, letter in (("", "Q"), ("a/b,-p9.BUILD_DEPENDS=a/c\n", "T"), ("a/b,-p9.BUILD_DEPENDS=a/b,-p8\n", "Q")):
+        text = "".join(f"{letter} a/b,-p{n} p{n}-1\n" for n in range(packages - 1)) + "Q a/c c-1\n"
+        queued = packages if letter == "Q" else 1
+        text += f"I=0 B=0 Q={queued} T={packages - queued} !=0\n"
+        with tempfile.TemporaryDirectory() as folder:
+            with open(f"{folder}/LISTING", "w") as file:
+                file.write(listing + needs)
+            got = answer(["status", "LISTING", "/dev/null"], folder)
+        tally.add(f"one unit of all packages, {needs.strip() or 'which needs nothing'}", difference(got, (text.encode(), b"", 0)))
+
+
+def ignored_chain(tally):
+    """A chain of packages that are ignored, each for the one behind it in the listing, takes no longer than another listing."""
+    paths = 16384
+    listing = "".join(f"a/p{n}.FULLPKGNAME=p{n}-1\na/p{n}.{('BUILD', 'RUN')[n % 2]}_DEPENDS=a/p{n + 1}\n" for n in range(paths - 1))
+    listing += f"a/p{paths - 1}.FULLPKGNAME=p{paths - 1}-1\na/p{paths - 1}.IGNORE=broken\n"
+    text = "".join(f"! a/p{n} p{n}-1\n" for n in range(paths)) + f"I=0 B=0 Q=0 T=0 !={paths}\n"
+    with tempfile.TemporaryDirectory() as folder:
+        with open(f"{folder}/LISTING", "w") as file:
+            file.write(listing)
+        began = time.monotonic()
+        got = answer(["status", "LISTING", "/dev/null"], folder)
+        took = time.monotonic() - began
+    tally.add("a chain of ignored packages", difference(got, (text.encode(), b"", 0)) or ("" if took < 5 else f"it took {took:.1f} s"))
+
+
 def wrapper(tally):
     """The command of the README, from another folder, too."""
     wanted = (contents(f"{TESTS}/examples.stdout"), b"", 0)
@@ -160,3 +191,5 @@ def run(tally):
     faults(tally)
     limits(tally)
     run_chain(tally)
+    one_unit(tally)
+    ignored_chain(tally)
