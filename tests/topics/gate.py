@@ -1,7 +1,8 @@
-"""The gate: every proof from nothing, each wrong body, each test and each program."""
+"""The gate: every proof, each wrong body, each test and each program."""
 import os
 import re
 import subprocess
+import time
 
 from topics.tally import PROGRAM, TOP
 
@@ -9,8 +10,18 @@ from topics.tally import PROGRAM, TOP
 LAST_LINES = f"{TOP}/crates/dpbr/out/gate"
 
 
+def changed_since(began):
+    """Whether a file that the program is made of was written since then."""
+    files = [f"{TOP}/crates.txt"]
+    for folder, folders, names in os.walk(f"{TOP}/crates"):
+        folders[:] = [it for it in folders if it not in ("out", "must-fail")]
+        files += [os.path.join(folder, name) for name in names]
+    return any(os.path.getmtime(file) >= began for file in files)
+
+
 def run(tally):
     """Runs `rt ci`, shows what it prints, and adds its counts."""
+    began = time.time()
     gate = subprocess.Popen(["rt", "ci"], cwd=TOP, stdout=subprocess.PIPE, text=True)
     lines = []
     for line in gate.stdout:
@@ -23,7 +34,7 @@ def run(tally):
         tally.failed += int(counts[2])
     if status and not (counts and int(counts[2])):
         tally.add("rt ci", f"it ended with status {status}")
-    if not status and os.path.exists(PROGRAM):
+    if not status and os.path.exists(PROGRAM) and not changed_since(began):
         # the gate has just proved and built the program from these sources, so ./dpbr need not do it again
         open(f"{TOP}/crates/dpbr/out/built", "w").close()
         with open(LAST_LINES, "w") as file:
