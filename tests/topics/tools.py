@@ -55,7 +55,8 @@ def picture(tally, name, listing, trace, *words):
 
 def agreed(svg):
     """How many packages the bars stand for."""
-    return sum(len(paths.split(", ")) for paths in re.findall(">agreed: ([^<]*)", svg)) + sum(map(int, re.findall(">([0-9]+) packages agreed: ", svg)))
+    named, counted = re.findall(">agreed: ([^<]*)", svg), re.findall(">([0-9]+) packages agreed: ", svg)
+    return sum(len(paths.split(", ")) for paths in named) + sum(map(int, counted))
 
 
 def pictures(tally):
