@@ -52,8 +52,8 @@ RefusesCall (Status listing held is_single) r = RefusesStatusFiles is_single r
 RefusesCall (Audit listing list is_single) r = RefusesAuditFiles is_single r
 RefusesCall (Run listing trace is_single) r = RefusesRunFiles is_single r
 
--- A refusal comes before anything was written. Only where a write was refused, whatever the reason,
--- a beginning of the answer was written, and that is told as fault 2.
+-- A refusal comes before anything was written, but for one that is told as fault 2: then a
+-- beginning of the answer was written, maybe all of it.
 abbrev pub CannotCarryOut : Call → Stop → Option (List ℕ) → Option (List ℕ) → Type 0
 CannotCarryOut call (WrongWords e) before after = ⊥
 CannotCarryOut call (Refused r) before after = RefusesCall call r × Keeps before after

@@ -14,11 +14,12 @@ use Rattle.traces.specs.Trace.{events_from, outer_in}
 use Rattle.traces.specs.declared.listed.Listed.{Listed}
 use Rattle.traces.specs.inside.Listing.{answer, answer_behind}
 
--- an array without its items, or nothing of another value
+-- an array without its items, if there is one, or else nothing
 abbrev pub hollow_of : Option Items → Data
 hollow_of None = null
 hollow_of (Some items) = array no_items
 
+-- the value as it is kept: an array without its items, and of any other nothing
 abbrev pub hollow : Data → Data
 hollow d = hollow_of (as_array d)
 
