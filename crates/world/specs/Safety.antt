@@ -56,8 +56,8 @@ LaterRepeats w =
     → is_majority w.weights (voters w w.sent name c) ≡ true
     → WasProposed w w.sent name c a → WasProposed w w.sent name d b → AtMost c d → b ≡ a
 
--- The event is a delivery, and the step that it made gave this job. Each dependency of the job stood
--- in the list by that very signature.
+-- The event is a delivery, and the step that it made gave this job. Each dependency of the job
+-- stood in the list by that very signature.
 pub record GivesJob (w : World) (e : Event) (job : Task) : Type 0 where
   pub node : WorldNode
   pub taken : Taken
