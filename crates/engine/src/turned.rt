@@ -5,7 +5,7 @@ ghost use Rattle.listing.specs.Tree.{run_at};
 ghost use Rattle.engine.specs.inside.Queueing.{needs_of};
 
 use faults::Memory;
-use graph::{Reversed, Room};
+use graph::{Naming, Reversed};
 use listing::Tree;
 use std::alloc::Global;
 use units::Units;
@@ -32,23 +32,11 @@ fn turned_runs(alloc: Global, tree: &Tree) -> Result<Reversed, Memory>
     ensures { IfOk result (λ runs.
         AreReversed (length tree.now) (length tree.now) (run_at tree.now) runs) }
 {
-    let room = room_for_runs(alloc, tree)?;
-    let mut runs = Reversed::with_room(alloc, &room)?;
+    let mut runs = Naming::new(alloc, tree.len())?;
     for position in 0..tree.len() {
         runs.add(position, tree.run_deps(position))?;
     }
-    Ok(runs)
-}
-
-/// For each package how many need it to run.
-fn room_for_runs(alloc: Global, tree: &Tree) -> Result<Room, Memory>
-    ensures { IfOk result (λ room. room ≡ length tree.now) }
-{
-    let mut room = Room::new(alloc, tree.len())?;
-    for position in 0..tree.len() {
-        room.count(tree.run_deps(position));
-    }
-    Ok(room)
+    runs.turned(alloc)
 }
 
 /// At each package the units whose build needs it.
@@ -57,22 +45,9 @@ fn turned_needs(alloc: Global, tree: &Tree, units: &Units<'_>) -> Result<Reverse
     ensures { IfOk result (λ needs.
         AreReversed (length tree.now) (length units.now.units) (needs_of units.now) needs) }
 {
-    let room = room_for_needs(alloc, tree, units)?;
-    let mut needs = Reversed::with_room(alloc, &room)?;
+    let mut needs = Naming::new(alloc, tree.len())?;
     for unit in 0..units.len() {
         needs.add(unit, units.build_deps(unit))?;
     }
-    Ok(needs)
-}
-
-/// For each package how many units need it to be built.
-fn room_for_needs(alloc: Global, tree: &Tree, units: &Units<'_>) -> Result<Room, Memory>
-    requires { units.now.tree ≡ tree.now }
-    ensures { IfOk result (λ room. room ≡ length tree.now) }
-{
-    let mut room = Room::new(alloc, tree.len())?;
-    for unit in 0..units.len() {
-        room.count(units.build_deps(unit));
-    }
-    Ok(room)
+    needs.turned(alloc)
 }

@@ -29,19 +29,24 @@ contained-times p (q ∷ qs) some = elim (cases_eq q p) [
 -- ---- lists turned around
 
 -- one more name at a position
-pub list_at-push : (lists : List (List ℕ)) (o p : ℕ) (d x : ℕ) → o < length lists
-    → times x (list_at (set lists o (list_at lists o ++ p ∷ [])) d) ≡ times x (list_at lists d) + cond (nat_eq p x) (one_if (nat_eq o d)) 0
-list_at-push lists o p d x within = elim (cases_eq d o) [
+pub list_at-more : (lists : List (List ℕ)) (o p : ℕ) (d x : ℕ) → o < length lists
+    → times x (list_at (set lists o (p ∷ list_at lists o)) d) ≡ times x (list_at lists d) + cond (nat_eq p x) (one_if (nat_eq o d)) 0
+list_at-more lists o p d x within = elim (cases_eq d o) [
   | inl same ↦
-      let here : list_at (set lists o (list_at lists o ++ p ∷ [])) d ≡ list_at lists d ++ p ∷ [] =
-      ap (list_at (set lists o (list_at lists o ++ p ∷ []))) same ∙ get_or-set_same lists o _ [] within ∙ ap (λ n. list_at lists n ++ p ∷ []) (sym same) in
-      ap (times x) here ∙ times-push x p (list_at lists d)
-      ∙ ap (λ b. times x (list_at lists d) + cond (nat_eq p x) (one_if b) 0) (sym (eq-eqb o d (sym same)))
+      let here : list_at (set lists o (p ∷ list_at lists o)) d ≡ p ∷ list_at lists d =
+      ap (list_at (set lists o (p ∷ list_at lists o))) same ∙ get_or-set_same lists o _ [] within ∙ ap (λ n. p ∷ list_at lists n) (sym same) in
+      ap (times x) here ∙ one_more (nat_eq p x) (nat_eq o d) (eq-eqb o d (sym same))
+      (sum_by-cons (λ q. cond (nat_eq q x) 1 0) p (list_at lists d))
   | inr other ↦
-      let there = get_or-set_other lists o d (list_at lists o ++ p ∷ []) [] other in
+      let there = get_or-set_other lists o d (p ∷ list_at lists o) [] other in
       ap (times x) there ∙ nothing (nat_eq p x) (nat_eq o d) (ne_eqb o d (λ e. other (sym e)))
 ]
   where
+    one_more : (a b : Bool) → b ≡ true → times x (p ∷ list_at lists d) ≡ one_if a + times x (list_at lists d)
+        → times x (p ∷ list_at lists d) ≡ times x (list_at lists d) + cond a (one_if b) 0
+    one_more true b e f = let one : one_if b ≡ 1 = ap one_if e in omega (arith, one, f)
+    one_more false b e f = omega (arith, f)
+
     nothing : (a b : Bool) → b ≡ false → times x (list_at lists d) ≡ times x (list_at lists d) + cond a (one_if b) 0
     nothing true b e = let z : one_if b ≡ 0 = ap one_if e in omega (arith, z)
     nothing false b e = omega arith

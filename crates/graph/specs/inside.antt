@@ -1,2 +1,4 @@
 -- What only bodies and proofs need.
+pub mod Links
+pub mod Ranges
 pub mod Walks

@@ -5,7 +5,7 @@ ghost use Rattle.graph.specs.Lists.{AreReversed};
 ghost use Rattle.units.specs.inside.Marks.{AreIgnored, AreMarksOf, deps_at, marked_of};
 
 use faults::Memory;
-use graph::{Reversed, Room, Walk};
+use graph::{Naming, Reversed, Walk};
 use listing::Tree;
 use std::alloc::Global;
 
@@ -41,25 +41,12 @@ fn dependents(alloc: Global, tree: &Tree) -> Result<Reversed, Memory>
     ensures { IfOk result (λ lists.
         AreReversed (length tree.now) (length tree.now) (deps_at tree.now) lists) }
 {
-    let room = room_for_dependents(alloc, tree)?;
-    let mut lists = Reversed::with_room(alloc, &room)?;
+    let mut lists = Naming::new(alloc, tree.len())?;
     for position in 0..tree.len() {
         lists.add(position, tree.build_deps(position))?;
         lists.add(position, tree.run_deps(position))?;
     }
-    Ok(lists)
-}
-
-/// For each package how many depend on it.
-fn room_for_dependents(alloc: Global, tree: &Tree) -> Result<Room, Memory>
-    ensures { IfOk result (λ room. room ≡ length tree.now) }
-{
-    let mut room = Room::new(alloc, tree.len())?;
-    for position in 0..tree.len() {
-        room.count(tree.build_deps(position));
-        room.count(tree.run_deps(position));
-    }
-    Ok(room)
+    lists.turned(alloc)
 }
 
 /// So many marks, of which those at these positions are set.
