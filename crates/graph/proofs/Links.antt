@@ -1,13 +1,13 @@
 -- Links to which names are added, and the lists to which they lead.
-use Rattle.std.proofs.Common.{◌≡◌, ◌+◌, ◌<◌, ◌≤◌, ℕ, zero, suc, List, [], ◌∷◌, ◌++◌, All, cond, nat_eq, get_or, length, map, replicate, set, refl, sym, ap, ◌∙◌, inl, inr, arith, add-one}
+use Rattle.std.proofs.Common.{◌≡◌, ◌+◌, ◌<◌, ◌≤◌, ℕ, zero, suc, List, [], ◌∷◌, ◌++◌, All, cond, nat_eq, get_or, length, replicate, set, refl, sym, ap, ◌∙◌, inl, inr, arith, add-one}
 use Rattle.std.proofs.lemmas.Bool.{cases_eq, cases_lt, eq-eqb, ne_eqb}
-use Rattle.std.proofs.lemmas.List.{get_or_append_left, get_or-map, get_or_past, get_or_push, get_or-replicate, get_or-set_other, get_or-set_same, length-map, length-replicate, length-set, length_push, map-set}
+use Rattle.std.proofs.lemmas.List.{get_or_append_left, get_or-map, get_or_push, get_or-replicate, get_or-set_other, get_or-set_same, length-replicate, length-set, length_push, map-set}
 use Rattle.graph.specs.declared.naming.Link.{Link}
-use Rattle.graph.specs.inside.Links.{AreLinked, IsLinked, link_behind, linked_below, linked_list, linked_lists}
+use Rattle.graph.specs.inside.Links.{AreLinked, link_behind, linked_below, linked_list, linked_lists}
 
 -- ---- where links lead
 
--- a link leads to no later one
+-- links behind a link are not needed to follow it
 pub linked_below-settled : (links : List Link) (n h : ℕ) → h ≤ n → linked_below links n h ≡ linked_list links h
 linked_below-settled links zero zero below = refl
 linked_below-settled links zero (suc h) below = absurd (omega arith)
@@ -17,9 +17,6 @@ linked_below-settled links (suc n) h below = elim (cases_eq h (suc n)) [
       ap (λ b. cond b ((link_behind links n).who ∷ linked_below links n (link_behind links n).earlier) (linked_below links n h)) (ne_eqb h (suc n) other)
       ∙ linked_below-settled links n h (omega (arith, below, other))
 ]
-
-pub linked_list-none : (links : List Link) → linked_list links 0 ≡ []
-linked_list-none links = refl
 
 -- the link behind the first k, and then what it leads to
 pub linked_list-more : (links : List Link) (k h : ℕ) → h ≡ k + 1 → (link_behind links k).earlier ≤ k

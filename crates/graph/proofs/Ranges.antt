@@ -1,5 +1,5 @@
 -- Lists that are put one behind the other.
-use Rattle.std.proofs.Common.{◌≡◌, ◌-◌, ◌≤◌, ℕ, suc, List, [], ◌∷◌, ◌++◌, drop, length, take, refl, sym, ap, ◌∙◌, inl, inr, arith, length-append, length-drop}
+use Rattle.std.proofs.Common.{◌≡◌, ◌-◌, ℕ, suc, List, [], ◌∷◌, ◌++◌, drop, length, take, refl, sym, ap, ◌∙◌, inl, inr, arith, length-append, length-drop}
 use Rattle.std.proofs.lemmas.Bool.{cases_lt}
 use Rattle.std.proofs.lemmas.List.{drop-append-le, drop_at, get_or_append_left, get_or_push, length_push, map_push, take-append-le, take_all}
 use Rattle.graph.specs.declared.reversed.Range.{Range}

@@ -8,16 +8,16 @@ use faults::Memory;
 use std::alloc::Global;
 use std::marker::Model;
 
-/// One who names a position, and the link before it at that position, counted from 1: 0, where it
-/// is the first.
+/// One who names a position, and the link of the name before it at that position, counted from 1:
+/// 0, where it is the first.
 #[derive(Clone, Copy)]
-pub(crate) struct Link {
-    pub(crate) who: u32,
-    pub(crate) earlier: u32,
+struct Link {
+    who: u32,
+    earlier: u32,
 }
 
-/// At each position those that name it so far, the latest first. Each name is a link behind all
-/// others, and a position has the latest of its own, counted from 1: 0, where it has none.
+/// At each position those that name it so far. Each name is put as a link behind all others, and
+/// each position has the latest link of its own, counted from 1: 0, where nobody names it.
 #[derive(Drop)]
 pub struct Naming {
     latest: Vec<u32>,
@@ -69,7 +69,7 @@ impl Naming {
         Ok(())
     }
 
-    /// The lists as they are, to be read.
+    /// The same lists, to be read: they stand one behind the other, in order of position.
     pub fn turned(&self, alloc: Global) -> Result<Reversed, Memory>
         ensures { IfOk result (λ lists. lists ≡ self.now) }
     {
@@ -85,7 +85,7 @@ impl Naming {
     }
 }
 
-/// Puts those behind the names to which the links lead from the latest one, it being first.
+/// Puts behind the names those to which the links lead from the latest one, itself first.
 fn append_linked(names: &mut Vec<u32>, links: &[Link], latest: u32) -> Result<(), Memory>
     requires linked { IsLinked links.now }
     requires latest { latest ≤ length links.now }

@@ -4,14 +4,15 @@ ghost use Rattle.graph.specs.Lists.{list_at};
 
 use std::marker::Model;
 
-/// Where a list begins among all names, and where it ends, itself outside.
+/// Where a list begins among all names, and where the next name behind it stands.
 #[derive(Clone, Copy)]
 pub(crate) struct Range {
     pub(crate) from: u32,
     pub(crate) to: u32,
 }
 
-/// At each position a list of those that name it. All lists stand one behind the other.
+/// At each position a list of those that name it. All names are in one block, and each list is a
+/// range of it.
 #[derive(Drop)]
 pub struct Reversed {
     pub(crate) ranges: Vec<Range>,
