@@ -1,5 +1,5 @@
 -- A line with four fields.
-use Rattle.std.proofs.Common.{◌≡◌, ◌<◌, ◌==◌, ◌∙◌, ℕ, [], ◌∷◌, arith, length, sym}
+use Rattle.std.proofs.Common.{◌≡◌, ◌<◌, ◌==◌, ◌∙◌, ℕ, ◌∷◌, arith, length, sym}
 use Rattle.std.proofs.lemmas.List.Splits.{length-slice_split}
 use Rattle.claims.specs.declared.deps.Dep.{Dep}
 use Rattle.faults.specs.Bytes.{Text, blank}

@@ -1,6 +1,6 @@
 use Rattle.std.proofs.Common.{◌∙◌, inl, inr, subst, sym}
 use Rattle.std.proofs.lemmas.Result.{err_from_is_err_and}
-use Rattle.replay.specs.List.{AreEntries, IsFirstBadLine}
+use Rattle.replay.specs.List.{IsFirstBadLine}
 use Rattle.replay.specs.declared.list.ListFault.{ListFault}
 use Rattle.replay.proofs.Lines.{all_read, last_bad, last_read, line_bad, line_read}
 use Rattle.replay.proofs.list.read_list.Goals as goal
