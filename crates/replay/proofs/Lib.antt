@@ -1,6 +1,5 @@
 mod Examples
 pub mod Beginnings
-pub mod Ends
 pub mod Fields
 pub mod FlatLines
 pub mod Holding
@@ -13,5 +12,6 @@ pub mod Positions
 pub mod ReadAgain
 pub mod Refusing
 pub mod Saying
+pub mod Spelling
 pub mod Slices
 pub mod Stopping

@@ -3,3 +3,4 @@ pub mod Files
 pub mod Holding
 pub mod Listed
 pub mod NodeLines
+pub mod Signatures

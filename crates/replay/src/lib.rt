@@ -11,6 +11,7 @@ mod printing;
 mod program;
 mod refusal;
 mod report;
+mod signatures;
 mod stop;
 mod texts;
 mod verdict;

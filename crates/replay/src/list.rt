@@ -1,16 +1,16 @@
 //! A list of packages, in the order in which they were built.
-ghost use Rattle.std.specs.Prelude.{◌≡◌, ◌∷◌, [], ◌++◌, ◌⊎◌, IfErr, IfNone, IfOk, IfSome, None, Some, map};
-ghost use Rattle.replay.specs.List.{AreEntries, IsFirstBadLine, lines_in};
+ghost use Rattle.std.specs.Prelude.{◌≡◌, ◌∷◌, [], ◌++◌, ◌⊎◌, IfErr, IfNone, IfOk, IfSome, None, Some};
+ghost use Rattle.replay.specs.List.{AreEntries, IsFirstBadLine};
 ghost use Rattle.replay.specs.ListRefusals.{number_of, place_of};
-ghost use Rattle.replay.specs.inside.Listed.{AddsLine, CannotFollow, IsBuilt, entries_in, has_empty_end, said_in};
+ghost use Rattle.replay.specs.inside.Listed.{AddsLine, CannotFollow, IsBuilt, entries_in, said_in};
 ghost use Rattle.replay.specs.declared.list.ListFault.TheVariants.{Memory as OutOfMemory};
 
 use crate::list_line::{ListLine, list_line};
-use crate::pieces::pieces;
+use crate::signatures::Signatures;
 use auditing::Entry;
 use claims::{Dep, Deps};
-use faults::{Fault, Memory, WantOfMemory};
-use std::alloc::{AllocError, Global};
+use faults::{Fault, Memory, WantOfMemory, split_once};
+use std::alloc::Global;
 use thiserror::Error;
 
 /// Why a text is read as no list of packages: want of memory, or else its first line that belongs
@@ -69,46 +69,34 @@ pub fn read_list(alloc: Global, text: &[u8]) -> Result<Vec<Entry>, ListFault>
     ensures entries { IfOk result (λ entries. AreEntries text.now entries.items) }
     ensures refused { IfErr result (λ e. (e ≡ ListFault.Memory) ⊎ IsFirstBadLine text.now e) }
 {
-    let lines = list_lines(alloc, text)?;
+    let mut signatures = Signatures::new(alloc);
     let mut packages = None;
-    for (index, line) in lines.iter().enumerate() {
-        packages = Some(with_line(alloc, packages, line, index as u64 + 1)?);
+    let mut number = 1;
+    let mut left = text;
+    'lines: while let Some((line, behind)) = split_once(left, b'\n') {
+        packages = Some(with_line(alloc, &mut signatures, packages, line, number)?);
+        number += 1;
+        left = behind;
+    }
+    if !left.is_empty() {
+        packages = Some(with_line(alloc, &mut signatures, packages, left, number)?);
     }
     Ok(entries(alloc, packages)?)
 }
 
-/// The lines of the text, each without its end.
-fn list_lines<'t>(alloc: Global, text: &'t [u8]) -> Result<Vec<&'t [u8]>, AllocError>
-    ensures { IfOk result (λ lines. map (λ line. line.now) lines.items ≡ lines_in text.entry.now) }
-{
-    let mut lines = pieces(alloc, b'\n', text)?;
-    if ends_empty(lines.as_slice()) {
-        lines.pop();
-    }
-    Ok(lines)
-}
-
-fn ends_empty(lines: &[&[u8]]) -> bool
-    ensures { result ≡ has_empty_end (map (λ line. line.now) lines.now) }
-{
-    match lines.last() {
-        Some(line) => line.is_empty(),
-        None => false,
-    }
-}
-
 /// The packages with one line more, which has that number.
-fn with_line(
+fn with_line<'t>(
     alloc: Global,
+    signatures: &mut Signatures<'t>,
     packages: Option<Packages>,
-    line: &[u8],
+    line: &'t [u8],
     number: u64,
 ) -> Result<Packages, ListFault>
-    ensures ok { IfOk result (AddsLine packages line.now) }
+    ensures ok { IfOk result (AddsLine packages line.entry.now) }
     ensures err { IfErr result (λ e. (e ≡ ListFault.Memory) ⊎
-        ((e ≡ ListFault.BadList number) × CannotFollow packages line.now)) }
+        ((e ≡ ListFault.BadList number) × CannotFollow packages line.entry.now)) }
 {
-    let Some(said) = list_line(alloc, line)? else {
+    let Some(said) = list_line(alloc, signatures, line)? else {
         return Err(ListFault::BadList(number));
     };
     match with_said(alloc, packages, said)? {

@@ -1,18 +1,12 @@
 -- The packages of the lines that were read.
-use Rattle.std.specs.Prelude.{◌≡◌, Bool, false, List, [], ◌∷◌, ◌++◌, Option, None, Some}
+use Rattle.std.specs.Prelude.{◌≡◌, List, [], ◌∷◌, ◌++◌, Option, None, Some}
 use Rattle.std.specs.List.{flat_map}
-use Rattle.faults.specs.Bytes.{Text, is_empty}
+use Rattle.faults.specs.Bytes.{Text}
 use Rattle.auditing.specs.declared.entry.Entry.{Entry}
 use Rattle.replay.specs.List.{Says, said_of}
 use Rattle.replay.specs.declared.list.Packages.{Packages}
 use Rattle.replay.specs.declared.list_line.ListLine.{ListLine}
 use Rattle.replay.specs.declared.list_line.ListLine.TheVariants.{Package, Built}
-
--- the last of the texts is empty
-abbrev pub has_empty_end : List Text → Bool
-has_empty_end [] = false
-has_empty_end (t ∷ []) = is_empty t
-has_empty_end (t ∷ u ∷ ts) = has_empty_end (u ∷ ts)
 
 -- the package that was read last, with what it was built on so far
 abbrev pub last_entry : Packages → Entry

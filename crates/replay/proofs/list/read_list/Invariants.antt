@@ -1,8 +1,9 @@
-use Rattle.std.proofs.Common.{take}
-use Rattle.std.specs.List.{AllZip}
-use Rattle.replay.specs.List.{Says, lines_in}
-use Rattle.replay.specs.inside.Listed.{said_in}
+use Rattle.std.proofs.Common.{length}
+use Rattle.replay.proofs.Lines.{ReadSoFar}
 use Rattle.replay.proofs.list.read_list.Given as goal
 
-abbrev pub invariant-loop-index : goal.invariant-loop-index
-invariant-loop-index l = AllZip Says (take l.index (lines_in l.text)) (said_in l.packages)
+abbrev pub invariant-lines : goal.invariant-lines
+invariant-lines l = ReadSoFar l.text l.left l.number l.packages
+
+abbrev pub decreases-lines : goal.decreases-lines
+decreases-lines l = length l.left
