@@ -249,7 +249,7 @@ impl<'a> Dependencies<'a> {
         alloc: Global,
         line: u64,
         value: &'a [u8],
-    ) -> Result<Vec<usize>, ListingFault>
+    ) -> Result<Vec<u32>, ListingFault>
         ensures answer { MatchResult result
             (λ ns. (dependencies_fault names_and_specs line value.now ≡ None)
             × AreNumbersOf self.new ns.items (words_of value.now))
@@ -270,8 +270,23 @@ impl<'a> Dependencies<'a> {
         Ok(numbers)
     }
 
-    /// The number of a dependency, which is read where it first comes.
-    fn number(&mut self, alloc: Global, line: u64, word: &'a [u8]) -> Result<usize, ListingFault>
+    /// The number of a dependency, in few bytes.
+    fn number(&mut self, alloc: Global, line: u64, word: &'a [u8]) -> Result<u32, ListingFault>
+        ensures answer { MatchResult result
+            (λ n. (word_fault names_and_specs line word.now ≡ None)
+            × IsNumberOf self.new n word.now)
+            (λ e. (e ≡ ListingFault.Memory) ⊎ (word_fault names_and_specs line word.now ≡ Some e)) }
+        ensures grows { Grows self.old self.new }
+    {
+        let place = self.place(alloc, line, word)?;
+        match u32::try_from(place) {
+            Ok(number) => Ok(number),
+            Err(_) => Err(ListingFault::Memory),
+        }
+    }
+
+    /// Where a dependency stands among the different ones, which is read where it first comes.
+    fn place(&mut self, alloc: Global, line: u64, word: &'a [u8]) -> Result<usize, ListingFault>
         ensures answer { MatchResult result
             (λ n. (word_fault names_and_specs line word.now ≡ None)
             × IsNumberOf self.new n word.now)

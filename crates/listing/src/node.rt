@@ -87,7 +87,7 @@ fn text_of<'a>(value: &Option<Value<'a>>) -> &'a [u8]
 }
 
 /// The numbers of the dependencies that the value was read as, or none.
-fn numbers_of<'v>(value: &'v Option<Value<'_>>) -> &'v [usize]
+fn numbers_of<'v>(value: &'v Option<Value<'_>>) -> &'v [u32]
     ensures { result.now ≡ numbers_of_value value.entry.now }
 {
     match value {
@@ -102,18 +102,18 @@ fn numbers_of<'v>(value: &'v Option<Value<'_>>) -> &'v [usize]
 }
 
 /// Whether each is met.
-fn are_met(numbers: &[usize], resolutions: &[Resolution]) -> bool
+fn are_met(numbers: &[u32], resolutions: &[Resolution]) -> bool
     requires { All (λ n. n < length resolutions.now) numbers.now }
     ensures { result ≡ are_met resolutions.now numbers.now }
 {
-    numbers.iter().all(|number| resolutions[*number].is_met)
+    numbers.iter().all(|number| resolutions[*number as usize].is_met)
 }
 
 /// The positions that these have, ascending, each once.
 fn positions_of(
     alloc: Global,
-    first: &[usize],
-    second: &[usize],
+    first: &[u32],
+    second: &[u32],
     resolutions: &[Resolution],
 ) -> Result<Vec<u32>, ListingFault>
     requires first { All (λ n. n < length resolutions.now) first.now }
@@ -135,7 +135,7 @@ fn positions_of(
 /// Appends the positions that these have.
 fn add_positions(
     found: &mut Vec<u32>,
-    numbers: &[usize],
+    numbers: &[u32],
     resolutions: &[Resolution],
 ) -> Result<(), ListingFault>
     requires { All (λ n. n < length resolutions.now) numbers.now }
@@ -144,7 +144,7 @@ fn add_positions(
         (λ e. e ≡ ListingFault.Memory) }
 {
     for number in numbers {
-        if let Some(position) = resolutions[*number].position {
+        if let Some(position) = resolutions[*number as usize].position {
             found.push(position)?;
         }
     }

@@ -27,7 +27,7 @@ const MOST_PATHS: usize = 16_384;
 #[derive(Drop)]
 pub enum Reading {
     Name(PkgName),
-    Numbers(Vec<usize>),
+    Numbers(Vec<u32>),
     Unread,
 }
 

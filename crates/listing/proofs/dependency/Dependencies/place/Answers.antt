@@ -6,7 +6,7 @@ use Rattle.listing.specs.Listing.{word_fault}
 use Rattle.listing.specs.inside.Parts.{IsNumberOf}
 use Rattle.listing.specs.Rules.{names_and_specs}
 use Rattle.listing.proofs.Numbers.{entries_good, entries_grow, none_from_is_some, number_of_new, number_there, no_word_fault, place_of_new}
-use Rattle.listing.proofs.dependency.Dependencies.number.Goals as goal
+use Rattle.listing.proofs.dependency.Dependencies.place.Goals as goal
 
 pub returns-in-Some-clause-answer : goal.returns-in-Some-clause-answer
 returns-in-Some-clause-answer c =
