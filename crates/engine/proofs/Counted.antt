@@ -1,5 +1,5 @@
 -- A list that has each position which meets a condition, once, has so many of them.
-use Rattle.std.proofs.Common.{◌≡◌, ◌+◌, ◌++◌, ◌<◌, ◌≤◌, ℕ, zero, suc, Bool, false, cond, List, [], ◌∷◌, length, nat_eq, All, Contains, refl, sym, ap, ◌∙◌, subst, inl, inr, arith}
+use Rattle.std.proofs.Common.{◌≡◌, ◌+◌, ◌++◌, ◌<◌, ◌≤◌, ℕ, zero, suc, Bool, false, cond, List, [], ◌∷◌, length, nat_eq, All, Contains, refl, sym, ap, subst, inl, inr, arith}
 use Rattle.std.proofs.lemmas.Bool.{cases_eq, cases_lt, eq-eqb, ne_eqb}
 use Rattle.std.proofs.lemmas.List.{get_or_append_left, get_or_push, length_push}
 use Rattle.std.proofs.lemmas.List.Sums.{sum_by-cons}
@@ -50,9 +50,11 @@ unfolding below
 so_many-below P zero xs each = refl
 so_many-below P (suc n) xs each = elim (each n) [
   | inl (here, one) ↦ inl (here, (below n xs, so_many-below P n xs each, omega (arith, one)))
-  | inr (not_here, none) ↦ inr (not_here,
-      let e : below n xs ≡ times n xs + below n xs = omega (arith, none) in
-      subst (AreSoMany P n) e (so_many-below P n xs each))
+  | inr (not_here, none) ↦ inr (
+    not_here,
+    let e : below n xs ≡ times n xs + below n xs = omega (arith, none) in
+        subst (AreSoMany P n) e (so_many-below P n xs each),
+  )
 ]
 
 -- lists that have at each position what the others have there lead as far

@@ -40,11 +40,7 @@ fn turned_runs(alloc: Global, tree: &Tree) -> Result<Reversed, Memory>
 }
 
 /// At each package those that it needs to run, by those that need it.
-pub(crate) fn needed_lists(
-    alloc: Global,
-    tree: &Tree,
-    runs: &Reversed,
-) -> Result<Reversed, Memory>
+pub(crate) fn needed_lists(alloc: Global, tree: &Tree, runs: &Reversed) -> Result<Reversed, Memory>
     requires { AreReversed (length tree.now) (length tree.now) (run_at tree.now) runs.now }
     ensures { IfOk result (λ needed.
         AreReversed (length tree.now) (length tree.now) (list_at runs.now) needed) }

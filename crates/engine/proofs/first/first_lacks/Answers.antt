@@ -1,4 +1,4 @@
-use Rattle.std.proofs.Common.{◌≡◌, ◌+◌, ◌<◌, ◌++◌, ◌∷◌, ◌∙◌, [], ℕ, List, ap, arith, false, length, slice_index_or, subst, sym}
+use Rattle.std.proofs.Common.{◌+◌, ◌<◌, ◌∙◌, ℕ, ap, arith, false, length, slice_index_or, subst, sym}
 use Rattle.std.proofs.lemmas.List.{length_push}
 use Rattle.listing.specs.Tree.{run_at}
 use Rattle.graph.specs.Lists.{list_at}
@@ -21,7 +21,7 @@ overflow_cast-found c =
     let found = c.reach.new.self.found in
     let within = subst (λ (m : ℕ). (k d : ℕ) → k < length found → slice_index_or found k d < m) c.in_ok-needed.ensures.each c.reach.ensures.within in
     let many = so_many-walked n (run_at tree) c.args.runs.now c.in_ok-needed.needed c.loop-position.position found
-        c.requires.runs c.in_ok-needed.ensures (run_listed tree c.len.ensures.tree) c.reach.ensures.reached within in
+    c.requires.runs c.in_ok-needed.ensures (run_listed tree c.len.ensures.tree) c.reach.ensures.reached within in
     omega (arith, ap length c.found.ensures, so_many-few _ n (length found) many, c.len.ensures.tree.few)
 
 pub loop-position-preserved : goal.loop-position-preserved
@@ -32,7 +32,7 @@ loop-position-preserved c =
     let found = c.reach.new.self.found in
     let within = subst (λ (m : ℕ). (k d : ℕ) → k < length found → slice_index_or found k d < m) c.in_ok-needed.ensures.each c.reach.ensures.within in
     let many = so_many-walked n (run_at tree) c.args.runs.now c.in_ok-needed.needed at.position found
-        c.requires.runs c.in_ok-needed.ensures (run_listed tree c.len.ensures.tree) c.reach.ensures.reached within in
+    c.requires.runs c.in_ok-needed.ensures (run_listed tree c.len.ensures.tree) c.reach.ensures.reached within in
     let counted = subst (λ (m : ℕ). AreSoMany (IsLacking (run_at tree) (λ q. false) at.position) n m) (sym (ap length c.found.ensures)) many in
     record {
       each = ap length c.in_ok-push.ensures.items ∙ length_push at.lacks.items (length c.found.result.now) ∙ ap (λ m. m + 1) at.invariant.each;
