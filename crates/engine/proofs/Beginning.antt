@@ -1,8 +1,8 @@
 -- What is kept where nothing is held.
-use Rattle.std.proofs.Common.{◌≡◌, ◌+◌, ◌<◌, ◌≤◌, ◌^◌, ℕ, Bool, false, not, cond, List, [], ◌∷◌, get_or, length, replicate, set, refl, sym, ap, ◌∙◌, subst, inl, inr, arith}
+use Rattle.std.proofs.Common.{◌≡◌, ◌+◌, ◌<◌, ℕ, Bool, false, not, cond, List, [], ◌∷◌, get_or, length, set, refl, sym, ap, ◌∙◌, subst, inl, inr, arith}
 use borrow.Author.Count.{below_more}
-use Rattle.std.proofs.lemmas.Bool.{cases_eq, cases_lt, true≢false}
-use Rattle.std.proofs.lemmas.List.{get_or-replicate, get_or-set_other, get_or-set_same, get_or_past, length-replicate}
+use Rattle.std.proofs.lemmas.Bool.{cases_eq, true≢false}
+use Rattle.std.proofs.lemmas.List.{get_or-set_other, get_or-set_same}
 use Rattle.std.proofs.lemmas.List.Sums.{sum_by-cons}
 use Rattle.listing.specs.Tree.{run_at}
 use Rattle.units.specs.Division.{Division}
@@ -11,11 +11,9 @@ use Rattle.engine.specs.declared.Letter.TheVariants.{T, Q, B, I, Ignored}
 use Rattle.graph.specs.Walked.{Walked}
 use Rattle.engine.specs.inside.Keeping.{AreKept, holds}
 use Rattle.engine.specs.inside.Lacking.{AreLacks}
-use Rattle.graph.specs.Lists.{AreReversed, times}
-use Rattle.graph.specs.Reach.{AreReached}
+use Rattle.graph.specs.Lists.{AreReversed}
 use Rattle.engine.specs.inside.Queueing.{AreFitting, FitsUnit, needs_of, waited_for}
 use Rattle.engine.specs.inside.Shown.{is_held, is_installed, letter_at}
-use Rattle.engine.proofs.SoMany.{so_many-few}
 
 pub not_held_installed : (l : Letter) → is_held l ≡ false → is_installed l ≡ false
 not_held_installed T e = refl
@@ -69,23 +67,3 @@ module _ (letters : List Letter) (n : ℕ) (letter : Letter) (inside : n < lengt
     | inl same ↦ ap (holds (set letters n letter)) same ∙ ap is_held (get_or-set_same letters n letter Ignored inside) ∙ not_held
     | inr other ↦ ap is_held (get_or-set_other letters n p letter Ignored other) ∙ none p
   ]
-
--- ---- lacks are counted
-
--- none of no packages is lacking
-pub AreLacks-none : (next : ℕ → List ℕ) (held : ℕ → Bool) (n : ℕ) → AreLacks next held 0 (replicate n 0)
-AreLacks-none next held n p inside = get_or-replicate n p 0 0 (omega (arith, inside, length-replicate {A = ℕ} n 0))
-
-times_once : (before : ℕ → List ℕ) (n : ℕ) (reached : List ℕ) → AreReached before n reached → (p : ℕ) → times p reached ≤ 1
-times_once before n reached are p = elim (are p) [
-  | inl (leads, one) ↦ omega (arith, one)
-  | inr (leads_not, none) ↦ omega (arith, none)
-]
-
--- one more of each that is reached fits
-pub lacks_fit : (next before : ℕ → List ℕ) (held : ℕ → Bool) (n : ℕ) (lacks reached : List ℕ) → AreLacks next held n lacks → AreReached before n reached
-    → n + 1 < 2 ^ 32 → (p : ℕ) → get_or lacks p 0 + times p reached < 2 ^ 32
-lacks_fit next before held n lacks reached are are_reached few p = elim (cases_lt p (length lacks)) [
-  | inl within ↦ omega (arith, few, times_once before n reached are_reached p, so_many-few _ n (get_or lacks p 0) (are p within))
-  | inr past ↦ omega (arith, few, times_once before n reached are_reached p, get_or_past lacks p 0 past)
-]

@@ -1,6 +1,7 @@
 pub mod Agreeing
 pub mod Beginning
 pub mod Bits
+pub mod Counted
 mod Examples
 pub mod Lowering
 pub mod Marked

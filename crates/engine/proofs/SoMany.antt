@@ -57,17 +57,6 @@ so_many-less P Q (suc n) m p within met no_more there back (inr (not_here, are))
   )
 ]
 
--- one position more
-pub so_many-yes : (P : ℕ → Type 0) (n m : ℕ) → P n → AreSoMany P n m → AreSoMany P (n + 1) (m + 1)
-so_many-yes P n m here are =
-    let e : suc n ≡ n + 1 = omega arith in
-    subst (λ (k : ℕ). AreSoMany P k (m + 1)) e (inl (here, (m, are, omega arith)))
-
-pub so_many-no : (P : ℕ → Type 0) (n m : ℕ) → ¬ P n → AreSoMany P n m → AreSoMany P (n + 1) m
-so_many-no P n m not_here are =
-    let e : suc n ≡ n + 1 = omega arith in
-    subst (λ (k : ℕ). AreSoMany P k m) e (inr (not_here, are))
-
 -- ---- lacks
 
 module _ (next before : ℕ → List ℕ) (there : AreTurned next before) (back : AreTurned before next) where
@@ -95,20 +84,6 @@ module _ (next before : ℕ → List ℕ) (there : AreTurned next before) (back 
       still : (x : ℕ) → now x ≡ false → (x ≡ p) ⊎ (x ≢ p) → held x ≡ false
       still x out (inl same) = absurd (true≢false (sym now_held ∙ ap now (sym same) ∙ out))
       still x out (inr other) = sym (others x other) ∙ out
-
-  -- nothing is held: each that leads to the next position lacks one more
-  pub AreLacks-next : (held : ℕ → Bool) (n : ℕ) (lacks more reached : List ℕ) → held n ≡ false → AreReached before n reached → length more ≡ length lacks
-      → ((q : ℕ) → q < length lacks → get_or more q 0 ≡ get_or lacks q 0 + times q reached)
-      → AreLacks next held n lacks → AreLacks next held (n + 1) more
-  AreLacks-next held n lacks more reached not_held are_reached each raised are q inside = elim (are_reached q) [
-    | inl (leads, one) ↦ let e : get_or lacks q 0 + 1 ≡ get_or more q 0 = omega (arith, raised q inside', one) in subst (AreSoMany (IsLacking next held q) (n + 1)) e
-        (so_many-yes (IsLacking next held q) n (get_or lacks q 0) (reached-back before next n q back leads, not_held) (are q inside'))
-    | inr (leads_not, none) ↦ let e : get_or lacks q 0 ≡ get_or more q 0 = omega (arith, raised q inside', none) in subst (AreSoMany (IsLacking next held q) (n + 1)) e
-        (so_many-no (IsLacking next held q) n (get_or lacks q 0) (λ lacking. leads_not (reached-back next before q n there lacking.0)) (are q inside'))
-  ]
-    where
-      inside' : q < length lacks
-      inside' = omega (arith, inside, each)
 
 -- where nothing is lacking, nothing is for what is needed
 pub nothing_lacks-needed : (next : ℕ → List ℕ) (held : ℕ → Bool) (n : ℕ) (lacks : List ℕ) (p d : ℕ) → AreLacks next held n lacks → p < length lacks → d < length lacks

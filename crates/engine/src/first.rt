@@ -9,9 +9,8 @@ ghost use Rattle.engine.specs.inside.Shown.{is_held};
 ghost use Rattle.engine.specs.inside.Keeping.{AreKept, holds};
 
 use crate::Letter;
-use crate::lacks::raise;
 use crate::letters::Letters;
-use crate::turned::turned_lists;
+use crate::turned::{needed_lists, turned_lists};
 use faults::Memory;
 use graph::{Reversed, Walk};
 use listing::Tree;
@@ -72,10 +71,11 @@ fn first_lacks(
         × AreLacks (run_at tree.now) (λ p. false) (length tree.now) lacks.items) }
     ensures over_all { walk.new.len ≡ length tree.now }
 {
-    let mut lacks = vec![in alloc; 0u32; tree.len() as usize]?;
+    let needed = needed_lists(alloc, tree, runs)?;
+    let mut lacks = Vec::with_capacity(alloc, tree.len() as usize)?;
     for position in 0..tree.len() {
-        walk.reach(runs, position);
-        raise(lacks.as_mut_slice(), walk.found());
+        walk.reach(&needed, position);
+        lacks.push(walk.found().len() as u32)?;
     }
     Ok(lacks)
 }

@@ -2,18 +2,6 @@
 ghost use Rattle.std.specs.Prelude.{◌≡◌, ◌<◌, ◌≤◌, ◌+◌, ◌^◌, ℕ, All, length, slice_index};
 ghost use Rattle.graph.specs.Lists.{times};
 
-/// Each of the positions lacks one more.
-pub(crate) fn raise(lacks: &mut [u32], positions: &[u32])
-    requires within { All (λ p. p < length lacks.old) positions.now }
-    requires few { (p : ℕ) → slice_index lacks.old p + times p positions.now < 2 ^ 32 }
-    ensures { (p : ℕ) → p < length lacks.old
-        → slice_index lacks.new p ≡ slice_index lacks.old p + times p positions.now }
-{
-    for position in positions {
-        lacks[*position as usize] += 1;
-    }
-}
-
 /// Each of the positions lacks one less.
 pub(crate) fn lower(lacks: &mut [u32], positions: &[u32])
     requires within { All (λ p. p < length lacks.old) positions.now }

@@ -1,36 +1,42 @@
-use Rattle.std.proofs.Common.{◌≡◌, ◌++◌, ◌∙◌, ap, arith, drop, false, length, refl, take}
-use Rattle.std.proofs.lemmas.List.{take_at}
+use Rattle.std.proofs.Common.{◌+◌, ◌<◌, ◌∙◌, ℕ, ap, arith, false, length, slice_index_or, subst, sym}
+use Rattle.std.proofs.lemmas.List.{length_push}
 use Rattle.listing.specs.Tree.{run_at}
 use Rattle.graph.specs.Lists.{list_at}
-use Rattle.engine.proofs.Beginning.{lacks_fit}
-use Rattle.engine.proofs.SoMany.{AreLacks-next}
 use Rattle.units.proofs.Dependents.{run_listed}
-use Rattle.graph.proofs.Turned.{turned, turned_back}
 use Rattle.graph.proofs.Turned.{named_within}
+use Rattle.engine.specs.inside.Lacking.{AreLacks, AreSoMany, IsLacking}
+use Rattle.engine.proofs.Counted.{AreLacks-push, so_many-walked}
+use Rattle.engine.proofs.SoMany.{so_many-few}
 use Rattle.engine.proofs.first.first_lacks.Goals as goal
 
 pub reach-requires-clause-listed : goal.reach-requires-clause-listed
 reach-requires-clause-listed c = λ p k d inside.
-    omega (arith, c.requires.runs.each, named_within (length c.args.tree.now) (length c.args.tree.now) (run_at c.args.tree.now) c.args.runs.now p c.requires.runs k d inside)
+    let n = length c.args.tree.now in
+    omega (arith, c.in_ok-needed.ensures.each, named_within n n (list_at c.args.runs.now) c.in_ok-needed.needed p c.in_ok-needed.ensures k d inside)
 
-pub raise-requires-clause-few : goal.raise-requires-clause-few
-raise-requires-clause-few c =
-    rw (c.as_mut_slice.ensures.value, c.found.ensures)
-    (lacks_fit (run_at c.args.tree.now) (list_at c.args.runs.now) (λ p. false) c.loop-position.position c.loop-position.lacks.items c.reach.new.self.found
-    c.loop-position.invariant.are_lacks c.reach.ensures.reached (omega (arith, c.loop-position-test.true, c.len-position-end.ensures.count, c.len.ensures.tree.few)))
+pub overflow_cast-found : goal.overflow_cast-found
+overflow_cast-found c =
+    let tree = c.args.tree.now in
+    let n = length tree in
+    let found = c.reach.new.self.found in
+    let within = subst (λ (m : ℕ). (k d : ℕ) → k < length found → slice_index_or found k d < m) c.in_ok-needed.ensures.each c.reach.ensures.within in
+    let many = so_many-walked n (run_at tree) c.args.runs.now c.in_ok-needed.needed c.loop-position.position found
+    c.requires.runs c.in_ok-needed.ensures (run_listed tree c.len.ensures.tree) c.reach.ensures.reached within in
+    omega (arith, ap length c.found.ensures, so_many-few _ n (length found) many, c.len.ensures.tree.few)
 
 pub loop-position-preserved : goal.loop-position-preserved
 loop-position-preserved c =
     let tree = c.args.tree.now in
-    let lists = c.args.runs.now in
-    let lacks = c.loop-position.lacks in
-    let now = c.raise.new.lacks in
-    let each : length now ≡ length lacks.items = c.raise.auto.lacks ∙ ap length c.as_mut_slice.ensures.value in
-    let written : take lacks.len (now ++ drop (length now) lacks.items) ≡ now = take_at now (drop (length now) lacks.items) lacks.len (omega (arith, each, lacks.ok)) in
-    let raised = rw (c.as_mut_slice.ensures.value, c.found.ensures) at c.raise.ensures in
-    rw written (record {
-      each = each ∙ c.loop-position.invariant.each;
-      are_lacks = AreLacks-next (run_at tree) (list_at lists) (turned c.requires.runs (run_listed tree c.len.ensures.tree)) (turned_back c.requires.runs)
-          (λ p. false) c.loop-position.position lacks.items now c.reach.new.self.found refl c.reach.ensures.reached each raised c.loop-position.invariant.are_lacks;
-      over_all = c.reach.ensures.each ∙ c.loop-position.invariant.over_all;
-    })
+    let n = length tree in
+    let at = c.loop-position in
+    let found = c.reach.new.self.found in
+    let within = subst (λ (m : ℕ). (k d : ℕ) → k < length found → slice_index_or found k d < m) c.in_ok-needed.ensures.each c.reach.ensures.within in
+    let many = so_many-walked n (run_at tree) c.args.runs.now c.in_ok-needed.needed at.position found
+    c.requires.runs c.in_ok-needed.ensures (run_listed tree c.len.ensures.tree) c.reach.ensures.reached within in
+    let counted = subst (λ (m : ℕ). AreSoMany (IsLacking (run_at tree) (λ q. false) at.position) n m) (sym (ap length c.found.ensures)) many in
+    record {
+      each = ap length c.in_ok-push.ensures.items ∙ length_push at.lacks.items (length c.found.result.now) ∙ ap (λ m. m + 1) at.invariant.each;
+      are_lacks = subst (AreLacks (run_at tree) (λ q. false) n) (sym c.in_ok-push.ensures.items)
+          (AreLacks-push (run_at tree) (λ q. false) n at.lacks.items at.position (length c.found.result.now) at.invariant.each at.invariant.are_lacks counted);
+      over_all = c.reach.ensures.each ∙ at.invariant.over_all;
+    }

@@ -5,7 +5,7 @@ use Rattle.engine.proofs.first.first_lacks.Given as goal
 
 abbrev pub invariant-loop-position : goal.invariant-loop-position
 invariant-loop-position l = record {
-  each : length l.lacks.items ≡ length l.tree;
-  are_lacks : AreLacks (run_at l.tree) (λ p. false) l.position l.lacks.items;
+  each : length l.lacks.items ≡ l.position;
+  are_lacks : AreLacks (run_at l.tree) (λ p. false) (length l.tree) l.lacks.items;
   over_all : l.walk.len ≡ length l.tree;
 }
