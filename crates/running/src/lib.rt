@@ -2,6 +2,7 @@
 #![tactic(auto)]
 
 mod asked;
+mod handed;
 mod opening;
 mod placed;
 mod posted;

@@ -23,6 +23,7 @@ ghost use Rattle.running.specs.Faults.{cause_of, number_of};
 ghost use Rattle.running.specs.History.{AlongRun, IsHistory, IsRunFault, taken};
 
 use crate::World;
+use crate::handed::Handed;
 use ballots::Weights;
 use events::Event;
 use faults::Fault;
@@ -131,7 +132,8 @@ fn world_after<'a>(
             fault: WorldFault::Memory,
         });
     };
-    for event in events {
+    let mut left = Handed::new(events);
+    'events: while let Some(event) = left.next() {
         if let Err(fault) = world.take_and_keep(event) {
             return Err(RunFault {
                 event: Some(world.events().len() as u64 + 1),
