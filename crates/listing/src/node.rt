@@ -106,7 +106,9 @@ fn are_met(numbers: &[u32], resolutions: &[Resolution]) -> bool
     requires { All (λ n. n < length resolutions.now) numbers.now }
     ensures { result ≡ are_met resolutions.now numbers.now }
 {
-    numbers.iter().all(|number| resolutions[*number as usize].is_met)
+    numbers
+        .iter()
+        .all(|number| resolutions[*number as usize].is_met)
 }
 
 /// The positions that these have, ascending, each once.
