@@ -11,7 +11,8 @@ AreFieldsOf text path name digest = pieces_at blank text ≡ path ∷ name ∷ d
 
 -- the text has two blanks
 abbrev pub HasThreeFields : Text → Type 0
-HasThreeFields text = (path : Text) × (name : Text) × (digest : Text) × AreFieldsOf text path name digest
+HasThreeFields text =
+    (path : Text) × (name : Text) × (digest : Text) × AreFieldsOf text path name digest
 
 -- the text is a path, a name and a digest, with one blank between two of them, and these spell the
 -- package
