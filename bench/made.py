@@ -94,17 +94,41 @@ print(time.perf_counter() - began, usage.ru_maxrss, os.waitstatus_to_exitcode(st
 """
 
 
+def once(words, folder):
+    """The seconds of one run, and its peak memory in KiB, which is at least the 11 MiB or so of the process that starts it. What
+    it wrote is in the folder's file `answer`."""
+    with open(f"{folder}/answer", "wb") as out:
+        told = subprocess.run([sys.executable, "-I", "-S", "-c", RUN, *words], stdout=out, stderr=subprocess.PIPE, cwd=folder)
+    seconds, memory, status = told.stderr.decode().split()[-3:]
+    if status != "0":
+        sys.exit(f"{sys.argv[0]}: {words} ended with {status}")
+    return float(seconds), int(memory)
+
+
 def measured(words, folder):
-    """The median of the seconds of some runs, and the peak memory in KiB of the last, which is at least the 11 MiB or so of the
-    process that starts it. What that run wrote is in the folder's file `answer`."""
+    """The median of the seconds of some runs, and the peak memory in KiB of the last."""
     times = []
     for _ in range(5):
-        with open(f"{folder}/answer", "wb") as out:
-            told = subprocess.run([sys.executable, "-I", "-S", "-c", RUN, *words], stdout=out, stderr=subprocess.PIPE, cwd=folder)
-        seconds, memory, status = told.stderr.decode().split()[-3:]
-        if status != "0":
-            sys.exit(f"{sys.argv[0]}: {words} ended with {status}")
-        times.append(float(seconds))
-        if times[-1] > 5:
+        seconds, memory = once(words, folder)
+        times.append(seconds)
+        if seconds > 5:
             break
-    return statistics.median(times), int(memory)
+    return statistics.median(times), memory
+
+
+def sorted_and_digested(file):
+    """What the reading of a file is held against."""
+    return ["sh", "-c", f"LC_ALL=C sort {file} | sha256sum"]
+
+
+def beside(words, reference, folder):
+    """The least seconds of some runs and of the reference, taken by turns, so that a machine that is slow for a while is slow for
+    both; and the peak memory in KiB. What the words' last run wrote is in the folder's file `answer`."""
+    times, references = [], []
+    for _ in range(9):
+        references.append(once(reference, folder)[0])
+        seconds, memory = once(words, folder)
+        times.append(seconds)
+        if seconds > 5:
+            break
+    return min(times), min(references), memory
