@@ -2,6 +2,7 @@ pub mod Agreeing
 pub mod Beginning
 pub mod Bits
 pub mod Counted
+pub mod Decided
 mod Examples
 pub mod Lowering
 pub mod Marked
@@ -10,6 +11,7 @@ pub mod OneLetter
 pub mod Reading
 pub mod Shown
 pub mod SoMany
+pub mod SomeLetter
 pub mod Tally
 pub mod Together
 mod UnitExamples

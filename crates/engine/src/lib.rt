@@ -13,8 +13,9 @@ mod turned;
 
 pub use crate::engine::Engine;
 pub use crate::laws::{
-    each_is_counted_once, ignored_whatever_is_agreed, only_one_letter_applies, queued_together,
-    run_closure_is_held, same_held_same_letters, stays_installable,
+    each_is_counted_once, each_package_has_a_letter, ignored_whatever_is_agreed,
+    only_one_letter_applies, queued_together, run_closure_is_held, same_held_same_letters,
+    stays_installable,
 };
 
 /// How far a package is, in the letters of dpb(1)'s status line. One letter applies, and only one.
