@@ -142,9 +142,7 @@ impl MemDisk {
         if end > self.file.capacity() {
             self.file.reserve(end - self.file.len())?;
         }
-        if end > self.before.capacity() {
-            self.before.reserve(end - self.before.len())?;
-        }
+        widen(&mut self.before, end, self.file.capacity())?;
         self.ranges.reserve(1)?;
         Ok(())
     }
@@ -163,6 +161,27 @@ impl MemDisk {
             self.unchanged = place;
         }
     }
+}
+
+/// Makes room for this many bytes in all, or more at once where there is to be more. Where no byte
+/// is kept the room is another, of which nothing was touched: a system gives pages as they are
+/// written, and what grows is copied with the room that it had.
+fn widen(bytes: &mut Vec<u8>, least: usize, wanted: usize) -> Result<(), Memory>
+    ensures items { bytes.new.items ≡ bytes.old.items }
+    ensures room { OnOk result (least ≤ vec_capacity bytes.new) }
+    ensures grown { vec_capacity bytes.old ≤ vec_capacity bytes.new }
+    ensures needed { least ≤ vec_capacity bytes.old → IsOk result }
+{
+    if least <= bytes.capacity() {
+        return Ok(());
+    }
+    if !bytes.is_empty() {
+        bytes.reserve(least - bytes.len())?;
+        return Ok(());
+    }
+    let alloc: Global = *bytes.allocator();
+    *bytes = Vec::with_capacity(alloc, least.max(wanted))?;
+    Ok(())
 }
 
 /// Puts a byte in each place of some ranges.
@@ -294,9 +313,7 @@ impl Disk for MemDisk {
             return Err(Memory);
         }
         let end = self.file.len() + bytes;
-        if end > self.before.capacity() {
-            self.before.reserve(end - self.before.len())?;
-        }
+        widen(&mut self.before, end, self.file.capacity())?;
         self.ranges.reserve(calls as usize)?;
         Ok(())
     }
