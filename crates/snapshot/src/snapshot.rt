@@ -1,0 +1,73 @@
+//! The letters where some packages are held, which contracts see as a tree and a set of positions.
+ghost use Rattle.std.specs.Prelude.{◌≡◌, ◌<◌, ℕ, IfOk, length};
+ghost use Rattle.engine.specs.State.{AreCounts, HasLetter, has_agreed};
+ghost use Rattle.graph.specs.Marks.{has_mark};
+
+use crate::counting::counts_of;
+use crate::lettering::letters_of;
+use engine::{Counts, Letter};
+use faults::Memory;
+use listing::Tree;
+use std::alloc::Global;
+use std::marker::Model;
+use units::Units;
+
+/// The letters of a tree's packages where some of them are held. It is made at once and stays as it
+/// is: where packages come to be held one by one, an `Engine` tells their letters.
+#[derive(Drop)]
+pub struct Snapshot<'a> {
+    units: Units<'a>,
+    letters: Vec<Letter>,
+}
+
+impl<'a> Model for Snapshot<'a> {
+    ghost use Rattle.engine.specs.State.{State, state_code};
+    ghost use Rattle.engine.specs.inside.Agreed.{held_marks, marked_set};
+    ghost use Rattle.snapshot.specs.inside.Keeping.{AreShown};
+
+    ghost Value = { State };
+
+    ghost coded = { state_code };
+
+    ghost view = { λ s. record {
+      tree = s.units.tree;
+      agreed = marked_set (held_marks s.letters.items);
+    } };
+
+    ghost invariant = { λ s. AreShown s.units.tree s.letters.items };
+}
+
+impl<'a> Snapshot<'a> {
+    /// The letters of the tree with these units, where those packages are held whose positions have
+    /// a mark.
+    pub fn new(
+        alloc: Global,
+        tree: &Tree,
+        units: Units<'a>,
+        held: &[bool],
+    ) -> Result<Snapshot<'a>, Memory>
+        requires units { units.tree ≡ tree.now }
+        requires each { length held.now ≡ length tree.now }
+        ensures tree { IfOk result (λ snapshot. snapshot.tree ≡ tree.now) }
+        ensures held { IfOk result
+            (λ snapshot. (p : ℕ) → has_agreed snapshot p ≡ has_mark held.now p) }
+    {
+        let letters = letters_of(alloc, tree, &units, held)?;
+        Ok(Snapshot { units, letters })
+    }
+
+    /// The letter of the package at the position.
+    pub fn letter(&self, position: u32) -> Letter
+        requires { position < length self.now.tree }
+        ensures { HasLetter self.now position result }
+    {
+        self.letters[position as usize]
+    }
+
+    /// How many packages have each letter.
+    pub fn counts(&self) -> Counts
+        ensures { AreCounts self.now result }
+    {
+        counts_of(self.letters.as_slice())
+    }
+}
