@@ -17,7 +17,7 @@ mod texts;
 mod verdict;
 mod writing;
 
-pub use crate::held::{HeldFault, held_engine};
+pub use crate::held::{HeldFault, held_letters};
 pub use crate::laws::{lists_and_faults, printed_lists_are_read};
 pub use crate::list::{ListFault, read_list};
 pub use crate::outcome::{run_of_trace, run_text};

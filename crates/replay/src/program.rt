@@ -1,5 +1,5 @@
 //! The program `dpbr`. It ends once its answer is printed, so it leaves what is large by then, the
-//! tree and the engine, to the system, which takes their memory back at once.
+//! tree and its letters, to the system, which takes their memory back at once.
 ghost use Rattle.std.specs.Prelude.{◌≡◌, ◌≤◌, ◌⊎◌, Bool, IfErr, IfOk, map, string_bytes};
 ghost use Rattle.std.specs.Io.KnownBytes.{Keeps};
 ghost use Rattle.replay.specs.Printed.{HasCarriedOut, HasPrinted, IsAudit, IsOutputOf, IsRun, IsStatus};
@@ -11,7 +11,7 @@ ghost use Rattle.words.specs.Calls.{AreTaken};
 use crate::outcome::run_of_events;
 use crate::printing::print;
 use crate::refusal::Refusal;
-use crate::report::status_by_engine;
+use crate::report::status_by_letters;
 use crate::stop::Stop;
 use crate::texts::tree_of_text;
 use crate::verdict::{audit_list, status_after, verdict_text};
@@ -169,8 +169,8 @@ fn status_in_file<R: Files + AllocGlobal>(
         → IfErr result (RefusesStatusFiles is_single) }
 {
     let held = fs::read(rt, held)?;
-    let (text, engine) = status_by_engine(rt.alloc(), tree, held.as_slice())?;
-    forget(engine);
+    let (text, letters) = status_by_letters(rt.alloc(), tree, held.as_slice())?;
+    forget(letters);
     Ok(Answer { text, status: 0 })
 }
 

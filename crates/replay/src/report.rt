@@ -3,12 +3,13 @@ ghost use Rattle.std.specs.Prelude.{◌≡◌, ◌∷◌, ◌++◌, ◌⊎◌, [
 ghost use Rattle.replay.specs.Held.{IsFirstFault};
 ghost use Rattle.replay.specs.Status.{IsStatusOf, IsStatusText, counts_line, letter_text, package_line};
 
-use crate::held::{HeldFault, held_engine};
-use engine::{Counts, Engine, Letter};
+use crate::held::{HeldFault, held_letters};
+use engine::{Counts, Letter};
 use faults::Memory;
 use listing::Tree;
 use pkgname::PkgName;
 use pkgpath::PkgPath;
+use snapshot::Snapshot;
 use std::alloc::{AllocError, Global};
 
 /// What is printed of a tree and a text of held package paths: for each package its letter, path
@@ -18,35 +19,35 @@ pub fn status(alloc: Global, tree: &Tree, held: &[u8]) -> Result<Vec<u8>, HeldFa
     ensures refused { IfErr result
         (λ e. (e ≡ HeldFault.Memory) ⊎ IsFirstFault tree.now held.now e) }
 {
-    let (text, _engine) = status_by_engine(alloc, tree, held)?;
+    let (text, _letters) = status_by_letters(alloc, tree, held)?;
     Ok(text)
 }
 
-/// The same, and the engine that tells it.
-pub(crate) fn status_by_engine<'a>(
+/// The same, and the letters by which it is told.
+pub(crate) fn status_by_letters<'a>(
     alloc: Global,
     tree: &'a Tree,
     held: &[u8],
-) -> Result<(Vec<u8>, Engine<'a>), HeldFault>
+) -> Result<(Vec<u8>, Snapshot<'a>), HeldFault>
     ensures ok { IfOk result (λ told. IsStatusOf tree.entry.now held.now told.0.items) }
     ensures refused { IfErr result
         (λ e. (e ≡ HeldFault.Memory) ⊎ IsFirstFault tree.entry.now held.now e) }
 {
-    let engine = held_engine(alloc, tree, held)?;
-    let text = status_text(alloc, tree, &engine)?;
-    Ok((text, engine))
+    let letters = held_letters(alloc, tree, held)?;
+    let text = status_text(alloc, tree, &letters)?;
+    Ok((text, letters))
 }
 
-fn status_text(alloc: Global, tree: &Tree, engine: &Engine<'_>) -> Result<Vec<u8>, Memory>
-    requires { engine.now.tree ≡ tree.now }
-    ensures { IfOk result (λ text. IsStatusText engine.now text.items) }
+fn status_text(alloc: Global, tree: &Tree, letters: &Snapshot<'_>) -> Result<Vec<u8>, Memory>
+    requires { letters.now.tree ≡ tree.now }
+    ensures { IfOk result (λ text. IsStatusText letters.now text.items) }
 {
     let mut text = Vec::new(alloc);
     for position in 0..tree.len() {
-        let letter = engine.letter(position);
+        let letter = letters.letter(position);
         write_package(&mut text, letter, tree.path(position), tree.name(position))?;
     }
-    let counts = counts_text(alloc, engine.counts())?;
+    let counts = counts_text(alloc, letters.counts())?;
     text.extend_from_slice(counts.as_bytes())?;
     Ok(text)
 }
