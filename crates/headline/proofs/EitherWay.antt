@@ -1,11 +1,12 @@
 -- Each event happens, or is refused.
-use Rattle.std.proofs.Common.{◌≡◌, ◌⊎◌, ℕ, Bool, true, false, not, ◌&&◌, nat_le, List, [], ◌∷◌, length, Option, None, Some, Result, Ok, Err, slice_get, refl, sym, ap, subst, ◌∙◌, arith, inl, inr, ⊎_elim}
+use Rattle.std.proofs.Common.{◌≡◌, ◌⊎◌, ℕ, Bool, true, false, not, ◌&&◌, nat_le, List, [], ◌∷◌, length, Option, None, Some, Result, Ok, Err, slice_get, slice_index_or, refl, sym, ap, subst, ◌∙◌, arith, inl, inr, ⊎_elim}
 use Rattle.std.proofs.lemmas.Bool.{cases_lt, leb-false, true≢false}
 use Rattle.faults.specs.Answers.{first_that_applies}
 use Rattle.ballots.specs.declared.message.Note.{Note}
 use Rattle.engine.specs.declared.Letter.{Letter}
 use Rattle.engine.specs.declared.Letter.TheVariants.{Q}
-use Rattle.faults.specs.Bytes.{Text}
+use Rattle.engine.specs.State.{has_agreed}
+use Rattle.engine.proofs.SomeLetter.{some_letter}
 use Rattle.events.specs.Events as events
 use Rattle.events.specs.Events.{Event, is_step}
 use Rattle.events.specs.declared.event.Left.{Left}
@@ -16,13 +17,13 @@ use Rattle.node.specs.Step.{Asked, Comes, Does, IsAsked, Taken, Takes}
 use Rattle.node.specs.declared.fault.NodeFault.{NodeFault}
 use Rattle.node.specs.declared.fault.NodeFault.TheVariants as node_fault
 use Rattle.package_record.specs.Content.{Content}
-use Rattle.protocol.specs.State.{HasLetter, State, Value}
+use Rattle.protocol.specs.State.{HasLetter, Value, engine_of}
 use Rattle.protocol.specs.Step.{IsLetterOf}
 use Rattle.protocol.specs.declared.input.Input.TheVariants as inputs
 use Rattle.stable_record.specs.declared.log_fault.LogFault.TheVariants.{Full}
-use Rattle.units.specs.Division.{number_found}
+use Rattle.units.specs.Division.{number_found, unit_at}
+use Rattle.units.specs.Units.{AreUnits}
 use Rattle.world.specs.Happening.{Acts, Asks, Happens, HasRoomFor, IsRefused, IsUp, Steps, fault_before, is_bad_stop, is_restart, is_up, lacks_datagram, left_node, leaves_note, stepped, up_of}
-use Rattle.world.specs.Laws.{ClaimedShowsALetter}
 use Rattle.world.proofs.Growing.{get_some}
 use Rattle.world.specs.Lists.{IsListAfter}
 use Rattle.world.specs.Sent.{with_sends}
@@ -79,18 +80,19 @@ something_asked w (events.Stop n) is there = absurd (true≢false (sym is))
 something_asked w (events.StopIn e l) is there = absurd (true≢false (sym is))
 something_asked w (events.Restart n) is there = absurd (true≢false (sym is))
 
--- the unit that is claimed, if one is, shows a letter
-abbrev ShownAt : State → Asked → Type 0
-ShownAt s asked = (path : Text) (host above u : ℕ) → asked ≡ Does (inputs.Claim path host above)
-    → number_found s.division path ≡ Some u → (letter : Letter) × HasLetter s u letter
+module _ (w : World) (units : AreUnits w.division.tree w.division.units) where
+  -- each unit shows a letter at each node
+  shown : (k : ℕ) (x : WorldNode) (u : ℕ) → (letter : Letter)
+      × HasLetter (member_at w k x) u letter
+  shown k x u = some_letter w.division.tree w.division.units (has_agreed (engine_of (member_at w k x)))
+      (slice_index_or (unit_at w.division u).packages 0 0) units
 
-module _ (w : World) where
   -- a node that is asked has an answer
-  some_answer : (k : ℕ) (x : WorldNode) (asked : Asked) → ShownAt (member_at w k x) asked
-      → (r : Result Taken NodeFault) × Takes (node_at w k x) asked r
-  some_answer k x (Comes text) shown =
+  some_answer : (k : ℕ) (x : WorldNode) (asked : Asked) → (r : Result Taken NodeFault)
+      × Takes (node_at w k x) asked r
+  some_answer k x (Comes text) =
       (_, record { letter = Q; shown = tt; right_is = refl })
-  some_answer k x (Does (inputs.Claim path host above)) shown =
+  some_answer k x (Does (inputs.Claim path host above)) =
       by (number_found w.division path) refl
     where
       by : (o : Option ℕ) → number_found w.division path ≡ o → (r : Result Taken NodeFault)
@@ -104,7 +106,7 @@ module _ (w : World) where
         },
       )
       by (Some u) e =
-          let l = shown path host above u refl e in (
+          let l = shown k x u in (
             _,
             record {
               letter = l.0;
@@ -112,22 +114,16 @@ module _ (w : World) where
               right_is = refl;
             },
           )
-  some_answer k x (Does (inputs.Built path files)) shown =
+  some_answer k x (Does (inputs.Built path files)) =
       (_, record { letter = Q; shown = tt; right_is = refl })
-  some_answer k x (Does (inputs.Failed path)) shown =
+  some_answer k x (Does (inputs.Failed path)) =
       (_, record { letter = Q; shown = tt; right_is = refl })
-  some_answer k x (Does inputs.Nudge) shown =
+  some_answer k x (Does inputs.Nudge) =
       (_, record { letter = Q; shown = tt; right_is = refl })
-  some_answer k x (Does (inputs.Ask path)) shown =
+  some_answer k x (Does (inputs.Ask path)) =
       (_, record { letter = Q; shown = tt; right_is = refl })
-  some_answer k x (Does (inputs.Message n)) shown =
+  some_answer k x (Does (inputs.Message n)) =
       (_, record { letter = Q; shown = tt; right_is = refl })
-
-  -- so it is with the unit that an event claims
-  shown_there : (e : Event) → ClaimedShowsALetter w e → (x : WorldNode) → IsUp w e x
-      → (asked : Asked) → Asks w e asked → ShownAt (member_at w (events.node_of e) x) asked
-  shown_there e letter x up asked asks path host above u is found =
-      letter x path host above u up (subst (Asks w e) is asks) found
 
   -- what becomes of an event
   abbrev Goes : Event → Type 0
@@ -138,12 +134,10 @@ module _ (w : World) where
   module _ (e : Event) (is : is_step e ≡ true) (none : fault_before w e ≡ None)
       (lists : (x : WorldNode) (t : Taken) → Acts w e x t → (list : List Content)
       × IsListAfter w (with_sends w.sent t.answer.sends) list)
-      (letter : ClaimedShowsALetter w e) (can : (asked : Asked) → Asks w e asked → IsAsked asked)
-      (noted : leaves_note e ≡ true) where
+      (can : (asked : Asked) → Asks w e asked → IsAsked asked) (noted : leaves_note e ≡ true) where
     step_goes : (x : WorldNode) → IsUp w e x → (asked : Asked) → Asks w e asked
         → ((v : World) × Steps w e v) ⊎ ((f : WorldFault) × IsRefused w e f)
-    step_goes x up asked asks =
-        by (some_answer (events.node_of e) x asked (shown_there e letter x up asked asks))
+    step_goes x up asked asks = by (some_answer (events.node_of e) x asked)
       where
         taken : (t : Taken) → Acts w e x t → ((v : World) × Steps w e v)
             ⊎ ((f : WorldFault) × IsRefused w e f)
@@ -207,7 +201,7 @@ module _ (w : World) where
   -- ---- a stop inside a step
 
   module _ (e : Event) (l : Left) (is : is_step e ≡ true)
-      (none : fault_before w (events.StopIn e l) ≡ None) (letter : ClaimedShowsALetter w e)
+      (none : fault_before w (events.StopIn e l) ≡ None)
       (can : (asked : Asked) → Asks w e asked → IsAsked asked) where
     abbrev k : ℕ
     k = events.node_of e
@@ -258,7 +252,7 @@ module _ (w : World) where
 
     stop_goes : (x : WorldNode) → IsUp w e x → (asked : Asked) → Asks w e asked
         → Goes (events.StopIn e l)
-    stop_goes x up asked asks = by (some_answer k x asked (shown_there e letter x up asked asks))
+    stop_goes x up asked asks = by (some_answer k x asked)
       where
         by : (r : Result Taken NodeFault) × Takes (node_at w k x) asked r
             → Goes (events.StopIn e l)
@@ -319,7 +313,7 @@ module _ (w : World) where
   HaveLists = (e : Event) → is_step e ≡ true → (x : WorldNode) (t : Taken) → Acts w e x t
       → (list : List Content) × IsListAfter w (with_sends w.sent t.answer.sends) list
 
-  module _ (lists : HaveLists) (e : Event) (letter : ClaimedShowsALetter w e)
+  module _ (lists : HaveLists) (e : Event)
       (can : (asked : Asked) → Asks w e asked → IsAsked asked) where
     -- a step, where no test applies
     step_either : (is : is_step e ≡ true) → is_restart e ≡ false → leaves_note e ≡ true
@@ -327,24 +321,24 @@ module _ (w : World) where
         → ((v : World) × Steps w e v) ⊎ ((f : WorldFault) × IsRefused w e f)
     step_either is other noted none =
         let a = something_asked w e is (passed e none).fifth in
-        step_goes e is none (lists e is) letter can noted (its_node e none).0 (is_on e other none) a.0 a.1
+        step_goes e is none (lists e is) can noted (its_node e none).0 (is_on e other none) a.0 a.1
 
   module _ (lists : HaveLists) where
-    goes_on : (e : Event) → ClaimedShowsALetter w e → ((asked : Asked) → Asks w e asked → IsAsked asked)
+    goes_on : (e : Event) → ((asked : Asked) → Asks w e asked → IsAsked asked)
         → fault_before w e ≡ None → Goes e
-    goes_on (events.Claim n path host above) letter can none =
-        step_either lists (events.Claim n path host above) letter can refl refl refl none
-    goes_on (events.Built n path files) letter can none =
-        step_either lists (events.Built n path files) letter can refl refl refl none
-    goes_on (events.Failed n path) letter can none =
-        step_either lists (events.Failed n path) letter can refl refl refl none
-    goes_on (events.Nudge n) letter can none =
-        step_either lists (events.Nudge n) letter can refl refl refl none
-    goes_on (events.Ask n path) letter can none =
-        step_either lists (events.Ask n path) letter can refl refl refl none
-    goes_on (events.Deliver d n) letter can none =
-        step_either lists (events.Deliver d n) letter can refl refl refl none
-    goes_on (events.Stop n) letter can none =
+    goes_on (events.Claim n path host above) can none =
+        step_either lists (events.Claim n path host above) can refl refl refl none
+    goes_on (events.Built n path files) can none =
+        step_either lists (events.Built n path files) can refl refl refl none
+    goes_on (events.Failed n path) can none =
+        step_either lists (events.Failed n path) can refl refl refl none
+    goes_on (events.Nudge n) can none =
+        step_either lists (events.Nudge n) can refl refl refl none
+    goes_on (events.Ask n path) can none =
+        step_either lists (events.Ask n path) can refl refl refl none
+    goes_on (events.Deliver d n) can none =
+        step_either lists (events.Deliver d n) can refl refl refl none
+    goes_on (events.Stop n) can none =
         let x = its_node (events.Stop n) none in
         inl (
           with_node w n (down_node (x.0).notes []),
@@ -354,17 +348,14 @@ module _ (w : World) where
             leaves = refl;
           },
         )
-    goes_on (events.StopIn e l) letter can none =
+    goes_on (events.StopIn e l) can none =
         let there = passed (events.StopIn e l) none in
         let is = not_false (is_step e) there.first in
         let up = is_on (events.StopIn e l) refl none in
         let a = something_asked w e is there.fifth in
-        stop_goes e l is none
-        (λ x path host above u on asks found. letter x path host above u
-        (record { stands = on.stands; up = on.up }) asks found)
-        can (its_node (events.StopIn e l) none).0
+        stop_goes e l is none can (its_node (events.StopIn e l) none).0
         (record { stands = up.stands; up = up.up }) a.0 a.1
-    goes_on (events.Restart n) letter can none =
+    goes_on (events.Restart n) can none =
         let x = its_node (events.Restart n) none in
         inl (
           with_node w n (restarted_node (x.0).notes),
@@ -377,10 +368,9 @@ module _ (w : World) where
         )
 
     -- Each event happens, or is refused.
-    pub either_way : (e : Event) → ClaimedShowsALetter w e
-        → ((asked : Asked) → Asks w e asked → IsAsked asked) → Goes e
-    either_way e letter can = by (fault_before w e) refl
+    pub either_way : (e : Event) → ((asked : Asked) → Asks w e asked → IsAsked asked) → Goes e
+    either_way e can = by (fault_before w e) refl
       where
         by : (o : Option WorldFault) → fault_before w e ≡ o → Goes e
-        by None is = goes_on e letter can is
+        by None is = goes_on e can is
         by (Some f) is = inr (f, inl is)

@@ -9,6 +9,7 @@ use Rattle.protocol.specs.State.{Value}
 use Rattle.std.specs.Prelude.{All, AllPairs, map, ◌≢◌}
 use Rattle.std.proofs.lemmas.List.Elements.{All-contains_itself}
 use Rattle.units.specs.Division.{Division}
+use Rattle.units.specs.Units.{AreUnits}
 use Rattle.auditing.specs.Fits.{Fits}
 use Rattle.world.specs.Happening.{Leads}
 use Rattle.world.specs.Headline.{AllFit, AtEachMoment, AuditSaysYes, HasOneAPath, HasOneList, HeldIsListed, HoldAlike, InstallableIsHeld, IsBeginningOf, WasBuilt, entry_of}
@@ -231,10 +232,12 @@ each_has_list runs again division weights events w e x t made led step acts =
 
 -- So each event happens, or is refused.
 pub each_happens_or_not : EachRunIsActs → BuildTextIsReadAgain → EachHappensOrIsRefused
-each_happens_or_not runs again division weights events w e made led letter can =
+each_happens_or_not runs again division weights events w e made led can =
+    let later = leads_later (start division weights) w events led in
     either_way w
+    (subst (λ (d : Division). AreUnits d.tree d.units) (sym later.division) made.divided.units)
     (λ e step x t acts. each_has_list runs again division weights events w e x t made led step acts)
-    e letter can
+    e can
 
 pub one_answer : OneAnswer
 one_answer division weights events w e made led =

@@ -68,10 +68,10 @@ pub fn matched_worlds_are_safe()
     ensures held { MatchedHeldIsListed }
 {}
 
-/// In a world that is reached each event happens or is refused, where a unit that it claims shows a
-/// letter. It leaves one world at most, one that happens is not refused, and none is refused with
-/// two faults, nor as foreign. Some list stands after each step that a node takes. So from the
-/// start events lead to one world.
+/// In a world that is reached each event happens or is refused, where a host that it names has 16
+/// bits. It leaves one world at most, one that happens is not refused, and none is refused with two
+/// faults, nor as foreign. Some list stands after each step that a node takes. So from the start
+/// events lead to one world.
 pub fn events_have_one_answer()
     ensures world { OneWorldFollows }
     ensures run { EventsLeadToOneWorld }
