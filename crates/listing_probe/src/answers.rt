@@ -12,10 +12,12 @@ pub fn answer(alloc: Global, line: &[u8]) -> io::Result<Vec<u8>> {
     let mut words = Pieces::new(line, b' ');
     let question = words.next().unwrap_or(b"");
     let text = bytes_of(alloc, words.next().unwrap_or(b""));
-    match question {
-        b"tree" => told(alloc, Tree::parse(alloc, text.as_slice())),
-        b"single" => told(alloc, Tree::parse_single(alloc, text.as_slice())),
-        _ => Ok(Vec::new(alloc)),
+    if question == b"tree".as_slice() {
+        told(alloc, Tree::parse(alloc, text.as_slice()))
+    } else if question == b"single".as_slice() {
+        told(alloc, Tree::parse_single(alloc, text.as_slice()))
+    } else {
+        Ok(Vec::new(alloc))
     }
 }
 

@@ -97,8 +97,8 @@ impl<'a> Member<'a> {
         if packages.as_slice().len() != positions.len() {
             return Err(Refusal::OtherPackages);
         }
-        let files = by_path(alloc, packages)?;
-        made(alloc, self.tree, positions, files)
+        let mut files = by_path(alloc, packages)?;
+        made(alloc, self.tree, positions, &mut files)
     }
 }
 

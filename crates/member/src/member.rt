@@ -80,19 +80,23 @@ impl<'a> Member<'a> {
     {
         prove!(usize::from(me) < weights.as_slice().len());
         let engine = Engine::new(alloc, tree)?;
-        let units = engine.units().copy()?;
-        let known = all_unknown(alloc, units.len())?;
-        Ok(Member {
-            tree,
-            digest: tree.digest(),
-            units,
-            weights: weights.copy(),
-            me,
-            known,
-            claim: None,
-            job: None,
-            engine,
-        })
+        match unknown_units(alloc, engine.units()) {
+            Ok((units, known)) => Ok(Member {
+                tree,
+                digest: tree.digest(),
+                units,
+                weights: weights.copy(),
+                me,
+                known,
+                claim: None,
+                job: None,
+                engine,
+            }),
+            Err(memory) => {
+                drop(engine);
+                Err(memory)
+            }
+        }
     }
 
     /// Notes all of these, the first note first. A claim that was open is dropped. It takes no
@@ -284,6 +288,18 @@ impl<'a> Member<'a> {
     pub(crate) fn allocator(&self) -> Global {
         *self.known.allocator()
     }
+}
+
+/// Equal units, and that nothing is known of each.
+fn unknown_units<'a>(alloc: Global, units: &Units<'a>) -> Result<(Units<'a>, Vec<Known>), Memory>
+    ensures units { IfOk result (λ made. made.0 ≡ units.now) }
+    ensures known { IfOk result (λ made. map facts_of_known made.1.items
+        ≡ replicate (length units.now.units) no_facts) }
+    ensures division { IfOk result (λ made. IsDivision made.0) }
+{
+    let copy = units.copy()?;
+    let known = all_unknown(alloc, units.len())?;
+    Ok((copy, known))
 }
 
 /// Of so many units nothing is known.

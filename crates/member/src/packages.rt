@@ -88,23 +88,23 @@ pub(crate) fn by_path(alloc: Global, packages: Packages) -> Result<IndexMap<PkgP
     Ok(files)
 }
 
-/// What the build makes of these packages, with the files that are given for them. Without files
-/// for one of them it is `OtherPackages`.
+/// What the build makes of these packages, with the files that are given for them, which are taken
+/// out. Without files for one of them it is `OtherPackages`.
 pub(crate) fn made(
     alloc: Global,
     tree: &Tree,
     positions: &[u32],
-    mut files: IndexMap<PkgPath, Files>,
+    files: &mut IndexMap<PkgPath, Files>,
 ) -> Result<Vec<Package>, Refusal>
     requires tree { IsTree tree.now }
     requires positions { All (λ p. p < length tree.now) positions.now }
     requires order { is_ascending (map (path_at tree.now) positions.now) ≡ true }
     ensures { MatchResult result
-        (λ packages. (have_files tree.now (get bytes_eq files) positions.now ≡ true)
+        (λ packages. (have_files tree.now (get bytes_eq files.old) positions.now ≡ true)
         × (map made_of packages.items
-        ≡ map (made_at tree.now (get bytes_eq files)) positions.now))
+        ≡ map (made_at tree.now (get bytes_eq files.old)) positions.now))
         (λ e. (e ≡ Refusal.Memory) ⊎ ((e ≡ Refusal.OtherPackages)
-        × (have_files tree.now (get bytes_eq files) positions.now ≡ false))) }
+        × (have_files tree.now (get bytes_eq files.old) positions.now ≡ false))) }
 {
     let mut packages = Vec::with_capacity(alloc, positions.len())?;
     for position in positions {

@@ -11,12 +11,25 @@ pub fn answer(alloc: Global, line: &[u8]) -> Result<String, AllocError> {
     let question = words.next().unwrap_or(b"");
     let first = bytes_of(alloc, words.next().unwrap_or(b""))?;
     let second = bytes_of(alloc, words.next().unwrap_or(b""))?;
-    match question {
-        b"name" => name(alloc, first.as_slice()),
-        b"compare" => compare(alloc, first.as_slice(), second.as_slice()),
-        b"spec" => spec(alloc, first.as_slice(), second.as_slice()),
-        b"path" => path(alloc, first.as_slice()),
-        _ => String::from_str(alloc, "no question"),
+    answer_to(alloc, question, first.as_slice(), second.as_slice())
+}
+
+fn answer_to(
+    alloc: Global,
+    question: &[u8],
+    first: &[u8],
+    second: &[u8],
+) -> Result<String, AllocError> {
+    if question == b"name".as_slice() {
+        name(alloc, first)
+    } else if question == b"compare".as_slice() {
+        compare(alloc, first, second)
+    } else if question == b"spec".as_slice() {
+        spec(alloc, first, second)
+    } else if question == b"path".as_slice() {
+        path(alloc, first)
+    } else {
+        String::from_str(alloc, "no question")
     }
 }
 

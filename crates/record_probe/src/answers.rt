@@ -3,6 +3,7 @@ use crate::{builds, making, pairs, records};
 use faults::{Fault, split_once};
 use package_record::RecordFault;
 use std::alloc::{AllocError, Global};
+use std::str;
 
 pub fn answer(alloc: Global, line: &[u8]) -> Result<String, AllocError> {
     if let Some(digits) = line.strip_prefix(b"build ") {
@@ -20,10 +21,17 @@ pub fn answer(alloc: Global, line: &[u8]) -> Result<String, AllocError> {
     if let Some(name) = line.strip_prefix(b"full ") {
         return making::full(alloc, name);
     }
-    match line {
-        b"make 4194158" => making::large(alloc, 4_194_158),
-        b"make 4194159" => making::large(alloc, 4_194_159),
-        _ => records::read(alloc, text_of(alloc, line).as_slice()),
+    match line.strip_prefix(b"make ") {
+        Some(digits) => making::large(alloc, number_of(digits)),
+        None => records::read(alloc, text_of(alloc, line).as_slice()),
+    }
+}
+
+// The number that the digits write, or 0.
+fn number_of(digits: &[u8]) -> usize {
+    match str::from_utf8(digits) {
+        Ok(digits) => digits.parse().unwrap_or(0),
+        Err(_) => 0,
     }
 }
 

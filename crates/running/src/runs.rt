@@ -135,10 +135,12 @@ fn world_after<'a>(
     let mut left = Handed::new(events);
     'events: while let Some(event) = left.next() {
         if let Err(fault) = world.take_and_keep(event) {
-            return Err(RunFault {
+            let refused = RunFault {
                 event: Some(world.events().len() as u64 + 1),
                 fault,
-            });
+            };
+            drop(world);
+            return Err(refused);
         }
     }
     Ok(world)

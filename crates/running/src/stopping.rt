@@ -56,6 +56,7 @@ use listing::Tree;
 use node::{Node, NodeFault, Ready};
 use stable_record::MemDisk;
 use std::alloc::Global;
+use std::mem;
 
 /// The node at the place stops between two steps. It takes no memory.
 pub(crate) fn stop(nodes: &mut Vec<Placed<'_>>, place: usize)
@@ -169,7 +170,8 @@ fn put<'a>(nodes: &mut Vec<Placed<'a>>, place: usize, placed: Placed<'a>)
     requires { place < length nodes.old.items }
     ensures { nodes.new.items ≡ slice_set nodes.old.items place placed.entry }
 {
-    nodes[place] = placed;
+    let before = mem::replace(&mut nodes[place], placed);
+    drop(before);
 }
 
 /// The node that a copy of its disk restores.

@@ -22,12 +22,16 @@ with_package packages p =
     if is_among (map (λ q. q.0) packages) p.0 then None
     else Some (packages ++ p ∷ [])
 
+-- these packages and that of a key and its value
+abbrev pub with_member : Given → Text → Data → Option Given
+with_member packages key d = keyed key d >>= with_package packages
+
 -- the packages of the members behind these, in their order, each path once; two keys that spell one
 -- path are a fault
 abbrev pub packages_behind : Given → Members → Option Given
 packages_behind packages no_members = Some packages
 packages_behind packages (member key d ms) =
-    keyed key d >>= with_package packages >>= (λ more. packages_behind more ms)
+    with_member packages key d >>= (λ more. packages_behind more ms)
 
 -- the packages of an object's members
 abbrev pub packages_of : Data → Option Given

@@ -1,8 +1,8 @@
 //! BUILDS.
-ghost use Rattle.std.specs.Prelude.{◌≡◌, ◌++◌, ◌∷◌, [], IfOk, not, true};
+ghost use Rattle.std.specs.Prelude.{◌≡◌, ◌++◌, ◌∷◌, [], IfOk, OnOk, map, not, true};
 ghost use Rattle.faults.specs.Bytes.{is_among};
 ghost use Rattle.serde_json.specs.View.{view};
-ghost use Rattle.traces.specs.Builds.{keyed, packages_of};
+ghost use Rattle.traces.specs.Builds.{keyed, packages_of, with_member};
 ghost use Rattle.traces.specs.inside.Given.{Gives};
 
 use crate::fields::path_of;
@@ -35,6 +35,27 @@ fn keyed(alloc: Global, key: &str, value: &Value) -> Result<(PkgPath, Files), Re
     Ok((path, files))
 }
 
+/// Puts the package of a key and its value behind these, whose paths these are.
+fn add(
+    alloc: Global,
+    paths: &mut IndexSet<PkgPath>,
+    packages: &mut Vec<(PkgPath, Files)>,
+    key: &str,
+    value: &Value,
+) -> Result<(), ReadError>
+    requires { paths.old.keys ≡ map (λ p. p.0) packages.old.items }
+    ensures added { Gives (λ _. packages.new.items) result
+        (with_member packages.old.items key.now (view value.now)) }
+    ensures paths { OnOk result (paths.new.keys ≡ map (λ p. p.0) packages.new.items) }
+{
+    let (path, files) = keyed(alloc, key, value)?;
+    if !enter(paths, &path)? {
+        return Err(ReadError::Bad);
+    }
+    packages.push((path, files))?;
+    Ok(())
+}
+
 /// The packages of an object's members.
 pub fn packages(alloc: Global, value: &Value) -> Result<Packages, ReadError>
     ensures { Gives (λ p. p) result (packages_of (view value.now)) }
@@ -45,11 +66,7 @@ pub fn packages(alloc: Global, value: &Value) -> Result<Packages, ReadError>
     let mut paths = IndexSet::new(alloc);
     let mut packages = Vec::with_capacity(alloc, members.len())?;
     for (key, value) in members {
-        let (path, files) = keyed(alloc, key.as_str(), value)?;
-        if !enter(&mut paths, &path)? {
-            return Err(ReadError::Bad);
-        }
-        packages.push((path, files))?;
+        add(alloc, &mut paths, &mut packages, key.as_str(), value)?;
     }
     Ok(Packages::new(packages))
 }

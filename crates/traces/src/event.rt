@@ -217,11 +217,12 @@ fn left(word: &str) -> Result<Left, ReadError>
 fn clean_stop(alloc: Global, value: &Value) -> Result<Event, ReadError>
     ensures { Gives event_view result (clean_stop_in (view value.now)) }
 {
-    let input = step(alloc, field(value, "input")?)?;
+    let input = field(value, "input")?;
     let left = left(text(value, "left")?)?;
     if members(value) != 3 {
         return Err(ReadError::Bad);
     }
+    let input = step(alloc, input)?;
     Ok(Event::stop_in(alloc, input, left)?)
 }
 
@@ -230,14 +231,14 @@ fn clean_stop(alloc: Global, value: &Value) -> Result<Event, ReadError>
 fn torn_stop(alloc: Global, value: &Value) -> Result<Event, ReadError>
     ensures { Gives event_view result (torn_stop_in (view value.now)) }
 {
-    let bytes = hex(alloc, value)?;
-    let input = step(alloc, field(value, "input")?)?;
+    let input = field(value, "input")?;
     let word = text(value, "left")?;
-    if word == "torn" && members(value) == 4 {
-        Ok(Event::stop_in(alloc, input, Left::Torn(Torn::new(bytes)))?)
-    } else {
-        Err(ReadError::Bad)
+    if word != "torn" || members(value) != 4 {
+        return Err(ReadError::Bad);
     }
+    let bytes = hex(alloc, value)?;
+    let input = step(alloc, input)?;
+    Ok(Event::stop_in(alloc, input, Left::Torn(Torn::new(bytes)))?)
 }
 
 /// A stop inside a step.

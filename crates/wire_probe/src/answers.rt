@@ -2,6 +2,7 @@
 use crate::{datagrams, joining, notes, stages, trials};
 use faults::Fault;
 use std::alloc::{AllocError, Global};
+use std::str;
 use wire::WireFault;
 
 pub fn answer(alloc: Global, line: &[u8]) -> Result<String, AllocError> {
@@ -26,23 +27,45 @@ pub fn answer(alloc: Global, line: &[u8]) -> Result<String, AllocError> {
     asked(alloc, line)
 }
 
-// What is asked by words alone.
+// What is asked by words alone, and a number behind some.
 fn asked(alloc: Global, line: &[u8]) -> Result<String, AllocError> {
-    match line {
-        b"propose 3" => joining::sent(alloc, true, 3),
-        b"propose 69856" => joining::sent(alloc, true, 69_856),
-        b"propose 4194158" => joining::sent(alloc, true, 4_194_158),
-        b"agreed 3" => joining::sent(alloc, false, 3),
-        b"agreed 69856" => joining::sent(alloc, false, 69_856),
-        b"agreed 4194158" => joining::sent(alloc, false, 4_194_158),
-        b"make" => told(alloc, stages::is_made(alloc)),
-        b"split" => told(alloc, stages::is_split(alloc)),
-        b"encode" => told(alloc, stages::is_encoded(alloc)),
-        b"decode" => told(alloc, stages::is_decoded(alloc)),
-        b"join" => told(alloc, stages::is_joined(alloc)),
-        b"zeros 65507" => trials::zeros(alloc, 65_507),
-        b"zeros 65508" => trials::zeros(alloc, 65_508),
-        _ => String::from_str(alloc, "no question"),
+    if let Some(digits) = line.strip_prefix(b"propose ") {
+        return joining::sent(alloc, true, number_of(digits));
+    }
+    if let Some(digits) = line.strip_prefix(b"agreed ") {
+        return joining::sent(alloc, false, number_of(digits));
+    }
+    if let Some(digits) = line.strip_prefix(b"zeros ") {
+        return trials::zeros(alloc, number_of(digits));
+    }
+    match is_done(alloc, line) {
+        Some(so) => told(alloc, so),
+        None => String::from_str(alloc, "no question"),
+    }
+}
+
+// Whether a build could be taken so far, if that is asked.
+fn is_done(alloc: Global, stage: &[u8]) -> Option<bool> {
+    if stage == b"make".as_slice() {
+        Some(stages::is_made(alloc))
+    } else if stage == b"split".as_slice() {
+        Some(stages::is_split(alloc))
+    } else if stage == b"encode".as_slice() {
+        Some(stages::is_encoded(alloc))
+    } else if stage == b"decode".as_slice() {
+        Some(stages::is_decoded(alloc))
+    } else if stage == b"join".as_slice() {
+        Some(stages::is_joined(alloc))
+    } else {
+        None
+    }
+}
+
+// The number that the digits write, or 0.
+fn number_of(digits: &[u8]) -> usize {
+    match str::from_utf8(digits) {
+        Ok(digits) => digits.parse().unwrap_or(0),
+        Err(_) => 0,
     }
 }
 

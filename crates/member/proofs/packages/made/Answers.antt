@@ -16,7 +16,7 @@ loop-position-preserved c =
     let ps = c.args.positions.now in
     let i = c.loop-position.position-index in
     let lt = c.loop-position-test.true in
-    let files = get bytes_eq c.args.files in
+    let files = get bytes_eq c.args.files.now in
     let before = c.loop-position.invariant in
     let given : files (path_at tree (slice_index_or ps i 0)) ≡ Some c.in-Some.given =
     sym (before.left i (omega arith) lt)

@@ -1,4 +1,4 @@
-use Rattle.std.proofs.Common.{◌≡◌, None, Some, ap, map, refl, replicate, subst, sym, ◌∙◌}
+use Rattle.std.proofs.Common.{◌≡◌, None, Some, ap, length, map, refl, replicate, subst, sym, ◌∙◌}
 use Rattle.std.specs.FinSet as set
 use Rattle.agreement.specs.Member.{no_facts}
 use Rattle.protocol.specs.Answers.{tree_digest}
@@ -10,27 +10,27 @@ use Rattle.member.proofs.member.Member.new.Goals as goal
 
 pub invariant_of-result : goal.invariant_of-result
 invariant_of-result c =
-    let d = c.in_ok-units.units in
-    let tree : d.tree ≡ c.args.tree.now = ap (λ u. u.tree) c.in_ok-units.ensures ∙ (c.units.ensures ∙ ap (λ e. e.tree) c.in_ok-engine.ensures) in
-    let facts : map facts_of_known c.in_ok-known.known.items ≡ map (λ x. no_facts) d.units =
-    c.in_ok-known.ensures
-    ∙ (ap (λ n. replicate n no_facts) c.len.ensures.count ∙ sym (each_alike no_facts d.units)) in
+    let d = c.in-Ok.units in
+    let tree : d.tree ≡ c.args.tree.now = ap (λ u. u.tree) c.in-Ok.ensures.units ∙ (c.units.ensures ∙ ap (λ e. e.tree) c.in_ok-engine.ensures) in
+    let facts : map facts_of_known c.in-Ok.known.items ≡ map (λ x. no_facts) d.units =
+    c.in-Ok.ensures.known
+    ∙ (ap (λ u. replicate (length u.units) no_facts) (sym c.in-Ok.ensures.units) ∙ sym (each_alike no_facts d.units)) in
     let state : fresh d c.args.weights.now c.args.me ≡ record {
       division = d;
-      weights = c.copy-2.result;
+      weights = c.copy.result;
       me = c.args.me;
-      facts = map facts_of_known c.in_ok-known.known.items;
+      facts = map facts_of_known c.in-Ok.known.items;
       claim = None;
     } = λ i. record {
       division = d;
-      weights = sym c.copy-2.ensures i;
+      weights = sym c.copy.ensures i;
       me = c.args.me;
       facts = sym facts i;
       claim = None;
     } in
     record {
       member = subst IsMember state (fresh_member d c.args.weights.now c.args.me
-          c.len.ensures.division c.as_slice.ensures.are_weights c.requires);
+          c.in-Ok.ensures.division c.as_slice.ensures.are_weights c.requires);
       tree = sym tree;
       digest = c.digest.ensures ∙ ap tree_digest (sym tree);
       engine = c.in_ok-engine.ensures
@@ -40,15 +40,15 @@ invariant_of-result c =
       job = refl;
     }
 
-pub returns-clause-fresh : goal.returns-clause-fresh
-returns-clause-fresh c =
-    let d = c.in_ok-units.units in
-    let facts : map facts_of_known c.in_ok-known.known.items ≡ map (λ x. no_facts) d.units =
-    c.in_ok-known.ensures
-    ∙ (ap (λ n. replicate n no_facts) c.len.ensures.count ∙ sym (each_alike no_facts d.units)) in
+pub returns-in-Ok-clause-fresh : goal.returns-in-Ok-clause-fresh
+returns-in-Ok-clause-fresh c =
+    let d = c.in-Ok.units in
+    let facts : map facts_of_known c.in-Ok.known.items ≡ map (λ x. no_facts) d.units =
+    c.in-Ok.ensures.known
+    ∙ (ap (λ u. replicate (length u.units) no_facts) (sym c.in-Ok.ensures.units) ∙ sym (each_alike no_facts d.units)) in
     λ i. record {
       division = d;
-      weights = c.copy-2.ensures i;
+      weights = c.copy.ensures i;
       me = c.args.me;
       facts = facts i;
       claim = None;
