@@ -84,7 +84,10 @@ impl<'a, D: Disk> Node<'a, D> {
         };
         match Log::open(alloc, disk, &owner) {
             Ok((log, texts)) => over(alloc, member, log, texts.as_slice()),
-            Err((fault, disk)) => Err((told(fault), disk)),
+            Err((fault, disk)) => {
+                drop(member);
+                Err((told(fault), disk))
+            }
         }
     }
 }
@@ -116,7 +119,10 @@ fn over<'a, D: Disk>(
                 stopped: false,
             })
         }
-        Err(fault) => Err((fault, log.into_disk())),
+        Err(fault) => {
+            drop(member);
+            Err((fault, log.into_disk()))
+        }
     }
 }
 

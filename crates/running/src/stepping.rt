@@ -95,9 +95,11 @@ impl<'a> World<'a> {
         ensures history { IsHistory self.old × IsHistory self.new }
     {
         if let Some(fault) = self.scene.fault_before(&event) {
+            drop(event);
             return Err(fault);
         }
         if self.events.reserve(1).is_err() {
+            drop(event);
             return Err(WorldFault::Memory);
         }
         match self.scene.happen(&event) {
