@@ -144,7 +144,10 @@ impl<'a, D: Disk> Node<'a, D> {
         ensures disk { result.0 ≡ self.entry.log.disk }
         ensures notes { notes_in result.1.texts ≡ self.entry.node.notes }
     {
-        let Node { log, noted, .. } = self;
+        let Node {
+            log, noted, member, ..
+        } = self;
+        drop(member);
         (log.into_disk(), noted)
     }
 
@@ -152,6 +155,8 @@ impl<'a, D: Disk> Node<'a, D> {
     pub fn into_disk(self) -> D
         ensures { result ≡ self.entry.log.disk }
     {
-        self.log.into_disk()
+        let Node { log, member, .. } = self;
+        drop(member);
+        log.into_disk()
     }
 }

@@ -55,14 +55,19 @@ impl Ready {
         requires note { ForSome step.note IsNote }
         ensures { IfOk result (λ r. r ≡ record { step = Some step; change = change }) }
     {
-        let note = text_of_note(alloc, step.note())?;
-        let sends = parcels(alloc, step.sends())?;
-        Ok(Ready {
-            step: Some(step),
-            note,
-            sends,
-            change,
-        })
+        match texts_of(alloc, &step) {
+            Ok((note, sends)) => Ok(Ready {
+                step: Some(step),
+                note,
+                sends,
+                change,
+            }),
+            Err(memory) => {
+                drop(step);
+                drop(change);
+                Err(memory)
+            }
+        }
     }
 
     /// The member takes no step, since a message is not whole yet.
@@ -116,6 +121,19 @@ impl Ready {
     {
         &self.sends
     }
+}
+
+/// The text of the step's note, if it has one, and what it sends, as bytes.
+fn texts_of(alloc: Global, step: &Step) -> Result<(Option<Vec<u8>>, Parcels), Memory>
+    requires sends { All (λ x. IsMessage x.message) step.now.sends }
+    requires note { ForSome step.now.note IsNote }
+    ensures note { IfOk result (λ texts. option_map (λ n. n.items) texts.0
+        ≡ option_map note_text step.now.note) }
+    ensures sends { IfOk result (λ texts. texts.1 ≡ datagrams_to step.now.sends) }
+{
+    let note = text_of_note(alloc, step.note())?;
+    let sends = parcels(alloc, step.sends())?;
+    Ok((note, sends))
 }
 
 /// What goes out once the step's note is on the disk.

@@ -97,6 +97,7 @@ impl<'a, D: Disk> Node<'a, D> {
         ensures stopped { self.old.node.stopped ≡ true → IsErrOf result NodeFault.Stopped }
     {
         if self.stopped {
+            drop(input);
             return Err(NodeFault::Stopped);
         }
         match self.prepare_input(input, Change::Stays) {
@@ -250,14 +251,18 @@ impl<'a, D: Disk> Node<'a, D> {
             ⊎ (IsOnLog D.history self.new
             × (D.history self.new.log.disk ≡ D.history self.old.log.disk))) }
     {
-        make_room(&mut self.pieces)?;
-        write_note(
-            &mut self.log,
-            &mut self.noted,
-            &mut self.stopped,
-            ready.note(),
-        )?;
-        Ok(take(&mut self.member, &mut self.pieces, ready))
+        if let Err(memory) = make_room(&mut self.pieces) {
+            drop(ready);
+            return Err(NodeFault::from(memory));
+        }
+        let note = ready.note();
+        match write_note(&mut self.log, &mut self.noted, &mut self.stopped, note) {
+            Ok(()) => Ok(take(&mut self.member, &mut self.pieces, ready)),
+            Err(fault) => {
+                drop(ready);
+                Err(fault)
+            }
+        }
     }
 
     /// Takes the step on an input: `prepare`, and then `finish`.

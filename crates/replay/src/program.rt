@@ -1,5 +1,5 @@
-//! The program `dpbr`. It ends once its answer is printed, so it leaves what is large by then, the
-//! tree and its letters, to the system, which takes their memory back at once.
+//! The program `dpbr`. It ends once its answer is printed, so a `status` and an `audit` leave what
+//! is large by then, the tree and its letters, to the system, which takes that memory back at once.
 ghost use Rattle.std.specs.Prelude.{◌≡◌, ◌≤◌, ◌⊎◌, Bool, IfErr, IfOk, map, string_bytes};
 ghost use Rattle.std.specs.Io.KnownBytes.{Keeps};
 ghost use Rattle.replay.specs.Printed.{HasCarriedOut, HasPrinted, IsAudit, IsOutputOf, IsRun, IsStatus};

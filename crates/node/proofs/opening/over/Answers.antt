@@ -2,7 +2,7 @@ use Rattle.std.proofs.Common.{refl, map, subst, sym}
 use Rattle.stable_record.specs.Log.{note_of}
 use Rattle.protocol.specs.Restoring.{AreOnUnits}
 use Rattle.node.specs.Calls.{AreNotes}
-use Rattle.node.specs.inside.Opening.{IsNoteFault, IsOver}
+use Rattle.node.specs.inside.Opening.{IsOver}
 use Rattle.node.proofs.Opened.{opened, opened_invariant}
 use Rattle.node.proofs.opening.over.Goals as goal
 
@@ -26,6 +26,3 @@ returns-in-Ok-clause-node g c =
     let is = opened s c.requires.member texts c.in-Ok.notes.items are c.restore.new.self c.in-Ok.noted.texts c.new.result.items
     c.restore.ensures c.in-Ok.ensures.texts c.new.ensures.items in
     subst (IsOver s texts) (sym is) (record { notes = are; node = refl })
-
-pub returns-clause-refused : goal.returns-clause-refused
-returns-clause-refused g c = subst (λ d. IsNoteFault d (map note_of c.args.texts.now) c.in-Err.fault) c.units.ensures.division c.in-Err.ensures.bad

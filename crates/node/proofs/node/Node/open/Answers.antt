@@ -48,21 +48,21 @@ returns-in-Ok-open-clause-untouched g c =
     (g.D.Disk.history e.1) opens c.in-Ok-open.ensures.one_answer e.0 bad)
     c.over.ensures.refused c.over.ensures.disk
 
-pub returns-clause-one_node : goal.returns-clause-one_node
-returns-clause-one_node g c = λ other.
+pub returns-in-Err-clause-one_node : goal.returns-in-Err-clause-one_node
+returns-in-Err-clause-one_node g c = λ other.
     opens_as_one c.args.tree.now c.args.weights.now c.args.me c.owner-owner.result c.owner-owner.ensures.identity c.in-Err.ensures.one_answer
 
-pub returns-clause-refused : goal.returns-clause-refused
-returns-clause-refused g c = λ kept.
+pub returns-in-Err-clause-refused : goal.returns-in-Err-clause-refused
+returns-in-Err-clause-refused g c = λ kept.
     rw c.told.ensures
     (log_refused c.args.tree.now c.args.weights.now c.args.me c.owner-owner.result c.owner-owner.ensures.identity (g.D.Disk.history c.args.disk) (g.D.Disk.history c.in-Err.disk) c.in-Err.fault
     (c.in-Err.ensures.refused kept) c.in-Err.ensures.no_append)
 
-pub returns-clause-untouched : goal.returns-clause-untouched
-returns-clause-untouched g c = λ kept.
+pub returns-in-Err-clause-untouched : goal.returns-in-Err-clause-untouched
+returns-in-Err-clause-untouched g c = λ kept.
     rw c.told.ensures
     (log_untouched c.args.tree.now c.args.weights.now c.args.me c.owner-owner.result c.owner-owner.ensures.identity (g.D.Disk.history c.args.disk) (g.D.Disk.history c.in-Err.disk) c.in-Err.fault
     (c.in-Err.ensures.refused kept))
 
-pub returns-clause-device : goal.returns-clause-device
-returns-clause-device g c = λ told. c.in-Err.ensures.device (told_device c.in-Err.fault (rw c.told.ensures at told))
+pub returns-in-Err-clause-device : goal.returns-in-Err-clause-device
+returns-in-Err-clause-device g c = λ told. c.in-Err.ensures.device (told_device c.in-Err.fault (rw c.told.ensures at told))
