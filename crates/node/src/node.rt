@@ -145,7 +145,10 @@ impl<'a, D: Disk> Node<'a, D> {
         ensures notes { notes_in result.1.texts ≡ self.entry.node.notes }
     {
         let Node {
-            log, noted, member, ..
+            log,
+            noted,
+            member,
+            ..
         } = self;
         drop(member);
         (log.into_disk(), noted)

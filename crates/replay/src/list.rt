@@ -96,8 +96,16 @@ fn with_line<'t>(
     ensures err { IfErr result (λ e. (e ≡ ListFault.Memory) ⊎
         ((e ≡ ListFault.BadList number) × CannotFollow packages line.entry.now)) }
 {
-    let Some(said) = list_line(alloc, signatures, line)? else {
-        return Err(ListFault::BadList(number));
+    let said = match list_line(alloc, signatures, line) {
+        Ok(Some(said)) => said,
+        Ok(None) => {
+            drop(packages);
+            return Err(ListFault::BadList(number));
+        }
+        Err(memory) => {
+            drop(packages);
+            return Err(ListFault::from(memory));
+        }
     };
     match with_said(alloc, packages, said)? {
         Some(packages) => Ok(packages),

@@ -53,8 +53,9 @@ pub(crate) fn run_of_events(alloc: Global, tree: &Tree, trace: Trace) -> Result<
 pub fn run_text(alloc: Global, world: World<'_>) -> Result<Vec<u8>, Memory>
     ensures { IfOk result (λ text. IsOutcome world.entry.world text.items) }
 {
-    let mut text = nodes_text(alloc, &world)?;
+    let lines = nodes_text(alloc, &world);
     let agreed = world.into_agreed();
+    let mut text = lines?;
     put_list(&mut text, agreed.as_slice())?;
     Ok(text)
 }

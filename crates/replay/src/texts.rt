@@ -44,7 +44,9 @@ pub fn status_of_texts(
         (λ r. (r ≡ memory_refusal) ⊎ RefusesStatus (rules_for is_single) listing.now held.now r) }
 {
     let tree = tree_of_text(alloc, listing, is_single)?;
-    let text = status(alloc, &tree, held)?;
+    let answer = status(alloc, &tree, held);
+    drop(tree);
+    let text = answer?;
     Ok(text)
 }
 
@@ -64,7 +66,9 @@ pub fn audit_of_texts(
         (λ r. (r ≡ memory_refusal) ⊎ RefusesAudit (rules_for is_single) listing.now list.now r) }
 {
     let tree = tree_of_text(alloc, listing, is_single)?;
-    let verdict = audit_list(alloc, &tree, list)?;
+    let answer = audit_list(alloc, &tree, list);
+    drop(tree);
+    let verdict = answer?;
     Ok(verdict)
 }
 
@@ -86,6 +90,8 @@ pub fn run_of_texts(
         (λ r. (r ≡ memory_refusal) ⊎ RefusesRun (rules_for is_single) listing.now trace.now r) }
 {
     let tree = tree_of_text(alloc, listing, is_single)?;
-    let text = run_of_trace(alloc, &tree, trace)?;
+    let answer = run_of_trace(alloc, &tree, trace);
+    drop(tree);
+    let text = answer?;
     Ok(text)
 }

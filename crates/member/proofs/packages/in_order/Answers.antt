@@ -1,4 +1,4 @@
-use Rattle.std.proofs.Common.{◌<◌, length, map}
+use Rattle.std.proofs.Common.{rules, ◌<◌, length, map}
 use Rattle.std.proofs.lemmas.List.Elements.{All-contains}
 use Rattle.listing.specs.Tree.{path_at}
 use Rattle.units.proofs.InOrder.{paths_differ, sorted_as_set}
@@ -14,3 +14,9 @@ returns c =
     (paths_differ tree c.requires.is_tree ps
     (λ p member. All-contains (λ q. q < length tree) ps p asked.within member) asked.rising)
     c.in_ok-sort.ensures.permutation c.in_ok-sort.ensures.sorted
+
+pub returns-in_err-paths : goal.returns-in_err-paths
+returns-in_err-paths c = search rules
+
+pub returns-in_err-sort : goal.returns-in_err-sort
+returns-in_err-sort c = search rules

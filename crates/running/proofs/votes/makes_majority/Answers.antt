@@ -1,3 +1,4 @@
+use Rattle.std.proofs.lemmas.Grind.{common_steps}
 use Rattle.std.proofs.Common.{◌≤◌, ℕ, List, length, arith, sym, subst}
 use Rattle.ballots.specs.Support.{set_of}
 use Rattle.running.proofs.Voting.{none_makes_none}
@@ -8,3 +9,9 @@ returns-then-sender-len c =
     let out : length c.weights.result.now ≤ c.args.sender = omega arith in
     sym (none_makes_none c.args.tally.weights (set_of c.args.tally) c.args.sender
     (subst (λ (ws : List ℕ). length ws ≤ c.args.sender) c.weights.ensures out))
+
+pub returns-then-is_majority : goal.returns-then-is_majority
+returns-then-is_majority c = grind (arith, common_steps)
+
+pub returns-else-is_majority : goal.returns-else-is_majority
+returns-else-is_majority c = grind (arith, common_steps)

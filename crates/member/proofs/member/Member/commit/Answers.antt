@@ -1,4 +1,5 @@
-use Rattle.std.proofs.Common.{◌≡◌, ◌∙◌, List, ℕ, Option, None, ap, map, option_map, subst}
+use Rattle.std.proofs.lemmas.Grind.{common_steps}
+use Rattle.std.proofs.Common.{rules, arith, ◌≡◌, ◌∙◌, List, ℕ, Option, None, ap, map, option_map, subst}
 use Rattle.std.proofs.Common.{◌++◌, arith, drop, length, sym, take, if◌then◌else◌}
 use Rattle.std.specs.Prelude.{unwrap_or}
 use Rattle.std.specs.Option.{ForSome}
@@ -93,3 +94,18 @@ invariant_of-self-in_default-2 c =
     c.self.invariant may
     (ap (facts_then m.units (map facts_of_known m.known.items)) (sym c.in_default.is-0))
     claim weighed job c.self.invariant.engine
+
+pub invariant_of-self-in_default : goal.invariant_of-self-in_default
+invariant_of-self-in_default c = search rules
+
+pub returns-in-Some-Some-clause-state : goal.returns-in-Some-Some-clause-state
+returns-in-Some-Some-clause-state c = grind (arith, common_steps)
+
+pub returns-in-Some-Some-clause-outcome : goal.returns-in-Some-Some-clause-outcome
+returns-in-Some-Some-clause-outcome c = search rules
+
+pub returns-in_default-clause-state : goal.returns-in_default-clause-state
+returns-in_default-clause-state c = search rules
+
+pub returns-in_default-clause-outcome : goal.returns-in_default-clause-outcome
+returns-in_default-clause-outcome c = search rules

@@ -1,3 +1,4 @@
+use Rattle.std.proofs.Common.{rules}
 use Rattle.std.proofs.lemmas.Result.{err_from_is_err_and}
 use Rattle.member.proofs.Handling.{refused_so}
 use Rattle.member.proofs.member.Member.handle.Goals as goal
@@ -8,3 +9,6 @@ returns-in_err-step c =
     rw (e.1, e.2)
     (refused_so c.args.self.now c.prepare.new.self c.args.input c.in_err-step.field-0.0
     c.in_err-step.ensures.step c.in_err-step.ensures.same)
+
+pub returns : goal.returns
+returns c = search rules

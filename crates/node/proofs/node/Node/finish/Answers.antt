@@ -61,6 +61,7 @@ returns-in-Ok-clause-any_moment g c =
     rw (← c.self.view_is)
     (λ kept on. note_moments g.D.Disk.history i.member i.noted.texts i.pieces.items i.stopped i.log c.args.ready (option_copied c.note-note.result) _ _
     c.note-note.ensures (c.in-Ok.ensures.any_moment kept) on)
+
 pub returns-in-Err-write_note-clause-causes : goal.returns-in-Err-write_note-clause-causes
 returns-in-Err-write_note-clause-causes g c =
     rw (← c.self.view_is)
@@ -86,4 +87,3 @@ returns-in-Err-write_note-clause-still_on_log g c =
     rw (c.in-Err-write_note.ensures.not_noted, c.make_room.ensures.same, ← c.self.view_is)
     (λ kept on. still_noted g.D.Disk.history i.member i.noted.texts i.pieces.items i.stopped i.log c.write_note.new.stopped c.write_note.new.log c.in-Err-write_note.fault
     c.in-Err-write_note.ensures.owner on (c.in-Err-write_note.ensures.refused kept))
-

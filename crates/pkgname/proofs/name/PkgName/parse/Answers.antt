@@ -1,4 +1,4 @@
-use Rattle.std.proofs.Common.{◌≡◌, ◌+◌, ◌∙◌, arith, ap, drop, false, Some, sym, take, true, ◌∷◌}
+use Rattle.std.proofs.Common.{rules, ◌≡◌, ◌+◌, ◌∙◌, arith, ap, drop, false, Some, sym, take, true, ◌∷◌}
 use Rattle.std.proofs.lemmas.List.{length-drop, take_rest}
 use Rattle.std.specs.Char.{is_ascii_digit}
 use Rattle.std.specs.List.{list_all, list_any}
@@ -32,3 +32,6 @@ invariant_of-result c =
       parts = rw same parts;
       version = rw same (version_behind text place _ _ bytes (version_dash-Some is_ascii_digit text place found) pieces);
     }
+
+pub returns-in_default : goal.returns-in_default
+returns-in_default c = search rules

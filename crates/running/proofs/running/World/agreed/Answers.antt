@@ -1,4 +1,4 @@
-use Rattle.std.proofs.Common.{subst}
+use Rattle.std.proofs.Common.{rules, subst}
 use Rattle.running.specs.History.{IsHistory}
 use Rattle.running.proofs.StepHistory.{allowed_there, fits_there, listed_there, one_there}
 use Rattle.running.proofs.running.World.agreed.Goals as goal
@@ -18,3 +18,6 @@ returns-clause-allowed c =
 pub returns-clause-held : goal.returns-clause-held
 returns-clause-held c =
     listed_there c.args.self.now (subst IsHistory c.self.view_is c.self.invariant.history)
+
+pub returns-clause-list : goal.returns-clause-list
+returns-clause-list c = search rules

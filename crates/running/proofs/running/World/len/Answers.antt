@@ -1,3 +1,4 @@
+use Rattle.std.proofs.lemmas.Grind.{common_steps}
 use Rattle.std.proofs.Common.{arith}
 use Rattle.std.proofs.lemmas.List.{length-map}
 use Rattle.running.proofs.Shown.{few_nodes}
@@ -14,3 +15,6 @@ overflow_cast-result c =
       length-map
           w.scene.nodes.items node_view,
     )
+
+pub returns : goal.returns
+returns c = grind (arith, common_steps)
