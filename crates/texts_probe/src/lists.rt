@@ -13,9 +13,12 @@ pub fn copies(alloc: Global, listing: &[u8], list: &[u8]) -> Result<Vec<u8>, Ref
 
 fn judged(alloc: Global, tree: &Tree, list: &[u8]) -> Result<Vec<u8>, Refusal> {
     let entries = read_list(alloc, list)?;
-    let copies = copied(alloc, entries.as_slice())?;
-    let verdict = audit(alloc, tree, copies.as_slice())?;
-    let text = verdict_text(alloc, verdict)?;
+    let copies = copied(alloc, entries.as_slice());
+    drop(entries);
+    let copies = copies?;
+    let verdict = audit(alloc, tree, copies.as_slice());
+    drop(copies);
+    let text = verdict_text(alloc, verdict?)?;
     Ok(text.into_bytes())
 }
 

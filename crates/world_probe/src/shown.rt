@@ -13,7 +13,11 @@ use traces::Trace;
 pub fn ended(alloc: Global, tree: &Tree, trace: Trace) -> Result<String, Memory> {
     let Trace { weights, events } = trace;
     match run(alloc, tree, &weights, events) {
-        Ok(world) => shown(alloc, tree, &world),
+        Ok(world) => {
+            let text = shown(alloc, tree, &world);
+            drop(world);
+            text
+        }
         Err(fault) => refused(alloc, fault),
     }
 }

@@ -41,7 +41,11 @@ pub fn of_listing(
     question: Question,
 ) -> Result<Told, Memory> {
     match tree(alloc, listing, question) {
-        Ok(tree) => of_tree(alloc, &tree, trace, question),
+        Ok(tree) => {
+            let told = of_tree(alloc, &tree, trace, question);
+            drop(tree);
+            told
+        }
         Err(ListingFault::Memory) => Err(Memory),
         Err(_) => Told::only(alloc, "no tree"),
     }
@@ -67,8 +71,12 @@ fn of_trace(alloc: Global, tree: &Tree, trace: Trace, question: Question) -> Res
         let text = ended(alloc, tree, trace)?;
         return Ok(Told { text, again: 0 });
     }
-    let world = World::new(alloc, tree, &trace.weights)?;
-    of_world(alloc, world, trace.events.as_slice(), question)
+    let told = match World::new(alloc, tree, &trace.weights) {
+        Ok(world) => of_world(alloc, world, trace.events.as_slice(), question),
+        Err(memory) => Err(memory),
+    };
+    drop(trace);
+    told
 }
 
 fn of_world(
@@ -80,9 +88,11 @@ fn of_world(
     let mut world = world;
     let mut again = 0;
     let text = match question {
-        Question::Lengths => lengths(alloc, &mut world, &mut again, events)?,
-        _ => items(alloc, &mut world, &mut again, events)?,
+        Question::Lengths => lengths(alloc, &mut world, &mut again, events),
+        _ => items(alloc, &mut world, &mut again, events),
     };
+    drop(world);
+    let text = text?;
     Ok(Told { text, again })
 }
 
