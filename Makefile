@@ -23,11 +23,9 @@ dist: all
 bench: all
 	-bench/status
 	-bench/audit
-	tools/prove wire_probe
+	tools/prove probes log_probe
 	-bench/wire
-	tools/prove member_probe
 	-bench/member
-	tools/prove node_probe log_probe
 	-bench/node
 	-bench/run
 

@@ -1,26 +1,35 @@
-"""Members, nodes and worlds whose memory runs out: each allocation of some rows of `member_probe`, `node_probe` and `world_probe`
+"""Members, nodes and worlds whose memory runs out: each allocation of some stored rows of `probes` on them
 refused in turn. Where that falls into a step, the program gives the same input again, and has to go on as if nothing had been."""
 import os
 import subprocess
 import tempfile
 
 from topics.memory import refusing
-from topics.tally import TOP, built_shim, contents
+from topics.tally import PROBES, TOP, built_shim, contents
 
 ROWS = {
     # a plain run, a unit of two packages, and a job that stands on two others
-    "member_probe": (0, 4, 8),
+    "members": (0, 4, 8),
     # a claim that a crash ends, a unit of two packages, and a build in pieces, which a stop loses
-    "node_probe": (1, 4, 5),
+    "nodes": (1, 4, 5),
     # a take-over, and a build in pieces
-    "world_probe": (1, 10),
+    "worlds": (1, 10),
 }
 # What parts rows, where it is no blank line.
-ENDS = {"world_probe": b"\n"}
+ENDS = {"worlds": b"\n"}
 
 
-def run_probe(probe, row, **more):
-    done = subprocess.run([f"{TOP}/crates/{probe}/out/{probe}"], input=row, capture_output=True, timeout=60, **more)
+def stored_rows(topic):
+    """The rows that stand behind the topic's line."""
+    text = contents(f"{TOP}/crates/probes/stdin")
+    _, _, behind = text.partition(b"== %s\n" % topic.encode())
+    rows, _, _ = behind.partition(b"\n== ")
+    return rows.split(ENDS.get(topic, b"\n\n"))
+
+
+def run_probe(topic, row, **more):
+    given = b"== %s\n" % topic.encode() + row
+    done = subprocess.run([PROBES], input=given, capture_output=True, timeout=60, **more)
     return done.stdout, done.stderr, done.returncode
 
 
@@ -42,9 +51,9 @@ def problem_of(got, right, again):
     return f"{told[-200:]!r}, {said!r:.200}, status {status}"
 
 
-def refused_in_turn(tally, folder, probe, place, row):
-    name = f"row {place} of {probe}"
-    right, said, status = run_probe(probe, row)
+def refused_in_turn(tally, folder, topic, place, row):
+    name = f"row {place} of {topic}"
+    right, said, status = run_probe(topic, row)
     if said or status:
         tally.add(name, f"it ended with {status}: {said!r:.200}")
         return
@@ -52,7 +61,7 @@ def refused_in_turn(tally, folder, probe, place, row):
     while True:
         number += 1
         environment, mark = refusing(folder, number)
-        got = run_probe(probe, row, env=environment)
+        got = run_probe(topic, row, env=environment)
         if not os.path.exists(mark):
             break
         os.remove(mark)
@@ -67,7 +76,7 @@ def refused_in_turn(tally, folder, probe, place, row):
 def run(tally):
     with tempfile.TemporaryDirectory() as folder:
         if built_shim(tally, folder, "refuse"):
-            for probe, places in ROWS.items():
-                rows = contents(f"{TOP}/crates/{probe}/stdin").split(ENDS.get(probe, b"\n\n"))
+            for topic, places in ROWS.items():
+                rows = stored_rows(topic)
                 for place in places:
-                    refused_in_turn(tally, folder, probe, place, rows[place].strip() + b"\n")
+                    refused_in_turn(tally, folder, topic, place, rows[place].strip() + b"\n")

@@ -6,6 +6,8 @@ TOP = os.path.dirname(os.path.dirname(os.path.dirname(os.path.abspath(__file__))
 TESTS = f"{TOP}/tests"
 EXAMPLES = f"{TOP}/examples"
 PROGRAM = f"{TOP}/crates/dpbr/out/dpbr"
+# answers rows of stored cases: behind a line `== TOPIC` those of this topic
+PROBES = f"{TOP}/crates/probes/out/probes"
 
 
 class Tally:

@@ -1,4 +1,4 @@
-"""Stored cases of `dpbr run`, and traces and BUILDS whose memory runs out: each allocation of some rows of `traces_probe`
+"""Stored cases of `dpbr run`, and traces and BUILDS whose memory runs out: each allocation of some rows on traces
 refused in turn. The answer is then the right one, or that memory ran out, or the program ends."""
 import os
 import subprocess
@@ -6,12 +6,11 @@ import tempfile
 
 from topics.memory import refusing
 from topics.programs import stored_cases
-from topics.tally import TOP, built_shim
+from topics.tally import PROBES, built_shim
 
 # The folders of stored cases of `dpbr run`: those whose builds go out in several pieces stand apart.
 STORED = ("traces", "pieces")
 
-PROBE = f"{TOP}/crates/traces_probe/out/traces_probe"
 FILES = b'[{"hex":"616263","name":"x"}]'
 EVENTS = b",".join((
     b'{"above":7,"event":"claim","host":1,"node":0,"path":"a/b,y,x"}',
@@ -30,7 +29,7 @@ ROWS = {
 
 
 def run_probe(row, **more):
-    done = subprocess.run([PROBE], input=row + b"\n", capture_output=True, timeout=60, **more)
+    done = subprocess.run([PROBES], input=b"== traces\n" + row + b"\n", capture_output=True, timeout=60, **more)
     return done.stdout, done.returncode
 
 

@@ -1,84 +1,89 @@
-// The answer to a line.
-use crate::known::{claim_of, counts, facts, held, restarted};
+// The answer to a line. Each of these puts it behind a text.
+use crate::known::{put_counts, put_facts, put_held, put_open_claim, restarted};
 use crate::post::Post;
+use crate::text::Text;
 use faults::Memory;
 use input_words::{first_path, first_place, first_word, input};
 use member::Input;
 
-pub fn answer(post: &mut Post<'_>, line: &str) -> Result<String, Memory> {
+pub fn answer(out: &mut Text, post: &mut Post<'_>, line: &str) -> Result<(), Memory> {
     let (word, rest) = first_word(line);
     match word {
-        "deliver" => delivered(post, rest),
-        "look" | "twice" => looked_or_twice(post, word, rest),
-        "held" | "facts" => of_path(post, word, rest),
-        "open" | "counts" | "restart" => of_member(post, word, rest),
-        _ => given(post, word, rest),
+        "deliver" => delivered(out, post, rest),
+        "look" | "twice" => given(out, post, word, rest),
+        "held" | "facts" => of_path(out, post, word, rest),
+        "open" | "counts" => of_member(out, post, word, rest),
+        "restart" => restart(out, post, rest),
+        _ => given(out, post, "give", line),
     }
 }
 
-fn no_question(post: &Post<'_>) -> Result<String, Memory> {
-    Ok(String::from_str(post.alloc, "no question")?)
+fn no_question(out: &mut Text) -> Result<(), Memory> {
+    out.put("no question");
+    Ok(())
 }
 
-fn given(post: &mut Post<'_>, word: &str, rest: &str) -> Result<String, Memory> {
+// The input is given, looked at or given twice.
+fn given(out: &mut Text, post: &mut Post<'_>, how: &str, line: &str) -> Result<(), Memory> {
+    let (word, rest) = first_word(line);
     let Some((at, rest)) = first_place(rest) else {
-        return no_question(post);
+        return no_question(out);
     };
-    match input(post.alloc, word, rest, post.digest)? {
-        Some(input) => post.give(at, input),
-        None => no_question(post),
+    let Some(input) = input(post.alloc, word, rest, post.digest)? else {
+        return no_question(out);
+    };
+    match how {
+        "look" => post.looked(out, at, input),
+        "twice" => post.twice(out, at, input),
+        _ => post.give(out, at, input),
     }
 }
 
-fn looked_or_twice(post: &mut Post<'_>, how: &str, rest: &str) -> Result<String, Memory> {
-    let (word, rest) = first_word(rest);
-    let Some((at, rest)) = first_place(rest) else {
-        return no_question(post);
-    };
-    match input(post.alloc, word, rest, post.digest)? {
-        Some(input) if how == "look" => post.looked(at, input),
-        Some(input) => post.twice(at, input),
-        None => no_question(post),
-    }
-}
-
-fn delivered(post: &mut Post<'_>, rest: &str) -> Result<String, Memory> {
+fn delivered(out: &mut Text, post: &mut Post<'_>, rest: &str) -> Result<(), Memory> {
     let Some((number, rest)) = first_place(rest) else {
-        return no_question(post);
+        return no_question(out);
     };
     let Some((to, _)) = first_place(rest) else {
-        return no_question(post);
+        return no_question(out);
     };
     match post.message(number, to)? {
-        Some(send) => post.give(usize::from(send.to), Input::Message(send.message)),
-        None => no_question(post),
+        Some(send) => post.give(out, usize::from(send.to), Input::Message(send.message)),
+        None => no_question(out),
     }
 }
 
-fn of_path(post: &Post<'_>, word: &str, rest: &str) -> Result<String, Memory> {
+fn of_path(out: &mut Text, post: &Post<'_>, word: &str, rest: &str) -> Result<(), Memory> {
     let Some((at, rest)) = first_place(rest) else {
-        return no_question(post);
+        return no_question(out);
+    };
+    let Some(member) = post.members.get(at) else {
+        return no_question(out);
     };
     let path = first_path(post.alloc, rest)?;
-    let (Some(member), Some((path, _))) = (post.members.get(at), path) else {
-        return no_question(post);
-    };
-    match word {
-        "held" => held(post.alloc, member, &path),
-        _ => facts(post.alloc, member, &path),
+    match &path {
+        Some((path, _)) if word == "held" => put_held(out, member, path),
+        Some((path, _)) => put_facts(out, member, path),
+        None => out.put("no question"),
     }
+    drop(path);
+    Ok(())
 }
 
-fn of_member(post: &mut Post<'_>, word: &str, rest: &str) -> Result<String, Memory> {
+fn of_member(out: &mut Text, post: &Post<'_>, word: &str, rest: &str) -> Result<(), Memory> {
     let Some((at, _)) = first_place(rest) else {
-        return no_question(post);
+        return no_question(out);
     };
-    if word == "restart" {
-        return restarted(post, at);
-    }
     match post.members.get(at) {
-        Some(member) if word == "open" => claim_of(post.alloc, member),
-        Some(member) => counts(post.alloc, member),
-        None => no_question(post),
+        Some(member) if word == "open" => put_open_claim(out, member),
+        Some(member) => put_counts(out, member),
+        None => out.put("no question"),
+    }
+    Ok(())
+}
+
+fn restart(out: &mut Text, post: &mut Post<'_>, rest: &str) -> Result<(), Memory> {
+    match first_place(rest) {
+        Some((at, _)) => restarted(out, post, at),
+        None => no_question(out),
     }
 }

@@ -6,10 +6,9 @@ ghost use Rattle.protocol.specs.State.{State};
 ghost use Rattle.protocol.specs.Step.{HasHandled};
 ghost use Rattle.member.specs.Outcomes.{told};
 
-use crate::told::told;
-use faults::Memory;
+use crate::text::Text;
+use crate::told::put_step;
 use member::{Input, Member, Outcome, Refusal, Step};
-use std::alloc::Global;
 
 // Prepares the step, and takes it.
 pub fn stepped(member: &mut Member<'_>, input: Input) -> Result<Outcome, Refusal>
@@ -19,16 +18,18 @@ pub fn stepped(member: &mut Member<'_>, input: Input) -> Result<Outcome, Refusal
     Ok(member.commit(step))
 }
 
-// Prepares the step, and tells what it would note and say.
-pub fn prepared(alloc: Global, member: &mut Member<'_>, input: Input) -> Result<String, Refusal>
+// Prepares the step, and puts what it would note and say behind the text.
+pub fn prepared(out: &mut Text, member: &mut Member<'_>, input: Input) -> Result<(), Refusal>
     ensures { member.new ≡ member.old }
 {
     let step = member.prepare(input)?;
-    Ok(ahead(alloc, step)?)
+    ahead(out, step);
+    Ok(())
 }
 
-fn ahead(alloc: Global, step: Step) -> Result<String, Memory> {
-    told(alloc, step.note(), step.sends())
+fn ahead(out: &mut Text, step: Step) {
+    put_step(out, step.note(), step.sends());
+    drop(step);
 }
 
 // Handles both, the second whatever became of the first.

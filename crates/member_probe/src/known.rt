@@ -1,13 +1,13 @@
 // What a member knows, and one that restores it.
-ghost use Rattle.std.specs.Prelude.{◌≡◌, ◌<◌, IfOk, List, length};
+ghost use Rattle.std.specs.Prelude.{◌≡◌, ◌<◌, ◌++◌, ◌∷◌, [], IfOk, List, OnOk, length};
 ghost use Rattle.ballots.specs.declared.message.Note.{Note};
 ghost use Rattle.protocol.specs.Restoring.{AreOnUnits, restored};
 ghost use Rattle.protocol.specs.State.{Value, fresh};
 
 use crate::post::Post;
-use crate::told::{build_text, path_text};
+use crate::text::Text;
+use crate::told::{put_claim, put_digest, put_path, put_vote};
 use ballots::{Claimer, Note, Weights};
-use claims::Claim;
 use engine::Letter;
 use faults::Memory;
 use listing::Tree;
@@ -16,84 +16,84 @@ use package_record::Record;
 use pkgpath::PkgPath;
 use std::alloc::Global;
 
-pub fn held(alloc: Global, member: &Member<'_>, path: &PkgPath) -> Result<String, Memory> {
+pub fn put_held(out: &mut Text, member: &Member<'_>, path: &PkgPath) {
     match member.held(path) {
-        Some(record) => record_text(alloc, record),
-        None => Ok(String::from_str(alloc, "nothing")?),
+        Some(record) => put_record(out, record),
+        None => out.put("nothing"),
     }
 }
 
-fn record_text(alloc: Global, record: &Record) -> Result<String, Memory> {
-    let path = path_text(alloc, record.path())?;
-    let digest = record.digest()?;
-    let digest = hex::encode(alloc, &digest)?;
-    Ok(format!(in alloc; "{path} by {} {digest}", record.host())?)
-}
-
-pub fn facts(alloc: Global, member: &Member<'_>, path: &PkgPath) -> Result<String, Memory> {
-    let promised = option_text(alloc, member.promised(path))?;
-    let voted = match member.voted(path) {
-        Some((claim, build)) => vote_text(alloc, *claim, build_text(alloc, build)?.as_str())?,
-        None => String::new(alloc),
-    };
-    let opened = member.opened(path);
-    Ok(format!(in alloc; "opened {opened} promised{promised} voted{voted}")?)
-}
-
-fn option_text(alloc: Global, claim: Option<Claim>) -> Result<String, Memory> {
-    match claim {
-        Some(claim) => vote_text(alloc, claim, ""),
-        None => Ok(String::new(alloc)),
+fn put_record(out: &mut Text, record: &Record) {
+    put_path(out, record.path());
+    out.put_number(" by ", u64::from(record.host()));
+    out.put(" ");
+    match record.digest() {
+        Ok(digest) => put_digest(out, &digest),
+        Err(_) => out.lose(),
     }
 }
 
-fn vote_text(alloc: Global, claim: Claim, build: &str) -> Result<String, Memory> {
-    Ok(format!(in alloc; " {}.{} {build}", claim.round, claim.member)?)
+pub fn put_facts(out: &mut Text, member: &Member<'_>, path: &PkgPath) {
+    out.put_number("opened ", member.opened(path));
+    out.put(" promised");
+    if let Some(claim) = member.promised(path) {
+        put_claim(out, "", claim);
+        out.put(" ");
+    }
+    out.put(" voted");
+    if let Some((claim, build)) = member.voted(path) {
+        put_vote(out, "", *claim, build);
+    }
 }
 
-pub fn counts(alloc: Global, member: &Member<'_>) -> Result<String, Memory> {
+pub fn put_counts(out: &mut Text, member: &Member<'_>) {
     let counts = member.counts();
-    Ok(format!(in alloc;
-        "I {} B {} Q {} T {}",
-        counts.i, counts.b, counts.q, counts.t
-    )?)
+    out.put_number("I ", u64::from(counts.i));
+    out.put_number(" B ", u64::from(counts.b));
+    out.put_number(" Q ", u64::from(counts.q));
+    out.put_number(" T ", u64::from(counts.t));
 }
 
 // The open claim, its host, and how far it is.
-pub fn claim_of(alloc: Global, member: &Member<'_>) -> Result<String, Memory> {
+pub fn put_open_claim(out: &mut Text, member: &Member<'_>) {
     match member.open_claim() {
         Some(open) => {
-            let word = stage_word(open);
-            let claim = vote_text(alloc, open.claimer.claim(), "")?;
-            Ok(format!(in alloc; "unit {} for {}{claim}{word}", open.unit, open.host)?)
+            out.put_number("unit ", u64::from(open.unit));
+            out.put_number(" for ", u64::from(open.host));
+            put_claim(out, "", open.claimer.claim());
+            out.put(stage_words(open));
         }
-        None => Ok(String::from_str(alloc, "nothing")?),
+        None => out.put("nothing"),
     }
 }
 
-fn stage_word(open: &OpenClaim) -> &'static str {
+fn stage_words(open: &OpenClaim) -> &'static str {
     match &open.claimer {
-        Claimer::Gathering { .. } => "gathering",
-        Claimer::Building { .. } => "building",
-        Claimer::Voting { .. } => "voting",
+        Claimer::Gathering { .. } => " gathering",
+        Claimer::Building { .. } => " building",
+        Claimer::Voting { .. } => " voting",
     }
 }
 
 // A new member restores what the one with this number noted, and takes its place. The letters of
 // all packages are told, and how many of each there are.
-pub fn restarted(post: &mut Post<'_>, at: usize) -> Result<String, Memory> {
+pub fn restarted(out: &mut Text, post: &mut Post<'_>, at: usize) -> Result<(), Memory> {
     if at >= post.weights.len() {
-        return Ok(String::from_str(post.alloc, "no member")?);
+        out.put("no member");
+        return Ok(());
     }
-    let notes = noted(post.alloc, post.given.as_slice(), at)?;
-    let member = restored(post.alloc, post.tree, &post.weights, at as u8, notes)?;
-    let text = letters(post.alloc, post.tree, &member);
-    put(&mut post.members, at, member)?;
-    text
+    let given = post.given.as_slice();
+    let member = restored(post.alloc, post.tree, &post.weights, at as u8, given)?;
+    put_letters(out, post.tree, &member);
+    take_place(&mut post.members, at, member)
 }
 
 // The member takes this place.
-fn put<'a>(members: &mut Vec<Member<'a>>, at: usize, member: Member<'a>) -> Result<(), Memory> {
+fn take_place<'a>(
+    members: &mut Vec<Member<'a>>,
+    at: usize,
+    member: Member<'a>,
+) -> Result<(), Memory> {
     let last = members.len();
     members.push(member)?;
     if at < last {
@@ -103,31 +103,14 @@ fn put<'a>(members: &mut Vec<Member<'a>>, at: usize, member: Member<'a>) -> Resu
     Ok(())
 }
 
-// What this member noted.
-fn noted(alloc: Global, given: &[(usize, Outcome)], at: usize) -> Result<Vec<Note>, Memory> {
-    let mut own = Vec::new(alloc);
-    for (member, outcome) in given {
-        if *member == at {
-            add(&mut own, outcome.note.as_ref())?;
-        }
-    }
-    Ok(own)
-}
-
-fn add(notes: &mut Vec<Note>, note: Option<&Note>) -> Result<(), Memory> {
-    if let Some(note) = note {
-        notes.push(note.copy()?)?;
-    }
-    Ok(())
-}
-
-// A new member, which is what it restores of the notes that are about its units.
+// A new member, which is what it restores of the notes that are about its units, of those that the
+// one with its number gave.
 fn restored<'a>(
     alloc: Global,
     tree: &'a Tree,
     weights: &Weights,
     me: u8,
-    notes: Vec<Note>,
+    given: &[(usize, Outcome)],
 ) -> Result<Member<'a>, Memory>
     requires { me < length weights.now }
     ensures tree { IfOk result (λ m. m.division.tree ≡ tree.entry.now) }
@@ -135,38 +118,55 @@ fn restored<'a>(
         × (m ≡ restored (fresh m.division weights.now me) kept)) }
 {
     let mut member = Member::new(alloc, tree, weights, me)?;
-    let notes = on_units(alloc, &member, tree.digest(), notes)?;
-    member.restore(notes);
-    Ok(member)
+    match on_units(alloc, &member, tree.digest(), given, usize::from(me)) {
+        Ok(notes) => {
+            member.restore(notes);
+            Ok(member)
+        }
+        Err(memory) => {
+            drop(member);
+            Err(memory)
+        }
+    }
 }
 
-// Those that are about units of the member's tree.
+// What the one with this number noted about units of the member's tree.
 fn on_units(
     alloc: Global,
     member: &Member<'_>,
     digest: [u8; 32],
-    notes: Vec<Note>,
+    given: &[(usize, Outcome)],
+    at: usize,
 ) -> Result<Vec<Note>, Memory>
     ensures { IfOk result (λ notes. AreOnUnits member.now.division notes.items) }
 {
     let mut kept = Vec::new(alloc);
-    for note in notes {
-        if member.test_header(&digest, &[], &note.path).is_ok() {
-            kept.push(note)?;
+    for (of, outcome) in given {
+        if let Some(note) = &outcome.note
+            && *of == at
+            && member.test_header(&digest, &[], &note.path).is_ok()
+        {
+            add(&mut kept, note)?;
         }
     }
     Ok(kept)
 }
 
-fn letters(alloc: Global, tree: &Tree, member: &Member<'_>) -> Result<String, Memory>
+fn add(notes: &mut Vec<Note>, note: &Note) -> Result<(), Memory>
+    ensures { OnOk result (notes.new.items ≡ notes.old.items ++ (note.now ∷ [])) }
+{
+    notes.push(note.copy()?)?;
+    Ok(())
+}
+
+fn put_letters(out: &mut Text, tree: &Tree, member: &Member<'_>)
     requires { member.now.division.tree ≡ tree.now }
 {
-    let mut text = counts(alloc, member)?;
-    text.push(' ')?;
+    put_counts(out, member);
+    out.put(" ");
     for position in 0..tree.len() {
-        text.push(letter_char(member.letter(position)))?;
+        out.put_char(letter_char(member.letter(position)));
     }
-    Ok(text)
 }
 
 fn letter_char(letter: Letter) -> char {

@@ -1,6 +1,7 @@
 // Members, and all that they ever noted and sent.
 use crate::in_turn::{in_turn, prepared, stepped};
-use crate::told::{answer_text, refusal_text};
+use crate::text::Text;
+use crate::told::{put_outcome, put_refusal};
 use ballots::{Message, Weights};
 use faults::Memory;
 use listing::Tree;
@@ -23,20 +24,19 @@ pub struct Post<'a> {
     pub alloc: Global,
 }
 
-// What is dropped is dropped in functions of its own, which are proved once.
+// What is large is dropped by `drop`, whose parts are proved once, and not where a scope ends.
 impl<'a> Post<'a> {
-    pub fn new(alloc: Global, tree: &'a Tree, weights: &Weights) -> Result<Post<'a>, Memory> {
-        let members = members(alloc, tree, weights)?;
-        Ok(Post {
+    pub fn new(alloc: Global, tree: &'a Tree, weights: Weights) -> Post<'a> {
+        Post {
             tree,
             digest: tree.digest(),
-            weights: weights.copy(),
-            members,
+            weights,
+            members: Vec::new(alloc),
             given: Vec::new(alloc),
             sent: Vec::new(alloc),
             refused: 0,
             alloc,
-        })
+        }
     }
 
     // The message with the number, on its way to the member.
@@ -52,44 +52,50 @@ impl<'a> Post<'a> {
 
     // What the member tells on the input; what it gives is kept. Where memory runs out in the step,
     // the input is given again.
-    pub fn give(&mut self, at: usize, input: Input) -> Result<String, Memory> {
+    pub fn give(&mut self, out: &mut Text, at: usize, input: Input) -> Result<(), Memory> {
         let (input, again) = pair(input)?;
         let first = self.stepped(at, input);
         if wants_memory(&first) {
             self.refused = self.refused.saturating_add(1);
+            drop(first);
             let second = self.stepped(at, again);
-            return self.taken(at, second);
+            return self.taken(out, at, second);
         }
-        done_with(again);
-        self.taken(at, first)
+        drop(again);
+        self.taken(out, at, first)
     }
 
     fn stepped(&mut self, at: usize, input: Input) -> Result<Outcome, Refusal> {
         match self.members.get_mut(at) {
             Some(member) => stepped(member, input),
-            None => stranger(input),
+            None => Err(stranger(input)),
         }
     }
 
     // What the step is to note and to say, which is prepared and not taken.
-    pub fn looked(&mut self, at: usize, input: Input) -> Result<String, Memory> {
-        let alloc = self.alloc;
-        let Some(member) = self.members.get_mut(at) else {
-            return untold(alloc, input);
+    pub fn looked(&mut self, out: &mut Text, at: usize, input: Input) -> Result<(), Memory> {
+        let mut text = Text::new(self.alloc);
+        let seen = match self.members.get_mut(at) {
+            Some(member) => prepared(&mut text, member, input),
+            None => Err(stranger(input)),
         };
-        match prepared(alloc, member, input) {
-            Ok(text) => Ok(text),
-            Err(refusal) => Ok(refusal_text(alloc, refusal)?),
+        match (seen, text.whole()) {
+            (Ok(()), Ok(words)) => out.put(words),
+            (Ok(()), Err(_)) => put_refusal(out, Refusal::Memory),
+            (Err(refusal), _) => put_refusal(out, refusal),
         }
+        drop(text);
+        Ok(())
     }
 
     // What the member tells on the input, and then on the same again.
-    pub fn twice(&mut self, at: usize, input: Input) -> Result<String, Memory> {
+    pub fn twice(&mut self, out: &mut Text, at: usize, input: Input) -> Result<(), Memory> {
         let (one, two) = pair(input)?;
         let (one, two) = self.both(at, one, two);
-        let one = self.taken(at, one);
-        let two = self.taken(at, two);
-        joined(self.alloc, one?, two?)
+        let first = self.taken(out, at, one);
+        out.put(" then ");
+        let second = self.taken(out, at, two);
+        first.and(second)
     }
 
     fn both(
@@ -100,49 +106,69 @@ impl<'a> Post<'a> {
     ) -> (Result<Outcome, Refusal>, Result<Outcome, Refusal>) {
         match self.members.get_mut(at) {
             Some(member) => in_turn(member, one, two),
-            None => (stranger(one), stranger(two)),
+            None => (Err(stranger(one)), Err(stranger(two))),
         }
     }
 
     // What the answer tells. An outcome is kept.
-    fn taken(&mut self, at: usize, answer: Result<Outcome, Refusal>) -> Result<String, Memory> {
+    fn taken(
+        &mut self,
+        out: &mut Text,
+        at: usize,
+        answer: Result<Outcome, Refusal>,
+    ) -> Result<(), Memory> {
         match answer {
-            Ok(outcome) => self.keep(at, outcome),
+            Ok(outcome) => self.keep(out, at, outcome),
             Err(Refusal::Memory) => Err(Memory),
-            Err(refusal) => Ok(refusal_text(self.alloc, refusal)?),
+            Err(refusal) => {
+                put_refusal(out, refusal);
+                Ok(())
+            }
         }
     }
 
-    fn keep(&mut self, at: usize, outcome: Outcome) -> Result<String, Memory> {
-        let text = copy_text(self.alloc, &outcome);
-        let says = outcome.sends.message().is_some();
+    fn keep(&mut self, out: &mut Text, at: usize, outcome: Outcome) -> Result<(), Memory> {
         let place = self.given.len();
         self.given.push((at, outcome))?;
-        if says {
-            self.sent.push(place)?;
+        match self.given.get(place) {
+            Some((_, outcome)) => {
+                if outcome.sends.message().is_some() {
+                    self.sent.push(place)?;
+                }
+                put_copy(out, outcome)
+            }
+            None => Ok(()),
         }
-        text
     }
+}
+
+// A new member for each that weighs something.
+pub fn enter_members<'a>(
+    members: &mut Vec<Member<'a>>,
+    tree: &'a Tree,
+    weights: &Weights,
+) -> Result<(), Memory> {
+    let alloc = *members.allocator();
+    for me in 0..weights.len() as u8 {
+        members.push(Member::new(alloc, tree, weights, me)?)?;
+    }
+    Ok(())
 }
 
 // The input, and a copy of it.
 fn pair(input: Input) -> Result<(Input, Input), Memory> {
     match input.copy() {
         Ok(again) => Ok((input, again)),
-        Err(memory) => Err(memory),
+        Err(memory) => {
+            drop(input);
+            Err(memory)
+        }
     }
 }
 
-fn done_with(_input: Input) {}
-
-fn stranger(input: Input) -> Result<Outcome, Refusal> {
-    done_with(input);
-    Err(Refusal::NotAMember)
-}
-
-fn untold(alloc: Global, input: Input) -> Result<String, Memory> {
-    done_with(input);
-    Ok(refusal_text(alloc, Refusal::NotAMember)?)
+fn stranger(input: Input) -> Refusal {
+    drop(input);
+    Refusal::NotAMember
 }
 
 fn wants_memory(answer: &Result<Outcome, Refusal>) -> bool {
@@ -150,13 +176,11 @@ fn wants_memory(answer: &Result<Outcome, Refusal>) -> bool {
 }
 
 // What an equal outcome tells.
-fn copy_text(alloc: Global, outcome: &Outcome) -> Result<String, Memory> {
+fn put_copy(out: &mut Text, outcome: &Outcome) -> Result<(), Memory> {
     let copy = outcome.copy()?;
-    answer_text(alloc, &copy)
-}
-
-fn joined(alloc: Global, one: String, two: String) -> Result<String, Memory> {
-    Ok(format!(in alloc; "{one} then {two}")?)
+    put_outcome(out, &copy);
+    drop(copy);
+    Ok(())
 }
 
 fn sent_to(message: Option<&Message>, to: u8) -> Result<Option<Send>, Memory> {
@@ -170,20 +194,7 @@ fn sent_to(message: Option<&Message>, to: u8) -> Result<Option<Send>, Memory> {
 }
 
 fn copy_of(send: Send) -> Result<Option<Send>, Memory> {
-    match send.copy() {
-        Ok(copy) => Ok(Some(copy)),
-        Err(memory) => Err(memory),
-    }
-}
-
-fn members<'a>(
-    alloc: Global,
-    tree: &'a Tree,
-    weights: &Weights,
-) -> Result<Vec<Member<'a>>, Memory> {
-    let mut members = Vec::new(alloc);
-    for me in 0..weights.len() as u8 {
-        members.push(Member::new(alloc, tree, weights, me)?)?;
-    }
-    Ok(members)
+    let copy = send.copy();
+    drop(send);
+    Ok(Some(copy?))
 }

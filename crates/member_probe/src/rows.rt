@@ -1,7 +1,7 @@
 // A row: some members, and what they are asked.
 use crate::asked::answer;
-use crate::post::Post;
-use ballots::Weights;
+use crate::post::{Post, enter_members};
+use crate::text::Text;
 use faults::Memory;
 use input_words::{first_word, listing, weights};
 use listing::Tree;
@@ -9,42 +9,57 @@ use std::alloc::Global;
 
 // The answers, and how often memory ran out in a step.
 pub fn answers(alloc: Global, row: &[String]) -> Result<(String, u32), Memory> {
+    let mut text = Text::new(alloc);
+    let refused = put_answers(&mut text, row);
+    let words = text.into_words()?;
+    Ok((words, refused?))
+}
+
+// Puts the answers behind the text, and tells how often memory ran out in a step.
+fn put_answers(out: &mut Text, row: &[String]) -> Result<u32, Memory> {
+    let tree = tree(out.alloc(), row)?;
+    let refused = of_members(out, &tree, row);
+    drop(tree);
+    refused
+}
+
+fn tree(alloc: Global, row: &[String]) -> Result<Tree, Memory> {
     let text = listing(alloc, row)?;
-    let (Ok(tree), Some(weights)) = (Tree::parse(alloc, text.as_slice()), weights(row)) else {
+    match Tree::parse(alloc, text.as_slice()) {
+        Ok(tree) => Ok(tree),
+        Err(_) => Err(Memory),
+    }
+}
+
+fn of_members(out: &mut Text, tree: &Tree, row: &[String]) -> Result<u32, Memory> {
+    let Some(weights) = weights(row) else {
         return Err(Memory);
     };
-    of_members(alloc, &tree, &weights, row)
+    let mut post = Post::new(out.alloc(), tree, weights);
+    let refused = all(out, &mut post, row);
+    drop(post);
+    refused
 }
 
-fn of_members(
-    alloc: Global,
-    tree: &Tree,
-    weights: &Weights,
-    row: &[String],
-) -> Result<(String, u32), Memory> {
-    let mut post = Post::new(alloc, tree, weights)?;
-    match all(alloc, &mut post, row) {
-        Ok(answers) => Ok((answers, post.refused)),
-        Err(memory) => Err(memory),
-    }
-}
-
-fn all(alloc: Global, post: &mut Post<'_>, row: &[String]) -> Result<String, Memory> {
-    let mut answers = String::new(alloc);
+fn all(out: &mut Text, post: &mut Post<'_>, row: &[String]) -> Result<u32, Memory> {
+    enter_members(&mut post.members, post.tree, &post.weights)?;
     for line in row {
-        let (word, _) = first_word(line.as_str());
-        if word == "members" {
-            answers.push_str(line.as_str())?;
-        } else if word != "listing" {
-            add(alloc, &mut answers, post, line.as_str())?;
-        }
+        add(out, post, line.as_str())?;
     }
-    Ok(answers)
+    Ok(post.refused)
 }
 
-fn add(alloc: Global, answers: &mut String, post: &mut Post<'_>, line: &str) -> Result<(), Memory> {
-    let answer = answer(post, line)?;
-    let told = format!(in alloc; "\n{line}: {answer}")?;
-    answers.push_str(told.as_str())?;
-    Ok(())
+fn add(out: &mut Text, post: &mut Post<'_>, line: &str) -> Result<(), Memory> {
+    let (word, _) = first_word(line);
+    if word == "listing" {
+        return Ok(());
+    }
+    if word == "members" {
+        out.put(line);
+        return Ok(());
+    }
+    out.put("\n");
+    out.put(line);
+    out.put(": ");
+    answer(out, post, line)
 }

@@ -1,173 +1,159 @@
-// What a member tells, in words.
+// What a member tells, in words. Each of these puts them behind a text.
+use crate::text::Text;
 use ballots::{Body, Fact, Note};
 use claims::{Claim, Dep, Job};
-use faults::{Fault, Memory};
+use faults::Fault;
 use member::{Outcome, Refusal, Sends};
 use package_record::Build;
 use pkgpath::PkgPath;
-use std::alloc::{AllocError, Global};
 
-// The text of a path: bytes below 128.
-pub fn path_text(alloc: Global, path: &PkgPath) -> Result<String, AllocError> {
-    let mut text = String::new(alloc);
+// The path: bytes below 128.
+pub fn put_path(out: &mut Text, path: &PkgPath) {
     for byte in path.as_bytes() {
-        text.push(char::from(*byte))?;
+        out.put_char(char::from(*byte));
     }
-    Ok(text)
+}
+
+pub fn put_digest(out: &mut Text, digest: &[u8]) {
+    match hex::encode(out.alloc(), digest) {
+        Ok(text) => out.put(text.as_str()),
+        Err(_) => out.lose(),
+    }
+}
+
+// The word, and the claim behind it.
+pub fn put_claim(out: &mut Text, word: &str, claim: Claim) {
+    out.put(word);
+    out.put_number(" ", claim.round);
+    out.put_number(".", u64::from(claim.member));
 }
 
 // The build: how many packages, how long its text is, and who built it under which claim.
-pub fn build_text(alloc: Global, build: &Build) -> Result<String, Memory> {
-    let mut text = Vec::new(alloc);
-    build.write_to(&mut text)?;
+fn put_build(out: &mut Text, build: &Build) {
+    let length = text_length(out, build);
     let packages = build.packages();
-    match packages.first() {
-        Some(first) => Ok(format!(in alloc;
-            "{} in {} bytes by {} under {}.{}",
-            packages.len(),
-            text.len(),
-            first.host(),
-            first.claim().round,
-            first.claim().member
-        )?),
-        None => Ok(String::new(alloc)),
+    out.put(" ");
+    if let Some(first) = packages.first() {
+        out.put_number("", packages.len() as u64);
+        out.put_number(" in ", length);
+        out.put_number(" bytes by ", u64::from(first.host()));
+        put_claim(out, " under", first.claim());
     }
+}
+
+fn text_length(out: &mut Text, build: &Build) -> u64 {
+    let mut text = Vec::new(out.alloc());
+    if build.write_to(&mut text).is_err() {
+        out.lose();
+    }
+    text.len() as u64
 }
 
 // The word, the claim, and the build.
-fn with_build(alloc: Global, word: &str, claim: Claim, build: &Build) -> Result<String, Memory> {
-    let build = build_text(alloc, build)?;
-    Ok(format!(in alloc; "{word} {}.{} {build}", claim.round, claim.member)?)
+pub fn put_vote(out: &mut Text, word: &str, claim: Claim, build: &Build) {
+    put_claim(out, word, claim);
+    put_build(out, build);
 }
 
-fn with_claim(alloc: Global, word: &str, claim: Claim) -> Result<String, Memory> {
-    Ok(format!(in alloc; "{word} {}.{}", claim.round, claim.member)?)
-}
-
-fn alone(alloc: Global, word: &str, build: &Build) -> Result<String, Memory> {
-    let build = build_text(alloc, build)?;
-    Ok(format!(in alloc; "{word} {build}")?)
-}
-
-fn fact_text(alloc: Global, fact: &Fact) -> Result<String, Memory> {
+fn put_fact(out: &mut Text, fact: &Fact) {
     match fact {
-        Fact::Opened(round) => Ok(format!(in alloc; "opened {round}")?),
-        Fact::Promised(claim) => with_claim(alloc, "promised", *claim),
-        Fact::Voted(claim, build) => with_build(alloc, "voted", *claim, build),
-        Fact::Held(build) => alone(alloc, "held", build),
-    }
-}
-
-fn nay_text(alloc: Global, claim: Claim, promised: Claim) -> Result<String, Memory> {
-    let nay = with_claim(alloc, "nay", claim)?;
-    let after = with_claim(alloc, "after", promised)?;
-    Ok(format!(in alloc; "{nay} {after}")?)
-}
-
-fn report_text(alloc: Global, claim: Claim, report: &(Claim, Build)) -> Result<String, Memory> {
-    let (voted, build) = report;
-    let promise = with_claim(alloc, "promise", claim)?;
-    let report = with_build(alloc, "voted", *voted, build)?;
-    Ok(format!(in alloc; "{promise} {report}")?)
-}
-
-fn body_text(alloc: Global, body: &Body) -> Result<String, Memory> {
-    match body {
-        Body::Offer(claim) => with_claim(alloc, "offer", *claim),
-        Body::Promise(claim, None) => with_claim(alloc, "promise", *claim),
-        Body::Promise(claim, Some(report)) => report_text(alloc, *claim, report),
-        Body::Propose(claim, build) => with_build(alloc, "propose", *claim, build),
-        Body::Vote(claim) => with_claim(alloc, "vote", *claim),
-        Body::Agreed(build) => alone(alloc, "agreed", build),
-        Body::Ask => Ok(String::from_str(alloc, "ask")?),
-        Body::Nay(claim, promised) => nay_text(alloc, *claim, *promised),
-    }
-}
-
-fn note_text(alloc: Global, note: Option<&Note>) -> Result<String, Memory> {
-    match note {
-        Some(note) => {
-            let path = path_text(alloc, &note.path)?;
-            let fact = fact_text(alloc, &note.fact)?;
-            Ok(format!(in alloc; "notes {path} {fact}; ")?)
+        Fact::Opened(round) => out.put_number(" opened ", *round),
+        Fact::Promised(claim) => put_claim(out, " promised", *claim),
+        Fact::Voted(claim, build) => put_vote(out, " voted", *claim, build),
+        Fact::Held(build) => {
+            out.put(" held");
+            put_build(out, build);
         }
-        None => Ok(String::new(alloc)),
     }
 }
 
-fn sends_text(alloc: Global, sends: &Sends) -> Result<String, Memory> {
-    let Some(message) = sends.message() else {
-        return Ok(String::new(alloc));
-    };
-    let path = path_text(alloc, &message.path)?;
-    let body = body_text(alloc, &message.body)?;
-    let mut text = format!(in alloc; "says {path} {body} to")?;
-    for to in sends.receivers() {
-        let member = format!(in alloc; " {to}")?;
-        text.push_str(member.as_str())?;
+fn put_body(out: &mut Text, body: &Body) {
+    match body {
+        Body::Offer(claim) => put_claim(out, " offer", *claim),
+        Body::Promise(claim, None) => put_claim(out, " promise", *claim),
+        Body::Promise(claim, Some((voted, build))) => {
+            put_claim(out, " promise", *claim);
+            put_vote(out, " voted", *voted, build);
+        }
+        Body::Propose(claim, build) => put_vote(out, " propose", *claim, build),
+        Body::Vote(claim) => put_claim(out, " vote", *claim),
+        Body::Agreed(build) => {
+            out.put(" agreed");
+            put_build(out, build);
+        }
+        Body::Ask => out.put(" ask"),
+        Body::Nay(claim, promised) => {
+            put_claim(out, " nay", *claim);
+            put_claim(out, " after", *promised);
+        }
     }
-    text.push_str("; ")?;
-    Ok(text)
+}
+
+fn put_note(out: &mut Text, note: &Note) {
+    out.put("notes ");
+    put_path(out, &note.path);
+    put_fact(out, &note.fact);
+    out.put("; ");
+}
+
+fn put_sends(out: &mut Text, sends: &Sends) {
+    let Some(message) = sends.message() else {
+        return;
+    };
+    out.put("says ");
+    put_path(out, &message.path);
+    put_body(out, &message.body);
+    out.put(" to");
+    for to in sends.receivers() {
+        out.put_number(" ", u64::from(*to));
+    }
+    out.put("; ");
 }
 
 // What is noted, and what is said to whom.
-pub fn told(alloc: Global, note: Option<&Note>, sends: &Sends) -> Result<String, Memory> {
-    let mut text = note_text(alloc, note)?;
-    let sends = sends_text(alloc, sends)?;
-    text.push_str(sends.as_str())?;
-    Ok(text)
-}
-
-// The dependency: its path, its name, and the first two bytes of the digest.
-fn dep_text(alloc: Global, dep: &Dep) -> Result<String, Memory> {
-    let path = path_text(alloc, &dep.path)?;
-    let digest = hex::encode(alloc, &dep.digest)?;
-    Ok(format!(in alloc; " {path} {digest}")?)
-}
-
-fn deps_text(alloc: Global, job: &Job) -> Result<String, Memory> {
-    let mut text = String::new(alloc);
-    for dep in job.deps().as_slice() {
-        let dep = dep_text(alloc, dep)?;
-        text.push_str(dep.as_str())?;
+pub fn put_step(out: &mut Text, note: Option<&Note>, sends: &Sends) {
+    if let Some(note) = note {
+        put_note(out, note);
     }
-    Ok(text)
+    put_sends(out, sends);
 }
 
-fn packages_text(alloc: Global, job: &Job) -> Result<String, Memory> {
-    let mut text = path_text(alloc, &job.path)?;
-    text.push(':')?;
+// The dependency: its path and its digest.
+fn put_dep(out: &mut Text, dep: &Dep) {
+    out.put(" ");
+    put_path(out, &dep.path);
+    out.put(" ");
+    put_digest(out, &dep.digest);
+}
+
+fn put_job(out: &mut Text, job: &Job) {
+    out.put("job ");
+    put_path(out, &job.path);
+    out.put(":");
     for path in job.packages() {
-        text.push(' ')?;
-        let path = path_text(alloc, path)?;
-        text.push_str(path.as_str())?;
+        out.put(" ");
+        put_path(out, path);
     }
-    Ok(text)
-}
-
-fn job_text(alloc: Global, job: Option<&Job>) -> Result<String, Memory> {
-    match job {
-        Some(job) => {
-            let packages = packages_text(alloc, job)?;
-            let deps = deps_text(alloc, job)?;
-            let claim = with_claim(alloc, "under", job.claim)?;
-            Ok(format!(in alloc; "job {packages} for {} {claim} on{deps}; ", job.host)?)
-        }
-        None => Ok(String::new(alloc)),
+    out.put_number(" for ", u64::from(job.host));
+    put_claim(out, " under", job.claim);
+    out.put(" on");
+    for dep in job.deps().as_slice() {
+        put_dep(out, dep);
     }
+    out.put("; ");
 }
 
 // What is noted, what is said to whom, and the job.
-pub fn answer_text(alloc: Global, outcome: &Outcome) -> Result<String, Memory> {
-    let mut text = told(alloc, outcome.note.as_ref(), &outcome.sends)?;
-    let job = job_text(alloc, outcome.job.as_ref())?;
-    text.push_str(job.as_str())?;
-    Ok(text)
+pub fn put_outcome(out: &mut Text, outcome: &Outcome) {
+    put_step(out, outcome.note.as_ref(), &outcome.sends);
+    if let Some(job) = &outcome.job {
+        put_job(out, job);
+    }
 }
 
-pub fn refusal_text(alloc: Global, refusal: Refusal) -> Result<String, AllocError> {
-    match refusal.cause() {
-        Some(cause) => format!(in alloc; "{} {cause}", refusal.number()),
-        None => format!(in alloc; "{}", refusal.number()),
+pub fn put_refusal(out: &mut Text, refusal: Refusal) {
+    out.put_number("", u64::from(refusal.number()));
+    if let Some(cause) = refusal.cause() {
+        out.put_number(" ", u64::from(cause));
     }
 }

@@ -3,9 +3,9 @@ use Rattle.protocol.specs.Restoring.{restored}
 use Rattle.protocol.specs.State.{State, fresh}
 use Rattle.member_probe.proofs.known.restored.Goals as goal
 
-pub returns-clause-restored : goal.returns-clause-restored
-returns-clause-restored c =
-    let kept = c.in_ok-notes.notes.items in
+pub returns-in-Ok-clause-restored : goal.returns-in-Ok-clause-restored
+returns-in-Ok-clause-restored c =
+    let kept = c.in-Ok.notes.items in
     let same : c.restore.new.self.division ≡ c.in_ok-member.member.division =
     ap (λ (s : State). s.division) c.restore.ensures in (
       kept,

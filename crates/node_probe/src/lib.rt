@@ -40,35 +40,4 @@ mod rows;
 mod sending;
 mod stepping;
 
-use std::io;
-use std::process::ExitCode;
-
-fn main(rt: HostRuntime) -> io::Result<ExitCode> {
-    let mut row = Vec::new(rt.alloc());
-    for line in rt.lines(rt.alloc()) {
-        let line = line?;
-        if !line.is_empty() {
-            row.push(line)?;
-        } else if !tell(&rt, row.as_slice())? {
-            return Ok(ExitCode::from(1));
-        } else {
-            row.clear();
-        }
-    }
-    let told = tell(&rt, row.as_slice())?;
-    Ok(ExitCode::from(if told { 0 } else { 1 }))
-}
-
-/// Tells the answers of a row, unless memory runs out.
-fn tell(rt: &HostRuntime, row: &[String]) -> io::Result<bool> {
-    match rows::answers(rt.alloc(), row) {
-        Ok((answers, refused)) => {
-            println!(rt; "{answers}")?;
-            if refused > 0 {
-                eprintln!(rt; "{refused} again")?;
-            }
-            Ok(true)
-        }
-        Err(_) => Ok(false),
-    }
-}
+pub use crate::rows::answers;
