@@ -46,6 +46,13 @@ impl Text {
     }
 
     // All that was put, unless it is lost.
+    pub fn whole(&self) -> Result<&str, Memory> {
+        if self.is_lost {
+            return Err(Memory);
+        }
+        Ok(self.words.as_str())
+    }
+
     pub fn into_words(self) -> Result<String, Memory> {
         let Text { words, is_lost } = self;
         if is_lost { Err(Memory) } else { Ok(words) }
