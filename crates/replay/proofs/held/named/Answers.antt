@@ -1,4 +1,4 @@
-use Rattle.std.proofs.Common.{inr, refl, subst, sym, true≢false}
+use Rattle.std.proofs.Common.{rules, inr, refl, subst, sym, true≢false}
 use Rattle.listing.specs.Tree.{Tree}
 use Rattle.replay.proofs.Positions.{named_at, not_listed}
 use Rattle.units.specs.Ignored.{IsIgnored}
@@ -22,3 +22,6 @@ returns c =
       };
       err = tt;
     }
+
+pub returns-then-is_ignored-clause-ok : goal.returns-then-is_ignored-clause-ok
+returns-then-is_ignored-clause-ok c = search rules

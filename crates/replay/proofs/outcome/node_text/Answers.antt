@@ -26,3 +26,6 @@ returns-else-is_up c =
     IfOk-weaker c.format-else-is_up.result _ _
     (λ text is. down_line w c.args.node (string_bytes text) (search (rules, c.is_up.ensures, c.if-is_up.false)) is)
     line
+
+pub returns-in_err-counts : goal.returns-in_err-counts
+returns-in_err-counts c = search rules

@@ -1,4 +1,3 @@
-use Rattle.std.proofs.Common.{rules}
 use Rattle.running.proofs.OnlyMemory.{only_memory}
 use Rattle.running.specs.inside.Placing.{file_of}
 use Rattle.running.proofs.opening.opened.Goals as goal
@@ -16,6 +15,3 @@ unreachable-requires c =
     c.in_default.not-Memory (only_memory c.args.tree.now c.args.weights.now c.args.me
     (file_of c.args.disk) c.requires.node c.in-Err.fault c.in-Err.ensures.one_node
     (c.in-Err.ensures.refused tt) c.in-Err.ensures.device)
-
-pub returns-in-Memory : goal.returns-in-Memory
-returns-in-Memory c = search rules

@@ -1,4 +1,4 @@
-use Rattle.std.proofs.Common.{rules, ◌∙◌, IfOk, append-nil, ap, subst, sym}
+use Rattle.std.proofs.Common.{◌∙◌, IfOk, append-nil, ap, subst, sym}
 use Rattle.running.proofs.stopping.restarted.Goals as goal
 use Rattle.running.specs.inside.Opening.{HasNode, IsNodeOf}
 use Rattle.running.specs.inside.Placing.{disk_of, file_of}
@@ -14,6 +14,3 @@ returns c =
     let file = ap seen c.in_ok-disk.ensures ∙ append-nil (file_of (disk_of c.args.placed.now)) in
     subst (λ f. IfOk c.opened.result (IsNodeOf c.args.tree.now c.args.weights.now c.args.me f)) file
     c.opened.ensures
-
-pub returns-in_err-disk : goal.returns-in_err-disk
-returns-in_err-disk c = search rules

@@ -1,12 +1,6 @@
 use Rattle.std.proofs.Common.{rules}
 use Rattle.running.proofs.stopping.stop_with.Goals as goal
 
-pub returns-in-None-clause-stopped : goal.returns-in-None-clause-stopped
-returns-in-None-clause-stopped c = search rules
-
-pub returns-in-None-clause-none : goal.returns-in-None-clause-none
-returns-in-None-clause-none c = search rules
-
 pub returns-in-Torn-clause-stopped : goal.returns-in-Torn-clause-stopped
 returns-in-Torn-clause-stopped c = search rules
 

@@ -3,6 +3,3 @@ use Rattle.running.proofs.votes.voted_last.Goals as goal
 
 pub returns-in-Some : goal.returns-in-Some
 returns-in-Some c = search rules
-
-pub returns-in_default : goal.returns-in_default
-returns-in_default c = search rules

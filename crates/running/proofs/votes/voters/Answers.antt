@@ -1,4 +1,4 @@
-use Rattle.std.proofs.Common.{rules, ◌≡◌, ℕ, true, false, List, map, length, slice_set, sym, ap, ◌∙◌, arith, set-set}
+use Rattle.std.proofs.Common.{◌≡◌, ℕ, true, false, List, map, length, slice_set, sym, ap, ◌∙◌, arith, set-set}
 use Rattle.std.proofs.lemmas.List.{length-set}
 use Rattle.ballots.specs.Support.{Support}
 use Rattle.faults.specs.Bytes.{Text, is_among}
@@ -39,12 +39,3 @@ returns-clause-voters c =
     let all : c.loop-member.member ≡ length c.args.weights.now = omega arith in
     c.loop-member.invariant.voters
     ∙ ap (λ n. voters_below n (map (λ d. d.items) c.args.sent.now.keys) c.args.text.now) all
-
-pub returns-in_err-vote-clause-weights : goal.returns-in_err-vote-clause-weights
-returns-in_err-vote-clause-weights c = search rules
-
-pub returns-in_err-vote-clause-voters : goal.returns-in_err-vote-clause-voters
-returns-in_err-vote-clause-voters c = search rules
-
-pub returns-clause-weights : goal.returns-clause-weights
-returns-clause-weights c = search rules

@@ -1,4 +1,4 @@
-use Rattle.std.proofs.Common.{◌≡◌, length, take, drop, arith, ap, ◌∙◌}
+use Rattle.std.proofs.Common.{rules, ◌≡◌, length, take, drop, arith, ap, ◌∙◌}
 use Rattle.std.specs.Int.{from_be_bytes, w32}
 use Rattle.std.proofs.Math.Facts.{Fits-lt-pow}
 use Rattle.stable_record.proofs.Entries.{whole_entry}
@@ -16,3 +16,6 @@ returns c =
           (c.split_at.ensures.front ∙ ap (take n) tail) (c.split_at.ensures.back ∙ ap (drop n) tail),
       omega arith,
     )
+
+pub returns-then-behind-len : goal.returns-then-behind-len
+returns-then-behind-len c = search rules

@@ -3,9 +3,3 @@ use Rattle.member.proofs.known.Known.shared.Goals as goal
 
 pub returns-in-Some : goal.returns-in-Some
 returns-in-Some c = search rules
-
-pub returns-in_default : goal.returns-in_default
-returns-in_default c = search rules
-
-pub returns-in_default-2 : goal.returns-in_default-2
-returns-in_default-2 c = search rules

@@ -3,6 +3,3 @@ use Rattle.member.proofs.member.Member.counts.Goals as goal
 
 pub returns-clause-counts : goal.returns-clause-counts
 returns-clause-counts c = search rules
-
-pub returns-clause-member : goal.returns-clause-member
-returns-clause-member c = search rules

@@ -1,5 +1,4 @@
-use Rattle.std.proofs.lemmas.Grind.{common_steps}
-use Rattle.std.proofs.Common.{rules, ◌<◌, ◌∙◌, sym, subst, length, arith}
+use Rattle.std.proofs.Common.{◌<◌, ◌∙◌, sym, subst, length, arith}
 use Rattle.package_record.specs.Build.{IsBuild}
 use Rattle.running.proofs.Entering.{grown_on, path_entered}
 use Rattle.running.specs.inside.Posting.{list_in}
@@ -26,39 +25,3 @@ loop-package-preserved c =
           c.append_package.ensures.grown;
       sent = c.append_package.ensures.sent ∙ c.loop-package.invariant.sent;
     }
-
-pub returns-then-has_any-clause-ok : goal.returns-then-has_any-clause-ok
-returns-then-has_any-clause-ok c = search rules
-
-pub returns-then-has_any-clause-listed : goal.returns-then-has_any-clause-listed
-returns-then-has_any-clause-listed c = search rules
-
-pub returns-then-has_any-clause-grown : goal.returns-then-has_any-clause-grown
-returns-then-has_any-clause-grown c = grind (arith, common_steps)
-
-pub returns-then-has_any-clause-sent : goal.returns-then-has_any-clause-sent
-returns-then-has_any-clause-sent c = search rules
-
-pub returns-in_err-append_package-clause-ok : goal.returns-in_err-append_package-clause-ok
-returns-in_err-append_package-clause-ok c = search rules
-
-pub returns-in_err-append_package-clause-listed : goal.returns-in_err-append_package-clause-listed
-returns-in_err-append_package-clause-listed c = search rules
-
-pub returns-in_err-append_package-clause-grown : goal.returns-in_err-append_package-clause-grown
-returns-in_err-append_package-clause-grown c = grind (arith, common_steps)
-
-pub returns-in_err-append_package-clause-sent : goal.returns-in_err-append_package-clause-sent
-returns-in_err-append_package-clause-sent c = search rules
-
-pub returns-clause-ok : goal.returns-clause-ok
-returns-clause-ok c = grind (arith, common_steps)
-
-pub returns-clause-listed : goal.returns-clause-listed
-returns-clause-listed c = search rules
-
-pub returns-clause-grown : goal.returns-clause-grown
-returns-clause-grown c = search rules
-
-pub returns-clause-sent : goal.returns-clause-sent
-returns-clause-sent c = search rules

@@ -1,4 +1,4 @@
-use Rattle.std.proofs.Common.{rules, ◌∙◌, ap, map, sym, Vec, ℕ}
+use Rattle.std.proofs.Common.{◌∙◌, ap, map, sym, Vec, ℕ}
 use Rattle.std.specs.declared.alloc.Global.{Global}
 use Rattle.std.proofs.lemmas.List.{take-map}
 use Rattle.running.proofs.posted.Posted.cut_back.Goals as goal
@@ -7,9 +7,3 @@ pub returns-clause-sent : goal.returns-clause-sent
 returns-clause-sent c =
     ap (map (λ (d : Vec ℕ Global). d.items)) c.truncate.ensures.keys
     ∙ sym (take-map (λ (d : Vec ℕ Global). d.items) c.args.lengths.0 c.args.self.now.sent.keys)
-
-pub returns-clause-list : goal.returns-clause-list
-returns-clause-list c = search rules
-
-pub returns-clause-listed : goal.returns-clause-listed
-returns-clause-listed c = search rules
