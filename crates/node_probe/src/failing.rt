@@ -1,10 +1,10 @@
 //! A node whose device fails, and what a crash leaves of it.
-use crate::cutting::log_of;
+use crate::cutting::{copy_bytes, log_of};
 use crate::network::Network;
-use crate::opening::{disk_of, each_left, new_failing, once, opened, sound};
+use crate::opening::{disk_in, each_left, is_open, new_failing, once, sound};
 use crate::past::{Past, Step};
-use crate::sending::sends_text;
 use crate::stepping::{Answer, taken};
+use crate::told::{put, put_number};
 use faults::{Fault, Memory};
 use node::Node;
 use protocol::Input;
@@ -37,25 +37,38 @@ struct Trial {
     again: Option<usize>,
 }
 
-/// How many calls the node's steps have, if it survives the failing of each.
+/// Tells how many calls the node's steps have, if it survives the failing of each.
 pub fn failures(
     network: &mut Network<'_>,
     at: usize,
     again: Option<(usize, &str)>,
-) -> Result<String, Memory> {
+    out: &mut String,
+) -> Result<(), Memory> {
     let again = match again {
         Some((step, _)) => Some(step),
         None => None,
     };
     let log = log_of(network, at)?;
-    let once = calls(network, log.as_slice(), at, again, false)?;
-    let on = calls(network, log.as_slice(), at, again, true)?;
-    Ok(format!(in network.alloc; "{once} once, {on} from there on")?)
+    put_calls(network, log.as_slice(), at, again, out)
+}
+
+fn put_calls(
+    network: &mut Network<'_>,
+    log: &[u8],
+    at: usize,
+    again: Option<usize>,
+    out: &mut String,
+) -> Result<(), Memory> {
+    let once = calls(network, log, at, again, false)?;
+    let on = calls(network, log, at, again, true)?;
+    put_number(out, "", once)?;
+    put_number(out, " once, ", on)?;
+    put(out, " from there on")
 }
 
 /// How many calls may fail, with each of the crashes behind; 0 where the node doesn't survive one.
 fn calls(
-    network: &Network<'_>,
+    network: &mut Network<'_>,
     log: &[u8],
     at: usize,
     again: Option<usize>,
@@ -77,7 +90,7 @@ fn calls(
 }
 
 fn each_crash(
-    network: &Network<'_>,
+    network: &mut Network<'_>,
     log: &[u8],
     at: usize,
     again: Option<usize>,
@@ -99,14 +112,15 @@ fn each_crash(
 }
 
 /// How the node fares that takes its steps on such a disk.
-fn tried(network: &Network<'_>, log: &[u8], trial: Trial) -> Result<Fared, Memory> {
-    let alloc = network.alloc;
+fn tried(network: &mut Network<'_>, log: &[u8], trial: Trial) -> Result<Fared, Memory> {
+    let (alloc, tree) = (network.alloc, network.tree);
     if trial.at >= network.weights.len() {
         return Ok(Fared::Badly);
     }
     let disk = new_failing(alloc, trial.failing)?;
-    match once(alloc, network.tree, &network.weights, trial.at as u8, disk) {
-        Ok(node) => stepped(network, log, trial, node),
+    let me = trial.at as u8;
+    match once(alloc, tree, &network.weights, me, disk, &mut network.spare) {
+        Ok(()) => stepped(network, log, trial),
         Err((fault, disk)) => unopened(network, log, trial, fault.number(), disk.into_inner()),
     }
 }
@@ -121,7 +135,7 @@ fn has_fared(survived: bool) -> Fared {
 
 /// How a node fares whose opening is refused with this number.
 fn unopened(
-    network: &Network<'_>,
+    network: &mut Network<'_>,
     log: &[u8],
     trial: Trial,
     number: u32,
@@ -140,26 +154,22 @@ fn unopened(
 fn first_length(steps: &[Step], at: usize) -> u64 {
     for step in steps {
         if step.node == at {
-            return step.before;
+            return step.taken.before;
         }
     }
     0
 }
 
 /// The node takes its steps up to the first that fails, and is opened again after the crash.
-fn stepped(
-    network: &Network<'_>,
-    log: &[u8],
-    trial: Trial,
-    node: Node<'_, FaultDisk>,
-) -> Result<Fared, Memory> {
-    let mut node = node;
-    let failure = first_failure(&network.past, trial.at, &mut node);
-    let is_stopped = is_stopped(&mut node);
-    let disk = disk_of(node);
-    match failure? {
+fn stepped(network: &mut Network<'_>, log: &[u8], trial: Trial) -> Result<Fared, Memory> {
+    let Some(node) = &mut network.spare else {
+        return Ok(Fared::Badly);
+    };
+    let failure = first_failure(&network.past, trial.at, node)?;
+    let is_stopped = is_stopped(node);
+    match failure {
         Some((place, 1001)) if is_stopped => {
-            Ok(has_fared(survives(network, log, trial, place, disk)?))
+            Ok(has_fared(survives(network, log, trial, place)?))
         }
         Some(_) => Ok(Fared::Badly),
         None => Ok(Fared::Well),
@@ -191,11 +201,8 @@ fn refusal(
     if step.node != at {
         return Ok(0);
     }
-    match taken(alloc, node, &step.asked)? {
-        Answer::Sends(_, _) => Ok(0),
-        Answer::Refuses(number, _) => Ok(number),
-        Answer::WantsMemory => Ok(1),
-    }
+    let answer = taken(alloc, node, &step.asked)?;
+    Ok(answer.number())
 }
 
 /// Whether the node answers that it stopped.
@@ -206,20 +213,23 @@ fn is_stopped(node: &mut Node<'_, FaultDisk>) -> bool {
     }
 }
 
-/// Whether the node that is opened after the crash has the notes from before the step, with the
-/// step's or without, and answers the same, where the step is asked once more.
+/// Whether the node that is opened after the crash has the notes from before the step at the place,
+/// with the step's or without, and answers the same, where the step is asked once more.
 fn survives(
-    network: &Network<'_>,
+    network: &mut Network<'_>,
     log: &[u8],
     trial: Trial,
     place: usize,
-    disk: MemDisk,
 ) -> Result<bool, Memory> {
     let Some(step) = network.past.steps.get(place) else {
         return Ok(false);
     };
-    match leaves(network, log, trial, (step.before, step.after), disk)? {
-        Some(disk) if trial.again == Some(place) => answers_so(network, trial.at, step, disk),
+    let lengths = (step.taken.before, step.taken.after);
+    let Some(disk) = disk_in(&mut network.spare) else {
+        return Ok(false);
+    };
+    match leaves(network, log, trial, lengths, disk)? {
+        Some(disk) if trial.again == Some(place) => answers_so(network, trial.at, place, disk),
         Some(_) => Ok(true),
         None => Ok(false),
     }
@@ -228,7 +238,7 @@ fn survives(
 /// The disk of the node that is opened after the crash, if its log is as much of this one as one of
 /// the lengths says.
 fn leaves(
-    network: &Network<'_>,
+    network: &mut Network<'_>,
     log: &[u8],
     trial: Trial,
     lengths: (u64, u64),
@@ -239,10 +249,15 @@ fn leaves(
     } else {
         crashed_behind(network, trial.at, disk)?
     };
-    match disk {
-        Some(disk) if has_notes(disk.bytes(), log, lengths) => Ok(Some(disk)),
-        _ => Ok(None),
-    }
+    let has_notes = match &disk {
+        Some(disk) => has_notes(disk.bytes(), log, lengths),
+        None => false,
+    };
+    Ok(only_if(has_notes, disk))
+}
+
+fn only_if(holds: bool, disk: Option<MemDisk>) -> Option<MemDisk> {
+    if holds { disk } else { None }
 }
 
 /// Whether the file has one of these lengths, and the notes that the log has up to there.
@@ -258,73 +273,80 @@ fn has_notes(file: &[u8], log: &[u8], lengths: (u64, u64)) -> bool {
 }
 
 /// The disk of the node that is opened over this one.
-fn over(network: &Network<'_>, at: usize, disk: MemDisk) -> Result<Option<MemDisk>, Memory> {
-    if at >= network.weights.len() {
-        return Ok(None);
-    }
-    match opened(
-        network.alloc,
-        network.tree,
-        &network.weights,
-        at as u8,
-        sound(disk),
-    ) {
-        Ok(node) => Ok(Some(disk_of(node))),
-        Err((1, _)) => Err(Memory),
-        Err(_) => Ok(None),
+fn over(network: &mut Network<'_>, at: usize, disk: MemDisk) -> Result<Option<MemDisk>, Memory> {
+    if is_open(network.open_spare(at, sound(disk)))? {
+        Ok(disk_in(&mut network.spare))
+    } else {
+        Ok(None)
     }
 }
 
 /// The disk of the node that is opened after a crash behind its opening, if it is as it was.
 fn crashed_behind(
-    network: &Network<'_>,
+    network: &mut Network<'_>,
     at: usize,
     disk: MemDisk,
 ) -> Result<Option<MemDisk>, Memory> {
-    let Some(disk) = over(network, at, disk)? else {
-        return Ok(None);
+    let mut seen = Vec::new(network.alloc);
+    let disk = left_behind(network, at, disk, &mut seen)?;
+    let is_same = match &disk {
+        Some(disk) => disk.bytes() == seen.as_slice(),
+        None => false,
     };
-    let seen = disk.bytes().to_vec(network.alloc)?;
-    match over(network, at, disk.crash(Left::Before))? {
-        Some(disk) if disk.bytes() == seen.as_slice() => Ok(Some(disk)),
-        _ => Ok(None),
+    Ok(only_if(is_same, disk))
+}
+
+/// The disk of the node that is opened after a crash behind its opening, of which the bytes before
+/// the crash are added.
+fn left_behind(
+    network: &mut Network<'_>,
+    at: usize,
+    disk: MemDisk,
+    seen: &mut Vec<u8>,
+) -> Result<Option<MemDisk>, Memory> {
+    match over(network, at, disk)? {
+        Some(disk) => {
+            copy_bytes(&disk, seen)?;
+            over(network, at, disk.crash(Left::Before))
+        }
+        None => Ok(None),
     }
 }
 
-/// Whether the node that is opened over the disk answers to this step as it did.
+/// Whether the node that is opened over the disk answers to the step at this place as it did.
 fn answers_so(
-    network: &Network<'_>,
+    network: &mut Network<'_>,
     at: usize,
-    step: &Step,
+    place: usize,
     disk: MemDisk,
 ) -> Result<bool, Memory> {
-    if at >= network.weights.len() {
-        return Ok(false);
-    }
-    match opened(
-        network.alloc,
-        network.tree,
-        &network.weights,
-        at as u8,
-        sound(disk),
-    ) {
-        Ok(node) => tells_so(&network.past, step, node),
-        Err((1, _)) => Err(Memory),
-        Err(_) => Ok(false),
+    if is_open(network.open_spare(at, sound(disk)))? {
+        tells_so(network, place)
+    } else {
+        Ok(false)
     }
 }
 
-fn tells_so(past: &Past, step: &Step, node: Node<'_, FaultDisk>) -> Result<bool, Memory> {
-    let mut node = node;
-    let answer = taken(past.alloc, &mut node, &step.asked);
-    let _disk = disk_of(node);
-    is_told(past, &answer?, step.told.as_str())
+fn tells_so(network: &mut Network<'_>, place: usize) -> Result<bool, Memory> {
+    match &mut network.spare {
+        Some(node) => repeats(&network.past, place, node),
+        None => Ok(false),
+    }
+}
+
+/// Whether the node answers to the step at this place as it did.
+fn repeats(past: &Past, place: usize, node: &mut Node<'_, FaultDisk>) -> Result<bool, Memory> {
+    let Some(step) = past.steps.get(place) else {
+        return Ok(false);
+    };
+    let answer = taken(past.alloc, node, &step.asked)?;
+    is_told(past, &answer, step.taken.told.as_str())
 }
 
 fn is_told(past: &Past, answer: &Answer, told: &str) -> Result<bool, Memory> {
     match answer {
-        Answer::Sends(sends, is_job) => {
-            let text = sends_text(past.alloc, past.sent.as_slice(), sends.as_slice(), *is_job)?;
+        Answer::Sends(sends) => {
+            let text = past.sends_text(sends)?;
             Ok(text.as_str() == told)
         }
         _ => Ok(false),

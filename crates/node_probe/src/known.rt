@@ -1,9 +1,10 @@
 //! What a node knows, and nodes that are opened again.
-ghost use Rattle.std.specs.Prelude.{◌≡◌};
+ghost use Rattle.std.specs.Prelude.{◌≡◌, ◌<◌, IfSome, length};
 
 use crate::network::Network;
-use crate::opening::{disk_of, left, opened, sound};
-use crate::past::refusal_text;
+use crate::opening::{left, open, put_unopened, sound};
+use crate::stepping::log_len;
+use crate::told::{put, put_number};
 use claims::Claim;
 use engine::Letter;
 use faults::Memory;
@@ -11,105 +12,134 @@ use listing::Tree;
 use node::Node;
 use pkgpath::PkgPath;
 use stable_record::{FaultDisk, MemDisk};
-use std::alloc::Global;
 
-/// What the node knows of the path, whether it has an open claim, and the counts.
-pub fn known(alloc: Global, node: &Node<'_, FaultDisk>, path: &PkgPath) -> Result<String, Memory> {
-    let promised = claim_text(alloc, node.promised(path))?;
-    let voted = claim_text(alloc, node.voted(path).map(|vote| vote.0))?;
-    let held = if node.held(path).is_some() {
-        "held"
-    } else {
-        "not held"
-    };
-    let open = if node.open_claim().is_some() {
-        "a claim"
-    } else {
-        "no claim"
-    };
-    let counts = counts_text(alloc, node)?;
-    Ok(format!(in alloc;
-        "opened {}, promised {promised}, voted {voted}, {held}, {open}; {counts}",
-        node.opened(path)
-    )?)
+/// Tells what the node knows of the path, whether it has an open claim, and the counts.
+pub fn put_known(
+    out: &mut String,
+    node: &Node<'_, FaultDisk>,
+    path: &PkgPath,
+) -> Result<(), Memory> {
+    put_number(out, "opened ", node.opened(path))?;
+    put(out, ", promised ")?;
+    put_claim(out, node.promised(path))?;
+    put(out, ", voted ")?;
+    put_claim(out, voted(node, path))?;
+    put_held(out, node, path)?;
+    put_counts(out, node)
 }
 
-fn claim_text(alloc: Global, claim: Option<Claim>) -> Result<String, Memory> {
-    match claim {
-        Some(claim) => Ok(format!(in alloc; "{}.{}", claim.round, claim.member)?),
-        None => Ok(String::from_str(alloc, "none")?),
-    }
-}
-
-fn counts_text(alloc: Global, node: &Node<'_, FaultDisk>) -> Result<String, Memory> {
-    let counts = node.counts();
-    Ok(format!(in alloc;
-        "I {} B {} Q {} T {}",
-        counts.i, counts.b, counts.q, counts.t
-    )?)
-}
-
-/// The node is opened again over its disk.
-pub fn stopped(network: &mut Network<'_>, at: usize) -> Result<String, Memory> {
-    match taken_off(network, at) {
-        Some(disk) => opened_at(network, at, disk),
-        None => Ok(String::from_str(network.alloc, "no node")?),
-    }
-}
-
-/// The node is opened again after a crash that leaves what the word says.
-pub fn crashed(network: &mut Network<'_>, at: usize, word: &str) -> Result<String, Memory> {
-    match taken_off(network, at) {
-        Some(disk) => opened_at(network, at, disk.crash(left(word))),
-        None => Ok(String::from_str(network.alloc, "no node")?),
-    }
-}
-
-/// The disk of the node, which is no more.
-pub fn taken_off(network: &mut Network<'_>, at: usize) -> Option<MemDisk> {
-    let place = network.nodes.get_mut(at)?;
-    disk_in(place)
-}
-
-fn disk_in(place: &mut Option<Node<'_, FaultDisk>>) -> Option<MemDisk> {
-    match place.take() {
-        Some(node) => Some(disk_of(node)),
+fn voted(node: &Node<'_, FaultDisk>, path: &PkgPath) -> Option<Claim> {
+    match node.voted(path) {
+        Some((claim, _build)) => Some(*claim),
         None => None,
     }
 }
 
-/// The node is opened over the disk: the length of its log, the counts and the letters.
-pub fn opened_at(network: &mut Network<'_>, at: usize, disk: MemDisk) -> Result<String, Memory> {
-    let (alloc, tree) = (network.alloc, network.tree);
-    if at >= network.weights.len() {
-        return Ok(String::from_str(alloc, "no node")?);
-    }
-    match opened(alloc, tree, &network.weights, at as u8, sound(disk)) {
-        Ok(node) => {
-            let text = letters(alloc, tree, &node);
-            put(&mut network.nodes, at, node);
-            text
+fn put_claim(out: &mut String, claim: Option<Claim>) -> Result<(), Memory> {
+    match claim {
+        Some(claim) => {
+            put_number(out, "", claim.round)?;
+            put_number(out, ".", u64::from(claim.member))
         }
-        Err((1, _)) => Err(Memory),
-        Err((number, cause)) => refusal_text(alloc, number, cause),
+        None => put(out, "none"),
     }
 }
 
-fn put<'a>(nodes: &mut Vec<Option<Node<'a, FaultDisk>>>, at: usize, node: Node<'a, FaultDisk>) {
-    if let Some(place) = nodes.get_mut(at) {
-        *place = Some(node);
+fn put_held(out: &mut String, node: &Node<'_, FaultDisk>, path: &PkgPath) -> Result<(), Memory> {
+    let held = if node.held(path).is_some() {
+        ", held"
+    } else {
+        ", not held"
+    };
+    let open = if node.open_claim().is_some() {
+        ", a claim; "
+    } else {
+        ", no claim; "
+    };
+    put(out, held)?;
+    put(out, open)
+}
+
+fn put_counts(out: &mut String, node: &Node<'_, FaultDisk>) -> Result<(), Memory> {
+    let counts = node.counts();
+    put_number(out, "I ", u64::from(counts.i))?;
+    put_number(out, " B ", u64::from(counts.b))?;
+    put_number(out, " Q ", u64::from(counts.q))?;
+    put_number(out, " T ", u64::from(counts.t))
+}
+
+/// The node is opened again over its disk.
+pub fn stopped(network: &mut Network<'_>, at: usize, out: &mut String) -> Result<(), Memory> {
+    match network.taken_off(at) {
+        Some(disk) => opened_at(network, at, disk, out),
+        None => put(out, "no node"),
     }
 }
 
-fn letters(alloc: Global, tree: &Tree, node: &Node<'_, FaultDisk>) -> Result<String, Memory>
+/// The node is opened again after a crash that leaves what the word says.
+pub fn crashed(
+    network: &mut Network<'_>,
+    at: usize,
+    word: &str,
+    out: &mut String,
+) -> Result<(), Memory> {
+    match network.taken_off(at) {
+        Some(disk) => opened_at(network, at, disk.crash(left(word)), out),
+        None => put(out, "no node"),
+    }
+}
+
+/// The node is opened over the disk. Tells the length of its log, the counts and the letters.
+fn opened_at(
+    network: &mut Network<'_>,
+    at: usize,
+    disk: MemDisk,
+    out: &mut String,
+) -> Result<(), Memory> {
+    let (alloc, tree) = (network.alloc, network.tree);
+    let Some(place) = network.nodes.get_mut(at) else {
+        return put(out, "no node");
+    };
+    match open(alloc, tree, &network.weights, at, sound(disk), place) {
+        Ok(()) => put_restored(out, tree, place),
+        Err(unopened) => put_unopened(out, unopened),
+    }
+}
+
+fn put_restored(
+    out: &mut String,
+    tree: &Tree,
+    place: &Option<Node<'_, FaultDisk>>,
+) -> Result<(), Memory>
+    requires { IfSome place.now (λ n. n.node.member.division.tree ≡ tree.now) }
+{
+    match place {
+        Some(node) => {
+            put_number(out, "log ", log_len(node))?;
+            put(out, "; ")?;
+            put_counts(out, node)?;
+            put(out, "; ")?;
+            put_letters(out, tree, node)
+        }
+        None => Ok(()),
+    }
+}
+
+fn put_letters(out: &mut String, tree: &Tree, node: &Node<'_, FaultDisk>) -> Result<(), Memory>
     requires { node.now.node.member.division.tree ≡ tree.now }
 {
-    let counts = counts_text(alloc, node)?;
-    let mut text = format!(in alloc; "log {}; {counts}; ", node.log_len())?;
     for position in 0..tree.len() {
-        text.push(letter_char(node.letter(position)))?;
+        out.push(letter_at(tree, node, position))?;
     }
-    Ok(text)
+    Ok(())
+}
+
+fn letter_at(tree: &Tree, node: &Node<'_, FaultDisk>, position: u32) -> char
+    requires tree { node.now.node.member.division.tree ≡ tree.now }
+    requires position { position < length tree.now }
+{
+    let _tree = tree;
+    letter_char(node.letter(position))
 }
 
 fn letter_char(letter: Letter) -> char {

@@ -39,5 +39,16 @@ mod past;
 mod rows;
 mod sending;
 mod stepping;
+mod told;
 
-pub use crate::rows::answers;
+use faults::Memory;
+use std::alloc::Global;
+
+/// The answers to a row, and how often memory ran out in a step.
+pub fn answers(alloc: Global, row: &[String]) -> Result<(String, u32), Memory> {
+    let mut out = String::new(alloc);
+    match rows::answers(alloc, row, &mut out) {
+        Ok(refused) => Ok((out, refused)),
+        Err(memory) => Err(memory),
+    }
+}

@@ -1,14 +1,13 @@
 //! Nodes, and what they were asked.
-ghost use Rattle.std.specs.Prelude.{◌<◌, length};
-
-use crate::opening::{new_disk, opened};
-use crate::past::Past;
-use crate::stepping::{Answer, Asked, taken};
+use crate::opening::{Unopened, disk_in, is_open, new_disk, open};
+use crate::past::{Past, Taken};
+use crate::stepping::{Asked, answered, log_len};
+use crate::told::put;
 use ballots::Weights;
 use faults::Memory;
 use listing::Tree;
 use node::Node;
-use stable_record::FaultDisk;
+use stable_record::{FaultDisk, MemDisk};
 use std::alloc::Global;
 
 /// Nodes by number, and what they were asked.
@@ -18,6 +17,8 @@ pub struct Network<'a> {
     pub weights: Weights,
     /// None of one that was not opened.
     pub nodes: Vec<Option<Node<'a, FaultDisk>>>,
+    /// The node that was last opened for a trial.
+    pub spare: Option<Node<'a, FaultDisk>>,
     pub past: Past,
     /// How often memory ran out in a step.
     pub refused: u32,
@@ -25,60 +26,79 @@ pub struct Network<'a> {
 }
 
 impl<'a> Network<'a> {
-    pub fn new(alloc: Global, tree: &'a Tree, weights: &Weights) -> Result<Network<'a>, Memory> {
-        Ok(Network {
+    /// Nodes that are to be opened yet.
+    pub fn new(alloc: Global, tree: &'a Tree, weights: &Weights) -> Network<'a> {
+        Network {
             tree,
             weights: weights.copy(),
-            nodes: nodes(alloc, tree, weights)?,
+            nodes: Vec::new(alloc),
+            spare: None,
             past: Past::new(alloc),
             refused: 0,
             alloc,
-        })
-    }
-
-    /// What the node tells when it is asked this. Where memory runs out in the step, it is asked
-    /// again, and its log has to be as long as before.
-    pub fn give(&mut self, at: usize, asked: Asked) -> Result<String, Memory> {
-        let Some(Some(node)) = self.nodes.get_mut(at) else {
-            return Ok(String::from_str(self.alloc, "no node")?);
-        };
-        let before = node.log_len();
-        let mut answer = taken(self.alloc, node, &asked)?;
-        if let Answer::WantsMemory = answer {
-            self.refused = self.refused.saturating_add(1);
-            if node.log_len() != before {
-                return Ok(String::from_str(self.alloc, "the log changed")?);
-            }
-            answer = taken(self.alloc, node, &asked)?;
         }
-        let after = node.log_len();
-        self.past.told(at, asked, (before, after), &answer)
     }
-}
 
-fn nodes<'a>(
-    alloc: Global,
-    tree: &'a Tree,
-    weights: &Weights,
-) -> Result<Vec<Option<Node<'a, FaultDisk>>>, Memory> {
-    let mut nodes = Vec::new(alloc);
-    for me in 0..weights.len() as u8 {
-        nodes.push(new_node(alloc, tree, weights, me)?)?;
+    /// Opens each node over an empty disk.
+    pub fn open_all(&mut self) -> Result<(), Memory> {
+        for at in 0..self.weights.len() {
+            self.nodes.push(None)?;
+            self.open_empty(at)?;
+        }
+        Ok(())
     }
-    Ok(nodes)
-}
 
-fn new_node<'a>(
-    alloc: Global,
-    tree: &'a Tree,
-    weights: &Weights,
-    me: u8,
-) -> Result<Option<Node<'a, FaultDisk>>, Memory>
-    requires { me < length weights.now }
-{
-    match opened(alloc, tree, weights, me, new_disk(alloc, &[])?) {
-        Ok(node) => Ok(Some(node)),
-        Err((1, _)) => Err(Memory),
-        Err(_) => Ok(None),
+    fn open_empty(&mut self, at: usize) -> Result<(), Memory> {
+        let disk = new_disk(self.alloc, &[])?;
+        is_open(self.open(at, disk))?;
+        Ok(())
+    }
+
+    /// Opens the node with this number over the disk.
+    pub fn open(&mut self, at: usize, disk: FaultDisk) -> Result<(), Unopened> {
+        match self.nodes.get_mut(at) {
+            Some(place) => open(self.alloc, self.tree, &self.weights, at, disk, place),
+            None => Err(Unopened::NoNode),
+        }
+    }
+
+    /// Opens a node with this number over the disk for a trial.
+    pub fn open_spare(&mut self, at: usize, disk: FaultDisk) -> Result<(), Unopened> {
+        open(
+            self.alloc,
+            self.tree,
+            &self.weights,
+            at,
+            disk,
+            &mut self.spare,
+        )
+    }
+
+    /// The disk of the node, which is no more.
+    pub fn taken_off(&mut self, at: usize) -> Option<MemDisk> {
+        disk_in(self.nodes.get_mut(at)?)
+    }
+
+    /// Tells what the node answers when it is asked this. A step that it takes is kept.
+    pub fn give(&mut self, at: usize, asked: Asked, out: &mut String) -> Result<(), Memory> {
+        let taken = self.take_step(at, &asked, out);
+        self.past.keep(at, asked, taken)
+    }
+
+    /// What the node did, if it took the step.
+    fn take_step(
+        &mut self,
+        at: usize,
+        asked: &Asked,
+        out: &mut String,
+    ) -> Result<Option<Taken>, Memory> {
+        let Some(Some(node)) = self.nodes.get_mut(at) else {
+            put(out, "no node")?;
+            return Ok(None);
+        };
+        let before = log_len(node);
+        let answer = answered(self.alloc, node, asked, &mut self.refused)?;
+        let after = log_len(node);
+        self.past.tell(&answer, (before, after), out)
     }
 }

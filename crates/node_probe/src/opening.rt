@@ -1,6 +1,7 @@
 //! Nodes that are opened.
-ghost use Rattle.std.specs.Prelude.{◌≡◌, ◌<◌, IfOk, length};
+ghost use Rattle.std.specs.Prelude.{◌≡◌, ◌<◌, IfSome, OnOk, length};
 
+use crate::told::{put, put_refusal};
 use ballots::Weights;
 use faults::{Fault, Memory};
 use listing::Tree;
@@ -25,45 +26,99 @@ pub fn sound(disk: MemDisk) -> FaultDisk {
     FaultDisk::new(disk, Failing::Once(0))
 }
 
-/// The node with this number over what the disk has, or the number of the refusal and its cause.
-/// Where memory runs out it is opened again.
-pub fn opened<'a>(
-    alloc: Global,
-    tree: &'a Tree,
-    weights: &Weights,
-    me: u8,
-    disk: FaultDisk,
-) -> Result<Node<'a, FaultDisk>, (u32, Option<u32>)>
-    requires { me < length weights.now }
-    ensures { IfOk result (λ n. n.node.member.division.tree ≡ tree.entry.now) }
-{
-    match once(alloc, tree, weights, me, disk) {
-        Ok(node) => Ok(node),
-        Err((NodeFault::Memory, disk)) => match once(alloc, tree, weights, me, disk) {
-            Ok(node) => Ok(node),
-            Err((fault, _disk)) => Err((fault.number(), fault.cause())),
-        },
-        Err((fault, _disk)) => Err((fault.number(), fault.cause())),
+/// Why no node is opened.
+#[derive(Clone, Copy)]
+pub enum Unopened {
+    /// No node has this number.
+    NoNode,
+    WantsMemory,
+    /// The number of the refusal and its cause.
+    Refused(u32, Option<u32>),
+}
+
+impl Unopened {
+    fn of(fault: NodeFault) -> Unopened {
+        match (fault.number(), fault.cause()) {
+            (1, _) => Unopened::WantsMemory,
+            (number, cause) => Unopened::Refused(number, cause),
+        }
     }
 }
 
-/// The node with this number over what the disk has.
+/// Whether a node was opened.
+pub fn is_open(opened: Result<(), Unopened>) -> Result<bool, Memory> {
+    match opened {
+        Ok(()) => Ok(true),
+        Err(Unopened::WantsMemory) => Err(Memory),
+        Err(_) => Ok(false),
+    }
+}
+
+/// Tells why no node was opened.
+pub fn put_unopened(out: &mut String, unopened: Unopened) -> Result<(), Memory> {
+    match unopened {
+        Unopened::NoNode => put(out, "no node"),
+        Unopened::WantsMemory => Err(Memory),
+        Unopened::Refused(number, cause) => put_refusal(out, number, cause),
+    }
+}
+
+/// Opens the node with this number over what the disk has, and leaves it at the place. Where memory
+/// runs out it is opened again.
+pub fn open<'a>(
+    alloc: Global,
+    tree: &'a Tree,
+    weights: &Weights,
+    at: usize,
+    disk: FaultDisk,
+    place: &mut Option<Node<'a, FaultDisk>>,
+) -> Result<(), Unopened>
+    ensures { OnOk result
+        (IfSome place.new (λ n. n.node.member.division.tree ≡ tree.entry.now)) }
+{
+    if at >= weights.len() {
+        return Err(Unopened::NoNode);
+    }
+    match once(alloc, tree, weights, at as u8, disk, place) {
+        Ok(()) => Ok(()),
+        Err((NodeFault::Memory, disk)) => {
+            match once(alloc, tree, weights, at as u8, disk, place) {
+                Ok(()) => Ok(()),
+                Err((fault, _disk)) => Err(Unopened::of(fault)),
+            }
+        }
+        Err((fault, _disk)) => Err(Unopened::of(fault)),
+    }
+}
+
+/// Opens the node with this number over what the disk has, and leaves it at the place.
 pub fn once<'a>(
     alloc: Global,
     tree: &'a Tree,
     weights: &Weights,
     me: u8,
     disk: FaultDisk,
-) -> Result<Node<'a, FaultDisk>, (NodeFault, FaultDisk)>
+    place: &mut Option<Node<'a, FaultDisk>>,
+) -> Result<(), (NodeFault, FaultDisk)>
     requires { me < length weights.now }
-    ensures { IfOk result (λ n. n.node.member.division.tree ≡ tree.entry.now) }
+    ensures { OnOk result
+        (IfSome place.new (λ n. n.node.member.division.tree ≡ tree.entry.now)) }
 {
-    Node::open(alloc, disk, tree, weights, me)
+    match Node::open(alloc, disk, tree, weights, me) {
+        Ok(node) => {
+            place.insert(node);
+            Ok(())
+        }
+        Err(refused) => Err(refused),
+    }
 }
 
-/// The disk of the node, which is no more.
-pub fn disk_of(node: Node<'_, FaultDisk>) -> MemDisk {
-    node.into_disk().into_inner()
+/// The disk of the node at the place, which is no more.
+pub fn disk_in(place: &mut Option<Node<'_, FaultDisk>>) -> Option<MemDisk> {
+    match place.take() {
+        Some(node) => Some(node.into_disk().into_inner()),
+        None => None,
+    }
 }
 
 /// What a crash may leave, by its word.

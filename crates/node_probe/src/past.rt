@@ -1,7 +1,9 @@
 //! What nodes were asked, and all datagrams that they ever sent.
-use crate::sending::{entered, sends_text};
+use crate::sending::{enter, put_sends};
 use crate::stepping::{Answer, Asked};
+use crate::told::{put, put_number, put_refusal};
 use faults::Memory;
+use node::Out;
 use std::alloc::Global;
 
 /// A step that a node took.
@@ -9,6 +11,12 @@ use std::alloc::Global;
 pub struct Step {
     pub node: usize,
     pub asked: Asked,
+    pub taken: Taken,
+}
+
+/// What a node did in a step.
+#[derive(Drop)]
+pub struct Taken {
     /// The length of its log before the step, and after it.
     pub before: u64,
     pub after: u64,
@@ -33,61 +41,63 @@ impl Past {
         }
     }
 
-    /// Keeps the step that a node took between these lengths of its log, and tells it.
-    pub fn told(
+    /// Keeps the step of the node, if it was taken.
+    pub fn keep(
         &mut self,
         node: usize,
         asked: Asked,
-        lengths: (u64, u64),
+        taken: Result<Option<Taken>, Memory>,
+    ) -> Result<(), Memory> {
+        if let Some(taken) = taken? {
+            self.steps.push(Step { node, asked, taken })?;
+        }
+        Ok(())
+    }
+
+    /// Tells the answer to a step between these lengths of the log, and gives what was done, unless
+    /// the step was refused.
+    pub fn tell(
+        &mut self,
         answer: &Answer,
-    ) -> Result<String, Memory> {
+        lengths: (u64, u64),
+        out: &mut String,
+    ) -> Result<Option<Taken>, Memory> {
         match answer {
-            Answer::Sends(sends, is_job) => {
-                let (text, told) = self.texts(sends.as_slice(), *is_job, lengths.1)?;
-                self.keep(node, asked, lengths, told)?;
-                Ok(text)
+            Answer::Sends(sends) => self.tell_sends(sends, lengths, out),
+            Answer::Refuses(number, cause) => {
+                put_refusal(out, *number, *cause)?;
+                Ok(None)
             }
-            Answer::Refuses(number, cause) => refusal_text(self.alloc, *number, *cause),
+            Answer::ChangesTheLog => {
+                put(out, "the log changed")?;
+                Ok(None)
+            }
             Answer::WantsMemory => Err(Memory),
         }
     }
 
-    /// What is told of a step behind which the log has this length, and what was sent in it.
-    fn texts(
+    fn tell_sends(
         &mut self,
-        sends: &[(u8, Vec<u8>)],
-        is_job: bool,
-        after: u64,
-    ) -> Result<(String, String), Memory> {
-        let new = entered(self.alloc, &mut self.sent, sends)?;
-        let told = sends_text(self.alloc, self.sent.as_slice(), sends, is_job)?;
-        let text = format!(in self.alloc; "log {after}{new}{told}")?;
-        Ok((text, told))
-    }
-
-    fn keep(
-        &mut self,
-        node: usize,
-        asked: Asked,
+        sends: &Out,
         lengths: (u64, u64),
-        told: String,
-    ) -> Result<(), Memory> {
+        out: &mut String,
+    ) -> Result<Option<Taken>, Memory> {
         let (before, after) = lengths;
-        self.steps.push(Step {
-            node,
-            asked,
+        put_number(out, "log ", after)?;
+        enter(self.alloc, &mut self.sent, &sends.sends, out)?;
+        let told = self.sends_text(sends)?;
+        put(out, told.as_str())?;
+        Ok(Some(Taken {
             before,
             after,
             told,
-        })?;
-        Ok(())
+        }))
     }
-}
 
-/// The number of the refusal and its cause.
-pub fn refusal_text(alloc: Global, number: u32, cause: Option<u32>) -> Result<String, Memory> {
-    match cause {
-        Some(cause) => Ok(format!(in alloc; "{number} {cause}")?),
-        None => Ok(format!(in alloc; "{number}")?),
+    /// What is sent, and whether there is a job.
+    pub fn sends_text(&self, sends: &Out) -> Result<String, Memory> {
+        let mut text = String::new(self.alloc);
+        put_sends(&mut text, self.sent.as_slice(), sends)?;
+        Ok(text)
     }
 }

@@ -1,52 +1,55 @@
 //! A row: some nodes, and what they are asked.
 use crate::asked::answer;
 use crate::network::Network;
+use crate::told::put;
 use faults::Memory;
 use input_words::{first_word, listing, weights};
 use listing::Tree;
 use std::alloc::Global;
 
-/// The answers, and how often memory ran out in a step.
-pub fn answers(alloc: Global, row: &[String]) -> Result<(String, u32), Memory> {
-    let text = listing(alloc, row)?;
-    let (Some(tree), Some(weights)) = (tree(alloc, row, text.as_slice()), weights(row)) else {
+/// Tells the answers, and gives how often memory ran out in a step.
+pub fn answers(alloc: Global, row: &[String], out: &mut String) -> Result<u32, Memory> {
+    let tree = tree(alloc, row)?;
+    let Some(weights) = weights(row) else {
         return Err(Memory);
     };
-    let mut network = Network::new(alloc, &tree, &weights)?;
-    let answers = all(alloc, &mut network, row)?;
-    Ok((answers, network.refused))
+    let mut network = Network::new(alloc, &tree, &weights);
+    all(&mut network, row, out)
 }
 
 /// The tree of the listing, in which each package is a unit by itself where the row says so.
-fn tree(alloc: Global, row: &[String], text: &[u8]) -> Option<Tree> {
-    let line = row.first()?;
-    match first_word(line.as_str()) {
-        ("singles", _) => Tree::parse_single(alloc, text).ok(),
-        _ => Tree::parse(alloc, text).ok(),
+fn tree(alloc: Global, row: &[String]) -> Result<Tree, Memory> {
+    let text = listing(alloc, row)?;
+    match (is_single(row), text.as_slice()) {
+        (true, text) => Tree::parse_single(alloc, text).or(Err(Memory)),
+        (false, text) => Tree::parse(alloc, text).or(Err(Memory)),
     }
 }
 
-fn all(alloc: Global, network: &mut Network<'_>, row: &[String]) -> Result<String, Memory> {
-    let mut answers = String::new(alloc);
+fn is_single(row: &[String]) -> bool {
+    match row.first() {
+        Some(line) => first_word(line.as_str()).0 == "singles",
+        None => false,
+    }
+}
+
+fn all(network: &mut Network<'_>, row: &[String], out: &mut String) -> Result<u32, Memory> {
+    network.open_all()?;
     for line in row {
-        let (word, _) = first_word(line.as_str());
-        match word {
-            "nodes" | "singles" => answers.push_str(line.as_str())?,
-            "listing" => {}
-            _ => add(alloc, &mut answers, network, line.as_str())?,
+        add(network, line.as_str(), out)?;
+    }
+    Ok(network.refused)
+}
+
+fn add(network: &mut Network<'_>, line: &str, out: &mut String) -> Result<(), Memory> {
+    match first_word(line).0 {
+        "nodes" | "singles" => put(out, line),
+        "listing" => Ok(()),
+        _ => {
+            put(out, "\n")?;
+            put(out, line)?;
+            put(out, ": ")?;
+            answer(network, line, out)
         }
     }
-    Ok(answers)
-}
-
-fn add(
-    alloc: Global,
-    answers: &mut String,
-    network: &mut Network<'_>,
-    line: &str,
-) -> Result<(), Memory> {
-    let answer = answer(network, line)?;
-    let told = format!(in alloc; "\n{line}: {answer}")?;
-    answers.push_str(told.as_str())?;
-    Ok(())
 }

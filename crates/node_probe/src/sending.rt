@@ -1,30 +1,34 @@
 //! What nodes send, in words.
+use crate::told::{put, put_number};
 use faults::Memory;
+use node::{Out, Parcels};
 use std::alloc::Global;
 
 /// Enters the datagrams that were never sent before, and tells how long they are.
-pub fn entered(
+pub fn enter(
     alloc: Global,
     sent: &mut Vec<Vec<u8>>,
-    sends: &[(u8, Vec<u8>)],
-) -> Result<String, Memory> {
-    let mut text = String::new(alloc);
-    for (_to, bytes) in sends {
-        enter(alloc, &mut text, sent, bytes.as_slice())?;
+    sends: &Parcels,
+    out: &mut String,
+) -> Result<(), Memory> {
+    let (_receivers, datagrams) = sends.parts();
+    for bytes in datagrams {
+        enter_one(alloc, sent, bytes.as_slice(), out)?;
     }
-    Ok(text)
+    Ok(())
 }
 
 /// Enters the datagram, unless it was sent before.
-fn enter(
+fn enter_one(
     alloc: Global,
-    text: &mut String,
     sent: &mut Vec<Vec<u8>>,
     bytes: &[u8],
+    out: &mut String,
 ) -> Result<(), Memory> {
     if number_of(sent.as_slice(), bytes).is_none() {
-        let new = format!(in alloc; ", {} in {} bytes", sent.len(), bytes.len())?;
-        text.push_str(new.as_str())?;
+        put_number(out, ", ", sent.len() as u64)?;
+        put_number(out, " in ", bytes.len() as u64)?;
+        put(out, " bytes")?;
         sent.push(bytes.to_vec(alloc)?)?;
     }
     Ok(())
@@ -40,39 +44,26 @@ fn number_of(sent: &[Vec<u8>], bytes: &[u8]) -> Option<usize> {
     None
 }
 
-/// What goes to whom, and whether there is a job.
-pub fn sends_text(
-    alloc: Global,
-    sent: &[Vec<u8>],
-    sends: &[(u8, Vec<u8>)],
-    is_job: bool,
-) -> Result<String, Memory> {
-    let mut text = String::new(alloc);
-    let mut last = None;
-    for (to, bytes) in sends {
-        add_receiver(alloc, &mut text, last, *to)?;
-        add_number(alloc, &mut text, number_of(sent, bytes.as_slice()))?;
-        last = Some(*to);
+/// Tells what goes to whom, and whether there is a job.
+pub fn put_sends(out: &mut String, sent: &[Vec<u8>], sends: &Out) -> Result<(), Memory> {
+    let (receivers, datagrams) = sends.sends.parts();
+    for to in receivers {
+        put_number(out, "; to ", u64::from(*to))?;
+        put(out, ":")?;
+        put_numbers(out, sent, datagrams)?;
     }
-    if is_job {
-        text.push_str("; job")?;
-    }
-    Ok(text)
-}
-
-/// Adds the receiver where the last one is another.
-fn add_receiver(alloc: Global, text: &mut String, last: Option<u8>, to: u8) -> Result<(), Memory> {
-    if last != Some(to) {
-        let head = format!(in alloc; "; to {to}:")?;
-        text.push_str(head.as_str())?;
+    if sends.job.is_some() {
+        put(out, "; job")?;
     }
     Ok(())
 }
 
-fn add_number(alloc: Global, text: &mut String, number: Option<usize>) -> Result<(), Memory> {
-    match number {
-        Some(number) => text.push_str(format!(in alloc; " {number}")?.as_str())?,
-        None => text.push_str(" new")?,
+fn put_numbers(out: &mut String, sent: &[Vec<u8>], datagrams: &[Vec<u8>]) -> Result<(), Memory> {
+    for bytes in datagrams {
+        match number_of(sent, bytes.as_slice()) {
+            Some(number) => put_number(out, " ", number as u64)?,
+            None => put(out, " new")?,
+        }
     }
     Ok(())
 }

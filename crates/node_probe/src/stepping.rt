@@ -4,13 +4,10 @@ ghost use Rattle.node.specs.Ranges.{IsGoodInput};
 
 use faults::{Fault, Memory};
 use input_words::{first_word, input};
-use node::{Node, NodeFault, Out, Parcels};
+use node::{Node, NodeFault, Out};
 use protocol::Input;
 use stable_record::FaultDisk;
 use std::alloc::Global;
-
-/// The most datagrams that one step sends: each of the pieces of a message to each node.
-const MOST: usize = 1152;
 
 /// What a node is asked.
 #[derive(Drop)]
@@ -24,12 +21,53 @@ pub enum Asked {
 /// What a node answers.
 #[derive(Drop)]
 pub enum Answer {
-    /// The datagrams that it sends, each behind its receiver, and whether there is a job.
-    Sends(Vec<(u8, Vec<u8>)>, bool),
+    /// The datagrams that it sends, and the job, if there is one.
+    Sends(Out),
     /// The number of the refusal and its cause.
     Refuses(u32, Option<u32>),
     /// Memory ran out in the step.
     WantsMemory,
+    /// Memory ran out in the step, and the log isn't as long as before.
+    ChangesTheLog,
+}
+
+impl Answer {
+    /// The number of the refusal, or 0.
+    pub fn number(&self) -> u32 {
+        match self {
+            Answer::Sends(_) => 0,
+            Answer::Refuses(number, _) => *number,
+            Answer::WantsMemory | Answer::ChangesTheLog => 1,
+        }
+    }
+}
+
+/// What the node answers when it is asked this. Where memory runs out in the step, that is counted,
+/// and it is asked again.
+pub fn answered(
+    alloc: Global,
+    node: &mut Node<'_, FaultDisk>,
+    asked: &Asked,
+    refused: &mut u32,
+) -> Result<Answer, Memory> {
+    let before = log_len(node);
+    let answer = taken(alloc, node, asked)?;
+    match answer {
+        Answer::WantsMemory => {
+            *refused = refused.saturating_add(1);
+            if log_len(node) == before {
+                taken(alloc, node, asked)
+            } else {
+                Ok(Answer::ChangesTheLog)
+            }
+        }
+        answer => Ok(answer),
+    }
+}
+
+/// The length of the node's log.
+pub fn log_len(node: &Node<'_, FaultDisk>) -> u64 {
+    node.log_len()
 }
 
 /// The node takes the step.
@@ -39,23 +77,23 @@ pub fn taken(
     asked: &Asked,
 ) -> Result<Answer, Memory> {
     match asked {
-        Asked::Comes(bytes) => answered(alloc, node.handle_datagram(bytes.as_slice())),
+        Asked::Comes(bytes) => Ok(answer_of(node.handle_datagram(bytes.as_slice()))),
         Asked::Does(words) => does(alloc, node, words.as_str()),
     }
 }
 
 fn does(alloc: Global, node: &mut Node<'_, FaultDisk>, words: &str) -> Result<Answer, Memory> {
-    match said(alloc, words)? {
-        Some(input) => answered(alloc, node.handle(input)),
+    let (word, rest) = first_word(words);
+    match said(alloc, word, rest)? {
+        Some(input) => Ok(answer_of(node.handle(input))),
         None => Ok(Answer::WantsMemory),
     }
 }
 
 /// The input that the words say, unless it is a message.
-fn said(alloc: Global, words: &str) -> Result<Option<Input>, Memory>
+fn said(alloc: Global, word: &str, rest: &str) -> Result<Option<Input>, Memory>
     ensures { IfOk result (λ said. IfSome said IsGoodInput) }
 {
-    let (word, rest) = first_word(words);
     match input(alloc, word, rest, [0; 32])? {
         Some(input) => Ok(own(input)),
         None => Ok(None),
@@ -73,25 +111,15 @@ fn own(input: Input) -> Option<Input>
 }
 
 /// Whether the words say an input of a node.
-pub fn is_input(alloc: Global, words: &str) -> Result<bool, Memory> {
-    let said = said(alloc, words)?;
+pub fn is_input(alloc: Global, word: &str, rest: &str) -> Result<bool, Memory> {
+    let said = said(alloc, word, rest)?;
     Ok(said.is_some())
 }
 
-fn answered(alloc: Global, out: Result<Out, NodeFault>) -> Result<Answer, Memory> {
+fn answer_of(out: Result<Out, NodeFault>) -> Answer {
     match out {
-        Ok(out) => Ok(Answer::Sends(sends(alloc, &out.sends)?, out.job.is_some())),
-        Err(NodeFault::Memory) => Ok(Answer::WantsMemory),
-        Err(fault) => Ok(Answer::Refuses(fault.number(), fault.cause())),
+        Ok(out) => Answer::Sends(out),
+        Err(NodeFault::Memory) => Answer::WantsMemory,
+        Err(fault) => Answer::Refuses(fault.number(), fault.cause()),
     }
-}
-
-fn sends(alloc: Global, parcels: &Parcels) -> Result<Vec<(u8, Vec<u8>)>, Memory> {
-    let mut sends = Vec::new(alloc);
-    for place in 0..MOST {
-        if let Some((to, bytes)) = parcels.get(place) {
-            sends.push((to, bytes.to_vec(alloc)?))?;
-        }
-    }
-    Ok(sends)
 }
