@@ -31,7 +31,7 @@ fn put_cuts(
     answers.put_next(log.len(), out)
 }
 
-/// Tells what it opens to where the byte at each place is 0, behind the first place that answers so.
+/// Tells what it opens to where the byte at each place is 0, behind the first place that has it.
 pub fn zeros(network: &mut Network<'_>, at: usize, out: &mut String) -> Result<(), Memory> {
     let mut log = log_of(network, at)?;
     let mut answers = Answers::new(network.alloc);
