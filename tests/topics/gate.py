@@ -1,6 +1,7 @@
 """The gate: every proof, each wrong body, each test and each program."""
 import os
 import re
+import resource
 import subprocess
 import time
 
@@ -19,15 +20,24 @@ def changed_since(began):
     return any(os.path.getmtime(file) >= began for file in files)
 
 
+def processor_seconds():
+    """Those of all programs that ended before."""
+    used = resource.getrusage(resource.RUSAGE_CHILDREN)
+    return used.ru_utime + used.ru_stime
+
+
 def run(tally):
-    """Runs `rt ci`, shows what it prints, and adds its counts."""
-    began = time.time()
+    """Runs `rt ci`, shows what it prints, tells how long it took, and adds its counts."""
+    began, before = time.time(), processor_seconds()
     gate = subprocess.Popen(["rt", "ci"], cwd=TOP, stdout=subprocess.PIPE, text=True)
     lines = []
     for line in gate.stdout:
         print(line, end="", flush=True)
         lines.append(line)
     status = gate.wait()
+    took, used = time.time() - began, processor_seconds() - before
+    cores = len(os.sched_getaffinity(0))
+    print(f"tests/run: the gate took {used / 60:.0f} processor minutes, {took / 60:.0f} by the clock on {cores} cores", flush=True)
     counts = re.fullmatch(r"(\d+) passed, (\d+) failed\s*", lines[-1] if lines else "")
     if counts:
         tally.passed += int(counts[1])
