@@ -106,6 +106,15 @@ refused_on_log sent e n m f (inr (asked, asks, done)) log_is on =
     (ap (λ (s : NodeState). s.member) done.state ∙ member_left n.node asked f)
     (ap (λ (s : NodeState). s.notes) done.state ∙ notes_left n.node asked f)
 
+-- A node whose step is ready is still on its log.
+pub ready_on_log : (sent : List Text) (e : Event) (n m : LoggedNode MemDisk) (r : ReadyStep)
+    → IsReadied sent e n.node m.node (Ok (taken_by n.node r)) → m.log ≡ n.log
+    → IsOnLog mem_history n → IsOnLog mem_history m
+ready_on_log sent e n m r ready log_is on =
+    let s = stands_ready sent e n.node m.node (taken_by n.node r) ready in
+    stays_on_log n m on log_is (ap (λ (x : NodeState). x.member) s.stays)
+    (ap (λ (x : NodeState). x.notes) s.stays)
+
 -- ---- the step
 
 -- Over a disk in memory a step is not taken for want of memory, or of room in the log.

@@ -1,5 +1,5 @@
 use Rattle.events.specs.Events.{event_view}
-use Rattle.running.proofs.Taking.{refused_on_log, refuses_step, takes_step}
+use Rattle.running.proofs.Taking.{ready_on_log, refused_on_log, refuses_step, takes_step}
 use Rattle.running.specs.inside.Posting.{sent_in}
 use Rattle.running.proofs.stepping.take.Goals as goal
 
@@ -7,6 +7,12 @@ pub returns-in_err-ready-clause-on_log : goal.returns-in_err-ready-clause-on_log
 returns-in_err-ready-clause-on_log c =
     refused_on_log (sent_in c.args.posted.now) (event_view c.args.event.now) c.args.node.now
     c.ready.new.node c.in_err-ready.field-0.0 c.in_err-ready.ensures.step c.in_err-ready.ensures.log
+    c.requires.on_log
+
+pub finish-requires-clause-on_log : goal.finish-requires-clause-on_log
+finish-requires-clause-on_log c =
+    ready_on_log (sent_in c.args.posted.now) (event_view c.args.event.now) c.args.node.now
+    c.ready.new.node c.in_ok-ready.ready c.in_ok-ready.ensures.step c.in_ok-ready.ensures.log
     c.requires.on_log
 
 pub returns-in-Ok-clause-taken : goal.returns-in-Ok-clause-taken
