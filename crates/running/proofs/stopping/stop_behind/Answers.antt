@@ -1,9 +1,25 @@
-use Rattle.std.proofs.Common.{arith, refl}
+use Rattle.std.proofs.Common.{◌∙◌, arith, refl, subst, sym}
 use Rattle.std.proofs.lemmas.List.{length-set}
 use Rattle.std.proofs.lemmas.Option.{slice_get_within}
 use Rattle.std.proofs.lemmas.Result.{err_from_is_err_and}
-use Rattle.running.proofs.PutBack.{stands_at}
+use Rattle.running.proofs.PutBack.{one_there, stands_at}
+use Rattle.running.specs.inside.Stopping.{IsReady}
 use Rattle.running.proofs.stopping.stop_behind.Goals as goal
+
+pub index_mut-requires : goal.index_mut-requires
+index_mut-requires c =
+    let nodes = c.args.nodes.now.items in
+    let within = slice_get_within nodes c.args.place c.requires.node c.requires.stands in
+    omega (arith, c.args.nodes.now.ok.0, within)
+
+pub take_step-requires : goal.take_step-requires
+take_step-requires c =
+    let nodes = c.args.nodes.now.items in
+    let within = slice_get_within nodes c.args.place c.requires.node c.requires.stands in
+    let stands = stands_at nodes c.args.place c.index_mut.result.now c.index_mut.ensures.value within in
+    subst (λ node. IsReady node c.args.ready)
+    (one_there nodes c.args.place c.requires.node c.index_mut.result.now c.requires.stands stands)
+    c.requires.ready
 
 pub returns-in_err-take_step-clause-none : goal.returns-in_err-take_step-clause-none
 returns-in_err-take_step-clause-none c =
