@@ -1,4 +1,5 @@
-use Rattle.std.proofs.Common.{◌≡◌, ◌∷◌, ◌∙◌, ap, map}
+use Rattle.std.proofs.lemmas.Grind.{common_steps}
+use Rattle.std.proofs.Common.{◌≡◌, ◌∷◌, ◌∙◌, ap, map, arith}
 use Rattle.events.specs.Events.{event_view}
 use Rattle.units.specs.Division.{Division}
 use Rattle.world.proofs.Growing.{event_later}
@@ -21,3 +22,6 @@ events-preserved c =
       kept = one_more (map event_view c.new-left.result) at.left e c.next.new.self next
           (taken at.world) (taken new) at.invariant.kept then.kept;
     }
+
+pub returns-in-Err-clause-refused : goal.returns-in-Err-clause-refused
+returns-in-Err-clause-refused c = grind (arith, common_steps)

@@ -1,4 +1,5 @@
-use Rattle.std.proofs.Common.{◌++◌, ◌∷◌, [], ◌∙◌, ap, subst}
+use Rattle.std.proofs.lemmas.Grind.{common_steps}
+use Rattle.std.proofs.Common.{◌++◌, ◌∷◌, [], ◌∙◌, ap, subst, arith}
 use Rattle.running.specs.History.{IsHistory}
 use Rattle.running.specs.declared.running.World.TheInside.{Inside}
 use Rattle.running.specs.inside.Placing.{history_of}
@@ -30,3 +31,6 @@ returns-in-Err-clause-history c = (
   stays_so c.self.inside (record { scene = c.happen.new.self; events = c.reserve.new.self })
       c.self.invariant.history c.in-Err.ensures.same c.reserve.ensures.items,
 )
+
+pub returns-in-Ok-clause-kept : goal.returns-in-Ok-clause-kept
+returns-in-Ok-clause-kept c = grind (arith, common_steps)

@@ -1,3 +1,5 @@
+use Rattle.std.proofs.Common.{arith}
+use Rattle.std.proofs.lemmas.Grind.{common_steps}
 use Rattle.running.proofs.StepHappens.{stop_happens, stop_is_down}
 use Rattle.running.proofs.scene.Scene.happen.Goals as goal
 
@@ -13,3 +15,6 @@ returns-in-Stop-clause-standing c =
 
 pub returns-in_default : goal.returns-in_default
 returns-in_default c = c.take.ensures
+
+pub stop-requires : goal.stop-requires
+stop-requires c = grind (arith, common_steps)
