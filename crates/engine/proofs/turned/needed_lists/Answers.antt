@@ -1,3 +1,4 @@
+use Rattle.std.proofs.lemmas.Grind.{common_steps}
 use Rattle.std.proofs.Common.{◌≡◌, ◌+◌, ◌<◌, ℕ, List, All, arith, cond, length, nat_eq, subst, sym}
 use Rattle.listing.specs.Tree.{run_at}
 use Rattle.graph.specs.Lists.{list_at, times}
@@ -17,3 +18,6 @@ add-requires c =
     let n = length c.args.tree.now in
     subst (λ (ps : List ℕ). All (λ d. d < length c.loop-position.needed) ps) (sym c.at.ensures)
     (λ k d inside. omega (arith, c.loop-position.invariant.each, named_within n n (run_at c.args.tree.now) c.args.runs.now c.loop-position.position c.requires k d inside))
+
+pub loop-position-init : goal.loop-position-init
+loop-position-init c = grind (arith, common_steps)

@@ -1,4 +1,5 @@
-use Rattle.std.proofs.Common.{◌∙◌, ap, subst, sym}
+use Rattle.std.proofs.lemmas.Grind.{common_steps}
+use Rattle.std.proofs.Common.{◌∙◌, ap, subst, sym, arith}
 use Rattle.listing.specs.Tree.{group_at}
 use Rattle.units.proofs.OneMore.{few_groups, gathered_ignored, gathered_more}
 use Rattle.units.specs.inside.Gathering.{Takes}
@@ -23,3 +24,6 @@ loop-position-preserved c =
           gathered_more tree (has_mark c.args.ignored.now) n before after c.loop-position.invariant w.if-ignored-position.false
           (subst (λ g. Takes (group_at tree n) n before g) (sym w.gathered-is) w.in_ok-take.ensures)
     ]
+
+pub take-requires-clause-each : goal.take-requires-clause-each
+take-requires-clause-each c = grind (arith, common_steps)
