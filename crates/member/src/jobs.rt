@@ -1,5 +1,5 @@
 //! What is to be built.
-ghost use Rattle.std.specs.Prelude.{◌≡◌, ◌<◌, IfOk, length};
+ghost use Rattle.std.specs.Prelude.{◌≡◌, ◌<◌, ◌++◌, ◌∷◌, [], IfOk, OnOk, length};
 ghost use Rattle.protocol.specs.Jobs.{deps_of, job_of, signature};
 
 use crate::Member;
@@ -36,11 +36,20 @@ impl<'a> Member<'a> {
         let mut deps = Vec::with_capacity(alloc, paths.len())?;
         for path in paths.as_slice() {
             if let Some(record) = self.held(*path) {
-                deps.push(signature(record)?)?;
+                sign(record, &mut deps)?;
             }
         }
         Ok(Deps::new(deps))
     }
+}
+
+/// Adds the signature of the package.
+fn sign(held: &Record, deps: &mut Vec<Dep>) -> Result<(), Memory>
+    ensures { OnOk result (deps.new.items ≡ deps.old.items ++ signature held.now ∷ []) }
+{
+    let dep = signature(held)?;
+    deps.push(dep)?;
+    Ok(())
 }
 
 /// The signature of the package: its path, its name, and the SHA-256 of its record's text.

@@ -10,7 +10,7 @@ use Rattle.protocol.specs.Jobs.{in_order_of_path, signature}
 use Rattle.protocol.specs.State.{State, held_record}
 use Rattle.member.proofs.Signing.{given_more}
 use Rattle.member.proofs.member.Member.deps.Goals as goal
-use Rattle.member.proofs.member.Member.deps.Goals.{in-Some+in_ok-signature+in_ok-push, in_default}
+use Rattle.member.proofs.member.Member.deps.Goals.{in-Some+in_ok-sign, in_default}
 
 pub loop-path-preserved : goal.loop-path-preserved
 loop-path-preserved c =
@@ -21,12 +21,11 @@ loop-path-preserved c =
     let before = c.loop-path.deps.items in
     let after = c.match-held.deps.items in
     elim c.match-held.branch [
-      | in-Some+in_ok-signature+in_ok-push w ↦
+      | in-Some+in_ok-sign w ↦
           given_more (λ path. path.now) sign items k c.path-item.result
-          (Some w.in_ok-signature.field-0) before after c.loop-path-test.true c.path-item.is
-          (ap (option_map signature) (sym c.held.ensures ∙ ap option_copied w.in-Some.is)
-          ∙ ap (λ d. Some d) (sym w.in_ok-signature.ensures))
-          c.loop-path.invariant (ap (λ v. v.items) w.deps-is ∙ w.in_ok-push.ensures.items)
+          (Some (signature w.in-Some.record.now)) before after c.loop-path-test.true c.path-item.is
+          (ap (option_map signature) (sym c.held.ensures ∙ ap option_copied w.in-Some.is))
+          c.loop-path.invariant (ap (λ v. v.items) w.deps-is ∙ w.in_ok-sign.ensures)
       | in_default w ↦
           given_more (λ path. path.now) sign items k c.path-item.result None before after
           c.loop-path-test.true c.path-item.is
