@@ -111,6 +111,7 @@ impl<'a> Member<'a> {
         let alloc = self.allocator();
         let positions = self.units.packages(unit);
         if packages.as_slice().len() != positions.len() {
+            drop(packages);
             return Err(Refusal::OtherPackages);
         }
         let mut files = by_path(alloc, packages)?;

@@ -1,7 +1,6 @@
 //! What a member answers to messages.
 ghost use Rattle.std.specs.Prelude.{◌≡◌, ◌<◌, [], ◌∷◌, IfOk, MatchOption, MatchResult, Ok, Err};
 ghost use Rattle.std.specs.Prelude.{Some, false, length, option_map};
-ghost use Rattle.units.specs.Division.{number_named};
 ghost use Rattle.protocol.specs.Answers.{message_of};
 ghost use Rattle.protocol.specs.Member.{IsMember};
 ghost use Rattle.protocol.specs.Sends.{sent_to};
@@ -41,8 +40,7 @@ impl<'a> Member<'a> {
 
     /// The unit that the message is about; else, why it is refused.
     fn unit_heard(&self, message: &Message) -> Result<u32, Refusal>
-        ensures ok { IfOk result (λ unit. (number_named self.now.division message.now.path ≡ Some unit)
-            × (unit < length self.now.division.units)
+        ensures ok { IfOk result (λ unit. (unit < length self.now.division.units)
             × (message.now.sender < length self.now.weights)) }
         ensures heard { MatchResult result
             (λ unit. heard self.now message.now
