@@ -1,23 +1,28 @@
 use Rattle.std.proofs.lemmas.Grind.{common_steps}
-use Rattle.std.proofs.Common.{rules, arith, ◌≡◌, ◌∙◌, List, ℕ, Option, None, ap, map, option_map, subst}
+use Rattle.std.proofs.Common.{rules, arith, ◌≡◌, ◌∙◌, Option, None, ap, map, option_map, subst}
 use Rattle.std.proofs.Common.{◌++◌, arith, drop, length, sym, take, if◌then◌else◌}
 use Rattle.std.specs.Prelude.{unwrap_or}
-use Rattle.std.specs.Option.{ForSome}
 use Rattle.std.specs.Vec.{with_items}
 use Rattle.std.proofs.Math.Seq.{take-append_seam}
+use Rattle.std.proofs.lemmas.List.{length-map}
 use Rattle.faults.specs.Answers.{option_or}
 use Rattle.ballots.specs.declared.message.Fact.{Fact}
 use Rattle.ballots.specs.declared.message.Note.{Note}
 use Rattle.protocol.specs.State.{State, Value, facts_then, noted_at}
 use Rattle.units.specs.Division.{number_named}
-use Rattle.member.specs.OpenClaims.{IsWeighedBy, open_of}
+use Rattle.member.specs.OpenClaims.{open_of}
 use Rattle.member.specs.inside.Waiting.{waits}
-use Rattle.member.specs.Prepared.{IsChangeWeighedBy, MayBeTaken, Prepared, changed}
-use Rattle.member.specs.declared.open_claim.OpenClaim.{OpenClaim}
+use Rattle.member.specs.Prepared.{MayBeTaken, Prepared}
 use Rattle.member.specs.inside.Fields.{engine_with, facts_of_known, state_of}
 use Rattle.member.specs.inside.Steps.{prepared_by}
 use Rattle.member.proofs.Taking.{kept_then}
 use Rattle.member.proofs.member.Member.commit.Goals as goal
+
+pub keep_fact-requires-clause-each : goal.keep_fact-requires-clause-each
+keep_fact-requires-clause-each c =
+    let m = c.self.inside in
+    ap length c.as_mut_slice.ensures.value
+    ∙ (sym (length-map m.known.items facts_of_known) ∙ c.self.invariant.member.each)
 
 pub keep_fact-requires-clause-engine : goal.keep_fact-requires-clause-engine
 keep_fact-requires-clause-engine c =

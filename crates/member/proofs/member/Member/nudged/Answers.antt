@@ -1,7 +1,4 @@
-use Rattle.std.proofs.Common.{Some, ap, ◌∙◌}
-use Rattle.ballots.specs.declared.message.Body.TheVariants.{Propose}
-use Rattle.protocol.specs.Answers.{message_of}
-use Rattle.protocol.specs.Sends.{sent_to}
+use Rattle.std.proofs.Common.{◌∙◌}
 use Rattle.member.proofs.SaidAgain.{building_said, gathering_said, unit_seen, voting_said}
 use Rattle.member.proofs.member.Member.nudged.Goals as goal
 
@@ -33,7 +30,6 @@ returns-in_ok-building_again-in-Building c =
 pub returns-in_ok-sends-in-Voting : goal.returns-in_ok-sends-in-Voting
 returns-in_ok-sends-in-Voting c =
     let s = c.args.self.now in
-    let u = c.in-Some.open.unit in
     let claim = c.in-Voting.claim in
     let sends = c.saying-in-Voting.ensures.sends ∙ c.in_ok-sends-in-Voting.ensures in
     voting_said c.self.inside s c.in-Some.open c.self.invariant c.self.view_is c.in-Some.is claim
