@@ -1,4 +1,4 @@
-use Rattle.std.proofs.Common.{◌≡◌, ◌∙◌, [], IfOk, Some, ap, subst, sym}
+use Rattle.std.proofs.Common.{◌≡◌, ◌∙◌, [], IfOk, Some, ap, rules, subst, sym}
 use Rattle.ballots.specs.declared.claimer.Next.{Next}
 use Rattle.claims.specs.Job.{Task}
 use Rattle.protocol.specs.Jobs.{job_of}
@@ -44,3 +44,6 @@ returns-in-Hold c = λ change.
     subst (λ (n : Next Value). IfOk c.holding.result
     (λ made. counting made change ≡ counter_prepared s (open_of own) n change))
     (sym c.in-Hold.is) (c.holding.ensures change)
+
+pub returns-in_ok-sends-in-Propose : goal.returns-in_ok-sends-in-Propose
+returns-in_ok-sends-in-Propose c = search rules
