@@ -14,6 +14,7 @@ pub mod MadeBuild
 pub mod MadePackages
 pub mod Named
 pub mod NewClaims
+pub mod OneMore
 pub mod Preparing
 pub mod Restoring
 pub mod SaidAgain

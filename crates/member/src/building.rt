@@ -1,8 +1,10 @@
 //! What becomes of a claim that waits for a build.
-ghost use Rattle.std.specs.Prelude.{◌≡◌, ◌≢◌, ◌<◌, ◌⊎◌, MatchResult};
+ghost use Rattle.std.specs.Prelude.{◌≡◌, ◌≢◌, ◌<◌, ◌⊎◌, IfOk, MatchResult};
 ghost use Rattle.std.specs.Prelude.{None, Some, false, length, map, true};
 ghost use Rattle.faults.specs.Answers.{IsRightUnless};
 ghost use Rattle.units.specs.Division.{unit_at};
+ghost use Rattle.protocol.specs.Answers.{message_of};
+ghost use Rattle.protocol.specs.Sends.{sent_to};
 ghost use Rattle.protocol.specs.Jobs.{are_given, paths_at};
 ghost use Rattle.protocol.specs.Member.{IsMember};
 ghost use Rattle.member.specs.inside.Packages.{files_at, made_at, made_of};
@@ -12,8 +14,10 @@ ghost use Rattle.member.specs.inside.Waiting.{job_at, made_by, waiting_for};
 use crate::packages::{by_path, made};
 use crate::receivers::everyone;
 use crate::{ClaimChange, Member, OpenClaim, Step};
+use arrayvec::ArrayVec;
 use ballots::{Body, Claimer, Tally};
-use claims::Job;
+use claims::{Claim, Job};
+use faults::Memory;
 use package_record::{Build, Package, RecordFault};
 use pkgpath::PkgPath;
 use protocol::{Input, Packages, Refusal, Sends};
@@ -25,12 +29,7 @@ impl<'a> Member<'a> {
     {
         let (unit, job) = self.building(path)?;
         let build = self.build_of(unit, job, packages)?;
-        let sent = build.copy()?;
-        let sends = self.sent(
-            unit,
-            everyone(&self.weights),
-            Body::Propose(job.claim, sent),
-        )?;
+        let sends = self.proposed(unit, job.claim, &build, everyone(&self.weights))?;
         let claimer = Claimer::Voting {
             claim: job.claim,
             value: build,
@@ -42,6 +41,23 @@ impl<'a> Member<'a> {
             claimer,
         });
         Ok(Step::saying(sends, change))
+    }
+
+    /// The build of the unit goes to these as the claim's proposal.
+    pub(crate) fn proposed(
+        &self,
+        unit: u32,
+        claim: Claim,
+        build: &Build,
+        receivers: ArrayVec<u8, 9>,
+    ) -> Result<Sends, Memory>
+        requires { unit < length self.now.division.units }
+        ensures { IfOk result (λ sends. sends
+            ≡ sent_to (Some (message_of self.now unit (Body.Propose claim build.now)))
+            receivers.items) }
+    {
+        let sent = build.copy()?;
+        self.sent(unit, receivers, Body::Propose(claim, sent))
     }
 
     /// The claim's host could not build the unit.
@@ -95,6 +111,7 @@ impl<'a> Member<'a> {
         let alloc = self.allocator();
         let positions = self.units.packages(unit);
         if packages.as_slice().len() != positions.len() {
+            drop(packages);
             return Err(Refusal::OtherPackages);
         }
         let mut files = by_path(alloc, packages)?;

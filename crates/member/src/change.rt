@@ -10,9 +10,22 @@ ghost use Rattle.member.specs.inside.Waiting.{waits};
 use crate::{ClaimChange, OpenClaim};
 use ballots::{Claimer, ClaimerChange};
 use claims::Job;
+use std::mem;
 
-/// The claim that is open after the change. It takes no memory.
-pub(crate) fn changed(claim: Option<OpenClaim>, change: ClaimChange) -> Option<OpenClaim>
+/// The claim that is open becomes what it is after the change. It takes no memory.
+pub(crate) fn change_claim(claim: &mut Option<OpenClaim>, change: ClaimChange)
+    ensures claim { option_map open_of claim.new ≡ changed change (option_map open_of claim.old) }
+    ensures weighed { (weights : List ℕ)
+        → ForSome claim.old (λ o. IsWeighedBy weights o.claimer)
+        → IsChangeWeighedBy weights change (option_map open_of claim.old)
+        → ForSome claim.new (λ o. IsWeighedBy weights o.claimer) }
+{
+    let next = changed(claim.take(), change);
+    drop(mem::replace(claim, next));
+}
+
+/// The claim that is open after the change.
+fn changed(claim: Option<OpenClaim>, change: ClaimChange) -> Option<OpenClaim>
     ensures claim { option_map open_of result ≡ changed change (option_map open_of claim) }
     ensures weighed { (weights : List ℕ)
         → ForSome claim (λ o. IsWeighedBy weights o.claimer)
@@ -59,13 +72,19 @@ pub(crate) fn is_building(claim: Option<&OpenClaim>) -> bool
     }
 }
 
+/// The job becomes that of the claim that is open. It takes no memory.
+pub(crate) fn change_job(job: &mut Option<Job>, claim: Option<&OpenClaim>, given: Option<Job>)
+    ensures { job.new
+        ≡ (if waits (option_map open_of (option_copied claim.entry)) then option_or given job.old
+        else None) }
+{
+    let next = job_of(claim, given, job.take());
+    drop(mem::replace(job, next));
+}
+
 /// The job of the claim that is open: the one that is given now, and else the one that was given
 /// before, as long as the claim waits for a build.
-pub(crate) fn job_of(
-    claim: Option<&OpenClaim>,
-    given: Option<Job>,
-    before: Option<Job>,
-) -> Option<Job>
+fn job_of(claim: Option<&OpenClaim>, given: Option<Job>, before: Option<Job>) -> Option<Job>
     ensures { result
         ≡ (if waits (option_map open_of (option_copied claim.entry)) then option_or given before
         else None) }

@@ -1,11 +1,16 @@
 //! What a member answers to messages.
-ghost use Rattle.std.specs.Prelude.{◌≡◌, ◌<◌, [], ◌∷◌, IfOk, MatchOption, Some, false, length};
+ghost use Rattle.std.specs.Prelude.{◌≡◌, ◌<◌, [], ◌∷◌, IfOk, MatchOption, MatchResult, Ok, Err};
+ghost use Rattle.std.specs.Prelude.{Some, false, length, option_map};
+ghost use Rattle.protocol.specs.Answers.{message_of};
 ghost use Rattle.protocol.specs.Member.{IsMember};
-ghost use Rattle.protocol.specs.Step.{hears, members_of};
+ghost use Rattle.protocol.specs.Sends.{sent_to};
+ghost use Rattle.protocol.specs.State.{Value};
+ghost use Rattle.protocol.specs.Step.{heard, hears, members_of};
+ghost use Rattle.ballots.specs.declared.claimer.ClaimerChange.{ClaimerChange};
 ghost use Rattle.member.specs.OpenClaims.{IsWeighedBy, open_of};
 ghost use Rattle.member.specs.inside.Steps.{IsPrepared, Makes};
-ghost use Rattle.member.specs.inside.Counting.{counter_prepared, held_prepared, quiet_prepared};
-ghost use Rattle.member.specs.inside.Counting.{voter_prepared};
+ghost use Rattle.member.specs.inside.Counting.{counter_prepared, counting, held_prepared, on_unit};
+ghost use Rattle.member.specs.inside.Counting.{quiet_prepared, voter_prepared};
 ghost use Rattle.member.specs.inside.Waiting.{is_for};
 
 use crate::naming::unit_named;
@@ -13,7 +18,7 @@ use crate::receivers::{everyone, one, others};
 use crate::texts::Listed;
 use crate::{ClaimChange, Member, OpenClaim, Step};
 use arrayvec::ArrayVec;
-use ballots::{Body, ClaimerChange, ClaimerStep, Fact, Message, Next, VoterStep};
+use ballots::{Body, ClaimerStep, Fact, Message, Next, Note, VoterStep};
 use claims::{Claim, Job};
 use faults::Memory;
 use package_record::Build;
@@ -24,21 +29,48 @@ impl<'a> Member<'a> {
     pub(crate) fn heard(&self, message: Message) -> Result<Step, Refusal>
         ensures { IsPrepared self.now (Input.Message message) result }
     {
-        let Message {
-            sender,
-            tree,
-            path,
-            body,
-        } = message;
-        let members = members_of(sender, &body);
-        self.test_header(&tree, members.as_slice(), &path)?;
-        match unit_named(&self.units, &path) {
-            Some(unit) => {
-                let body = Listed { tree: self.tree }.body(body)?;
-                Ok(self.answered(unit, sender, body)?)
+        match self.unit_heard(&message) {
+            Ok(unit) => Ok(self.read(unit, message)?),
+            Err(refusal) => {
+                drop(message);
+                Err(refusal)
             }
+        }
+    }
+
+    /// The unit that the message is about; else, why it is refused.
+    fn unit_heard(&self, message: &Message) -> Result<u32, Refusal>
+        ensures ok { IfOk result (λ unit. (unit < length self.now.division.units)
+            × (message.now.sender < length self.now.weights)) }
+        ensures heard { MatchResult result
+            (λ unit. heard self.now message.now
+            ≡ Ok (hears self.now unit message.now.sender message.now.body))
+            (λ e. heard self.now message.now ≡ Err e) }
+    {
+        let members = members_of(message.sender, &message.body);
+        self.test_header(&message.tree, members.as_slice(), &message.path)?;
+        match unit_named(&self.units, &message.path) {
+            Some(unit) => Ok(unit),
             None => Err(Refusal::Unlisted),
         }
+    }
+
+    /// The message about the unit is answered. Of what it says to be built or agreed the tree's
+    /// texts are kept.
+    fn read(&self, unit: u32, message: Message) -> Result<Step, Memory>
+        requires unit { unit < length self.now.division.units }
+        requires sender { message.sender < length self.now.weights }
+        ensures { IfOk result (Makes self.now (hears self.now unit message.sender message.body)) }
+    {
+        let Message {
+            sender,
+            path,
+            body,
+            ..
+        } = message;
+        drop(path);
+        let body = Listed { tree: self.tree }.body(body)?;
+        self.answered(unit, sender, body)
     }
 
     /// The message about the unit is answered.
@@ -77,21 +109,51 @@ impl<'a> Member<'a> {
             answer,
             change,
         } = step;
-        let note = match note {
-            Some(fact) => Some(self.note_on(unit, fact)?),
-            None => None,
-        };
+        match self.texts_of(unit, claim, note, answer) {
+            Ok((note, sends)) => Ok(Step {
+                outcome: Outcome {
+                    note,
+                    sends,
+                    job: None,
+                },
+                kept_fact: change,
+                kept_job: None,
+                change: ClaimChange::Stays,
+            }),
+            Err(memory) => {
+                drop(change);
+                Err(memory)
+            }
+        }
+    }
+
+    /// The note of the fact on the unit, if there is one, and the answer to the claim's member.
+    fn texts_of(
+        &self,
+        unit: u32,
+        claim: Claim,
+        fact: Option<Fact>,
+        answer: Body,
+    ) -> Result<(Option<Note>, Sends), Memory>
+        requires unit { unit < length self.now.division.units }
+        ensures note { IfOk result (λ texts. texts.0 ≡ option_map (on_unit self.now unit) fact) }
+        ensures sends { IfOk result (λ texts. texts.1
+            ≡ sent_to (Some (message_of self.now unit answer)) (claim.member ∷ [])) }
+    {
+        let note = self.note_of(unit, fact)?;
         let sends = self.sent(unit, one(claim.member), answer)?;
-        Ok(Step {
-            outcome: Outcome {
-                note,
-                sends,
-                job: None,
-            },
-            kept_fact: change,
-            kept_job: None,
-            change: ClaimChange::Stays,
-        })
+        Ok((note, sends))
+    }
+
+    /// The note of the fact on the unit, if there is one.
+    fn note_of(&self, unit: u32, fact: Option<Fact>) -> Result<Option<Note>, Memory>
+        requires { unit < length self.now.division.units }
+        ensures { IfOk result (λ note. note ≡ option_map (on_unit self.now unit) fact) }
+    {
+        match fact {
+            Some(fact) => Ok(Some(self.note_on(unit, fact)?)),
+            None => Ok(None),
+        }
     }
 
     /// The open claim, if it is for the unit.
@@ -145,11 +207,27 @@ impl<'a> Member<'a> {
             (λ made. made ≡ counter_prepared self.now (open_of own.now) step.next step.change) }
     {
         let ClaimerStep { next, change } = step;
+        match self.following(own, next) {
+            Ok(step) => Ok(step.with_change(ClaimChange::Counts(change))),
+            Err(memory) => {
+                drop(change);
+                Err(memory)
+            }
+        }
+    }
+
+    /// What follows a claimer's step, before its change of the claim.
+    fn following(&self, own: &OpenClaim, next: Next) -> Result<Step, Memory>
+        requires { self.now.claim ≡ Some (open_of own.now) }
+        ensures { (change : ClaimerChange Value) → IfOk result
+            (λ made. counting made change
+            ≡ counter_prepared self.now (open_of own.now) next change) }
+    {
         match next {
-            Next::Nothing => Ok(Step::saying(Sends::nothing(), ClaimChange::Counts(change))),
+            Next::Nothing => Ok(Step::nothing()),
             Next::Build => {
                 let job = self.job_for(own.unit, own.host, own.claimer.claim())?;
-                giving(job, change)
+                giving(job)
             }
             Next::Propose(claim, build) => {
                 let sends = self.sent(
@@ -157,26 +235,19 @@ impl<'a> Member<'a> {
                     everyone(&self.weights),
                     Body::Propose(claim, build),
                 )?;
-                Ok(Step::saying(sends, ClaimChange::Counts(change)))
+                Ok(Step::saying(sends, ClaimChange::Stays))
             }
-            Next::Hold { noted, sent } => self.holding(own.unit, noted, sent, change),
+            Next::Hold { noted, sent } => self.holding(own.unit, noted, sent),
         }
     }
 
     /// A majority voted: the build is held, and all others are told.
-    fn holding(
-        &self,
-        unit: u32,
-        noted: Build,
-        sent: Build,
-        change: ClaimerChange,
-    ) -> Result<Step, Memory>
+    fn holding(&self, unit: u32, noted: Build, sent: Build) -> Result<Step, Memory>
         requires { unit < length self.now.division.units }
-        ensures { IfOk result
-            (λ made. made ≡ held_prepared self.now unit noted sent change) }
+        ensures { (change : ClaimerChange Value) → IfOk result
+            (λ made. counting made change ≡ held_prepared self.now unit noted sent change) }
     {
-        let kept = noted.copy()?;
-        let note = self.note_on(unit, Fact::Held(noted))?;
+        let (note, kept) = self.note_held(unit, noted)?;
         let sends = self.sent(unit, others(&self.weights, self.me), Body::Agreed(sent))?;
         Ok(Step {
             outcome: Outcome {
@@ -184,10 +255,22 @@ impl<'a> Member<'a> {
                 sends,
                 job: None,
             },
-            kept_fact: Some(Fact::Held(kept)),
+            kept_fact: Some(kept),
             kept_job: None,
-            change: ClaimChange::Counts(change),
+            change: ClaimChange::Stays,
         })
+    }
+
+    /// The note that the build of the unit is held, and the fact that the member keeps of it.
+    fn note_held(&self, unit: u32, build: Build) -> Result<(Note, Fact), Memory>
+        requires { unit < length self.now.division.units }
+        ensures note { IfOk result
+            (λ told. told.0 ≡ on_unit self.now unit (Fact.Held build)) }
+        ensures kept { IfOk result (λ told. told.1 ≡ Fact.Held build) }
+    {
+        let kept = build.copy()?;
+        let note = self.note_on(unit, Fact::Held(build))?;
+        Ok((note, Fact::Held(kept)))
     }
 
     /// What is agreed is held, unless a build of the unit is.
@@ -198,8 +281,7 @@ impl<'a> Member<'a> {
         if self.known[unit as usize].held.is_some() {
             return Ok(Step::nothing());
         }
-        let kept = build.copy()?;
-        let note = self.note_on(unit, Fact::Held(build))?;
+        let (note, kept) = self.note_held(unit, build)?;
         let change = match self.claim_for(unit) {
             Some(_) => ClaimChange::Ends,
             None => ClaimChange::Stays,
@@ -210,7 +292,7 @@ impl<'a> Member<'a> {
                 sends: Sends::nothing(),
                 job: None,
             },
-            kept_fact: Some(Fact::Held(kept)),
+            kept_fact: Some(kept),
             kept_job: None,
             change,
         })
@@ -233,8 +315,9 @@ impl<'a> Member<'a> {
 }
 
 /// A build is to be made: this job is given.
-fn giving(job: Job, change: ClaimerChange) -> Result<Step, Memory>
-    ensures { IfOk result (λ made. made ≡ quiet_prepared [] (Some job) change) }
+fn giving(job: Job) -> Result<Step, Memory>
+    ensures { (change : ClaimerChange Value) → IfOk result
+        (λ made. counting made change ≡ quiet_prepared [] (Some job) change) }
 {
     let kept_job = job.copy()?;
     Ok(Step {
@@ -245,7 +328,7 @@ fn giving(job: Job, change: ClaimerChange) -> Result<Step, Memory>
         },
         kept_fact: None,
         kept_job: Some(kept_job),
-        change: ClaimChange::Counts(change),
+        change: ClaimChange::Stays,
     })
 }
 

@@ -1,12 +1,15 @@
 //! What is to be built.
-ghost use Rattle.std.specs.Prelude.{◌≡◌, ◌<◌, IfOk, length};
+ghost use Rattle.std.specs.Prelude.{◌≡◌, ◌<◌, ◌++◌, ◌∷◌, [], IfOk, OnOk, filter_map, length};
+ghost use Rattle.std.specs.Prelude.{map, option_map};
 ghost use Rattle.protocol.specs.Jobs.{deps_of, job_of, signature};
+ghost use Rattle.protocol.specs.State.{held_record};
 
 use crate::Member;
 use crate::packages::{in_order, paths_of};
 use claims::{Claim, Dep, Deps, Job};
 use faults::Memory;
 use package_record::Record;
+use pkgpath::PkgPath;
 
 impl<'a> Member<'a> {
     /// The job for the unit, on what is held.
@@ -34,13 +37,33 @@ impl<'a> Member<'a> {
         let alloc = self.allocator();
         let paths = in_order(alloc, self.tree, self.units.build_deps(unit))?;
         let mut deps = Vec::with_capacity(alloc, paths.len())?;
-        for path in paths.as_slice() {
-            if let Some(record) = self.held(*path) {
-                deps.push(signature(record)?)?;
-            }
-        }
+        self.sign(paths.as_slice(), &mut deps)?;
         Ok(Deps::new(deps))
     }
+
+    /// Adds the signatures of what is held of these paths, in their order.
+    fn sign(&self, paths: &[&PkgPath], deps: &mut Vec<Dep>) -> Result<(), Memory>
+        requires { deps.old.items ≡ [] }
+        ensures { OnOk result (deps.new.items
+            ≡ filter_map (λ path. option_map signature (held_record self.now path))
+            (map (λ path. path.now) paths.now)) }
+    {
+        for path in paths {
+            if let Some(record) = self.held(*path) {
+                add(record, deps)?;
+            }
+        }
+        Ok(())
+    }
+}
+
+/// Adds the signature of the package.
+fn add(held: &Record, deps: &mut Vec<Dep>) -> Result<(), Memory>
+    ensures { OnOk result (deps.new.items ≡ deps.old.items ++ signature held.now ∷ []) }
+{
+    let dep = signature(held)?;
+    deps.push(dep)?;
+    Ok(())
 }
 
 /// The signature of the package: its path, its name, and the SHA-256 of its record's text.

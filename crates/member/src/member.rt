@@ -20,7 +20,7 @@ ghost use Rattle.member.specs.Prepared.{MayBeTaken, answer_by};
 ghost use Rattle.member.specs.inside.Fields.{facts_of_known};
 ghost use Rattle.member.specs.inside.Steps.{IsPrepared};
 
-use crate::change::{changed, job_of};
+use crate::change::{change_claim, change_job};
 use crate::facts::keep_fact;
 use crate::known::Known;
 use crate::naming::unit_named;
@@ -105,8 +105,8 @@ impl<'a> Member<'a> {
         requires { AreOnUnits self.old.division notes.items }
         ensures { self.new ≡ restored self.old notes.items }
     {
-        self.claim = None;
-        self.job = None;
+        drop(self.claim.take());
+        drop(self.job.take());
         for note in notes {
             let Note { path, fact } = note;
             keep_fact(
@@ -158,8 +158,8 @@ impl<'a> Member<'a> {
             kept_job,
             change,
         } = step;
-        self.claim = changed(self.claim.take(), change);
-        self.job = job_of(self.claim.as_ref(), kept_job, self.job.take());
+        change_claim(&mut self.claim, change);
+        change_job(&mut self.job, self.claim.as_ref(), kept_job);
         if let (Some(note), Some(fact)) = (&outcome.note, kept_fact) {
             keep_fact(
                 &self.units,

@@ -34,8 +34,7 @@ impl<'a> Member<'a> {
                 voted,
             } => {
                 let to = missing(&self.weights, voted);
-                let value = value.copy()?;
-                let sends = self.sent(open.unit, to, Body::Propose(*claim, value))?;
+                let sends = self.proposed(open.unit, *claim, value, to)?;
                 Ok(Step::saying(sends, ClaimChange::Stays))
             }
         }

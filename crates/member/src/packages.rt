@@ -1,5 +1,5 @@
 //! Packages in order of path, and what a build makes of them.
-ghost use Rattle.std.specs.Prelude.{◌≡◌, ◌<◌, ◌⊎◌, All, IfOk};
+ghost use Rattle.std.specs.Prelude.{◌≡◌, ◌<◌, ◌⊎◌, All, IfOk, OnOk, Some, if◌then◌else◌};
 ghost use Rattle.std.specs.Prelude.{MatchResult, false, length, map, true};
 ghost use Rattle.std.specs.Str.{bytes_eq};
 ghost use Rattle.faults.specs.Bytes.{Text};
@@ -82,10 +82,19 @@ pub(crate) fn by_path(alloc: Global, packages: Packages) -> Result<IndexMap<PkgP
     let mut files = IndexMap::new(alloc);
     for (path, given) in packages.into_vec() {
         if !files.contains_key(&path) {
-            files.insert(path, given)?;
+            keep(&mut files, path, given)?;
         }
     }
     Ok(files)
+}
+
+/// Keeps the files of the path, in place of those that it had.
+fn keep(files: &mut IndexMap<PkgPath, Files>, path: PkgPath, given: Files) -> Result<(), Memory>
+    ensures { OnOk result ((q : Text) → get bytes_eq files.new q
+        ≡ (if bytes_eq path q then Some given else get bytes_eq files.old q)) }
+{
+    files.insert(path, given)?;
+    Ok(())
 }
 
 /// What the build makes of these packages, with the files that are given for them, which are taken
@@ -116,6 +125,17 @@ pub(crate) fn made(
     Ok(packages)
 }
 
+/// The paths that the package at the position needs to run, in order.
+fn run_at(alloc: Global, tree: &Tree, position: u32) -> Result<Vec<PkgPath>, Memory>
+    requires tree { IsTree tree.now }
+    requires position { position < length tree.now }
+    ensures { IfOk result (λ run. run.items
+        ≡ in_order_of_path tree.now (run_at tree.now position)) }
+{
+    let run = in_order(alloc, tree, tree.run_deps(position))?;
+    copied(alloc, run.as_slice())
+}
+
 /// What the build makes of the package at the position, of these files.
 fn package_at(alloc: Global, tree: &Tree, position: u32, files: Files) -> Result<Package, Memory>
     requires tree { IsTree tree.now }
@@ -128,8 +148,7 @@ fn package_at(alloc: Global, tree: &Tree, position: u32, files: Files) -> Result
 {
     let path = tree.path(position).copy()?;
     let name = tree.name(position).copy()?;
-    let run = in_order(alloc, tree, tree.run_deps(position))?;
-    let run = copied(alloc, run.as_slice())?;
+    let run = run_at(alloc, tree, position)?;
     Ok(Package {
         path,
         name,

@@ -59,6 +59,13 @@ impl Step {
         &self.outcome.sends
     }
 
+    /// The step, with this change of the open claim in place of its own.
+    pub(crate) fn with_change(self, change: ClaimChange) -> Step
+        ensures { result ≡ record self { change = change } }
+    {
+        Step { change, ..self }
+    }
+
     /// A step that notes nothing: this goes out, and this becomes of the open claim.
     pub(crate) fn saying(sends: Sends, change: ClaimChange) -> Step
         ensures note { result.note ≡ None }

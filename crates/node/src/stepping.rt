@@ -77,7 +77,7 @@ use crate::{Change, Foreign, Node, NodeFault, Out, Ready};
 use ballots::Message;
 use claims::Job;
 use member::{Input, Member, Step};
-use protocol::Refusal;
+use protocol::{Outcome, Refusal};
 use stable_record::{Disk, Log, LogFault};
 use std::alloc::Global;
 use wire::{Datagram, Header, Piece, WireFault, decode};
@@ -139,7 +139,13 @@ impl<'a, D: Disk> Node<'a, D> {
         ensures same { self.new ≡ self.old }
     {
         let alloc = self.allocator();
-        let step = self.member.prepare(input)?;
+        let step = match self.member.prepare(input) {
+            Ok(step) => step,
+            Err(refusal) => {
+                drop(change);
+                return Err(refusal);
+            }
+        };
         Ok(Ready::of(alloc, step, change)?)
     }
 
@@ -167,6 +173,7 @@ impl<'a, D: Disk> Node<'a, D> {
         ensures log { self.new.log ≡ self.old.log }
     {
         if let Err(refusal) = test_header(&self.member, &piece.header) {
+            drop(piece);
             return Err(foreign(refusal));
         }
         if has_number(self.pieces.as_slice(), &piece.header, piece.number) {
@@ -463,7 +470,12 @@ fn commit(member: &mut Member<'_>, step: Option<Step>) -> Option<Job>
     ensures job { result ≡ (answer_then member.old step).job }
 {
     match step {
-        Some(step) => member.commit(step).job,
+        Some(step) => {
+            let Outcome { note, sends, job } = member.commit(step);
+            drop(note);
+            drop(sends);
+            job
+        }
         None => None,
     }
 }

@@ -31,6 +31,10 @@ voter_prepared s u to note said = record {
   change = Stays;
 }
 
+-- the step, with this change of the claim
+abbrev pub counting : Prepared → ClaimerChange Value → Prepared
+counting p change = record p { change = Counts change }
+
 -- the step of a majority of votes
 abbrev pub held_prepared : State → ℕ → Value → Value → ClaimerChange Value → Prepared
 held_prepared s u noted sent change = record {

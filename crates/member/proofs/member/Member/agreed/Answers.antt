@@ -46,4 +46,4 @@ returns c =
       | in-None w ↦ subst (λ d. IsChangeWeighedBy s.weights d s.claim) (sym w.change-is) tt
     ] in
     agreed_makes s u c.args.build _ (ap (λ f. f.held) known ∙ held)
-    (ap (λ n. Some n) c.in_ok-note.ensures) c.nothing-2.ensures refl claim weighed
+    (ap (λ n. Some n) c.in_ok-note.ensures.note) c.nothing-2.ensures refl claim weighed

@@ -25,9 +25,7 @@ returns c =
     let sends =
     c.saying.ensures.sends
     ∙ (c.in_ok-sends.ensures
-    ∙ (ap (λ v. sent_to (Some (message_of s u (Propose claim v))) c.everyone.result.items)
-    c.in_ok-sent.ensures
-    ∙ ap (sent_to (Some (message_of s u (Propose claim c.in_ok-build.build)))) all)) in
+    ∙ ap (sent_to (Some (message_of s u (Propose claim c.in_ok-build.build)))) all) in
     built_said s c.args.path.now c.args.packages u c.in_ok-unit.job.now c.in_ok-unit.ensures
     c.in_ok-build.build c.saying.result c.job.inside.host claim c.new.result c.in_ok-build.ensures
     (ap (λ (j : Task). j.host) c.job.view_is) (ap (λ (j : Task). j.claim) c.job.view_is)

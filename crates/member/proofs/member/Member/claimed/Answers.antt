@@ -26,6 +26,14 @@ returns-in_err-unit c =
     rw p.1 (strange_claim c.args.self.now c.args.path.now c.args.host c.args.above p.0 err.0
     (p.2 ∙ err.1))
 
+pub unit_letter-letter-requires : goal.unit_letter-letter-requires
+unit_letter-letter-requires c =
+    unit_is_one c.args.self.now c.args.path.now c.in_ok-unit.unit c.in_ok-unit.ensures.ok
+
+pub opening-requires : goal.opening-requires
+opening-requires c =
+    unit_is_one c.args.self.now c.args.path.now c.in_ok-unit.unit c.in_ok-unit.ensures.ok
+
 pub returns-then-is_some : goal.returns-then-is_some
 returns-then-is_some c =
     let s = c.args.self.now in

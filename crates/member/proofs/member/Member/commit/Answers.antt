@@ -1,23 +1,28 @@
 use Rattle.std.proofs.lemmas.Grind.{common_steps}
-use Rattle.std.proofs.Common.{rules, arith, ◌≡◌, ◌∙◌, List, ℕ, Option, None, ap, map, option_map, subst}
+use Rattle.std.proofs.Common.{rules, arith, ◌≡◌, ◌∙◌, Option, None, ap, map, option_map, subst}
 use Rattle.std.proofs.Common.{◌++◌, arith, drop, length, sym, take, if◌then◌else◌}
 use Rattle.std.specs.Prelude.{unwrap_or}
-use Rattle.std.specs.Option.{ForSome}
 use Rattle.std.specs.Vec.{with_items}
 use Rattle.std.proofs.Math.Seq.{take-append_seam}
+use Rattle.std.proofs.lemmas.List.{length-map}
 use Rattle.faults.specs.Answers.{option_or}
 use Rattle.ballots.specs.declared.message.Fact.{Fact}
 use Rattle.ballots.specs.declared.message.Note.{Note}
 use Rattle.protocol.specs.State.{State, Value, facts_then, noted_at}
 use Rattle.units.specs.Division.{number_named}
-use Rattle.member.specs.OpenClaims.{IsWeighedBy, open_of}
+use Rattle.member.specs.OpenClaims.{open_of}
 use Rattle.member.specs.inside.Waiting.{waits}
-use Rattle.member.specs.Prepared.{IsChangeWeighedBy, MayBeTaken, Prepared, changed}
-use Rattle.member.specs.declared.open_claim.OpenClaim.{OpenClaim}
+use Rattle.member.specs.Prepared.{MayBeTaken, Prepared}
 use Rattle.member.specs.inside.Fields.{engine_with, facts_of_known, state_of}
 use Rattle.member.specs.inside.Steps.{prepared_by}
 use Rattle.member.proofs.Taking.{kept_then}
 use Rattle.member.proofs.member.Member.commit.Goals as goal
+
+pub keep_fact-requires-clause-each : goal.keep_fact-requires-clause-each
+keep_fact-requires-clause-each c =
+    let m = c.self.inside in
+    ap length c.as_mut_slice.ensures.value
+    ∙ (sym (length-map m.known.items facts_of_known) ∙ c.self.invariant.member.each)
 
 pub keep_fact-requires-clause-engine : goal.keep_fact-requires-clause-engine
 keep_fact-requires-clause-engine c =
@@ -32,18 +37,13 @@ invariant_of-self c =
     let may : MayBeTaken (state_of m) p = subst (MayBeTaken (state_of m)) (sym c.step.view_is)
     (subst (λ (s : State). MayBeTaken s c.args.step) (sym c.self.view_is)
     c.requires) in
-    let claim = c.changed.ensures.claim
-    ∙ ap (λ o. changed p.change (option_map open_of o)) c.take.ensures.value in
-    let weighed = subst (λ (old : Option OpenClaim). (weights : List ℕ)
-    → ForSome old (λ o. IsWeighedBy weights o.claimer)
-    → IsChangeWeighedBy weights p.change (option_map open_of old)
-    → ForSome c.changed.result (λ o. IsWeighedBy weights o.claimer)) c.take.ensures.value
-    c.changed.ensures.weighed in
-    let job = c.job_of.ensures
+    let claim = c.change_claim.ensures.claim in
+    let weighed = c.change_claim.ensures.weighed in
+    let job = c.change_job.ensures
     ∙ (ap (λ o. if waits (option_map open_of o)
-    then option_or c.step.inside.kept_job c.take-2.result else None) c.as_ref.ensures.value
-    ∙ (λ i. if waits (option_map open_of c.changed.result)
-    then option_or (c.step.invariant.job i) (c.take-2.ensures.value i) else None)) in
+    then option_or c.step.inside.kept_job m.job else None) c.as_ref.ensures.value
+    ∙ ap (λ given. if waits (option_map open_of c.change_claim.new.claim)
+    then option_or given m.job else None) c.step.invariant.job) in
     let note = c.in-Some-Some.note in
     let fact : c.in-Some-Some.fact ≡ note.fact =
     ap (λ (o : Option (Fact Value)). unwrap_or o c.in-Some-Some.fact) (sym c.in-Some-Some.is-1
@@ -64,8 +64,8 @@ invariant_of-self c =
     kept_then m
     (record m {
       known = with_items m.known c.keep_fact.new.known;
-      claim = c.changed.result;
-      job = c.job_of.result;
+      claim = c.change_claim.new.claim;
+      job = c.change_job.new.job;
       engine = c.keep_fact.new.engine;
     }) p c.self.invariant may facts claim weighed job
     (c.keep_fact.ensures.engine
@@ -78,19 +78,14 @@ invariant_of-self-in_default-2 c =
     let may : MayBeTaken (state_of m) p = subst (MayBeTaken (state_of m)) (sym c.step.view_is)
     (subst (λ (s : State). MayBeTaken s c.args.step) (sym c.self.view_is)
     c.requires) in
-    let claim = c.changed.ensures.claim
-    ∙ ap (λ o. changed p.change (option_map open_of o)) c.take.ensures.value in
-    let weighed = subst (λ (old : Option OpenClaim). (weights : List ℕ)
-    → ForSome old (λ o. IsWeighedBy weights o.claimer)
-    → IsChangeWeighedBy weights p.change (option_map open_of old)
-    → ForSome c.changed.result (λ o. IsWeighedBy weights o.claimer)) c.take.ensures.value
-    c.changed.ensures.weighed in
-    let job = c.job_of.ensures
+    let claim = c.change_claim.ensures.claim in
+    let weighed = c.change_claim.ensures.weighed in
+    let job = c.change_job.ensures
     ∙ (ap (λ o. if waits (option_map open_of o)
-    then option_or c.step.inside.kept_job c.take-2.result else None) c.as_ref.ensures.value
-    ∙ (λ i. if waits (option_map open_of c.changed.result)
-    then option_or (c.step.invariant.job i) (c.take-2.ensures.value i) else None)) in
-    kept_then m (record m { claim = c.changed.result; job = c.job_of.result }) p
+    then option_or c.step.inside.kept_job m.job else None) c.as_ref.ensures.value
+    ∙ ap (λ given. if waits (option_map open_of c.change_claim.new.claim)
+    then option_or given m.job else None) c.step.invariant.job) in
+    kept_then m (record m { claim = c.change_claim.new.claim; job = c.change_job.new.job }) p
     c.self.invariant may
     (ap (facts_then m.units (map facts_of_known m.known.items)) (sym c.in_default.is-0))
     claim weighed job c.self.invariant.engine

@@ -11,9 +11,9 @@ returns c =
     let to = c.others.ensures ∙ ap others c.self.view_is in
     let sends = c.in_ok-sends.ensures
     ∙ ap (sent_to (Some (message_of s c.args.unit (Agreed c.args.sent)))) to in
-    λ i. record {
-      note = Some (c.in_ok-note.ensures i);
+    λ change i. record {
+      note = Some (c.in_ok-note.ensures.note i);
       sends = sends i;
       job = None;
-      change = Counts c.args.change;
+      change = Counts change;
     }

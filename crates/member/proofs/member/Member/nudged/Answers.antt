@@ -1,7 +1,4 @@
-use Rattle.std.proofs.Common.{Some, ap, ◌∙◌}
-use Rattle.ballots.specs.declared.message.Body.TheVariants.{Propose}
-use Rattle.protocol.specs.Answers.{message_of}
-use Rattle.protocol.specs.Sends.{sent_to}
+use Rattle.std.proofs.Common.{◌∙◌}
 use Rattle.member.proofs.SaidAgain.{building_said, gathering_said, unit_seen, voting_said}
 use Rattle.member.proofs.member.Member.nudged.Goals as goal
 
@@ -10,8 +7,8 @@ sent-requires c =
     unit_seen c.self.inside c.args.self.now c.in-Some.open c.self.invariant c.self.view_is
     c.in-Some.is
 
-pub sent-requires-in-Voting : goal.sent-requires-in-Voting
-sent-requires-in-Voting c =
+pub proposed-requires : goal.proposed-requires
+proposed-requires c =
     unit_seen c.self.inside c.args.self.now c.in-Some.open c.self.invariant c.self.view_is
     c.in-Some.is
 
@@ -33,12 +30,8 @@ returns-in_ok-building_again-in-Building c =
 pub returns-in_ok-sends-in-Voting : goal.returns-in_ok-sends-in-Voting
 returns-in_ok-sends-in-Voting c =
     let s = c.args.self.now in
-    let u = c.in-Some.open.unit in
     let claim = c.in-Voting.claim in
-    let sends = c.saying-in-Voting.ensures.sends
-    ∙ (c.in_ok-sends-in-Voting.ensures
-    ∙ ap (λ v. sent_to (Some (message_of s u (Propose claim v)))
-    c.missing-to-in-Voting.result.items) c.in_ok-value-in-Voting.ensures) in
+    let sends = c.saying-in-Voting.ensures.sends ∙ c.in_ok-sends-in-Voting.ensures in
     voting_said c.self.inside s c.in-Some.open c.self.invariant c.self.view_is c.in-Some.is claim
     c.in-Voting.value c.in-Voting.voted c.saying-in-Voting.result
     c.missing-to-in-Voting.result.items c.in-Voting.is c.missing-to-in-Voting.ensures

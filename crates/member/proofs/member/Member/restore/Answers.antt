@@ -1,4 +1,4 @@
-use Rattle.std.proofs.Common.{ap, length, map-id, refl, rules, subst, sym, ◌∙◌}
+use Rattle.std.proofs.Common.{ap, length, map-id, rules, subst, sym, ◌∙◌}
 use Rattle.std.proofs.lemmas.Iterator.Adapters.{YieldsList-from_vec}
 use Rattle.std.proofs.lemmas.Iterator.Consumers.{YieldsList-end}
 use Rattle.protocol.specs.Member.{IsMember}
@@ -12,8 +12,8 @@ loop-note-init c = record {
   division = ap (λ (s : State). s.division) c.self.view_is;
   weights = ap (λ (s : State). s.weights) c.self.view_is;
   me = ap (λ (s : State). s.me) c.self.view_is;
-  claim = refl;
-  job = refl;
+  claim = c.take.ensures.after;
+  job = c.take-2.ensures.after;
   tree = c.self.invariant.tree;
   digest = c.self.invariant.digest;
   facts = ap (λ (s : State). s.facts) c.self.view_is;
