@@ -63,8 +63,8 @@ pub fn packages(alloc: Global, value: &Value) -> Result<Packages, ReadError>
     let Some(members) = value.as_object() else {
         return Err(ReadError::Bad);
     };
-    let mut paths = IndexSet::new(alloc);
     let mut packages = Vec::with_capacity(alloc, members.len())?;
+    let mut paths = IndexSet::new(alloc);
     for (key, value) in members {
         add(alloc, &mut paths, &mut packages, key.as_str(), value)?;
     }

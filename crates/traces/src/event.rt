@@ -4,6 +4,7 @@ ghost use Rattle.events.specs.Events.{event_view};
 ghost use Rattle.serde_json.specs.View.{view};
 ghost use Rattle.traces.specs.Events.{
   built_alone_in,
+  built_in,
   built_several_in,
   claim_in,
   clean_stop_in,
@@ -13,6 +14,7 @@ ghost use Rattle.traces.specs.Events.{
   left_of,
   node_alone_in,
   node_and_path_in,
+  of_node_in,
   of_path_in,
   step_in,
   step_of,
@@ -166,6 +168,25 @@ fn deliver(value: &Value) -> Result<Event, ReadError>
     }
 }
 
+/// A build is done.
+fn built(alloc: Global, value: &Value) -> Result<Event, ReadError>
+    ensures { Gives event_view result (built_in (view value.now)) }
+{
+    if value.get("files").is_some() {
+        built_alone(alloc, value)
+    } else {
+        built_several(alloc, value)
+    }
+}
+
+/// A node is nudged.
+fn nudge(value: &Value) -> Result<Event, ReadError>
+    ensures { Gives event_view result (of_node_in events.Nudge (view value.now)) }
+{
+    let node = node_alone(value)?;
+    Ok(Event::Nudge { node })
+}
+
 /// An event of this kind that a stop may cut short.
 fn step_of(alloc: Global, kind: &str, value: &Value) -> Result<Event, ReadError>
     ensures { Gives event_view result (step_of kind.now (view value.now)) }
@@ -173,16 +194,11 @@ fn step_of(alloc: Global, kind: &str, value: &Value) -> Result<Event, ReadError>
     if kind == "claim" {
         claim(alloc, value)
     } else if kind == "built" {
-        if value.get("files").is_some() {
-            built_alone(alloc, value)
-        } else {
-            built_several(alloc, value)
-        }
+        built(alloc, value)
     } else if kind == "failed" {
         failed(alloc, value)
     } else if kind == "nudge" {
-        let node = node_alone(value)?;
-        Ok(Event::Nudge { node })
+        nudge(value)
     } else if kind == "ask" {
         ask(alloc, value)
     } else if kind == "deliver" {
