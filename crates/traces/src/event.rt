@@ -19,6 +19,7 @@ ghost use Rattle.traces.specs.Events.{
   step_in,
   step_of,
   stop_in,
+  stop_inside,
   torn_stop_in,
 };
 ghost use Rattle.events.specs.Events as events;
@@ -228,6 +229,14 @@ fn left(word: &str) -> Result<Left, ReadError>
     }
 }
 
+/// A stop inside the step that the value is, which leaves this.
+fn stop_in(alloc: Global, input: &Value, left: Left) -> Result<Event, ReadError>
+    ensures { Gives event_view result (stop_inside left (view input.now)) }
+{
+    let input = step(alloc, input)?;
+    Ok(Event::stop_in(alloc, input, left)?)
+}
+
 /// A stop inside a step that leaves nothing torn.
 #[tactic(auto, unfolding(crate::specs::Events::clean_stop_in))]
 fn clean_stop(alloc: Global, value: &Value) -> Result<Event, ReadError>
@@ -238,8 +247,7 @@ fn clean_stop(alloc: Global, value: &Value) -> Result<Event, ReadError>
     if members(value) != 3 {
         return Err(ReadError::Bad);
     }
-    let input = step(alloc, input)?;
-    Ok(Event::stop_in(alloc, input, left)?)
+    stop_in(alloc, input, left)
 }
 
 /// A stop inside a step that leaves these bytes.
@@ -253,8 +261,7 @@ fn torn_stop(alloc: Global, value: &Value) -> Result<Event, ReadError>
         return Err(ReadError::Bad);
     }
     let bytes = hex(alloc, value)?;
-    let input = step(alloc, input)?;
-    Ok(Event::stop_in(alloc, input, Left::Torn(Torn::new(bytes)))?)
+    stop_in(alloc, input, Left::Torn(Torn::new(bytes)))
 }
 
 /// A stop inside a step.
