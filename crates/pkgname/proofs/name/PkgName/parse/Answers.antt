@@ -1,5 +1,4 @@
 use Rattle.std.proofs.Common.{rules, ◌≡◌, ◌+◌, ◌∙◌, arith, ap, drop, false, Some, sym, take, true, ◌∷◌}
-use Rattle.std.proofs.lemmas.Grind.{common_steps}
 use Rattle.std.proofs.lemmas.List.{length-drop, take_rest}
 use Rattle.std.specs.Char.{is_ascii_digit}
 use Rattle.std.specs.List.{list_all, list_any}
@@ -36,6 +35,3 @@ invariant_of-result c =
 
 pub returns-in_default : goal.returns-in_default
 returns-in_default c = search rules
-
-pub returns-in_err-version_length : goal.returns-in_err-version_length
-returns-in_err-version_length c = grind (arith, common_steps)
