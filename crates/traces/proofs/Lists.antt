@@ -1,6 +1,6 @@
--- Lists that are read item by item.
-use Rattle.std.proofs.Common.{◌≡◌, ℕ, ◌+◌, ◌<◌, ◌≤◌, List, [], ◌∷◌, ◌++◌, length, get_or, drop, Option, None, Some, option_map, refl, sym, ap, ◌∙◌, append_assoc, append-nil}
-use Rattle.std.proofs.lemmas.List.{drop_all, drop_more}
+-- Lists that are read, or written, item by item.
+use Rattle.std.proofs.Common.{◌≡◌, ℕ, ◌+◌, ◌<◌, ◌≤◌, List, [], ◌∷◌, ◌++◌, length, get_or, map, take, drop, Option, None, Some, option_map, refl, sym, ap, ◌∙◌, append_assoc, append-nil}
+use Rattle.std.proofs.lemmas.List.{drop_all, drop_more, map-append, take_more}
 use Rattle.serde_json.specs.Data.{Data}
 use Rattle.serde_json.specs.View.{items_view, view}
 use Rattle.serde_json.specs.declared.value.Value.{Value}
@@ -40,3 +40,17 @@ module _ {X : Type 0} (read : Data → Option X) (vs : List Value) where
   -- no item is left
   pub all_done : (all : Option (List X)) (done : List X) (i : ℕ) → length vs ≤ i → all ≡ behind done (rest_from i) → all ≡ Some done
   all_done all done i le e = e ∙ ap (λ ws. behind done (all_of read (items_view ws))) (drop_all i vs le) ∙ ap Some (append-nil done)
+
+module _ {A B W : Type 0} (view : A → W) (write : B → W) where
+  -- one item more of a list is written
+  pub written_more : (done : List A) (xs : List B) (i : ℕ) (v : A) (x d : B) → i < length xs → x ≡ get_or xs i d → view v ≡ write x
+      → map view done ≡ map write (take i xs) → map view (done ++ v ∷ []) ≡ map write (take (i + 1) xs)
+  written_more done xs i v x d lt is writes e =
+      rw (map-append view done (v ∷ []), take_more xs i d lt, map-append write (take i xs) (get_or xs i d ∷ []), ← is, e, writes) refl
+
+  -- likewise where each item is seen by a view
+  pub seen_more : {C : Type 0} (see : C → B) (done : List A) (xs : List C) (i : ℕ) (v : A) (x : C) → i < length xs → x ≡ get_or xs i x → view v ≡ write (see x)
+      → map view done ≡ map write (map see (take i xs)) → map view (done ++ v ∷ []) ≡ map write (map see (take (i + 1) xs))
+  seen_more see done xs i v x lt is writes e =
+      let taken : take (i + 1) xs ≡ take i xs ++ x ∷ [] = take_more xs i x lt ∙ ap (λ y. take i xs ++ y ∷ []) (sym is) in
+      rw (map-append view done (v ∷ []), taken, map-append see (take i xs) (x ∷ []), map-append write (map see (take i xs)) (see x ∷ []), e, writes) refl

@@ -102,6 +102,10 @@ left_of word =
     else if bytes_eq word (codes "whole") then Some left.Whole
     else None
 
+-- a stop inside the step that the value is, which leaves this
+abbrev pub stop_inside : Left → Data → Option Event
+stop_inside left d = step_in d >>= (λ input. Some (StopIn input left))
+
 -- a stop inside a step that leaves nothing torn
 unfoldable pub clean_stop_in : Data → Option Event
 clean_stop_in d = do

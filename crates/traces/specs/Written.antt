@@ -66,9 +66,13 @@ packages_data packages = list_data (map package_data packages)
 
 -- ---- events
 
+-- what an event of this kind has of a node
+abbrev pub node_members : Text → ℕ → Members
+node_members kind n = members ((codes "event", word kind) ∷ (codes "node", natural n) ∷ [])
+
 -- the event of this kind, of a node
 abbrev pub node_data : Text → ℕ → Data
-node_data kind n = fields ((codes "event", word kind) ∷ (codes "node", natural n) ∷ [])
+node_data kind n = object (node_members kind n)
 
 -- what an event of this kind has of a node and a path
 abbrev pub path_members : Text → ℕ → Text → Members

@@ -1,8 +1,8 @@
 //! BUILDS.
 ghost use Rattle.std.specs.Prelude.{◌≡◌, ◌++◌, ◌∷◌, [], IfOk, OnOk, map, not, true};
 ghost use Rattle.faults.specs.Bytes.{is_among};
-ghost use Rattle.serde_json.specs.View.{view};
-ghost use Rattle.traces.specs.Builds.{keyed, packages_of, with_member};
+ghost use Rattle.serde_json.specs.View.{members_view, view};
+ghost use Rattle.traces.specs.Builds.{keyed, packages_behind, packages_of, with_member};
 ghost use Rattle.traces.specs.inside.Given.{Gives};
 
 use crate::fields::path_of;
@@ -13,8 +13,9 @@ use indexmap::IndexSet;
 use package_record::Files;
 use pkgpath::PkgPath;
 use protocol::Packages;
-use serde_json::Value;
+use serde_json::{Map, Value};
 use std::alloc::Global;
+use std::string::String;
 
 /// Enters the path, and answers if it is new.
 fn enter(paths: &mut IndexSet<PkgPath>, path: &PkgPath) -> Result<bool, Memory>
@@ -56,6 +57,23 @@ fn add(
     Ok(())
 }
 
+/// Puts the packages of these members behind those, whose paths these are.
+fn add_all(
+    alloc: Global,
+    paths: &mut IndexSet<PkgPath>,
+    packages: &mut Vec<(PkgPath, Files)>,
+    members: &Map<String, Value>,
+) -> Result<(), ReadError>
+    requires { paths.old.keys ≡ map (λ p. p.0) packages.old.items }
+    ensures { Gives (λ _. packages.new.items) result
+        (packages_behind packages.old.items (members_view members.now.entries)) }
+{
+    for (key, value) in members {
+        add(alloc, paths, packages, key.as_str(), value)?;
+    }
+    Ok(())
+}
+
 /// The packages of an object's members.
 pub fn packages(alloc: Global, value: &Value) -> Result<Packages, ReadError>
     ensures { Gives (λ p. p) result (packages_of (view value.now)) }
@@ -63,10 +81,10 @@ pub fn packages(alloc: Global, value: &Value) -> Result<Packages, ReadError>
     let Some(members) = value.as_object() else {
         return Err(ReadError::Bad);
     };
-    let mut paths = IndexSet::new(alloc);
     let mut packages = Vec::with_capacity(alloc, members.len())?;
-    for (key, value) in members {
-        add(alloc, &mut paths, &mut packages, key.as_str(), value)?;
-    }
+    let mut paths = IndexSet::new(alloc);
+    let added = add_all(alloc, &mut paths, &mut packages, members);
+    drop(paths);
+    added?;
     Ok(Packages::new(packages))
 }

@@ -4,6 +4,7 @@ ghost use Rattle.events.specs.Events.{event_view};
 ghost use Rattle.serde_json.specs.View.{view};
 ghost use Rattle.traces.specs.Events.{
   built_alone_in,
+  built_in,
   built_several_in,
   claim_in,
   clean_stop_in,
@@ -13,10 +14,12 @@ ghost use Rattle.traces.specs.Events.{
   left_of,
   node_alone_in,
   node_and_path_in,
+  of_node_in,
   of_path_in,
   step_in,
   step_of,
   stop_in,
+  stop_inside,
   torn_stop_in,
 };
 ghost use Rattle.events.specs.Events as events;
@@ -166,6 +169,25 @@ fn deliver(value: &Value) -> Result<Event, ReadError>
     }
 }
 
+/// A build is done.
+fn built(alloc: Global, value: &Value) -> Result<Event, ReadError>
+    ensures { Gives event_view result (built_in (view value.now)) }
+{
+    if value.get("files").is_some() {
+        built_alone(alloc, value)
+    } else {
+        built_several(alloc, value)
+    }
+}
+
+/// A node is nudged.
+fn nudge(value: &Value) -> Result<Event, ReadError>
+    ensures { Gives event_view result (of_node_in events.Nudge (view value.now)) }
+{
+    let node = node_alone(value)?;
+    Ok(Event::Nudge { node })
+}
+
 /// An event of this kind that a stop may cut short.
 fn step_of(alloc: Global, kind: &str, value: &Value) -> Result<Event, ReadError>
     ensures { Gives event_view result (step_of kind.now (view value.now)) }
@@ -173,16 +195,11 @@ fn step_of(alloc: Global, kind: &str, value: &Value) -> Result<Event, ReadError>
     if kind == "claim" {
         claim(alloc, value)
     } else if kind == "built" {
-        if value.get("files").is_some() {
-            built_alone(alloc, value)
-        } else {
-            built_several(alloc, value)
-        }
+        built(alloc, value)
     } else if kind == "failed" {
         failed(alloc, value)
     } else if kind == "nudge" {
-        let node = node_alone(value)?;
-        Ok(Event::Nudge { node })
+        nudge(value)
     } else if kind == "ask" {
         ask(alloc, value)
     } else if kind == "deliver" {
@@ -212,6 +229,14 @@ fn left(word: &str) -> Result<Left, ReadError>
     }
 }
 
+/// A stop inside the step that the value is, which leaves this.
+fn stop_in(alloc: Global, input: &Value, left: Left) -> Result<Event, ReadError>
+    ensures { Gives event_view result (stop_inside left (view input.now)) }
+{
+    let input = step(alloc, input)?;
+    Ok(Event::stop_in(alloc, input, left)?)
+}
+
 /// A stop inside a step that leaves nothing torn.
 #[tactic(auto, unfolding(crate::specs::Events::clean_stop_in))]
 fn clean_stop(alloc: Global, value: &Value) -> Result<Event, ReadError>
@@ -222,8 +247,7 @@ fn clean_stop(alloc: Global, value: &Value) -> Result<Event, ReadError>
     if members(value) != 3 {
         return Err(ReadError::Bad);
     }
-    let input = step(alloc, input)?;
-    Ok(Event::stop_in(alloc, input, left)?)
+    stop_in(alloc, input, left)
 }
 
 /// A stop inside a step that leaves these bytes.
@@ -237,8 +261,7 @@ fn torn_stop(alloc: Global, value: &Value) -> Result<Event, ReadError>
         return Err(ReadError::Bad);
     }
     let bytes = hex(alloc, value)?;
-    let input = step(alloc, input)?;
-    Ok(Event::stop_in(alloc, input, Left::Torn(Torn::new(bytes)))?)
+    stop_in(alloc, input, Left::Torn(Torn::new(bytes)))
 }
 
 /// A stop inside a step.

@@ -19,7 +19,7 @@ use crate::listed::Listed;
 use crate::read_error::ReadError;
 use crate::reading;
 use json::{Reader, Scratch, Token};
-use serde_json::{Map, Value};
+use serde_json::{Map, Value, put};
 use std::alloc::Global;
 use std::string::String;
 
@@ -183,10 +183,9 @@ fn members(
     let mut members = Map::new(alloc);
     let mut listed = Listed::Events(Vec::new(alloc));
     'members: while let Some(name) = next_key(reader)? {
-        let key = String::from_str(alloc, name)?;
         let (value, last) = member(alloc, reader, name, listed)?;
         listed = last;
-        drop(members.insert(key, value)?);
+        put(&mut members, alloc, name, value)?;
     }
     Ok((members, listed))
 }

@@ -16,6 +16,7 @@ ghost use Rattle.traces.specs.Written.{
   list_data,
   natural,
   node_data,
+  node_members,
   package_data,
   packages_data,
   path_data,
@@ -36,7 +37,7 @@ use faults::Memory;
 use package_record::{File, Files};
 use pkgpath::PkgPath;
 use protocol::Packages;
-use serde_json::{Map, Value, json, put};
+use serde_json::{Map, Value, put};
 use std::alloc::Global;
 use std::string::String;
 
@@ -68,9 +69,20 @@ fn hex(alloc: Global, bytes: &[u8]) -> Result<Value, Memory>
 fn file(alloc: Global, file: &File) -> Result<Value, Memory>
     ensures { IfOk result (λ v. view v ≡ file_data (file_view file.now)) }
 {
-    let bytes = hex(alloc, file.bytes.as_slice())?;
-    let name = text(alloc, file.name.as_slice())?;
-    Ok(json!(in alloc; {"hex": bytes, "name": name})?)
+    let mut members = Map::new(alloc);
+    put(
+        &mut members,
+        alloc,
+        "hex",
+        hex(alloc, file.bytes.as_slice())?,
+    )?;
+    put(
+        &mut members,
+        alloc,
+        "name",
+        text(alloc, file.name.as_slice())?,
+    )?;
+    Ok(Value::Object(members))
 }
 
 /// Files.
@@ -90,9 +102,10 @@ fn package(alloc: Global, one: &(PkgPath, Files)) -> Result<Value, Memory>
     ensures { IfOk result (λ v. view v ≡ package_data one.now) }
 {
     let (path, contents) = one;
-    let contents = files(alloc, contents)?;
-    let path = text(alloc, path.as_bytes())?;
-    Ok(json!(in alloc; {"files": contents, "path": path})?)
+    let mut members = Map::new(alloc);
+    put(&mut members, alloc, "files", files(alloc, contents)?)?;
+    put(&mut members, alloc, "path", text(alloc, path.as_bytes())?)?;
+    Ok(Value::Object(members))
 }
 
 /// Packages.
@@ -107,11 +120,21 @@ fn packages(alloc: Global, packages: &Packages) -> Result<Value, Memory>
     Ok(Value::Array(items))
 }
 
+/// What an event of this kind has of a node.
+fn node_members(alloc: Global, kind: &str, node: u8) -> Result<Map<String, Value>, Memory>
+    ensures { IfOk result (λ m. members_view m.entries ≡ node_members kind.now node) }
+{
+    let mut members = Map::new(alloc);
+    put(&mut members, alloc, "event", word(alloc, kind)?)?;
+    put(&mut members, alloc, "node", Value::from(node))?;
+    Ok(members)
+}
+
 /// An event of this kind, of a node.
 fn of_node(alloc: Global, kind: &str, node: u8) -> Result<Value, Memory>
     ensures { IfOk result (λ v. view v ≡ node_data kind.now node) }
 {
-    Ok(json!(in alloc; {"event": kind, "node": node})?)
+    Ok(Value::Object(node_members(alloc, kind, node)?))
 }
 
 /// What an event of this kind has of a node and a path.
@@ -123,9 +146,7 @@ fn node_and_path(
 ) -> Result<Map<String, Value>, Memory>
     ensures { IfOk result (λ m. members_view m.entries ≡ path_members kind.now node path.now) }
 {
-    let mut members = Map::new(alloc);
-    put(&mut members, alloc, "event", word(alloc, kind)?)?;
-    put(&mut members, alloc, "node", Value::from(node))?;
+    let mut members = node_members(alloc, kind, node)?;
     put(&mut members, alloc, "path", text(alloc, path.as_bytes())?)?;
     Ok(members)
 }
@@ -164,7 +185,9 @@ fn built(alloc: Global, node: u8, path: &PkgPath, given: &Packages) -> Result<Va
 fn deliver(alloc: Global, datagram: u64, node: u8) -> Result<Value, Memory>
     ensures { IfOk result (λ v. view v ≡ deliver_data datagram node) }
 {
-    Ok(json!(in alloc; {"datagram": datagram, "event": "deliver", "node": node})?)
+    let mut members = node_members(alloc, "deliver", node)?;
+    put(&mut members, alloc, "datagram", Value::from(datagram))?;
+    Ok(Value::Object(members))
 }
 
 /// What a stop inside this step has, but for bytes.
@@ -172,8 +195,8 @@ fn stop_members(alloc: Global, input: Value, left: &str) -> Result<Map<String, V
     ensures { IfOk result (λ m. members_view m.entries ≡ stop_members left.now (view input)) }
 {
     let mut members = Map::new(alloc);
-    put(&mut members, alloc, "event", word(alloc, "stopin")?)?;
     put(&mut members, alloc, "input", input)?;
+    put(&mut members, alloc, "event", word(alloc, "stopin")?)?;
     put(&mut members, alloc, "left", word(alloc, left)?)?;
     Ok(members)
 }

@@ -1,9 +1,8 @@
-use Rattle.std.proofs.Common.{◌≡◌, ◌-◌, length, None, Some, string_bytes, sym, ap, ◌∙◌, arith, rules, refl}
+use Rattle.std.proofs.Common.{◌≡◌, ◌-◌, length, None, Some, sym, ap, ◌∙◌, arith, rules, refl}
 use Rattle.json.specs.Json.{read_key, value}
 use Rattle.json.proofs.Grammar.{read_key-shorter}
 use Rattle.serde_json.specs.Data.{no_members, put}
 use Rattle.serde_json.specs.View.{members_view, view}
-use Rattle.serde_json.proofs.Views.{members_view-insert_entry}
 use Rattle.traces.specs.inside.Given.{Fails}
 use Rattle.traces.specs.inside.Kept.{members_read, value_read}
 use Rattle.traces.proofs.Given.{fails_along}
@@ -45,10 +44,7 @@ members-preserved c =
     let r = c.member.new.reader in
     let less = read_key-shorter l.reader (Some k) s named in
     let lesser = keeps.shorter in
-    let copied : string_bytes c.in_ok-key.key ≡ k = search rules in
-    let inserted : members_view c.insert.new.self.entries ≡ put k (view v) (members_view l.members.entries) =
-    ap members_view c.in_ok-insert.ensures.entries ∙ members_view-insert_entry l.members.entries c.in_ok-key.key v ∙ ap (λ name. put name (view v) (members_view l.members.entries)) copied in
-    let same = inserted ∙ (λ i. put k (keeps.kept_is i) (l.invariant.2.2 i)) ∙ sym (kept_put k keeps.datum all) in (
+    let same = c.in_ok-put.ensures.ok ∙ (λ i. put k (keeps.kept_is i) (l.invariant.2.2 i)) ∙ sym (kept_put k keeps.datum all) in (
       n - 1,
       omega (arith, l.invariant.1),
       (put k keeps.datum all, l.invariant.2.1 ∙ member_read p all n k l.reader s r keeps.datum (omega (arith, l.invariant.1)) named keeps.reads, same, keeps.lists all l.invariant.2.3),

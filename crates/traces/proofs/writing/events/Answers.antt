@@ -1,0 +1,10 @@
+use Rattle.events.specs.Events.{event_view}
+use Rattle.serde_json.specs.View.{view}
+use Rattle.traces.specs.Written.{event_data}
+use Rattle.traces.proofs.Lists.{seen_more}
+use Rattle.traces.proofs.writing.events.Goals as goal
+
+pub loop-one-preserved : goal.loop-one-preserved
+loop-one-preserved c =
+    rw c.in_ok-push.ensures.items
+    (seen_more view event_data event_view c.loop-one.items.items c.args.all.now c.loop-one.one-index c.in_ok-event.field-0 c.one-item.result c.loop-one-test.true c.one-item.is c.in_ok-event.ensures c.loop-one.invariant)

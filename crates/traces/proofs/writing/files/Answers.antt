@@ -1,0 +1,10 @@
+use Rattle.package_record.specs.Views.{file_view}
+use Rattle.serde_json.specs.View.{view}
+use Rattle.traces.specs.Written.{file_data}
+use Rattle.traces.proofs.Lists.{seen_more}
+use Rattle.traces.proofs.writing.files.Goals as goal
+
+pub loop-one-preserved : goal.loop-one-preserved
+loop-one-preserved c =
+    rw c.in_ok-push.ensures.items
+    (seen_more view file_data file_view c.loop-one.items.items c.as_slice-files.result.now c.loop-one.one-index c.in_ok-file.field-0 c.one-item.result c.loop-one-test.true c.one-item.is c.in_ok-file.ensures c.loop-one.invariant)
