@@ -1,4 +1,4 @@
-use Rattle.std.proofs.Common.{◌≡◌, ◌==◌, ◌&&◌, true, codes, rules}
+use Rattle.std.proofs.Common.{◌≡◌, ◌==◌, true, codes, rules}
 use Rattle.std.specs.Prelude.{bytes_eq}
 use Rattle.serde_json.specs.View.{view}
 use Rattle.traces.specs.Events.{torn_stop_in}
