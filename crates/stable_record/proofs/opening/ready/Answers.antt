@@ -1,4 +1,5 @@
-use Rattle.std.proofs.Common.{inl, inr, [], map, refl, ◌∙◌}
+use Rattle.std.proofs.lemmas.Grind.{common_steps}
+use Rattle.std.proofs.Common.{inl, inr, [], map, refl, ◌∙◌, arith}
 use Rattle.std.proofs.lemmas.Result.{err_from_is_err_and}
 use Rattle.stable_record.specs.History.{seen}
 use Rattle.stable_record.specs.Log.{note_of}
@@ -79,3 +80,6 @@ returns-clause-any_moment g c kept =
     let found = opened_notes i c.deref.result.now (seen h) c.in_ok-opening_of.field-0 c.in-Notes.notes c.in-Notes.end read c.in_ok-opening_of.ensures.ok c.in-Notes.is in
     repaired_along i h (g.met.D.Disk.stays_possible c.args.disk.now) c.opening_of.ensures.tree notes mid (g.D.Disk.history c.trim.new.disk) is (inr found.0)
     (c.trim.ensures.any_moment kept i notes (synced_on_disk h mid is) (rw is found.0) found.1)
+
+pub returns-clause-fits : goal.returns-clause-fits
+returns-clause-fits g c = grind (arith, common_steps)

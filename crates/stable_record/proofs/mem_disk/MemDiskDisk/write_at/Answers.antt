@@ -1,4 +1,5 @@
-use Rattle.std.proofs.Common.{◌∙◌, refl, rules, sym}
+use Rattle.std.proofs.lemmas.Grind.{elements}
+use Rattle.std.proofs.Common.{◌∙◌, refl, rules, sym, arith}
 use Rattle.std.proofs.Math.Facts.{Fits-lt-pow}
 use Rattle.stable_record.specs.Events.{replay}
 use Rattle.stable_record.specs.History.{seen, overwritten}
@@ -24,3 +25,6 @@ invariant_of-self-2-clause-ranges_are c =
     let h = replay no_past c.keep_from.new.self.noted.events in
     let pushed = unsynced_push c.args.at bytes (overwritten c.args.at bytes (seen h)) h (sym c.is_empty.ensures ∙ c.if-is_empty.false) in
     search rules
+
+pub returns-clause-room : goal.returns-clause-room
+returns-clause-room c = grind (arith, elements)
