@@ -94,6 +94,7 @@ pub fn sized(alloc: Global, fields: Fields) -> Result<(Record, usize), RecordFau
 {
     let length = text_length(alloc, &fields)?;
     if length > LIMIT {
+        drop(fields);
         return Err(RecordFault::TooLarge);
     }
     let made = Record::of(alloc, fields)?;

@@ -172,13 +172,22 @@ pub fn header(alloc: Global, fields: &Fields) -> Result<Vec<u8>, Memory>
     Ok(text)
 }
 
+/// Appends the bytes of the files, one file after the other.
+fn put_bodies(out: &mut Vec<u8>, files: &[File]) -> Result<(), Memory>
+    ensures { OnOk result
+        (out.new.items ≡ out.old.items ++ flat_map (λ f. f.bytes) (map file_view files.now)) }
+{
+    for file in files {
+        out.extend_from_slice(file.bytes.as_slice())?;
+    }
+    Ok(())
+}
+
 /// The whole text.
 pub fn text(alloc: Global, fields: &Fields) -> Result<Vec<u8>, Memory>
     ensures { IfOk result (λ text. text.items ≡ record_text (content_of fields.now)) }
 {
     let mut text = header(alloc, fields)?;
-    for file in fields.files.as_slice() {
-        text.extend_from_slice(file.bytes.as_slice())?;
-    }
+    put_bodies(&mut text, fields.files.as_slice())?;
     Ok(text)
 }
