@@ -1,3 +1,4 @@
+use Rattle.std.proofs.lemmas.Grind.{common_steps}
 use Rattle.std.proofs.Common.{◌≡◌, ◌∙◌, ◌∷◌, [], List, Option, Some, sym, ap, arith, map}
 use Rattle.std.specs.Prelude.{is_some, unwrap_or}
 use Rattle.std.specs.List.{slice_index_or}
@@ -43,3 +44,9 @@ loop-position-preserved c =
           ∙ apart tree ps i k c.requires.order (omega (arith, above)) within)
           ∙ before.left k (omega (arith, above)) within;
     }
+
+pub returns : goal.returns
+returns c = grind (arith, common_steps)
+
+pub returns-in_default : goal.returns-in_default
+returns-in_default c = grind (arith, common_steps)

@@ -1,3 +1,4 @@
+use Rattle.std.proofs.lemmas.Grind.{common_steps}
 use Rattle.std.proofs.Common.{◌≡◌, ◌<◌, ◌≤◌, ◌+◌, ◌∙◌, ap, drop, length, subst, sym, arith, inl, inr}
 use Rattle.std.proofs.lemmas.List.{length_push}
 use Rattle.std.proofs.lemmas.Result.{err_from_is_err_and}
@@ -49,3 +50,6 @@ returns-clause-answer c =
     let numbers = c.words.numbers.items in
     let all = none_left (words_of c.args.value.now) (length numbers) (c.words.invariant.left ∙ c.in_default.ensures.words) in
     all_read c.args.line c.args.value.now c.args.self.now c.words.self numbers (length numbers) c.words.invariant.read all
+
+pub returns-in_err-push-clause-grows : goal.returns-in_err-push-clause-grows
+returns-in_err-push-clause-grows c = grind (arith, common_steps)

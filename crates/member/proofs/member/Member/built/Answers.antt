@@ -1,4 +1,5 @@
-use Rattle.std.proofs.Common.{Some, ap, ◌∙◌}
+use Rattle.std.proofs.lemmas.Grind.{common_steps}
+use Rattle.std.proofs.Common.{Some, ap, ◌∙◌, arith}
 use Rattle.std.proofs.lemmas.Result.{err_from_is_err_and}
 use Rattle.claims.specs.Job.{Task}
 use Rattle.ballots.specs.Support.{of_nobody}
@@ -31,3 +32,6 @@ returns c =
     (ap (λ (j : Task). j.host) c.job.view_is) (ap (λ (j : Task). j.claim) c.job.view_is)
     (c.new.ensures ∙ ap (λ (s : State). of_nobody s.weights) c.self.view_is)
     c.saying.ensures.note sends c.saying.ensures.job c.saying.ensures.change
+
+pub proposed-requires : goal.proposed-requires
+proposed-requires c = grind (arith, common_steps)

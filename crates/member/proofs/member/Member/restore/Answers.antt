@@ -1,4 +1,5 @@
-use Rattle.std.proofs.Common.{ap, length, map-id, rules, subst, sym, ◌∙◌}
+use Rattle.std.proofs.lemmas.Grind.{common_steps}
+use Rattle.std.proofs.Common.{ap, length, map-id, rules, subst, sym, ◌∙◌, arith}
 use Rattle.std.proofs.lemmas.Iterator.Adapters.{YieldsList-from_vec}
 use Rattle.std.proofs.lemmas.Iterator.Consumers.{YieldsList-end}
 use Rattle.protocol.specs.Member.{IsMember}
@@ -41,3 +42,6 @@ returns c =
     c.next.ensures.steps in
     state_restored c.args.self.now c.loop-note.self-inside ys c.loop-note.invariant
     ∙ ap (restored c.args.self.now) (sym (map-id ys) ∙ ends.0)
+
+pub loop-note-preserved : goal.loop-note-preserved
+loop-note-preserved c = grind (arith, common_steps)
