@@ -10,11 +10,20 @@ use std::alloc::Global;
 /// Tells the answers, and gives how often memory ran out in a step.
 pub fn answers(alloc: Global, row: &[String], out: &mut String) -> Result<u32, Memory> {
     let tree = tree(alloc, row)?;
+    let refused = over_tree(alloc, &tree, row, out);
+    drop(tree);
+    refused
+}
+
+/// Tells the answers of nodes over the tree.
+fn over_tree(alloc: Global, tree: &Tree, row: &[String], out: &mut String) -> Result<u32, Memory> {
     let Some(weights) = weights(row) else {
         return Err(Memory);
     };
-    let mut network = Network::new(alloc, &tree, &weights);
-    all(&mut network, row, out)
+    let mut network = Network::new(alloc, tree, &weights);
+    let refused = all(&mut network, row, out);
+    drop(network);
+    refused
 }
 
 /// The tree of the listing, in which each package is a unit by itself where the row says so.
