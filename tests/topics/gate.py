@@ -43,7 +43,7 @@ def lanes():
 def run(tally):
     """Runs `rt ci`, shows what it prints, tells how long it took, and adds its counts."""
     began, before = time.time(), processor_seconds()
-    # by itself it reckons with several times the memory that a check takes, and leaves cores idle
+    # by itself it reckons with two to three times the memory that a check takes, and may leave cores idle
     environment = {"RT_JOBS": str(lanes()), **os.environ}
     gate = subprocess.Popen(["rt", "ci"], cwd=TOP, stdout=subprocess.PIPE, text=True, env=environment)
     lines = []
