@@ -1,6 +1,6 @@
 -- Lists that are read, or written, item by item.
 use Rattle.std.proofs.Common.{◌≡◌, ℕ, ◌+◌, ◌<◌, ◌≤◌, List, [], ◌∷◌, ◌++◌, length, get_or, map, take, drop, Option, None, Some, option_map, refl, sym, ap, ◌∙◌, append_assoc, append-nil}
-use Rattle.std.proofs.lemmas.List.{drop_all, drop_more, map-append, take_more}
+use Rattle.std.proofs.lemmas.List.{drop_all, drop_more, map-append, take_all, take_more}
 use Rattle.serde_json.specs.Data.{Data}
 use Rattle.serde_json.specs.View.{items_view, view}
 use Rattle.serde_json.specs.declared.value.Value.{Value}
@@ -54,3 +54,11 @@ module _ {A B W : Type 0} (view : A → W) (write : B → W) where
   seen_more see done xs i v x lt is writes e =
       let taken : take (i + 1) xs ≡ take i xs ++ x ∷ [] = take_more xs i x lt ∙ ap (λ y. take i xs ++ y ∷ []) (sym is) in
       rw (map-append view done (v ∷ []), taken, map-append see (take i xs) (x ∷ []), map-append write (map see (take i xs)) (see x ∷ []), e, writes) refl
+
+  -- all of it is written once the place is its end
+  pub written_all : (done : List A) (xs : List B) (i : ℕ) → length xs ≤ i → map view done ≡ map write (take i xs) → map view done ≡ map write xs
+  written_all done xs i le e = e ∙ ap (map write) (take_all i xs le)
+
+  -- likewise where each item is seen by a view
+  pub seen_all : {C : Type 0} (see : C → B) (done : List A) (xs : List C) (i : ℕ) → length xs ≤ i → map view done ≡ map write (map see (take i xs)) → map view done ≡ map write (map see xs)
+  seen_all see done xs i le e = e ∙ ap (λ ys. map write (map see ys)) (take_all i xs le)
