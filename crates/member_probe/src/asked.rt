@@ -6,15 +6,15 @@ use faults::Memory;
 use input_words::{first_path, first_place, first_word, input};
 use member::Input;
 
-pub fn answer(out: &mut Text, post: &mut Post<'_>, line: &str) -> Result<(), Memory> {
+pub fn answer(post: &mut Post<'_>, line: &str, out: &mut Text) -> Result<(), Memory> {
     let (word, rest) = first_word(line);
     match word {
-        "deliver" => delivered(out, post, rest),
-        "look" | "twice" => given(out, post, word, rest),
-        "held" | "facts" => of_path(out, post, word, rest),
-        "open" | "counts" => of_member(out, post, word, rest),
-        "restart" => restart(out, post, rest),
-        _ => given(out, post, "give", line),
+        "deliver" => delivered(post, rest, out),
+        "look" | "twice" => given(post, word, rest, out),
+        "held" | "facts" => of_path(post, word, rest, out),
+        "open" | "counts" => of_member(post, word, rest, out),
+        "restart" => restart(post, rest, out),
+        _ => given(post, "give", line, out),
     }
 }
 
@@ -24,7 +24,7 @@ fn no_question(out: &mut Text) -> Result<(), Memory> {
 }
 
 // The input is given, looked at or given twice.
-fn given(out: &mut Text, post: &mut Post<'_>, how: &str, line: &str) -> Result<(), Memory> {
+fn given(post: &mut Post<'_>, how: &str, line: &str, out: &mut Text) -> Result<(), Memory> {
     let (word, rest) = first_word(line);
     let Some((at, rest)) = first_place(rest) else {
         return no_question(out);
@@ -39,7 +39,7 @@ fn given(out: &mut Text, post: &mut Post<'_>, how: &str, line: &str) -> Result<(
     }
 }
 
-fn delivered(out: &mut Text, post: &mut Post<'_>, rest: &str) -> Result<(), Memory> {
+fn delivered(post: &mut Post<'_>, rest: &str, out: &mut Text) -> Result<(), Memory> {
     let Some((number, rest)) = first_place(rest) else {
         return no_question(out);
     };
@@ -52,7 +52,7 @@ fn delivered(out: &mut Text, post: &mut Post<'_>, rest: &str) -> Result<(), Memo
     }
 }
 
-fn of_path(out: &mut Text, post: &Post<'_>, word: &str, rest: &str) -> Result<(), Memory> {
+fn of_path(post: &Post<'_>, word: &str, rest: &str, out: &mut Text) -> Result<(), Memory> {
     let Some((at, rest)) = first_place(rest) else {
         return no_question(out);
     };
@@ -61,29 +61,29 @@ fn of_path(out: &mut Text, post: &Post<'_>, word: &str, rest: &str) -> Result<()
     };
     let path = first_path(post.alloc, rest)?;
     match &path {
-        Some((path, _)) if word == "held" => put_held(out, member, path),
-        Some((path, _)) => put_facts(out, member, path),
+        Some((path, _)) if word == "held" => put_held(member, path, out),
+        Some((path, _)) => put_facts(member, path, out),
         None => out.put("no question"),
     }
     drop(path);
     Ok(())
 }
 
-fn of_member(out: &mut Text, post: &Post<'_>, word: &str, rest: &str) -> Result<(), Memory> {
+fn of_member(post: &Post<'_>, word: &str, rest: &str, out: &mut Text) -> Result<(), Memory> {
     let Some((at, _)) = first_place(rest) else {
         return no_question(out);
     };
     match post.members.get(at) {
-        Some(member) if word == "open" => put_open_claim(out, member),
-        Some(member) => put_counts(out, member),
+        Some(member) if word == "open" => put_open_claim(member, out),
+        Some(member) => put_counts(member, out),
         None => out.put("no question"),
     }
     Ok(())
 }
 
-fn restart(out: &mut Text, post: &mut Post<'_>, rest: &str) -> Result<(), Memory> {
+fn restart(post: &mut Post<'_>, rest: &str, out: &mut Text) -> Result<(), Memory> {
     match first_place(rest) {
-        Some((at, _)) => restarted(out, post, at),
+        Some((at, _)) => restarted(post, at, out),
         None => no_question(out),
     }
 }

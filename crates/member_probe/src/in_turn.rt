@@ -19,7 +19,7 @@ pub fn stepped(member: &mut Member<'_>, input: Input) -> Result<Outcome, Refusal
 }
 
 // Prepares the step, and puts what it would note and say behind the text.
-pub fn prepared(out: &mut Text, member: &mut Member<'_>, input: Input) -> Result<(), Refusal>
+pub fn prepared(member: &mut Member<'_>, input: Input, out: &mut Text) -> Result<(), Refusal>
     ensures { member.new ≡ member.old }
 {
     let step = member.prepare(input)?;

@@ -16,7 +16,7 @@ use package_record::Record;
 use pkgpath::PkgPath;
 use std::alloc::Global;
 
-pub fn put_held(out: &mut Text, member: &Member<'_>, path: &PkgPath) {
+pub fn put_held(member: &Member<'_>, path: &PkgPath, out: &mut Text) {
     match member.held(path) {
         Some(record) => put_record(out, record),
         None => out.put("nothing"),
@@ -33,7 +33,7 @@ fn put_record(out: &mut Text, record: &Record) {
     }
 }
 
-pub fn put_facts(out: &mut Text, member: &Member<'_>, path: &PkgPath) {
+pub fn put_facts(member: &Member<'_>, path: &PkgPath, out: &mut Text) {
     out.put_number("opened ", member.opened(path));
     out.put(" promised");
     if let Some(claim) = member.promised(path) {
@@ -46,7 +46,7 @@ pub fn put_facts(out: &mut Text, member: &Member<'_>, path: &PkgPath) {
     }
 }
 
-pub fn put_counts(out: &mut Text, member: &Member<'_>) {
+pub fn put_counts(member: &Member<'_>, out: &mut Text) {
     let counts = member.counts();
     out.put_number("I ", u64::from(counts.i));
     out.put_number(" B ", u64::from(counts.b));
@@ -55,7 +55,7 @@ pub fn put_counts(out: &mut Text, member: &Member<'_>) {
 }
 
 // The open claim, its host, and how far it is.
-pub fn put_open_claim(out: &mut Text, member: &Member<'_>) {
+pub fn put_open_claim(member: &Member<'_>, out: &mut Text) {
     match member.open_claim() {
         Some(open) => {
             out.put_number("unit ", u64::from(open.unit));
@@ -77,14 +77,14 @@ fn stage_words(open: &OpenClaim) -> &'static str {
 
 // A new member restores what the one with this number noted, and takes its place. The letters of
 // all packages are told, and how many of each there are.
-pub fn restarted(out: &mut Text, post: &mut Post<'_>, at: usize) -> Result<(), Memory> {
+pub fn restarted(post: &mut Post<'_>, at: usize, out: &mut Text) -> Result<(), Memory> {
     if at >= post.weights.len() {
         out.put("no member");
         return Ok(());
     }
     let given = post.given.as_slice();
     let member = restored(post.alloc, post.tree, &post.weights, at as u8, given)?;
-    put_letters(out, post.tree, &member);
+    put_letters(&member, post.tree, out);
     take_place(&mut post.members, at, member)
 }
 
@@ -159,10 +159,10 @@ fn add(notes: &mut Vec<Note>, note: &Note) -> Result<(), Memory>
     Ok(())
 }
 
-fn put_letters(out: &mut Text, tree: &Tree, member: &Member<'_>)
+fn put_letters(member: &Member<'_>, tree: &Tree, out: &mut Text)
     requires { member.now.division.tree ≡ tree.now }
 {
-    put_counts(out, member);
+    put_counts(member, out);
     out.put(" ");
     for position in 0..tree.len() {
         out.put_char(letter_char(member.letter(position)));

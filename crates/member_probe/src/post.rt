@@ -76,7 +76,7 @@ impl<'a> Post<'a> {
     pub fn looked(&mut self, out: &mut Text, at: usize, input: Input) -> Result<(), Memory> {
         let mut text = Text::new(self.alloc);
         let seen = match self.members.get_mut(at) {
-            Some(member) => prepared(&mut text, member, input),
+            Some(member) => prepared(member, input, &mut text),
             None => Err(stranger(input)),
         };
         match (seen, text.whole()) {

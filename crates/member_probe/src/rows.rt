@@ -36,20 +36,20 @@ fn of_members(out: &mut Text, tree: &Tree, row: &[String]) -> Result<u32, Memory
         return Err(Memory);
     };
     let mut post = Post::new(out.alloc(), tree, weights);
-    let refused = all(out, &mut post, row);
+    let refused = all(&mut post, row, out);
     drop(post);
     refused
 }
 
-fn all(out: &mut Text, post: &mut Post<'_>, row: &[String]) -> Result<u32, Memory> {
+fn all(post: &mut Post<'_>, row: &[String], out: &mut Text) -> Result<u32, Memory> {
     enter_members(&mut post.members, post.tree, &post.weights)?;
     for line in row {
-        add(out, post, line.as_str())?;
+        add(post, line.as_str(), out)?;
     }
     Ok(post.refused)
 }
 
-fn add(out: &mut Text, post: &mut Post<'_>, line: &str) -> Result<(), Memory> {
+fn add(post: &mut Post<'_>, line: &str, out: &mut Text) -> Result<(), Memory> {
     let (word, _) = first_word(line);
     if word == "listing" {
         return Ok(());
@@ -61,5 +61,5 @@ fn add(out: &mut Text, post: &mut Post<'_>, line: &str) -> Result<(), Memory> {
     out.put("\n");
     out.put(line);
     out.put(": ");
-    answer(out, post, line)
+    answer(post, line, out)
 }

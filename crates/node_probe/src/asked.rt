@@ -88,7 +88,7 @@ fn knows(network: &Network<'_>, rest: &str, out: &mut String) -> Result<(), Memo
         return no_question(out);
     };
     match network.nodes.get(at) {
-        Some(Some(node)) => put_known(out, node, &path),
+        Some(Some(node)) => put_known(node, &path, out),
         _ => no_question(out),
     }
 }

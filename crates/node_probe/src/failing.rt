@@ -119,7 +119,7 @@ fn tried(network: &mut Network<'_>, log: &[u8], trial: Trial) -> Result<Fared, M
     }
     let disk = new_failing(alloc, trial.failing)?;
     let me = trial.at as u8;
-    match once(alloc, tree, &network.weights, me, disk, &mut network.spare) {
+    match once(alloc, &mut network.spare, tree, &network.weights, me, disk) {
         Ok(()) => stepped(network, log, trial),
         Err((fault, disk)) => unopened(network, log, trial, fault.number(), disk.into_inner()),
     }
@@ -165,7 +165,7 @@ fn stepped(network: &mut Network<'_>, log: &[u8], trial: Trial) -> Result<Fared,
     let Some(node) = &mut network.spare else {
         return Ok(Fared::Badly);
     };
-    let failure = first_failure(&network.past, trial.at, node)?;
+    let failure = first_failure(node, &network.past, trial.at)?;
     let is_stopped = is_stopped(node);
     match failure {
         Some((place, 1001)) if is_stopped => {
@@ -178,12 +178,12 @@ fn stepped(network: &mut Network<'_>, log: &[u8], trial: Trial) -> Result<Fared,
 
 /// The place of the first step that the node refuses, and the number of the refusal.
 fn first_failure(
+    node: &mut Node<'_, FaultDisk>,
     past: &Past,
     at: usize,
-    node: &mut Node<'_, FaultDisk>,
 ) -> Result<Option<(usize, u32)>, Memory> {
     for place in 0..past.steps.len() {
-        let number = refusal(past.alloc, &past.steps[place], at, node)?;
+        let number = refusal(past.alloc, node, &past.steps[place], at)?;
         if number > 0 {
             return Ok(Some((place, number)));
         }
@@ -194,9 +194,9 @@ fn first_failure(
 /// The number of the refusal of the step, where it is the node's and is refused, or 0.
 fn refusal(
     alloc: Global,
+    node: &mut Node<'_, FaultDisk>,
     step: &Step,
     at: usize,
-    node: &mut Node<'_, FaultDisk>,
 ) -> Result<u32, Memory> {
     if step.node != at {
         return Ok(0);
@@ -329,13 +329,13 @@ fn answers_so(
 
 fn tells_so(network: &mut Network<'_>, place: usize) -> Result<bool, Memory> {
     match &mut network.spare {
-        Some(node) => repeats(&network.past, place, node),
+        Some(node) => repeats(node, &network.past, place),
         None => Ok(false),
     }
 }
 
 /// Whether the node answers to the step at this place as it did.
-fn repeats(past: &Past, place: usize, node: &mut Node<'_, FaultDisk>) -> Result<bool, Memory> {
+fn repeats(node: &mut Node<'_, FaultDisk>, past: &Past, place: usize) -> Result<bool, Memory> {
     let Some(step) = past.steps.get(place) else {
         return Ok(false);
     };

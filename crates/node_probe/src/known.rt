@@ -15,17 +15,17 @@ use stable_record::{FaultDisk, MemDisk};
 
 /// Tells what the node knows of the path, whether it has an open claim, and the counts.
 pub fn put_known(
-    out: &mut String,
     node: &Node<'_, FaultDisk>,
     path: &PkgPath,
+    out: &mut String,
 ) -> Result<(), Memory> {
     put_number(out, "opened ", node.opened(path))?;
     put(out, ", promised ")?;
     put_claim(out, node.promised(path))?;
     put(out, ", voted ")?;
     put_claim(out, voted(node, path))?;
-    put_held(out, node, path)?;
-    put_counts(out, node)
+    put_held(node, path, out)?;
+    put_counts(node, out)
 }
 
 fn voted(node: &Node<'_, FaultDisk>, path: &PkgPath) -> Option<Claim> {
@@ -45,7 +45,7 @@ fn put_claim(out: &mut String, claim: Option<Claim>) -> Result<(), Memory> {
     }
 }
 
-fn put_held(out: &mut String, node: &Node<'_, FaultDisk>, path: &PkgPath) -> Result<(), Memory> {
+fn put_held(node: &Node<'_, FaultDisk>, path: &PkgPath, out: &mut String) -> Result<(), Memory> {
     let held = if node.held(path).is_some() {
         ", held"
     } else {
@@ -60,7 +60,7 @@ fn put_held(out: &mut String, node: &Node<'_, FaultDisk>, path: &PkgPath) -> Res
     put(out, open)
 }
 
-fn put_counts(out: &mut String, node: &Node<'_, FaultDisk>) -> Result<(), Memory> {
+fn put_counts(node: &Node<'_, FaultDisk>, out: &mut String) -> Result<(), Memory> {
     let counts = node.counts();
     put_number(out, "I ", u64::from(counts.i))?;
     put_number(out, " B ", u64::from(counts.b))?;
@@ -100,16 +100,16 @@ fn opened_at(
     let Some(place) = network.nodes.get_mut(at) else {
         return put(out, "no node");
     };
-    match open(alloc, tree, &network.weights, at, sound(disk), place) {
-        Ok(()) => put_restored(out, tree, place),
+    match open(alloc, place, tree, &network.weights, at, sound(disk)) {
+        Ok(()) => put_restored(place, tree, out),
         Err(unopened) => put_unopened(out, unopened),
     }
 }
 
 fn put_restored(
-    out: &mut String,
-    tree: &Tree,
     place: &Option<Node<'_, FaultDisk>>,
+    tree: &Tree,
+    out: &mut String,
 ) -> Result<(), Memory>
     requires { IfSome place.now (λ n. n.node.member.division.tree ≡ tree.now) }
 {
@@ -117,24 +117,24 @@ fn put_restored(
         Some(node) => {
             put_number(out, "log ", log_len(node))?;
             put(out, "; ")?;
-            put_counts(out, node)?;
+            put_counts(node, out)?;
             put(out, "; ")?;
-            put_letters(out, tree, node)
+            put_letters(node, tree, out)
         }
         None => Ok(()),
     }
 }
 
-fn put_letters(out: &mut String, tree: &Tree, node: &Node<'_, FaultDisk>) -> Result<(), Memory>
+fn put_letters(node: &Node<'_, FaultDisk>, tree: &Tree, out: &mut String) -> Result<(), Memory>
     requires { node.now.node.member.division.tree ≡ tree.now }
 {
     for position in 0..tree.len() {
-        out.push(letter_at(tree, node, position))?;
+        out.push(letter_at(node, tree, position))?;
     }
     Ok(())
 }
 
-fn letter_at(tree: &Tree, node: &Node<'_, FaultDisk>, position: u32) -> char
+fn letter_at(node: &Node<'_, FaultDisk>, tree: &Tree, position: u32) -> char
     requires tree { node.now.node.member.division.tree ≡ tree.now }
     requires position { position < length tree.now }
 {

@@ -57,7 +57,7 @@ impl<'a> Network<'a> {
     /// Opens the node with this number over the disk.
     pub fn open(&mut self, at: usize, disk: FaultDisk) -> Result<(), Unopened> {
         match self.nodes.get_mut(at) {
-            Some(place) => open(self.alloc, self.tree, &self.weights, at, disk, place),
+            Some(place) => open(self.alloc, place, self.tree, &self.weights, at, disk),
             None => Err(Unopened::NoNode),
         }
     }
@@ -66,11 +66,11 @@ impl<'a> Network<'a> {
     pub fn open_spare(&mut self, at: usize, disk: FaultDisk) -> Result<(), Unopened> {
         open(
             self.alloc,
+            &mut self.spare,
             self.tree,
             &self.weights,
             at,
             disk,
-            &mut self.spare,
         )
     }
 

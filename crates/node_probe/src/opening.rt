@@ -67,11 +67,11 @@ pub fn put_unopened(out: &mut String, unopened: Unopened) -> Result<(), Memory> 
 /// runs out it is opened again.
 pub fn open<'a>(
     alloc: Global,
+    place: &mut Option<Node<'a, FaultDisk>>,
     tree: &'a Tree,
     weights: &Weights,
     at: usize,
     disk: FaultDisk,
-    place: &mut Option<Node<'a, FaultDisk>>,
 ) -> Result<(), Unopened>
     ensures { OnOk result
         (IfSome place.new (λ n. n.node.member.division.tree ≡ tree.entry.now)) }
@@ -79,10 +79,10 @@ pub fn open<'a>(
     if at >= weights.len() {
         return Err(Unopened::NoNode);
     }
-    match once(alloc, tree, weights, at as u8, disk, place) {
+    match once(alloc, place, tree, weights, at as u8, disk) {
         Ok(()) => Ok(()),
         Err((NodeFault::Memory, disk)) => {
-            match once(alloc, tree, weights, at as u8, disk, place) {
+            match once(alloc, place, tree, weights, at as u8, disk) {
                 Ok(()) => Ok(()),
                 Err((fault, _disk)) => Err(Unopened::of(fault)),
             }
@@ -94,11 +94,11 @@ pub fn open<'a>(
 /// Opens the node with this number over what the disk has, and leaves it at the place.
 pub fn once<'a>(
     alloc: Global,
+    place: &mut Option<Node<'a, FaultDisk>>,
     tree: &'a Tree,
     weights: &Weights,
     me: u8,
     disk: FaultDisk,
-    place: &mut Option<Node<'a, FaultDisk>>,
 ) -> Result<(), (NodeFault, FaultDisk)>
     requires { me < length weights.now }
     ensures { OnOk result

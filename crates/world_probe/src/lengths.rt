@@ -16,8 +16,8 @@ pub fn lengths(
     for event in events {
         add_refusal(alloc, &mut text, refusal(world, again, event))?;
     }
-    add_logs(alloc, &mut text, world)?;
-    add_sent(alloc, &mut text, world)?;
+    add_logs(alloc, world, &mut text)?;
+    add_sent(alloc, world, &mut text)?;
     add_agreed(alloc, &mut text, world.agreed())?;
     Ok(text)
 }
@@ -35,7 +35,7 @@ fn add_number(alloc: Global, text: &mut String, number: usize) -> Result<(), Mem
     Ok(text.push_str(number.as_str())?)
 }
 
-fn add_logs(alloc: Global, text: &mut String, world: &World<'_>) -> Result<(), Memory> {
+fn add_logs(alloc: Global, world: &World<'_>, text: &mut String) -> Result<(), Memory> {
     text.push_str("logs")?;
     for node in 0..world.len() {
         add_number(alloc, text, world.log_len(node) as usize)?;
@@ -43,7 +43,7 @@ fn add_logs(alloc: Global, text: &mut String, world: &World<'_>) -> Result<(), M
     Ok(())
 }
 
-fn add_sent(alloc: Global, text: &mut String, world: &World<'_>) -> Result<(), Memory> {
+fn add_sent(alloc: Global, world: &World<'_>, text: &mut String) -> Result<(), Memory> {
     text.push_str(" datagrams")?;
     for datagram in world.datagrams() {
         add_number(alloc, text, datagram.len())?;

@@ -14,7 +14,7 @@ pub fn ended(alloc: Global, tree: &Tree, trace: Trace) -> Result<String, Memory>
     let Trace { weights, events } = trace;
     match run(alloc, tree, &weights, events) {
         Ok(world) => {
-            let text = shown(alloc, tree, &world);
+            let text = shown(alloc, &world, tree);
             drop(world);
             text
         }
@@ -31,28 +31,28 @@ fn refused(alloc: Global, fault: RunFault) -> Result<String, Memory> {
     )?)
 }
 
-fn shown(alloc: Global, tree: &Tree, world: &World<'_>) -> Result<String, Memory>
+fn shown(alloc: Global, world: &World<'_>, tree: &Tree) -> Result<String, Memory>
     requires { world.now.world.division.tree ≡ tree.now }
 {
     let mut text = format!(in alloc; "{} events", world.events().len())?;
     for node in 0..world.len() {
-        add_node(&mut text, tree, world, node)?;
+        add_node(world, tree, &mut text, node)?;
     }
     Ok(text)
 }
 
-fn add_node(text: &mut String, tree: &Tree, world: &World<'_>, node: u8) -> Result<(), Memory>
+fn add_node(world: &World<'_>, tree: &Tree, text: &mut String, node: u8) -> Result<(), Memory>
     requires { world.now.world.division.tree ≡ tree.now }
 {
     if world.is_up(node) {
         text.push_str("; up ")?;
-        add_letters(text, tree, world, node)
+        add_letters(world, tree, text, node)
     } else {
         Ok(text.push_str("; down")?)
     }
 }
 
-fn add_letters(text: &mut String, tree: &Tree, world: &World<'_>, node: u8) -> Result<(), Memory>
+fn add_letters(world: &World<'_>, tree: &Tree, text: &mut String, node: u8) -> Result<(), Memory>
     requires tree { world.now.world.division.tree ≡ tree.now }
     requires up { is_up world.now.world node ≡ true }
 {

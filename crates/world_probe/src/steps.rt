@@ -16,7 +16,7 @@ pub fn items(
     for event in events {
         let before = Sizes::of(world);
         match refusal(world, again, event) {
-            0 => add_taken(alloc, &mut text, world, before)?,
+            0 => add_taken(alloc, world, &mut text, before)?,
             number => add_refusal(alloc, &mut text, number)?,
         }
     }
@@ -54,8 +54,8 @@ fn noted(world: &World<'_>) -> u64 {
 // in the list.
 fn add_taken(
     alloc: Global,
-    text: &mut String,
     world: &World<'_>,
+    text: &mut String,
     before: Sizes,
 ) -> Result<(), Memory> {
     text.push_str(if noted(world) > before.noted {
@@ -63,8 +63,8 @@ fn add_taken(
     } else {
         "."
     })?;
-    add_kinds(alloc, text, world, before.sent)?;
-    add_paths(alloc, text, world, before.agreed)?;
+    add_kinds(alloc, world, text, before.sent)?;
+    add_paths(alloc, world, text, before.agreed)?;
     Ok(text.push_str(" ")?)
 }
 
@@ -75,8 +75,8 @@ fn add_refusal(alloc: Global, text: &mut String, number: u32) -> Result<(), Memo
 
 fn add_kinds(
     alloc: Global,
-    text: &mut String,
     world: &World<'_>,
+    text: &mut String,
     sent: usize,
 ) -> Result<(), Memory> {
     for place in sent..world.datagrams().len() {
@@ -99,8 +99,8 @@ fn add_kind(alloc: Global, text: &mut String, datagram: &[u8]) -> Result<(), Mem
 
 fn add_paths(
     alloc: Global,
-    text: &mut String,
     world: &World<'_>,
+    text: &mut String,
     agreed: usize,
 ) -> Result<(), Memory> {
     for place in agreed..world.agreed().len() {
