@@ -1,0 +1,54 @@
+//! Answers lines of standard input.
+#![tactic(auto)]
+
+mod datagrams;
+mod heads;
+mod inputs;
+mod letters;
+mod listings;
+mod members;
+mod names;
+mod nodes;
+mod packages;
+mod pieces;
+mod records;
+mod text;
+mod trace;
+mod words;
+
+pub use crate::text::Text;
+
+/// Whom rows ask.
+#[derive(Clone, Copy)]
+pub enum Topic {
+    Names,
+    Listings,
+    Records,
+    Datagrams,
+    Traces,
+    Members,
+    Nodes,
+}
+
+/// Answers the row, of one line where no blank line ends it.
+pub fn answer(topic: Topic, row: &[String], out: &mut Text) {
+    match topic {
+        Topic::Members => members::answer(row, out),
+        Topic::Nodes => nodes::answer(row, out),
+        topic => {
+            if let Some(line) = row.first() {
+                answer_line(topic, line.as_str(), out);
+            }
+        }
+    }
+}
+
+fn answer_line(topic: Topic, line: &str, out: &mut Text) {
+    match topic {
+        Topic::Names => names::answer(line, out),
+        Topic::Listings => listings::answer(line, out),
+        Topic::Records => records::answer(line, out),
+        Topic::Datagrams => datagrams::answer(line, out),
+        _ => trace::answer(line, out),
+    }
+}
