@@ -54,11 +54,7 @@ fn packages(text: &str, out: &mut Text) -> Packages {
 
 /// Adds the package in front, if there is one, and gives what stands behind it: its path, the file
 /// and how many bytes it has.
-fn add_package<'a>(
-    items: &mut Vec<(PkgPath, Files)>,
-    text: &'a str,
-    out: &mut Text,
-) -> &'a str {
+fn add_package<'a>(items: &mut Vec<(PkgPath, Files)>, text: &'a str, out: &mut Text) -> &'a str {
     let (word, rest) = first_word(text);
     let (name, rest) = first_word(rest);
     let Some((bytes, rest)) = first_place(rest) else {

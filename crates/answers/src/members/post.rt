@@ -3,6 +3,7 @@ use crate::members::in_turn::{in_turn, prepared, stepped};
 use crate::members::told::put_outcome;
 use crate::text::Text;
 use ballots::Weights;
+use faults::Fault;
 use listing::Tree;
 use member::{Input, Member, Outcome, Refusal, Send};
 use std::alloc::Global;

@@ -109,7 +109,11 @@ fn tried(network: &mut Network<'_>, log: &[u8], trial: Trial, out: &mut Text) ->
         Err((fault, disk)) => {
             let first = first_length(network.past.steps.as_slice(), trial.at);
             let left = leaves(network, log, trial, (first, first), disk.into_inner(), out);
-            has_fared(fault.number() == 1001 && left.is_some(), fault.number(), out)
+            has_fared(
+                fault.number() == 1001 && left.is_some(),
+                fault.number(),
+                out,
+            )
         }
     }
 }

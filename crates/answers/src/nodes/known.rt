@@ -65,7 +65,14 @@ pub fn open_again(network: &mut Network<'_>, at: usize, crash: Option<&str>, out
         return out.put("no node");
     };
     let tree = network.tree;
-    match open(place, network.alloc, tree, &network.weights, at, sound(disk)) {
+    match open(
+        place,
+        network.alloc,
+        tree,
+        &network.weights,
+        at,
+        sound(disk),
+    ) {
         Ok(()) => put_restored(place, tree, out),
         Err(unopened) => put_unopened(unopened, out),
     }

@@ -64,7 +64,14 @@ impl<'a> Network<'a> {
     /// Opens a node with this number over the disk, which never fails, for a trial.
     pub fn open_spare(&mut self, at: usize, disk: MemDisk) -> Result<(), Unopened> {
         let disk = sound(disk);
-        open(&mut self.spare, self.alloc, self.tree, &self.weights, at, disk)
+        open(
+            &mut self.spare,
+            self.alloc,
+            self.tree,
+            &self.weights,
+            at,
+            disk,
+        )
     }
 
     /// The disk of the node, which is no more.
