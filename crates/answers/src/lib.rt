@@ -1,4 +1,4 @@
-//! Answers lines of standard input.
+//! Answers lines and rows of standard input, for stored cases: each topic says what may be asked.
 #![tactic(auto)]
 
 mod datagrams;
@@ -15,6 +15,7 @@ mod records;
 mod text;
 mod trace;
 mod words;
+mod worlds;
 
 pub use crate::text::Text;
 
@@ -26,8 +27,26 @@ pub enum Topic {
     Records,
     Datagrams,
     Traces,
+    Worlds,
     Members,
     Nodes,
+}
+
+impl Topic {
+    /// The topic with this word.
+    pub fn named(word: &str) -> Option<Topic> {
+        match word {
+            "names" => Some(Topic::Names),
+            "listings" => Some(Topic::Listings),
+            "records" => Some(Topic::Records),
+            "datagrams" => Some(Topic::Datagrams),
+            "traces" => Some(Topic::Traces),
+            "worlds" => Some(Topic::Worlds),
+            "members" => Some(Topic::Members),
+            "nodes" => Some(Topic::Nodes),
+            _ => None,
+        }
+    }
 }
 
 /// Answers the row, of one line where no blank line ends it.
@@ -49,6 +68,7 @@ fn answer_line(topic: Topic, line: &str, out: &mut Text) {
         Topic::Listings => listings::answer(line, out),
         Topic::Records => records::answer(line, out),
         Topic::Datagrams => datagrams::answer(line, out),
+        Topic::Worlds => worlds::answer(line, out),
         _ => trace::answer(line, out),
     }
 }

@@ -2,13 +2,13 @@
 //! it ask, and each is answered in turn. What they may ask stands in the crates below.
 #![tactic(auto)]
 
-mod told;
 mod topic;
 
+use answers::Text;
 use std::io;
 use std::io::Write;
 use std::process::ExitCode;
-use topic::Topic;
+use topic::{Topic, goes_on, named};
 
 fn main(rt: HostRuntime) -> io::Result<ExitCode> {
     let mut topic = None;
@@ -30,15 +30,14 @@ fn hear(
     row: &mut Vec<String>,
     line: String,
 ) -> io::Result<bool> {
-    let next = topic::named(line.as_str());
-    let goes_on = matches!(topic, Some(Topic::Members | Topic::Nodes));
-    if next.is_some() || goes_on && line.is_empty() {
+    let next = named(line.as_str());
+    if next.is_some() || goes_on(*topic) && line.is_empty() {
         let is_told = tell(rt, *topic, row)?;
         *topic = next.or(*topic);
         return Ok(is_told);
     }
     row.push(line)?;
-    if goes_on {
+    if goes_on(*topic) {
         Ok(true)
     } else {
         tell(rt, *topic, row)
@@ -50,16 +49,15 @@ fn tell(rt: &HostRuntime, topic: Option<Topic>, row: &mut Vec<String>) -> io::Re
     if row.is_empty() {
         return Ok(true);
     }
-    let answered = topic::answered(rt.alloc(), topic, row.as_slice());
+    let mut out = Text::new(rt.alloc());
+    topic::answer(topic, row.as_slice(), &mut out);
     row.clear();
-    match answered {
-        Some(told) => {
-            rt.stdout().write_all(told.text.as_slice())?;
-            if told.again > 0 {
-                eprintln!(rt; "{} again", told.again)?;
-            }
-            Ok(true)
-        }
-        None => Ok(false),
+    if out.is_lost() {
+        return Ok(false);
     }
+    rt.stdout().write_all(out.as_bytes())?;
+    if out.again() > 0 {
+        eprintln!(rt; "{} again", out.again())?;
+    }
+    Ok(true)
 }

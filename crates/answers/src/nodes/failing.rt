@@ -278,14 +278,26 @@ fn crashed_behind(
 
 /// Whether the spare node answers to the step at this place as was told.
 fn repeats(network: &mut Network<'_>, place: usize, out: &mut Text) -> bool {
-    match (&mut network.spare, network.past.steps.get(place)) {
-        (Some(node), Some(step)) => match taken(node, &step.asked, out) {
-            Answer::Sends(sends) => {
-                let text = network.past.sends_text(&sends, out);
-                text.as_bytes() == step.told.as_bytes()
-            }
-            _ => false,
-        },
+    match &mut network.spare {
+        Some(node) => tells_so(node, &network.past, place, out),
+        None => false,
+    }
+}
+
+fn tells_so(
+    node: &mut Node<'_, FaultDisk>,
+    past: &Past,
+    place: usize,
+    out: &mut Text,
+) -> bool {
+    let Some(step) = past.steps.get(place) else {
+        return false;
+    };
+    match taken(node, &step.asked, out) {
+        Answer::Sends(sends) => {
+            let text = past.sends_text(&sends, out);
+            text.as_bytes() == step.told.as_bytes()
+        }
         _ => false,
     }
 }
