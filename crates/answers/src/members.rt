@@ -27,7 +27,7 @@ mod told;
 
 use crate::heads::{tree, weights};
 use crate::members::asked::answer_line;
-use crate::members::post::Post;
+use crate::members::post::{Post, enter_members};
 use crate::text::Text;
 use crate::words::first_word;
 
@@ -36,7 +36,7 @@ pub fn answer(row: &[String], out: &mut Text) {
     match (tree(row, out), weights(row)) {
         (Some(tree), Some(weights)) => {
             let mut post = Post::new(out.alloc(), &tree, weights);
-            post.enter_members(out);
+            enter_members(&mut post.members, &tree, &post.weights, out);
             answer_lines(&mut post, row, out);
             drop(post);
         }

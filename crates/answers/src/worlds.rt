@@ -42,7 +42,7 @@ enum Question {
 pub fn answer(line: &str, out: &mut Text) {
     let (word, rest) = first_word(line);
     match word {
-        "steps" | "singles" => steps(word, rest, out),
+        "steps" | "singles" => over_digits(word, rest, out),
         "shows" => over_package(rest, Question::Shows, out),
         _ => over_package(line, Question::Lengths, out),
     }
@@ -55,7 +55,7 @@ fn over_package(text: &str, question: Question, out: &mut Text) {
 }
 
 /// The answer to a listing and a trace, both in hexadecimal digits, with a blank between them.
-fn steps(word: &str, digits: &str, out: &mut Text) {
+fn over_digits(word: &str, digits: &str, out: &mut Text) {
     let Some((listing, trace)) = digits.split_once(' ') else {
         return out.put("no words");
     };
@@ -69,12 +69,7 @@ fn steps(word: &str, digits: &str, out: &mut Text) {
     over_listing(tree, trace.as_slice(), Question::Steps, out);
 }
 
-fn over_listing(
-    tree: Result<Tree, ListingFault>,
-    text: &[u8],
-    question: Question,
-    out: &mut Text,
-) {
+fn over_listing(tree: Result<Tree, ListingFault>, text: &[u8], question: Question, out: &mut Text) {
     match tree {
         Ok(tree) => over_tree(&tree, text, question, out),
         Err(ListingFault::Memory) => out.lose(),

@@ -34,20 +34,6 @@ impl<'a> Post<'a> {
         }
     }
 
-    /// Adds a new member for each that weighs something.
-    pub fn enter_members(&mut self, out: &mut Text) {
-        for me in 0..self.weights.len() as u8 {
-            match Member::new(out.alloc(), self.tree, &self.weights, me) {
-                Ok(member) => {
-                    if self.members.push(member).is_err() {
-                        out.lose();
-                    }
-                }
-                Err(_) => out.lose(),
-            }
-        }
-    }
-
     /// A copy of the message with the number, on its way to the member.
     pub fn message(&self, number: usize, to: usize, out: &mut Text) -> Option<Send> {
         let to = u8::try_from(to).ok()?;
@@ -136,6 +122,25 @@ impl<'a> Post<'a> {
         }
         if self.given.push((at, outcome)).is_err() {
             out.lose();
+        }
+    }
+}
+
+/// A new member for each that weighs something.
+pub fn enter_members<'a>(
+    members: &mut Vec<Member<'a>>,
+    tree: &'a Tree,
+    weights: &Weights,
+    out: &mut Text,
+) {
+    for me in 0..weights.len() as u8 {
+        match Member::new(out.alloc(), tree, weights, me) {
+            Ok(member) => {
+                if members.push(member).is_err() {
+                    out.lose();
+                }
+            }
+            Err(_) => out.lose(),
         }
     }
 }

@@ -284,12 +284,7 @@ fn repeats(network: &mut Network<'_>, place: usize, out: &mut Text) -> bool {
     }
 }
 
-fn tells_so(
-    node: &mut Node<'_, FaultDisk>,
-    past: &Past,
-    place: usize,
-    out: &mut Text,
-) -> bool {
+fn tells_so(node: &mut Node<'_, FaultDisk>, past: &Past, place: usize, out: &mut Text) -> bool {
     let Some(step) = past.steps.get(place) else {
         return false;
     };
