@@ -36,7 +36,6 @@ pub fn answer(row: &[String], out: &mut Text) {
     match (tree(row, out), weights(row)) {
         (Some(tree), Some(weights)) => {
             let mut post = Post::new(out.alloc(), &tree, weights);
-            enter_members(&mut post.members, &tree, &post.weights, out);
             answer_lines(&mut post, row, out);
             drop(post);
         }
@@ -45,6 +44,7 @@ pub fn answer(row: &[String], out: &mut Text) {
 }
 
 fn answer_lines(post: &mut Post<'_>, row: &[String], out: &mut Text) {
+    enter_members(&mut post.members, post.tree, &post.weights, out);
     for line in row {
         match first_word(line.as_str()).0 {
             "listing" => {}
