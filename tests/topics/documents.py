@@ -70,7 +70,8 @@ def to_believe(tally):
 
 def wrong_bodies(tally):
     """The wrong bodies that a document names stand somewhere."""
-    standing = {os.path.basename(path) for path in glob.glob(f"{TOP}/crates/*/must-fail/*.edit")}
+    edits = glob.glob(f"{TOP}/crates/*/must-fail/*.edit") + glob.glob(f"{TOP}/tests/wrong-bodies/*/*.edit")
+    standing = {os.path.basename(path) for path in edits}
     for path in sorted(glob.glob(f"{TOP}/docs/*.md")):
         named = set(re.findall(r"`(\w+\.edit)`", contents(path).decode()))
         gone = sorted(named - standing)
