@@ -1,4 +1,5 @@
-"""tools/expand-listing on stored dumps, and what dpbr makes of its output; tools/draw-trace on the example, a short and a long trace."""
+"""tools/expand-listing on stored dumps, and what dpbr makes of its output; tools/why-ignored on stored listings; tools/draw-trace on
+the example, a short and a long trace; and what publishers take away (packages.py)."""
 import json
 import os
 import re
@@ -6,7 +7,8 @@ import subprocess
 import tempfile
 import xml.dom.minidom
 
-from topics.tally import EXAMPLES, TESTS, TOP, answer, contents, difference
+from topics import packages
+from topics.tally import EXAMPLES, TESTS, TOP, Answer, answer, contents, difference
 
 ROW, MOST_HEIGHT = 24, 1700
 UNIT = "a/b,-docs.FULLPKGNAME=b-docs-1\na/b,-main.FULLPKGNAME=b-1\n"
@@ -82,16 +84,44 @@ def pictures(tally):
             tally.add(name, "" if told == wanted else f"{told}, not {wanted}")
 
 
+def asked(tool, file):
+    """What a tool answers to a stored file."""
+    done = subprocess.run([f"{TOP}/tools/{tool}", file], capture_output=True, timeout=120)
+    got = Answer((done.stdout, done.stderr, done.returncode))
+    got.by_hand = f"tools/{tool} {os.path.relpath(file, TOP)}"
+    return got
+
+
+def expanded(tally, name):
+    """What expand-listing makes of a stored dump, and dpbr of that."""
+    folder = f"{TESTS}/expand/{name}"
+    got = asked("expand-listing", f"{folder}/dump")
+    tally.add(f"expand/{name}", difference(got, (contents(f"{folder}/listing"), contents(f"{folder}/stderr"), 0)))
+    if os.path.exists(f"{folder}/letters"):
+        with tempfile.TemporaryDirectory() as out:
+            with open(f"{out}/listing", "wb") as file:
+                file.write(got[0])
+            letters = answer(["status", "listing", "/dev/null"], out)
+        tally.add(f"expand/{name}, its letters", difference(letters, (contents(f"{folder}/letters"), b"", 0)))
+
+
+def ignored(tally, name):
+    """What why-ignored says of a stored listing."""
+    folder = f"{TESTS}/ignored/{name}"
+    tally.add(f"ignored/{name}", difference(asked("why-ignored", f"{folder}/listing"), (contents(f"{folder}/stdout"), b"", 0)))
+
+
+STORED = {"expand": expanded, "ignored": ignored}
+
+
+def case(tally, kind, name):
+    """A stored case by its name."""
+    STORED[kind](tally, name)
+
+
 def run(tally):
     pictures(tally)
-    for number in sorted(os.listdir(f"{TESTS}/expand")):
-        case = f"{TESTS}/expand/{number}"
-        done = subprocess.run([f"{TOP}/tools/expand-listing", f"{case}/dump"], capture_output=True)
-        wanted = (contents(f"{case}/listing"), contents(f"{case}/stderr"), 0)
-        tally.add(f"expand/{number}", difference((done.stdout, done.stderr, done.returncode), wanted))
-        if os.path.exists(f"{case}/letters"):
-            with tempfile.TemporaryDirectory() as folder:
-                with open(f"{folder}/listing", "wb") as file:
-                    file.write(done.stdout)
-                got = answer(["status", "listing", "/dev/null"], folder)
-            tally.add(f"expand/{number}, its letters", difference(got, (contents(f"{case}/letters"), b"", 0)))
+    for kind in STORED:
+        for name in sorted(os.listdir(f"{TESTS}/{kind}")):
+            case(tally, kind, name)
+    packages.run(tally)
