@@ -62,20 +62,24 @@ def agreed(svg):
 
 
 def pictures(tally):
-    """The README's picture is the example's. Ten events have a row each, and a thousand are folded into a picture of some rows."""
+    """The README's picture is the example's, and shows the promise that reports a vote. Ten events have a row each, and a thousand are folded into a picture of some rows."""
     done = drawn(f"{EXAMPLES}/listing", f"{EXAMPLES}/trace")
     wanted = (contents(f"{EXAMPLES}/take-over.svg"), b"", 0)
     tally.add("draw-trace of the example", difference((done.stdout, done.stderr, done.returncode), wanted))
+    told = [text for text in (b">7 promise, and reports a vote<", b">8 propose the reported build<", b">deliver 7 to node 1<") if text not in done.stdout]
+    tally.add("draw-trace of the example, what it tells", f"{told} isn't there" if told else "")
     name = "draw-trace of ten events"
     svg, height = picture(tally, name, *builds(1, 10))
     rows, notes = len(set(re.findall('<text x="8" y="([0-9]+)"', svg))), svg.count('width="6" height="6"')
     if svg:
+        # six notes, and the legend's
         told = (rows, agreed(svg), notes, " events<" in svg, 10 * ROW < height < 15 * ROW)
-        tally.add(name, "" if told == (10, 1, 6, False, True) else f"{told} in {height} pixels")
+        tally.add(name, "" if told == (10, 1, 7, False, True) else f"{told} in {height} pixels")
     name = "draw-trace of a thousand events"
     svg, height = picture(tally, name, *builds(84, 1008))
     if svg:
         tally.add(name, "" if agreed(svg) == 84 and height < MOST_HEIGHT else f"{agreed(svg)} packages in {height} pixels")
+        tally.add(f"{name}, how the list grew", "" if ">84 packages after 1008 events<" in svg else "it isn't told")
     for words, wanted in ((), (0, 1)), (("--single",), (1, 0)):
         name = " ".join(["draw-trace", *words, "of one package of two"])
         svg, _ = picture(tally, name, UNIT, lone(), *words)
