@@ -6,7 +6,7 @@ import os
 import subprocess
 import tempfile
 
-from topics.tally import TOP, answer, difference, fallen
+from topics.tally import TOP, answer, contents, difference, fallen
 
 LISTING = b"""a/b,-docs.FULLPKGNAME=b-docs-1
 a/b,-main.FULLPKGNAME=b-1
@@ -163,6 +163,14 @@ def audited(tally):
         tally.add("dpbr status of what is unpacked", difference(answer(["status", "LISTING", "out/held"], folder), (letters, b"", 0)))
 
 
+def page(tally):
+    """unpack-log(1) shows what is said of a log with a file that was changed."""
+    with tempfile.TemporaryDirectory() as folder:
+        _, said, _ = unpacked(folder, log([HELD_D[:-1] + b"e"]))
+    told = said.replace(f"{folder}/log".encode(), b"bad.log")
+    tally.add("man/unpack-log.1", "" if b"$ unpack-log bad.log out\n" + told in contents(f"{TOP}/man/unpack-log.1") else f"it doesn't show {told!r}")
+
+
 def written(folder, files):
     for name, text in files.items():
         os.makedirs(os.path.dirname(f"{folder}/{name}"), exist_ok=True)
@@ -215,6 +223,7 @@ def run(tally):
     bad_logs(tally)
     cut_logs(tally)
     audited(tally)
+    page(tally)
     builds(tally)
     large_builds(tally)
     bad_folders(tally)

@@ -115,6 +115,13 @@ def ignored(tally, name):
     tally.add(f"ignored/{name}", difference(asked("why-ignored", f"{folder}/listing"), (contents(f"{folder}/stdout"), b"", 0)))
 
 
+def shown(tally):
+    """why-ignored(1) shows what is said of the example."""
+    told = b"$ why-ignored listing\n" + contents(f"{TESTS}/ignored/the_example/stdout")
+    same = contents(f"{TESTS}/ignored/the_example/listing") == contents(f"{EXAMPLES}/listing")
+    tally.add("man/why-ignored.1", "" if same and told in contents(f"{TOP}/man/why-ignored.1") else f"it doesn't show {told!r}, which is said of the example")
+
+
 STORED = {"expand": expanded, "ignored": ignored}
 
 
@@ -128,4 +135,5 @@ def run(tally):
     for kind in STORED:
         for name in sorted(os.listdir(f"{TESTS}/{kind}")):
             case(tally, kind, name)
+    shown(tally)
     packages.run(tally)
