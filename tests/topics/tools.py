@@ -70,7 +70,7 @@ def pictures(tally):
     tally.add("draw-trace of the example, what it tells", f"{told} isn't there" if told else "")
     name = "draw-trace of ten events"
     svg, height = picture(tally, name, *builds(1, 10))
-    rows, notes = len(set(re.findall('<text x="8" y="([0-9]+)"', svg))), svg.count('width="6" height="6"')
+    rows, notes = len(set(re.findall('<text x="38" y="([0-9]+)"', svg))), svg.count('width="6" height="6"')
     if svg:
         # six notes, and the legend's
         told = (rows, agreed(svg), notes, " events<" in svg, 10 * ROW < height < 15 * ROW)
