@@ -141,11 +141,11 @@ def counted(tally):
     def cases(*kinds):
         return sum(len(os.listdir(f"{TOP}/tests/{kind}")) for kind in kinds)
 
-    front, tested = contents(f"{TOP}/README.md").decode(), contents(f"{TOP}/docs/TESTED.md").decode()
-    for name, text, form, counts in (("README.md", front, r"its\s+(\d+)\s+crates", (len(below("dpbr", crates())),)),
-                                     ("docs/TESTED.md", tested, r"(\d+) stored cases of `dpbr status` and `dpbr audit` and (\d+) of `dpbr run`",
-                                      (cases("status", "audit"), cases("traces", "pieces")))):
-        told = re.search(form, text)
+    program = (len(below("dpbr", crates())),)
+    for name, form, counts in (("README.md", r"its\s+(\d+)\s+crates", program), ("docs/TIMES.md", r"proves\s+(\d+)\s+crates", program),
+                               ("docs/TESTED.md", r"(\d+) stored cases of `dpbr status` and `dpbr audit` and (\d+) of `dpbr run`",
+                                (cases("status", "audit"), cases("traces", "pieces")))):
+        told = re.search(form, contents(f"{TOP}/{name}").decode())
         tally.add(f"{name}, what it counts", "" if told and tuple(map(int, told.groups())) == counts else f"{told and told[0]}, and there are {counts}")
     lines = len(lines_of(f"{TOP}/README.md")) - 1
     tally.add("README.md, its length", "" if lines <= FRONT_PAGE else f"{lines} lines, and more than {FRONT_PAGE} aren't read")
