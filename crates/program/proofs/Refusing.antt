@@ -1,12 +1,12 @@
 -- What is told of the texts of files.
-use Rattle.std.proofs.Common.{◌≡◌, ◌⊎◌, ◌∙◌, Bool, [], inl, inr, ap, refl, Ok, Err}
+use Rattle.std.proofs.Common.{◌≡◌, ◌⊎◌, Bool, [], inl, inr, ap, refl, Ok, Err}
 use Rattle.faults.specs.Bytes.{Text}
 use Rattle.listing.specs.Listing.{Rules, tree_of}
 use Rattle.listing.specs.Tree.{Tree}
 use Rattle.listing.specs.declared.ListingFault.{ListingFault}
 use Rattle.listing.specs.declared.ListingFault.TheVariants.{Memory as ListingMemory}
 use Rattle.program.specs.Files.{RefusesFiles, RefusesTexts}
-use Rattle.program.specs.Listings.{IsDescribed, RefusesListing, RefusesListingFile, listing_refusal, rules_for}
+use Rattle.program.specs.Listings.{IsDescribed, RefusesListingFile, listing_refusal, rules_for}
 use Rattle.program.specs.Refusals.{memory_refusal}
 use Rattle.program.specs.declared.refusal.Refusal.{Refusal}
 
