@@ -20,8 +20,8 @@ pub enum Stop {
 }
 
 impl Stop {
-    /// Says why on `err`: clap's text, or one line, the program's name and `: fault N` or `: fault N
-    /// at K`. Gives the status with which the program ends, 2 or 1.
+    /// Says why on `err`: clap's text, or one line, the program's name and then `: fault N` or
+    /// `: fault N at K`. Gives the status with which the program ends, 2 or 1.
     pub fn tell<E: Write>(self, program: &str, err: &mut E) -> u8
         ensures after { result ≡ status_after self }
         ensures ill { (result ≡ 1) ⊎ (result ≡ 2) }
