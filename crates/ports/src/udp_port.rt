@@ -55,8 +55,8 @@ struct Leaving {
 ///
 /// A socket keeps only few datagrams that nobody took. So what came is taken off the sockets before
 /// and behind each datagram that is sent here, and stands in line till it is asked for. What is for
-/// a node of another process leaves a few at a time, and out of order, so that pieces which are sent
-/// again don't get lost at the same place again.
+/// a node of another process leaves a few at a time, and out of order, so that pieces which are
+/// sent again don't get lost at the same place again.
 #[derive(Drop)]
 pub struct UdpPort {
     alloc: Global,

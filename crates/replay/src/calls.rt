@@ -1,5 +1,5 @@
-//! The calls of `dpbr`. A program ends once it has made one, so a `status` and an `audit` leave what
-//! is large by then to the system.
+//! The calls of `dpbr`. A program ends once it has made one, so a `status` and an `audit` leave
+//! what is large by then to the system.
 ghost use Rattle.std.specs.Prelude.{◌≡◌, ◌≤◌, ◌⊎◌, IfErr, IfOk, map, string_bytes};
 ghost use Rattle.std.specs.Io.KnownBytes.{Keeps};
 ghost use Rattle.replay.specs.Printed.{HasCarriedOut, HasPrinted, IsOutputOf};
