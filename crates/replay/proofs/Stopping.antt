@@ -3,9 +3,10 @@ use Rattle.std.proofs.Common.{◌≡◌, ℕ, List, Option, arith, inl, inr, ref
 use Rattle.std.specs.Io.KnownBytes.{Keeps}
 use Rattle.clap.specs.Words.{HasKind, IsAmong, Kinds, Text as Word, kind_of}
 use Rattle.clap.specs.declared.error.Error.{Error}
-use Rattle.replay.specs.Stopped.{CannotCarryOut, HasStopped, StopsBy, status_after}
-use Rattle.replay.specs.declared.stop.Stop.{Stop}
-use Rattle.replay.specs.declared.stop.Stop.TheVariants.{Refused, Unwritten, WrongWords}
+use Rattle.program.specs.Stops.{StopsBy, status_after}
+use Rattle.replay.specs.Stopped.{CannotCarryOut, HasStopped}
+use Rattle.program.specs.declared.stop.Stop.{Stop}
+use Rattle.program.specs.declared.stop.Stop.TheVariants.{Refused, Unwritten, WrongWords}
 use Rattle.words.specs.Calls.{AreTaken, IsCallOf, faults_of, matched}
 use Rattle.words.specs.declared.Call.{Call}
 

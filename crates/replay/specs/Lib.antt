@@ -1,14 +1,2 @@
-pub mod Audit
-pub mod Held
-pub mod HeldRefusals
-pub mod List
-pub mod ListLaws
-pub mod ListRefusals
-pub mod ListText
 pub mod Printed
-pub mod Refusals
-pub mod Rules
-pub mod Runs
-pub mod Status
 pub mod Stopped
-pub mod inside

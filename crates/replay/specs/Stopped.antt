@@ -1,50 +1,19 @@
 -- Why the program stops before its answer is printed, and what it has written then.
-use Rattle.std.specs.Prelude.{◌≡◌, ◌≢◌, ◌⊎◌, ℕ, Bool, List, Option}
+use Rattle.std.specs.Prelude.{◌≡◌, ◌⊎◌, ℕ, List, Option}
 use Rattle.std.specs.Io.KnownBytes.{Keeps}
 use Rattle.clap.specs.Words.{IsAmong, Text as Word, kind_of}
-use Rattle.clap.specs.declared.error.Error.{Error}
-use Rattle.clap.specs.declared.error.kind.ErrorKind.TheVariants.{OutOfMemory}
-use Rattle.faults.specs.Bytes.{Text}
+use Rattle.dpbr_audit.specs.Audit.{RefusesAuditFiles}
+use Rattle.dpbr_run.specs.Run.{RefusesRunFiles}
+use Rattle.dpbr_status.specs.Status.{RefusesStatusFiles}
+use Rattle.program.specs.Refusals.{device_refusal, memory_refusal}
+use Rattle.program.specs.Stops.{status_after}
+use Rattle.program.specs.declared.refusal.Refusal.{Refusal}
+use Rattle.program.specs.declared.stop.Stop.{Stop}
+use Rattle.program.specs.declared.stop.Stop.TheVariants.{Refused, Unwritten, WrongWords}
 use Rattle.replay.specs.Printed.{HasBegun}
-use Rattle.replay.specs.Refusals.{IsSystemRefusal, RefusesAudit, RefusesStatus, device_refusal, memory_refusal}
-use Rattle.replay.specs.Rules.{rules_for}
-use Rattle.replay.specs.Runs.{RefusesRun}
-use Rattle.replay.specs.declared.refusal.Refusal.{Refusal}
-use Rattle.replay.specs.declared.stop.Stop.{Stop}
-use Rattle.replay.specs.declared.stop.Stop.TheVariants.{Refused, Unwritten, WrongWords}
 use Rattle.words.specs.Calls.{AreTaken, IsCallOf, faults_of, matched}
 use Rattle.words.specs.declared.Call.{Call}
 use Rattle.words.specs.declared.Call.TheVariants.{Audit, Run, Status}
-
--- the status with which the program then ends
-abbrev pub status_after : Stop → ℕ
-status_after (WrongWords e) = 2
-status_after (Refused r) = 1
-status_after (Unwritten r) = 1
-
--- clap's error stops the program: for want of memory, or as wrong words
-abbrev pub StopsBy : Error → Stop → Type 0
-StopsBy e stop =
-    ((kind_of e ≡ OutOfMemory) × (stop ≡ Refused memory_refusal))
-    ⊎ ((kind_of e ≢ OutOfMemory) × (stop ≡ WrongWords e))
-
--- one of the two files can't be read, or this is told of the texts in them
-abbrev pub RefusesStatusFiles : Bool → Refusal → Type 0
-RefusesStatusFiles is_single r =
-    IsSystemRefusal r
-    ⊎ ((listing : Text) × (held : Text) × RefusesStatus (rules_for is_single) listing held r)
-
--- the same of a list of packages
-abbrev pub RefusesAuditFiles : Bool → Refusal → Type 0
-RefusesAuditFiles is_single r =
-    IsSystemRefusal r
-    ⊎ ((listing : Text) × (list : Text) × RefusesAudit (rules_for is_single) listing list r)
-
--- the same of a trace
-abbrev pub RefusesRunFiles : Bool → Refusal → Type 0
-RefusesRunFiles is_single r =
-    IsSystemRefusal r
-    ⊎ ((listing : Text) × (trace : Text) × RefusesRun (rules_for is_single) listing trace r)
 
 -- what is told of the files of a call
 abbrev pub RefusesCall : Call → Refusal → Type 0

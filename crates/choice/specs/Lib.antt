@@ -1,0 +1,10 @@
+pub mod Acts
+pub mod Answering
+pub mod Nays
+pub mod Own
+pub mod Pending
+pub mod PuttingBack
+pub mod Choice
+pub mod Refusals
+pub mod Laws
+pub mod inside

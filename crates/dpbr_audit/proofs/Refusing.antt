@@ -1,0 +1,16 @@
+-- What is told of a list of packages.
+use Rattle.std.proofs.Common.{◌≡◌, ◌⊎◌, inl, inr, ap, refl}
+use Rattle.faults.specs.Bytes.{Text}
+use Rattle.listing.specs.Tree.{Tree}
+use Rattle.dpbr_audit.specs.Audit.{RefusesList}
+use Rattle.lists.specs.List.{IsFirstBadLine}
+use Rattle.lists.specs.ListRefusals.{list_refusal}
+use Rattle.lists.specs.declared.list.ListFault.{ListFault}
+use Rattle.lists.specs.declared.list.ListFault.TheVariants.{Memory}
+use Rattle.program.specs.Refusals.{memory_refusal}
+
+-- want of memory, or the first bad line
+pub list_told : (list : Text) (tree : Tree) (e : ListFault) → (e ≡ Memory) ⊎ IsFirstBadLine list e
+    → (list_refusal e ≡ memory_refusal) ⊎ RefusesList list tree (list_refusal e)
+list_told list tree e (inl memory) = inl (ap list_refusal memory)
+list_told list tree e (inr fault) = inr (e, fault, refl)

@@ -1,0 +1,10 @@
+//! What `dpbr audit` does: from a listing and a list of packages to the verdict on the list.
+#![tactic(auto)]
+
+mod files;
+mod text;
+mod texts;
+
+pub use crate::files::audit_of_files;
+pub use crate::text::{audit_list, verdict_text};
+pub use crate::texts::audit_of_texts;

@@ -1,0 +1,32 @@
+//! The verdict of `dpbr audit` on two texts.
+ghost use Rattle.std.specs.Prelude.{◌≡◌, ◌⊎◌, IfErr, IfOk};
+ghost use Rattle.dpbr_audit.specs.Audit.{IsVerdictOnListing, RefusesAudit};
+ghost use Rattle.program.specs.Listings.{rules_for};
+ghost use Rattle.program.specs.Refusals.{memory_refusal};
+
+use crate::text::audit_list;
+use auditing::Verdict;
+use program::{Refusal, tree_of_text};
+use std::alloc::Global;
+
+/// The verdict of `dpbr audit` on a list of packages, by a listing.
+///
+/// # Errors
+///
+/// Memory; else the listing's fault; else that of the list.
+pub fn audit_of_texts(
+    alloc: Global,
+    listing: &[u8],
+    list: &[u8],
+    is_single: bool,
+) -> Result<Verdict, Refusal>
+    ensures ok { IfOk result (IsVerdictOnListing (rules_for is_single) listing.now list.now) }
+    ensures refused { IfErr result
+        (λ r. (r ≡ memory_refusal) ⊎ RefusesAudit (rules_for is_single) listing.now list.now r) }
+{
+    let tree = tree_of_text(alloc, listing, is_single)?;
+    let answer = audit_list(alloc, &tree, list);
+    drop(tree);
+    let verdict = answer?;
+    Ok(verdict)
+}

@@ -1,0 +1,4 @@
+pub mod ListLaws
+pub mod Run
+pub mod Traces
+pub mod inside

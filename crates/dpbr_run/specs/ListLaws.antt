@@ -1,0 +1,12 @@
+-- What holds of the lists of packages that are printed.
+use Rattle.std.specs.Prelude.{List, All, map}
+use Rattle.lists.specs.List.{AreEntries}
+use Rattle.lists.specs.ListText.{list_text}
+use Rattle.package_record.specs.Content.{Content, IsRecord}
+use Rattle.world.specs.Headline.{entry_of}
+
+-- the list that is printed of packages is read as the list of their entries
+abbrev pub PrintedListsAreRead : Type 0
+PrintedListsAreRead =
+    (packages : List Content) → All IsRecord packages
+    → AreEntries (list_text packages) (map entry_of packages)

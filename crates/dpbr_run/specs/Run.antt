@@ -1,0 +1,83 @@
+-- What `dpbr run` prints.
+use Rattle.std.specs.Prelude.{◌≡◌, ◌⊎◌, ◌++◌, ℕ, Bool, List, Option, None, Some, Ok, flat_map, if◌then◌else◌, length, slice_get}
+use Rattle.dpbr_run.specs.Traces.{RefusesText}
+use Rattle.engine.specs.State.{State}
+use Rattle.faults.specs.Bytes.{Text}
+use Rattle.listing.specs.Listing.{Rules, tree_of}
+use Rattle.listing.specs.Tree.{Tree}
+use Rattle.lists.specs.ListText.{list_text}
+use Rattle.program.specs.Files.{RefusesFiles, RefusesTexts}
+use Rattle.program.specs.Listings.{rules_for}
+use Rattle.program.specs.NodeLine.{IsLineOf}
+use Rattle.program.specs.declared.refusal.Refusal.{Refusal}
+use Rattle.protocol.specs.State.{engine_of}
+use Rattle.running.specs.Faults as runs
+use Rattle.running.specs.History.{IsHistory, IsRunFault, History, taken}
+use Rattle.running.specs.declared.runs.RunFault.{RunFault}
+use Rattle.traces.specs.Trace.{Trace, trace_of}
+use Rattle.world.specs.World.{World, WorldNode, member_at}
+
+-- the letters that a node shows: those of its member, if it is up
+abbrev pub letters_at : World → ℕ → WorldNode → Option State
+letters_at w k x = if x.up then Some (engine_of (member_at w k x)) else None
+
+-- the line says what the node with this number shows
+abbrev pub IsNodeLine : World → ℕ → Text → Type 0
+IsNodeLine w k line =
+    (x : WorldNode) → slice_get w.nodes k ≡ Some x → IsLineOf k (letters_at w k x) line
+
+-- a line for each node, by number, and then the text of the agreed list
+pub record IsOutcome (w : World) (text : Text) : Type 0 where
+  pub lines : List Text
+  pub one_for_each : length lines ≡ length w.nodes
+  pub are_lines : (k : ℕ) (line : Text) → slice_get lines k ≡ Some line → IsNodeLine w k line
+  pub parts : text ≡ flat_map (λ line. line) lines ++ list_text w.agreed
+
+-- The first text is a trace, its events lead from the start over the tree to a world, and the
+-- other text tells that world.
+pub record IsRunOf (tree : Tree) (trace text : Text) : Type 0 where
+  pub read : Trace
+  pub is_trace : trace_of trace ≡ Ok read
+  pub history : History
+  pub of_tree : history.world.division.tree ≡ tree
+  pub weights : history.world.weights ≡ read.weights
+  pub events : taken history ≡ read.events
+  pub is_history : IsHistory history
+  pub outcome : IsOutcome history.world text
+
+-- the same on the tree that a listing describes
+pub record IsRunOfListing (rules : Rules) (listing trace text : Text) : Type 0 where
+  pub tree : Tree
+  pub described : tree_of rules listing ≡ Ok tree
+  pub run : IsRunOf tree trace text
+
+-- how the fault of a run is told: by the event that is refused
+abbrev pub run_refusal : RunFault → Refusal
+run_refusal e = record { number = runs.number_of e; place = e.event }
+
+-- what is told of a trace with an event that is refused
+pub record RefusesEvent (tree : Tree) (trace : Text) (r : Refusal) : Type 0 where
+  pub read : Trace
+  pub is_trace : trace_of trace ≡ Ok read
+  pub fault : RunFault
+  pub is_fault : IsRunFault tree read.weights read.events fault.event fault.fault
+  pub told : r ≡ run_refusal fault
+
+-- what is told of a trace, or else of its first event that is refused
+abbrev pub RefusesTrace : Text → Tree → Refusal → Type 0
+RefusesTrace trace tree r = RefusesText trace r ⊎ RefusesEvent tree trace r
+
+-- what is told of a listing, or else of a trace
+abbrev pub RefusesRun : Rules → Text → Text → Refusal → Type 0
+RefusesRun rules listing trace r = RefusesTexts rules listing (RefusesTrace trace) r
+
+-- what a run of a trace leaves, by a listing
+pub record IsRun (is_single : Bool) (text : Text) : Type 0 where
+  pub listing : Text
+  pub trace : Text
+  pub is_run : IsRunOfListing (rules_for is_single) listing trace text
+
+-- one of the two files can't be read, or this is told of the texts in them
+abbrev pub RefusesRunFiles : Bool → Refusal → Type 0
+RefusesRunFiles is_single r =
+    RefusesFiles (λ listing trace. RefusesRun (rules_for is_single) listing trace) r

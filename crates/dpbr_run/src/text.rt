@@ -1,0 +1,100 @@
+//! The text of `dpbr run`.
+ghost use Rattle.std.specs.Prelude.{◌≡◌, ◌⊎◌, IfErr, IfOk, Ok, length, string_bytes};
+ghost use Rattle.dpbr_run.specs.Run.{IsNodeLine, IsOutcome, IsRunOf, RefusesEvent, RefusesTrace};
+ghost use Rattle.dpbr_run.specs.Traces.{RefusesText};
+ghost use Rattle.dpbr_run.specs.inside.NodeLines.{HasNodeLines};
+ghost use Rattle.faults.specs.Bytes.{Text};
+ghost use Rattle.program.specs.Refusals.{memory_refusal};
+ghost use Rattle.traces.specs.Faults.{trace_view};
+ghost use Rattle.traces.specs.Trace.{trace_of};
+
+use faults::Memory;
+use listing::Tree;
+use lists::put_list;
+use program::{Refusal, node_text};
+use running::{World, run};
+use std::alloc::{AllocError, Global};
+use traces::{Trace, read_trace};
+
+/// What is printed once the trace was run: for each node how many packages have each letter, or
+/// that it is down, a line each; and then the agreed list.
+///
+/// # Errors
+///
+/// Memory; else the trace's fault; else that of its first event that is refused.
+pub fn run_of_trace(alloc: Global, tree: &Tree, trace: &[u8]) -> Result<Vec<u8>, Refusal>
+    ensures ok { IfOk result (λ text. IsRunOf tree.now trace.now text.items) }
+    ensures refused { IfErr result
+        (λ r. (r ≡ memory_refusal) ⊎ RefusesTrace trace.now tree.now r) }
+{
+    let trace = trace_of_text(alloc, trace)?;
+    run_of_events(alloc, tree, trace)
+}
+
+/// The trace that the text is.
+pub fn trace_of_text(alloc: Global, trace: &[u8]) -> Result<Trace, Refusal>
+    ensures ok { IfOk result (λ read. trace_of trace.now ≡ Ok (trace_view read)) }
+    ensures refused { IfErr result (RefusesText trace.now) }
+{
+    match read_trace(alloc, trace) {
+        Ok(read) => Ok(read),
+        Err(fault) => Err(Refusal::of(&fault)),
+    }
+}
+
+/// The same of a trace that was read.
+///
+/// # Errors
+///
+/// Memory; else that of its first event that is refused.
+pub fn run_of_events(alloc: Global, tree: &Tree, trace: Trace) -> Result<Vec<u8>, Refusal>
+    ensures ok { (read : Text) → trace_of read ≡ Ok (trace_view trace)
+        → IfOk result (λ text. IsRunOf tree.now read text.items) }
+    ensures refused { (read : Text) → trace_of read ≡ Ok (trace_view trace)
+        → IfErr result (λ r. (r ≡ memory_refusal) ⊎ RefusesEvent tree.now read r) }
+{
+    let Trace { weights, events } = trace;
+    match run(alloc, tree, &weights, events) {
+        Ok(world) => {
+            let text = run_text(alloc, world)?;
+            Ok(text)
+        }
+        Err(fault) => Err(Refusal::of(&fault)),
+    }
+}
+
+/// What is printed of a world. The world goes before its list is written, so that both never stand
+/// side by side.
+pub fn run_text(alloc: Global, world: World<'_>) -> Result<Vec<u8>, Memory>
+    ensures { IfOk result (λ text. IsOutcome world.entry.world text.items) }
+{
+    let lines = nodes_text(alloc, &world);
+    let agreed = world.into_agreed();
+    let mut text = lines?;
+    put_list(&mut text, agreed.as_slice())?;
+    Ok(text)
+}
+
+/// The lines of the nodes, by number.
+fn nodes_text(alloc: Global, world: &World<'_>) -> Result<Vec<u8>, Memory>
+    ensures { IfOk result (λ text.
+        HasNodeLines world.now.world (length world.now.world.nodes) text.items) }
+{
+    let mut text = Vec::new(alloc);
+    for node in 0..world.len() {
+        let line = line_of(alloc, world, node)?;
+        text.extend_from_slice(line.as_bytes())?;
+    }
+    Ok(text)
+}
+
+/// The line on the node with this number.
+fn line_of(alloc: Global, world: &World<'_>, node: u8) -> Result<String, AllocError>
+    ensures { IfOk result (λ text. IsNodeLine world.now.world node (string_bytes text)) }
+{
+    if world.is_up(node) {
+        node_text(alloc, node, Some(world.counts(node)))
+    } else {
+        node_text(alloc, node, None)
+    }
+}

@@ -1,0 +1,4 @@
+pub mod Held
+pub mod HeldRefusals
+pub mod Status
+pub mod inside

@@ -1,0 +1,76 @@
+-- What `dpbr status` prints.
+use Rattle.std.specs.Prelude.{◌≡◌, ◌++◌, Bool, List, [], ◌∷◌, Ok, codes}
+use Rattle.std.specs.List.{flat_map, zip}
+use Rattle.engine.specs.State.{AreCounts, AreLetters, State, has_agreed}
+use Rattle.engine.specs.declared.Counts.{Counts}
+use Rattle.engine.specs.declared.Letter.{Letter}
+use Rattle.engine.specs.declared.Letter.TheVariants.{T, Q, B, I, Ignored}
+use Rattle.faults.specs.Bytes.{Text, line_feed}
+use Rattle.listing.specs.Listing.{Rules, tree_of}
+use Rattle.listing.specs.Tree.{Package, Tree}
+use Rattle.dpbr_status.specs.Held.{AreHeld, IsFirstFault}
+use Rattle.dpbr_status.specs.HeldRefusals.{held_refusal}
+use Rattle.dpbr_status.specs.declared.held.HeldFault.{HeldFault}
+use Rattle.program.specs.Files.{RefusesFiles, RefusesTexts}
+use Rattle.program.specs.Listings.{rules_for}
+use Rattle.program.specs.NodeLine.{counts_line}
+use Rattle.program.specs.declared.refusal.Refusal.{Refusal}
+
+-- the letter as it is printed
+abbrev pub letter_text : Letter → Text
+letter_text I = codes "I"
+letter_text B = codes "B"
+letter_text Q = codes "Q"
+letter_text T = codes "T"
+letter_text Ignored = codes "!"
+
+-- a package's letter, path and name
+abbrev pub package_line : Letter → Text → Text → Text
+package_line letter path name =
+    letter_text letter ++ codes " " ++ path ++ codes " " ++ name ++ line_feed ∷ []
+
+-- the packages' lines, by their letters
+abbrev pub package_lines : List Package → List Letter → Text
+package_lines packages letters =
+    flat_map (λ (x : Package × Letter). package_line x.1 x.0.path x.0.name) (zip packages letters)
+
+-- a line for each package, in their order, with its letter, and then how many packages have each
+-- letter
+pub record IsStatusText (s : State) (text : Text) : Type 0 where
+  pub letters : List Letter
+  pub counts : Counts
+  pub are_letters : AreLetters s letters
+  pub are_counts : AreCounts s counts
+  pub lines : text ≡ package_lines s.tree letters ++ counts_line counts
+
+-- the status of a tree where the packages are held that the lines of a text name
+pub record IsStatusOf (tree : Tree) (held text : Text) : Type 0 where
+  pub state : State
+  pub tree_is : state.tree ≡ tree
+  pub are_held : AreHeld tree held (has_agreed state)
+  pub status : IsStatusText state text
+
+-- the same of the tree that a listing describes
+pub record IsStatusOfListing (rules : Rules) (listing held text : Text) : Type 0 where
+  pub tree : Tree
+  pub described : tree_of rules listing ≡ Ok tree
+  pub status : IsStatusOf tree held text
+
+-- the status that a listing and a text of held package paths describe
+pub record IsStatus (is_single : Bool) (text : Text) : Type 0 where
+  pub listing : Text
+  pub held : Text
+  pub is_status : IsStatusOfListing (rules_for is_single) listing held text
+
+-- what is told of the first fault of a text of held package paths
+abbrev pub RefusesHeld : Text → Tree → Refusal → Type 0
+RefusesHeld held tree r = (e : HeldFault) × IsFirstFault tree held e × (r ≡ held_refusal e)
+
+-- what is told of a listing, or else of a text of held package paths
+abbrev pub RefusesStatus : Rules → Text → Text → Refusal → Type 0
+RefusesStatus rules listing held r = RefusesTexts rules listing (RefusesHeld held) r
+
+-- one of the two files can't be read, or this is told of the texts in them
+abbrev pub RefusesStatusFiles : Bool → Refusal → Type 0
+RefusesStatusFiles is_single r =
+    RefusesFiles (λ listing held. RefusesStatus (rules_for is_single) listing held) r

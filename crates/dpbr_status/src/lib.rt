@@ -1,0 +1,14 @@
+//! What `dpbr status` does: from a listing and a text of held package paths to the letters of its
+//! packages.
+#![tactic(auto)]
+
+mod files;
+mod held;
+mod pieces;
+mod text;
+mod texts;
+
+pub use crate::files::status_of_files;
+pub use crate::held::HeldFault;
+pub use crate::text::{held_letters, status};
+pub use crate::texts::status_of_texts;

@@ -1,0 +1,7 @@
+mod Examples
+pub mod Fields
+pub mod FlatLines
+pub mod Lines
+pub mod OneList
+pub mod Saying
+pub mod Spelling

@@ -1,0 +1,5 @@
+pub mod List
+pub mod ListLaws
+pub mod ListRefusals
+pub mod ListText
+pub mod inside

@@ -1,0 +1,16 @@
+-- What holds of lists of packages.
+use Rattle.std.specs.Prelude.{◌≡◌, List}
+use Rattle.auditing.specs.declared.entry.Entry.{Entry}
+use Rattle.faults.specs.Bytes.{Text}
+use Rattle.lists.specs.List.{AreEntries, IsFirstBadLine}
+use Rattle.lists.specs.declared.list.ListFault.{ListFault}
+
+-- a text has one list of entries at most
+abbrev pub OnlyOneList : Type 0
+OnlyOneList = (text : Text) (xs ys : List Entry) → AreEntries text xs → AreEntries text ys → xs ≡ ys
+
+-- a text that has entries has no first bad line
+abbrev pub ListsHaveNoFault : Type 0
+ListsHaveNoFault =
+    (text : Text) (entries : List Entry) (e : ListFault) → AreEntries text entries
+    → ¬ IsFirstBadLine text e

@@ -1,0 +1,32 @@
+-- The tree that a program reads from a listing, and what it tells of a listing that describes none.
+use Rattle.std.specs.Prelude.{◌≡◌, ◌⊎◌, Bool, Ok, Err}
+use Rattle.faults.specs.Bytes.{Text}
+use Rattle.listing.specs.Listing.{Rules, tree_of}
+use Rattle.listing.specs.Refusals as listings
+use Rattle.listing.specs.Rules.{group_by, with_groups}
+use Rattle.listing.specs.Tree.{Tree}
+use Rattle.listing.specs.declared.ListingFault.{ListingFault}
+use Rattle.program.specs.Refusals.{IsSystemRefusal}
+use Rattle.program.specs.declared.refusal.Refusal.{Refusal}
+
+-- by the names and specs of packages, where each path is a group of its own or not
+abbrev pub rules_for : Bool → Rules
+rules_for is_single = with_groups (group_by is_single)
+
+-- a listing describes the tree, where each path is a group of its own or not
+abbrev pub IsDescribed : Bool → Tree → Type 0
+IsDescribed is_single tree = (listing : Text) × (tree_of (rules_for is_single) listing ≡ Ok tree)
+
+-- how the fault of a listing is told
+abbrev pub listing_refusal : ListingFault → Refusal
+listing_refusal e = record { number = listings.number_of e; place = listings.place_of e }
+
+-- the listing describes no tree, and this is told of its fault
+abbrev pub RefusesListing : Rules → Text → Refusal → Type 0
+RefusesListing rules listing r =
+    (e : ListingFault) × (tree_of rules listing ≡ Err e) × (r ≡ listing_refusal e)
+
+-- the file of a listing can't be read, or this is told of the listing
+abbrev pub RefusesListingFile : Bool → Refusal → Type 0
+RefusesListingFile is_single r =
+    IsSystemRefusal r ⊎ ((listing : Text) × RefusesListing (rules_for is_single) listing r)

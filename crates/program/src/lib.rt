@@ -1,0 +1,17 @@
+//! What the programs have in common: how they read a listing, what a line on a node says, how an
+//! answer is written out, and how they tell why they stop.
+#![tactic(auto)]
+
+mod answer;
+mod node_line;
+mod printing;
+mod refusal;
+mod stop;
+mod tree;
+
+pub use crate::answer::Answer;
+pub use crate::node_line::{counts_text, node_text};
+pub use crate::printing::print;
+pub use crate::refusal::Refusal;
+pub use crate::stop::Stop;
+pub use crate::tree::{tree_of_file, tree_of_text};

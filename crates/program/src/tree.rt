@@ -1,0 +1,40 @@
+//! The tree that a listing describes.
+ghost use Rattle.std.specs.Prelude.{IfErr, IfOk};
+ghost use Rattle.faults.specs.Answers.{IsRightUnless};
+ghost use Rattle.listing.specs.Listing.{tree_of};
+ghost use Rattle.program.specs.Listings.{IsDescribed, RefusesListingFile, rules_for};
+
+use crate::refusal::Refusal;
+use listing::{ListingFault, Tree};
+use std::alloc::Global;
+use std::fs;
+use std::rt::Files;
+
+/// The tree that the listing describes, where each path is a group of its own or not.
+pub fn tree_of_text(alloc: Global, listing: &[u8], is_single: bool) -> Result<Tree, ListingFault>
+    ensures { IsRightUnless ListingFault.Memory result (tree_of (rules_for is_single) listing.now) }
+{
+    if is_single {
+        Tree::parse_single(alloc, listing)
+    } else {
+        Tree::parse(alloc, listing)
+    }
+}
+
+/// The tree that the listing in a file describes.
+///
+/// # Errors
+///
+/// What the system refused; else the listing's fault.
+pub fn tree_of_file<R: Files + AllocGlobal>(
+    rt: &R,
+    listing: &str,
+    is_single: bool,
+) -> Result<Tree, Refusal>
+    ensures ok { IfOk result (IsDescribed is_single) }
+    ensures refused { IfErr result (RefusesListingFile is_single) }
+{
+    let listing = fs::read(rt, listing)?;
+    let tree = tree_of_text(rt.alloc(), listing.as_slice(), is_single)?;
+    Ok(tree)
+}

@@ -1,5 +1,0 @@
-use Rattle.replay.specs.inside.NodeLines.{HasNodeLines}
-use Rattle.replay.proofs.outcome.nodes_text.Given as goal
-
-abbrev pub invariant-loop-node : goal.invariant-loop-node
-invariant-loop-node l = HasNodeLines l.world.world l.node l.text.items

@@ -1,5 +1,0 @@
-use Rattle.std.proofs.Common.{rules}
-use Rattle.replay.proofs.report.letter_byte.Goals as goal
-
-pub returns-in-I : goal.returns-in-I
-returns-in-I c = search rules

@@ -1,0 +1,112 @@
+//! The calls of `dpbr`. A program ends once it has made one, so a `status` and an `audit` leave
+//! what is large by then to the system.
+ghost use Rattle.std.specs.Prelude.{◌≡◌, ◌≤◌, ◌⊎◌, IfErr, IfOk, map, string_bytes};
+ghost use Rattle.std.specs.Io.KnownBytes.{Keeps};
+ghost use Rattle.replay.specs.Printed.{HasCarriedOut, HasPrinted, IsOutputOf};
+ghost use Rattle.replay.specs.Stopped.{CannotCarryOut, HasFailed, HasStopped, RefusesCall};
+ghost use Rattle.words.specs.Calls.{AreTaken};
+
+use dpbr_audit::audit_of_files;
+use dpbr_run::run_of_files;
+use dpbr_status::status_of_files;
+use program::{Answer, Refusal, Stop, print};
+use std::io::Write;
+use std::rt::Files;
+use words::{Call, dpbr_words};
+
+/// Carries out the call that the words make, and gives the status with which the program ends: 0; 3
+/// after an audit that answers no; 1 after a fault, of which it writes one line to `err`, `dpbr:
+/// fault N` or `dpbr: fault N at K`; 2 where the words make no call, or ask for help, after clap's
+/// text on `err`.
+///
+/// The first word is the program's name. The whole output is made before any of it is written to
+/// `out`; output that can't be written is fault 2.
+pub fn dpbr_main<R: Files + AllocGlobal, O: Write, E: Write>(
+    rt: &R,
+    words: &[String],
+    out: &mut O,
+    err: &mut E,
+) -> u8
+    ensures status { result ≤ 3 }
+    ensures done { result ≡ 0 → HasCarriedOut (map string_bytes words.now) 0 (O.contents out.old)
+        (O.contents out.new) }
+    ensures denied { result ≡ 3 → HasCarriedOut (map string_bytes words.now) 3 (O.contents out.old)
+        (O.contents out.new) }
+    ensures fault { result ≡ 1 → HasFailed (map string_bytes words.now) (O.contents out.old)
+        (O.contents out.new) }
+    ensures wrong_words { result ≡ 2 → ¬ AreTaken (map string_bytes words.now) }
+    ensures quiet { result ≡ 2 → Keeps (O.contents out.old) (O.contents out.new) }
+{
+    match dpbr_call(rt, words, out) {
+        Ok(status) => status,
+        Err(stop) => stop.tell("dpbr", err),
+    }
+}
+
+/// Carries out the call that the words make, the first of which is the program's name, and gives
+/// the status with which the program then ends: 0, or 3 after an audit that answers no.
+///
+/// The listing is read before the other file of the call is opened, and all that is printed is made
+/// before it is written.
+///
+/// # Errors
+///
+/// `WrongWords`, where clap takes the words for no call; `Refused`, where a file can't be read, its
+/// text has a fault, or memory was refused; `Unwritten`, where a write to `out` failed.
+pub fn dpbr_call<R: Files + AllocGlobal, O: Write>(
+    rt: &R,
+    words: &[String],
+    out: &mut O,
+) -> Result<u8, Stop>
+    ensures status { IfOk result (λ status. (status ≡ 0) ⊎ (status ≡ 3)) }
+    ensures done { IfOk result (λ status. HasCarriedOut (map string_bytes words.now) status
+        (O.contents out.old) (O.contents out.new)) }
+    ensures stopped { IfErr result (λ stop. HasStopped (map string_bytes words.now) stop
+        (O.contents out.old) (O.contents out.new)) }
+{
+    let call = dpbr_words(rt.alloc(), words)?;
+    carry_out(rt, &call, out)
+}
+
+/// Prints what the call asks for, and gives the status that goes with it.
+fn carry_out<R: Files + AllocGlobal, O: Write>(
+    rt: &R,
+    call: &Call<'_>,
+    out: &mut O,
+) -> Result<u8, Stop>
+    ensures status { IfOk result (λ status. (status ≡ 0) ⊎ (status ≡ 3)) }
+    ensures printed { IfOk result
+        (λ status. HasPrinted call.now status (O.contents out.old) (O.contents out.new)) }
+    ensures stopped { IfErr result
+        (λ stop. CannotCarryOut call.now stop (O.contents out.old) (O.contents out.new)) }
+{
+    let answer = answer_of_files(rt, call)?;
+    match print(out, answer.text.as_slice()) {
+        Ok(()) => Ok(answer.status),
+        Err(_) => Err(Stop::Unwritten(Refusal::device())),
+    }
+}
+
+fn answer_of_files<R: Files + AllocGlobal>(rt: &R, call: &Call<'_>) -> Result<Answer, Refusal>
+    ensures output { IfOk result (λ answer. IsOutputOf call.now answer.status answer.text.items) }
+    ensures status { IfOk result (λ answer. (answer.status ≡ 0) ⊎ (answer.status ≡ 3)) }
+    ensures refused { IfErr result (RefusesCall call.now) }
+{
+    match call {
+        Call::Status {
+            listing,
+            held,
+            is_single,
+        } => status_of_files(rt, listing, held, *is_single),
+        Call::Audit {
+            listing,
+            list,
+            is_single,
+        } => audit_of_files(rt, listing, list, *is_single),
+        Call::Run {
+            listing,
+            trace,
+            is_single,
+        } => run_of_files(rt, listing, trace, *is_single),
+    }
+}
