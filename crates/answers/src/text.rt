@@ -1,4 +1,5 @@
-//! A text that is put together piece by piece, with one look at the end at whether memory was there.
+//! A text that is put together piece by piece, with one look at the end at whether memory was
+//! there.
 use faults::Fault;
 use std::alloc::Global;
 use std::io::Write;

@@ -13,7 +13,8 @@
 //! events it took, and of each node whether it is up, and then the letter of the package and
 //! whether it is held; or the number of the refusal, the event, and the number of the cause or 0.
 //!
-//! Where memory runs out for an event, that is counted, and the world is given the same event again.
+//! Where memory runs out for an event, that is counted, and the world is given the same event
+//! again.
 mod lengths;
 mod shown;
 mod steps;

@@ -46,8 +46,8 @@ impl<'a> Network<'a> {
         }
     }
 
-    /// Opens the node with this number over the disk, which never fails. Where that is refused there
-    /// is no node.
+    /// Opens the node with this number over the disk, which never fails. Where that is refused
+    /// there is no node.
     pub fn open(&mut self, at: usize, disk: MemDisk, out: &mut Text) {
         let opened = match self.nodes.get_mut(at) {
             Some(place) => {

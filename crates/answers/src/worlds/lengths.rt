@@ -24,7 +24,7 @@ fn put_logs(world: &World<'_>, out: &mut Text) {
     }
     out.put(" datagrams");
     for datagram in world.datagrams() {
-        out.put_number(" ", datagram.len() as u64);
+        out.put_number(" ", datagram.as_bytes().len() as u64);
     }
 }
 

@@ -53,7 +53,7 @@ fn put_taken(world: &World<'_>, before: Sizes, out: &mut Text) {
     });
     for place in before.sent..world.datagrams().len() {
         if let Some(datagram) = world.datagrams().get_index(place) {
-            put_kind(datagram.as_slice(), out);
+            put_kind(datagram.as_bytes(), out);
         }
     }
     for place in before.agreed..world.agreed().len() {
