@@ -1,7 +1,6 @@
 //! Answers lines and rows of standard input, for stored cases: each topic says what may be asked.
 #![tactic(auto)]
 
-mod datagrams;
 mod heads;
 mod inputs;
 mod letters;
@@ -10,6 +9,7 @@ mod members;
 mod names;
 mod nodes;
 mod packages;
+mod packets;
 mod pieces;
 mod records;
 mod text;
@@ -67,7 +67,7 @@ fn answer_line(topic: Topic, line: &str, out: &mut Text) {
         Topic::Names => names::answer(line, out),
         Topic::Listings => listings::answer(line, out),
         Topic::Records => records::answer(line, out),
-        Topic::Datagrams => datagrams::answer(line, out),
+        Topic::Datagrams => packets::answer(line, out),
         Topic::Worlds => worlds::answer(line, out),
         _ => trace::answer(line, out),
     }
