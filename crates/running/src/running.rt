@@ -7,7 +7,7 @@ ghost use Rattle.protocol.specs.State.{engine_of};
 ghost use Rattle.running.specs.History.{IsHistory, file_length};
 ghost use Rattle.world.specs.Happening.{is_up};
 ghost use Rattle.world.specs.Headline.{AllFit, AuditSaysYes, HasOneAPath, HeldIsListed, holds};
-ghost use Rattle.world.specs.World.{member_at, start};
+ghost use Rattle.world.specs.World.{member_at, node_at, start};
 
 use crate::scene::Scene;
 use ballots::Weights;
@@ -16,10 +16,13 @@ use events::Event;
 use faults::Memory;
 use indexmap::IndexSet;
 use listing::Tree;
+use node::Node;
 use package_record::Record;
 use pkgpath::PkgPath;
+use stable_record::MemDisk;
 use std::alloc::Global;
 use std::marker::Model;
+use units::Units;
 
 /// Nodes on disks in memory, the datagrams that they sent, and the list of what is agreed.
 #[derive(Drop)]
@@ -109,6 +112,43 @@ impl<'a> World<'a> {
         ensures { result ≡ is_up self.now.world node }
     {
         self.scene.is_up(node)
+    }
+
+    /// The node, which is up.
+    pub fn node(&self, node: u8) -> &Node<'a, MemDisk>
+        requires { is_up self.now.world node ≡ true }
+        ensures { (x : _) → slice_get self.now.world.nodes node ≡ Some x
+            → result.now.node ≡ node_at self.now.world node x }
+    {
+        self.scene.up(node)
+    }
+
+    /// The units of the tree.
+    pub fn units(&self) -> &Units<'a>
+        ensures { result.now ≡ self.now.world.division }
+    {
+        &self.scene.units
+    }
+
+    /// The tree.
+    pub fn tree(&self) -> &Tree
+        ensures { result.now ≡ self.now.world.division.tree }
+    {
+        self.scene.tree
+    }
+
+    /// What each member weighs.
+    pub fn weights(&self) -> &Weights
+        ensures { result.now ≡ self.now.world.weights }
+    {
+        &self.scene.weights
+    }
+
+    /// The events that were taken, for which the rest of the world goes.
+    pub fn into_events(self) -> Vec<Event>
+        ensures { result.items ≡ self.entry.events }
+    {
+        self.events
     }
 
     /// The record that a node which is up holds for the path.
