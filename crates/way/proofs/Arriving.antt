@@ -92,4 +92,12 @@ ways_arrive one answer division weights before w k u events made led way = recor
       (λ x. HoldsUnit x k u) before events early late w v e f led way is first not;
   held = λ v first. at_the_end one answer division weights made (λ x. HoldsUnit x k u) before
       events w v led way first;
+  packages = λ v x p first stands among.
+      has_packages division weights made v
+      (record {
+        before = before ++ events;
+        led = leads_together (start division weights) w v before events led first;
+      }) k u p
+      (at_the_end one answer division weights made (λ y. HoldsUnit y k u) before events w v led way
+      first) x stands among;
 }

@@ -17,7 +17,6 @@ use Rattle.way.specs.Ways.{HoldsUnit, LeadsTo}
 use Rattle.way.specs.declared.fault.WayFault.{WayFault}
 use Rattle.way.specs.inside.Listed.{asked_of, promise_of, proposed_by, report_of_all, way_of}
 use Rattle.way.proofs.Arriving.{at_the_end}
-use Rattle.way.proofs.Claiming.{OffersAreOpened}
 use Rattle.way.proofs.Going.{leads_also}
 use Rattle.way.proofs.Leading.{list_leads}
 use Rattle.protocol.proofs.Asked.{unit_is_one}
@@ -77,15 +76,12 @@ module _ (division : Division) (weights : List ℕ) (made : IsMade division weig
         record { promises = d.1.0; proposed = d.1.1 });
   }
 
--- So there is a short way wherever nothing is refused, if each offer was opened.
-pub each_has_one : ((division : Division) (weights : List ℕ) (made : IsMade division weights)
-    (w : World) (r : IsReached division weights made w) (u : ℕ)
-    → OffersAreOpened division weights made w r u) → EachHasAWay
-each_has_one offers division weights before w k path host given made led few g =
+-- So there is a short way wherever nothing is refused.
+pub each_has_one : EachHasAWay
+each_has_one division weights before w k path host given made led few g =
     let r : IsReached division weights made w = record { before = before; led = led } in
     let n = granted_unit w k path host given g in (
       way_of w (member_at w k g.node) n.0 path host given,
       has_way division weights made w r k path host given g n.0 n.1 few
-      (list_leads division weights made w r k path host given g n.0 n.1 few
-      (offers division weights made w r n.0)),
+      (list_leads division weights made w r k path host given g n.0 n.1 few),
     )

@@ -6,7 +6,7 @@ use Rattle.engine.specs.declared.Letter.TheVariants as letters
 use Rattle.faults.specs.Answers.{first_that_applies, option_or, unless_fault}
 use Rattle.faults.specs.Bytes.{Text}
 use Rattle.package_record.specs.Making.{build_fault}
-use Rattle.package_record.specs.declared.fault.RecordFault.{RecordFault}
+use Rattle.package_record.specs.declared.RecordFault.{RecordFault}
 use Rattle.protocol.specs.Given.{Given}
 use Rattle.protocol.specs.Jobs.{are_given, paths_at}
 use Rattle.protocol.specs.State.{State, Value}

@@ -91,7 +91,7 @@ greatest f (k ∷ ks) base =
       above = (rest.1).above;
       each = λ j at. among j at rest.0 enough (λ h. (rest.1).each j h);
       whose = ⊎_elim (λ e. inl e)
-          (λ h. inr (h.0, (suc h.1.0.0, omega (arith, h.1.0.1), h.1.0.2), h.1.1)) (rest.1).whose;
+          (λ h. inr (h.0, (suc h.1.0, omega (arith, h.1.1), h.1.2), h.2)) (rest.1).whose;
     }))
     (cases_lt rest.0 (f k))
   where
@@ -163,9 +163,9 @@ reported_by w u kept (k ∷ ks) b e =
 -- in how many datagrams a build is proposed
 proposed_is : (w : World) (u : ℕ) (c : Claim) (v : Value) → proposed_in w u c v ≡ pieces_in v
 proposed_is w u c v =
-    length-map (λ k. datagrams.Piece (piece_at (header_with
+    length-map (numbers_of (length (build_text v))) (λ k. datagrams.Piece (piece_at (header_with
     (message w (unit_at w.division u).name c.member (bodies.Propose c v)) (carriers.Propose c) v)
-    (build_text v) k)) (numbers_of (length (build_text v)))
+    (build_text v) k))
 
 module _ (w : World) (s : State) (u host : ℕ) (given : Given) (c : Claim) where
   -- a promise takes one, or as many as the vote that it reports
@@ -182,10 +182,10 @@ module _ (w : World) (s : State) (u host : ℕ) (given : Given) (c : Claim) wher
       by (Some b) e = inr (
         b.value,
         inr (k, b, e, refl),
-        ap size e ∙ length-map (λ j. datagrams.Piece (piece_at (header_with
-        (message w (unit_at w.division u).name k
+        ap size e ∙ length-map (numbers_of (length (build_text b.value))) (λ j. datagrams.Piece
+        (piece_at (header_with (message w (unit_at w.division u).name k
         (bodies.Promise c (Some (pair_of b)))) (carriers.Promise c b.claim) b.value)
-        (build_text b.value) j)) (numbers_of (length (build_text b.value))),
+        (build_text b.value) j)),
       )
 
   -- and the proposal as many as the build that is made, or that was reported
@@ -223,7 +223,7 @@ module _ (division : Division) (weights : List ℕ) (made : IsMade division weig
       (in_order division weights acts w made (its_own division weights made w r) m).sound u in
       let opened : c.round ≤ (facts_at (member_at w me x) u).opened =
       subst (λ (y : Member Value). c.round ≤ y.opened) (m.members me u x stands within)
-      (sound.said (theory.Propose (ballot c v)) h).1.0 in
+      (sound.said (theory.Propose (ballot c v)) h).1 in
       let last : (facts_at (member_at w me x) u).opened ≤ last_round w u me =
       subst (λ (f : Facts Value). f.opened ≤ last_round w u me) (seen_is w u me x stands up)
       (opened_within w u me) in
@@ -248,8 +248,8 @@ module _ (division : Division) (weights : List ℕ) (made : IsMade division weig
       let m = its_match division weights made w r in
       let n = asked_up w k at in
       none_alike division weights acts w made own m (promise_of w u c k) h.is_message u within refl
-      (no_promise division weights acts w made own m u within k n.0 n.1.0 c
-      (option_map pair_of (seen_at w u k).voted) (next_above w u me k n.0 n.1.0 n.1.1))
+      (no_promise division weights acts w made own m u within k n.0 n.1 c
+      (option_map pair_of (seen_at w u k).voted) (next_above w u me k n.0 n.1 n.2))
       (promise_of w u c k) h refl refl (inl refl)
 
   module _ (path : Text) (host : ℕ) (given : Given) where
@@ -278,18 +278,17 @@ module _ (division : Division) (weights : List ℕ) (made : IsMade division weig
         let count = proposed_in w u c build in
         let votes = votes_few w u c first count (first + count) me (asked_of w) in
         let told = told_few report (Built me path given) in
-        let rest = told_of report (Built me path given)
-        ++ votes_from first count (first + count) me (asked_of w) in
-        let both = length-append (asks_from w u c (length w.sent) (suc (length w.sent))
-        (asked_of w)) rest in
-        let later = length-append (told_of report (Built me path given))
+        let asks_them = asks_from w u c (length w.sent) (suc (length w.sent)) (asked_of w) in
+        let told_them = told_of report (Built me path given) in
+        let both = length-append (asks_them ++ told_them)
         (votes_from first count (first + count) me (asked_of w)) in
+        let early = length-append asks_them told_them in
         let more = mul-le (length (asked_of w)) count (length (asked_of w)) g.0 (omega arith)
         (g.1).above in
         let all = mul-le (length (asked_of w)) g.0 (length w.nodes) g.0 few (omega arith) in
         record {
           most = g.0;
-          few = omega (arith, few, asks, votes, told, both, later, more, all);
+          few = omega (arith, few, asks, votes, told, both, early, more, all);
           sent = λ v led. ⊎_elim
               (λ e. record {
                 message = proposal build;
@@ -299,15 +298,15 @@ module _ (division : Division) (weights : List ℕ) (made : IsMade division weig
               })
               (λ h. record {
                 message = promise_of w u c h.0;
-                then = (sent v led).promises h.0 h.1.0;
-                before = new_promise h.0 h.1.0;
-                datagrams = sym h.1.1;
+                then = (sent v led).promises h.0 h.1;
+                before = new_promise h.0 h.1;
+                datagrams = sym h.2;
               })
               (g.1).whose;
           may_take = ⊎_elim
               (λ e. subst (MayTake w s u host given) (sym e)
               (proposal_takes w s u host given c report (asked_of w) refl))
-              (λ h. subst (MayTake w s u host given) (sym h.1.1)
+              (λ h. subst (MayTake w s u host given) (sym h.2)
               (promise_takes w s u host given c h.0))
               (g.1).whose;
         }

@@ -8,7 +8,8 @@ use Rattle.package_record.proofs.BuildTexts.{text_push}
 -- the first records' texts are no longer than those of all
 pub part_within : (cs : List Content) (n : ℕ)
     → length (records_text (take n cs)) ≤ length (records_text cs)
-part_within [] n = omega arith
+part_within [] zero = omega arith
+part_within [] (suc n) = omega arith
 part_within (c ∷ cs) zero = omega arith
 part_within (c ∷ cs) (suc n) =
     let rest = part_within cs n in
@@ -29,7 +30,8 @@ one_more_record cs i c lt here =
 pub files_within : (fs : List NamedFile) (n : ℕ)
     → length (flat_map (λ (f : NamedFile). f.bytes) (take n fs))
     ≤ length (flat_map (λ (f : NamedFile). f.bytes) fs)
-files_within [] n = omega arith
+files_within [] zero = omega arith
+files_within [] (suc n) = omega arith
 files_within (f ∷ fs) zero = omega arith
 files_within (f ∷ fs) (suc n) =
     let rest = files_within fs n in
