@@ -41,7 +41,8 @@ use Rattle.wire.specs.Pieces.{split_of}
 use Rattle.wire.specs.Spelling.{datagram_text}
 use Rattle.wire.specs.declared.datagram.Datagram.TheVariants as datagrams
 use Rattle.wire.specs.declared.datagram.Piece.{Piece}
-use Rattle.world.specs.Sent.{WasSent, message}
+use Rattle.protocol.specs.declared.sends.Send.{Send}
+use Rattle.world.specs.Sent.{WasSent, message, with_sends}
 use Rattle.world.specs.World.{IsMade, World, WorldNode, member_at}
 use Rattle.world.proofs.Sending.{is_found}
 use Rattle.headline.specs.Local.{AreKept}
@@ -61,6 +62,10 @@ module _ (division : Division) (weights : List ℕ) (made : IsMade division weig
   abbrev pub offer_in : World → Message Value
   offer_in w = message w (name_of w u) c.member (bodies.Offer c)
 
+  -- what node j promises
+  abbrev pub promise_in : World → ℕ → Message Value
+  promise_in w j = message w (name_of w u) j (bodies.Promise c (option_map pair_of (told j)))
+
   -- Node j promised nothing at or above the claim, and its last vote is this one.
   pub record IsUnasked (w : World) (j : ℕ) : Type 0 where
     pub node : WorldNode
@@ -69,13 +74,14 @@ module _ (division : Division) (weights : List ℕ) (made : IsMade division weig
     pub above : is_above c (facts_at (member_at w j node) u).promised ≡ true
     pub voted : (facts_at (member_at w j node) u).voted ≡ told j
 
-  -- Node j promised the claim, and its last vote is this one still.
+  -- Node j promised the claim, and told so, and its last vote is this one still.
   pub record IsAsked (w : World) (j : ℕ) : Type 0 where
     pub node : WorldNode
     pub stands : slice_get w.nodes j ≡ Some node
     pub on : node.up ≡ true
     pub promised : (facts_at (member_at w j node) u).promised ≡ Some c
     pub voted : (facts_at (member_at w j node) u).voted ≡ told j
+    pub said : WasSent w.sent (promise_in w j)
 
   -- The node's claim, on this host, is this far, and the node holds what it held; some were asked, and
   -- these are still to be asked.
@@ -119,15 +125,35 @@ module _ (division : Division) (weights : List ℕ) (made : IsMade division weig
     voted = ap (λ (f : Facts Value). f.voted) (facts_stay w y d l j p.node u) ∙ p.voted;
   }
 
-  pub asked_stays : (w y : World) → y.division ≡ w.division → y.weights ≡ w.weights → (k j : ℕ)
+  pub promise_stays : (w y : World) → y.division ≡ w.division → (j : ℕ)
+      → promise_in y j ≡ promise_in w j
+  promise_stays w y e j = ap (λ (d : Division). record {
+    sender = j;
+    tree = tree_digest d.tree;
+    path = (unit_at d u).name;
+    body = bodies.Promise c (option_map pair_of (told j));
+  }) e
+
+  -- what was told stays told
+  pub said_stays : (w y : World) → y.division ≡ w.division → (sends : List Send)
+      → y.sent ≡ with_sends w.sent sends → (j : ℕ) → WasSent w.sent (promise_in w j)
+      → WasSent y.sent (promise_in y j)
+  said_stays w y d sends sent j told_so =
+      subst (WasSent y.sent) (sym (promise_stays w y d j))
+      (subst (λ l. WasSent l (promise_in w j)) (sym sent)
+      (sent_more w.sent sends (promise_in w j) told_so))
+
+  pub asked_stays : (w y : World) → y.division ≡ w.division → y.weights ≡ w.weights
+      → (sends : List Send) → y.sent ≡ with_sends w.sent sends → (k j : ℕ)
       (z : WorldNode) → y.nodes ≡ slice_set w.nodes k z → (j ≡ k → ⊥) → IsAsked w j
       → IsAsked y j
-  asked_stays w y d l k j z nodes ne p = record {
+  asked_stays w y d l sends sent k j z nodes ne p = record {
     node = p.node;
     stands = ap (λ m. slice_get m j) nodes ∙ put_elsewhere w.nodes k j z ne ∙ p.stands;
     on = p.on;
     promised = ap (λ (f : Facts Value). f.promised) (facts_stay w y d l j p.node u) ∙ p.promised;
     voted = ap (λ (f : Facts Value). f.voted) (facts_stay w y d l j p.node u) ∙ p.voted;
+    said = said_stays w y d sends sent j p.said;
   }
 
   module _ (w : World) (k : ℕ) (stage : Stage Value) (is_open : IsOpenStage stage)
@@ -298,13 +324,14 @@ module _ (division : Division) (weights : List ℕ) (made : IsMade division weig
                   ∙ ap (λ n. (facts_at (member_at then me n) u).promised) (sym same) ∙ q.promised;
               voted = voted_stays ∙ ap (λ n. (facts_at (member_at then me n) u).voted) (sym same)
                   ∙ q.voted;
+              said = said_stays then y b.division_is b.answer.sends b.sent me q.said;
             }
 
         asked_later : (j : ℕ) → IsAsked then j → IsAsked y j
         asked_later j q = ⊎_elim
             (λ same. subst (IsAsked y) (sym same) (asked_here (subst (IsAsked then) same q)))
-            (λ other. asked_stays then y b.division_is b.weights_are me j b.node b.nodes_are other
-            q)
+            (λ other. asked_stays then y b.division_is b.weights_are b.answer.sends b.sent me j
+            b.node b.nodes_are other q)
             (cases_eq j me)
 
         unasked_later : (j : ℕ) → IsUnasked then j → IsUnasked y j
@@ -327,14 +354,17 @@ module _ (division : Division) (weights : List ℕ) (made : IsMade division weig
           voted = ap (λ (f : Facts Value). f.voted)
               (facts_stay w then h.heard.division_is h.heard.weights_are k h.heard.node u)
               ∙ ap (λ (m : Member Value). m.voted) h.member ∙ p.voted;
+          said = subst (WasSent then.sent)
+              (ap (λ r. message then (name_of then u) k (bodies.Promise c (option_map pair_of r)))
+              p.voted) was_sent;
         }
 
         pub was_asked : (j : ℕ) → Contains (k ∷ done) j → IsAsked y j
         was_asked j (zero, lt, e) = subst (IsAsked y) e (asked_later k asked_now)
         was_asked j (suc i, lt, e) =
             let at : Contains done j = (i, omega (arith, lt), e) in
-            asked_later j (asked_stays w then h.heard.division_is h.heard.weights_are k j
-            h.heard.node h.heard.nodes_are (old_one j at) (s.asked j at))
+            asked_later j (asked_stays w then h.heard.division_is h.heard.weights_are
+            h.heard.answer.sends h.heard.sent k j h.heard.node h.heard.nodes_are (old_one j at) (s.asked j at))
 
         pub offer_is : offer_in y ≡ offer_in w
         offer_is = offer_stays w y (b.division_is ∙ h.heard.division_is)

@@ -26,7 +26,7 @@ use Rattle.protocol.specs.declared.refusal.Refusal.TheVariants as refusals
 use Rattle.units.specs.Division.{Division, number_found, unit_at}
 use Rattle.way.specs.Ways.{LeadsTo}
 use Rattle.way.proofs.Acting.{DidSo, IsPlain, does}
-use Rattle.way.proofs.Asking.{Asks, IsAsked, asked_stays, facts_stay}
+use Rattle.way.proofs.Asking.{Asks, IsAsked, asked_stays, facts_stay, said_stays}
 use Rattle.way.proofs.Deciding.{some_same, stage_here}
 use Rattle.way.proofs.Going.{leads_also}
 use Rattle.way.proofs.NotYet.{waits_fresh}
@@ -165,6 +165,8 @@ module _ (division : Division) (weights : List ℕ) (made : IsMade division weig
             voted = ap (λ (f : Facts Value). f.voted) stays
                 ∙ ap (λ (m : Member Value). m.voted) d.here
                 ∙ ap (λ n. (facts_at (member_at w me n) u).voted) (sym same) ∙ q.voted;
+            said = said_stays division weights made u c me at0 told host had w y d.division_is
+                its_answer.sends d.sent me q.said;
           }
 
       asked_then : (j : ℕ) → Contains all j → WasAsked y j
@@ -172,10 +174,10 @@ module _ (division : Division) (weights : List ℕ) (made : IsMade division weig
           (λ same. subst (WasAsked y) (sym same)
           (asked_here (subst (WasAsked w) same (s.asked j (asked j at)))))
           (λ other. asked_stays division weights made u c me at0 told host had w y d.division_is
-          d.weights_are me j d.node d.nodes_are other (s.asked j (asked j at)))
+          d.weights_are its_answer.sends d.sent me j d.node d.nodes_are other (s.asked j (asked j at)))
           (cases_eq j me)
 
-      polled : IsPolled division weights made u c me all build (length w.sent) y
+      polled : IsPolled division weights made u c me all told build (length w.sent) y
       polled = is_polled division weights made w s.reached me x s.stands u s.within c build
           (waits_fresh division weights (its_acts division weights made w s.reached) w made
           (its_own division weights made w s.reached) (its_match division weights made w s.reached)
@@ -185,7 +187,7 @@ module _ (division : Division) (weights : List ℕ) (made : IsMade division weig
           told host had asked_then news
 
     -- The build is told, and votes come in.
-    pub is_proposed : LeadsTo (IsPolled division weights made u c me all build (length w.sent)) w
+    pub is_proposed : LeadsTo (IsPolled division weights made u c me all told build (length w.sent)) w
         (e ∷ [])
     is_proposed = leads_also Did
-        (IsPolled division weights made u c me all build (length w.sent)) w (e ∷ []) is_done polled
+        (IsPolled division weights made u c me all told build (length w.sent)) w (e ∷ []) is_done polled

@@ -8,6 +8,7 @@ use Rattle.agreement.specs.Member.{Building, Gathering}
 use Rattle.agreement.specs.Quorums.{Members, is_majority, nobody, with_member}
 use Rattle.agreement.specs.Votes.{Ballot, Reaches, kept_report}
 use Rattle.agreement.specs.declared.claim.Claim.{Claim}
+use Rattle.ballots.specs.declared.message.Body.{Body}
 use Rattle.ballots.specs.declared.message.Body.TheVariants as bodies
 use Rattle.ballots.specs.declared.message.Message.{Message}
 use Rattle.claims.specs.Claim.{greatest_round}
@@ -31,25 +32,27 @@ use Rattle.way.specs.Rounds.{is_round_left, last_round, next_claim, seen_at}
 use Rattle.way.specs.Ways.{HoldsUnit, IsWay, LeadsTo}
 use Rattle.way.specs.declared.fault.WayFault.{WayFault}
 use Rattle.way.specs.declared.fault.WayFault.TheVariants as fault
-use Rattle.way.specs.inside.Listed.{asked_of, asks_from, behind_promises, deliveries, promised_in, proposed_by, proposed_in, report_of_all, told_of, votes_from, way_of}
+use Rattle.way.specs.inside.Listed.{asked_of, asks_from, behind_promises, deliveries, promise_of, promised_in, proposed_by, proposed_in, report_of_all, told_of, votes_from, way_of}
 use Rattle.protocol.proofs.Asked.{unit_is_one}
 use Rattle.way.proofs.Appending.{later}
 use Rattle.way.proofs.Asking.{Asks}
 use Rattle.way.proofs.Building.{build_on, is_proposed}
 use Rattle.way.proofs.Claiming.{Did, OffersAreOpened, asks, is_opened, one_sent}
 use Rattle.way.proofs.Gathering.{AreNew, Gathers, all_asks, asks_by, behind_by, count_of, last_waits, report_by}
-use Rattle.way.proofs.Going.{leads_also, leads_on}
+use Rattle.way.proofs.Going.{leads_also, leads_on, leads_with}
 use Rattle.way.proofs.Majority.{MakeMajority}
 use Rattle.way.proofs.Polling.{AreDistinct, all_turns}
 use Rattle.way.proofs.Proposing.{IsPolled, count_in, numbers_in, proposal_texts}
 use Rattle.way.proofs.Reached.{IsReached, its_own}
+use Rattle.way.proofs.Remaining.{sent_stays}
 use Rattle.way.proofs.Reported.{last_proposes}
 use Rattle.way.proofs.Seen.{Apart, asked_apart, asked_are_enough, asked_up, next_unvoted}
 use Rattle.wire.specs.Spelling.{datagram_text}
 use Rattle.wire.specs.Pieces.{header_with, piece_at, split_of}
 use Rattle.wire.specs.declared.datagram.Carrier.TheVariants as carriers
 use Rattle.wire.specs.declared.datagram.Datagram.TheVariants as datagrams
-use Rattle.world.specs.Sent.{message}
+use Rattle.world.specs.Happening.{Happens}
+use Rattle.world.specs.Sent.{WasSent, message}
 use Rattle.world.specs.World.{IsMade, World, WorldNode, member_at}
 
 -- ---- what nothing refused means
@@ -209,18 +212,54 @@ module _ (division : Division) (weights : List ℕ) (made : IsMade division weig
   news j at = let n = asked_up w j at in
       next_unvoted division weights made w r u me j n.0 within n.1 n.2
 
-  abbrev Holds : World → Type 0
-  Holds y = HoldsUnit y me u
+  -- what was sent on the way, where this build was proposed
+  abbrev pub Said : Value → World → Type 0
+  Said v y = ((j : ℕ) → Contains asked j → WasSent y.sent (promise_of w u c j))
+      × WasSent y.sent (message w (unit_at w.division u).name c.member (bodies.Propose c v))
+
+  said_stays : (v : Value) (y z : World) (e : Event) → Happens y e z → Said v y → Said v z
+  said_stays v y z e h (promises, proposal) = (
+    (λ j at. sent_stays (promise_of w u c j) y z e h (promises j at)),
+    sent_stays (message w (unit_at w.division u).name c.member (bodies.Propose c v)) y z e h
+        proposal,
+  )
+
+  is_said : (v : Value) (first : ℕ) (y : World)
+      → IsPolled division weights made u c me asked told v first y → Said v y
+  is_said v first y p = (
+    (λ j at. subst (WasSent y.sent) (ap (λ d. says d j (bodies.Promise c (option_map pair_of
+        (told j)))) same) (p.said j at)),
+    subst (WasSent y.sent) (ap (λ d. says d me (bodies.Propose c v)) same) p.polls.is_sent,
+  )
+    where
+      same : y.division ≡ w.division
+      same = (its_own division weights made y p.polls.reached).0
+          ∙ sym (its_own division weights made w r).0
+
+      says : Division → ℕ → Body Value → Message Value
+      says d j body = record {
+        sender = j;
+        tree = tree_digest d.tree;
+        path = (unit_at d u).name;
+        body = body;
+      }
+
+  -- the node holds the unit, and this was said
+  abbrev Holds : Value → World → Type 0
+  Holds v y = HoldsUnit y me u × Said v y
 
   module _ (enough : MakeMajority weights nobody asked) where
     -- from where votes come in
     votes_lead : (v : Value) (first : ℕ) (y : World)
-        → IsPolled division weights made u c me asked v first y
-        → LeadsTo Holds y (votes_from first (count_in v) (first + count_in v) me asked)
+        → IsPolled division weights made u c me asked told v first y
+        → LeadsTo (Holds v) y (votes_from first (count_in v) (first + count_in v) me asked)
     votes_lead v first y p =
-        subst (λ n. LeadsTo Holds y (votes_from first (count_in v) n me asked)) p.behind
+        subst (λ n. LeadsTo (Holds v) y (votes_from first (count_in v) n me asked)) p.behind
+        (leads_with (Said v) (λ z. HoldsUnit z me u) (said_stays v) y
+        (votes_from first (count_in v) (length y.sent) me asked)
         (all_turns division weights made u c v (count_in v) (numbers_in v) p.some first me asked
         nobody y (distinct asked (asked_apart w)) enough p.polls)
+        (is_said v first y p))
       where
         distinct : (ks : List ℕ) → Apart ks
             → AreDistinct division weights made u c v (count_in v) (numbers_in v) p.some first me ks
@@ -266,14 +305,14 @@ module _ (division : Division) (weights : List ℕ) (made : IsMade division weig
 
       -- where none reported a vote, the build is told,
       build_leads : (z : World) → Waits z
-          → LeadsTo Holds z (Built me path given
+          → LeadsTo (Holds build) z (Built me path given
           ∷ votes_from behind (count_in build) (behind + count_in build) me asked)
       build_leads z (done, a, each, end) =
           let dz : z.division ≡ w.division =
           (its_own division weights made z a.reached).0 ∙ sym (its_own division weights made w r).0
           in
-          leads_on (IsPolled division weights made u c me asked
-          (build_on z.division u c given host had) (length z.sent)) Holds z
+          leads_on (IsPolled division weights made u c me asked told
+          (build_on z.division u c given host had) (length z.sent)) (Holds build) z
           (Built me path given ∷ [])
           (votes_from behind (count_in build) (behind + count_in build) me asked)
           (is_proposed division weights made u c me at0 told host had done z a path
@@ -281,15 +320,15 @@ module _ (division : Division) (weights : List ℕ) (made : IsMade division weig
           (ap (λ (d : Division). files_refusal (record s { division = d }) u given
           (build_on d u c given host had)) dz ∙ right) refl asked each news)
           (λ q p. votes_lead build behind q
-          (subst (λ n. IsPolled division weights made u c me asked build n q) end
-          (subst (λ (d : Division). IsPolled division weights made u c me asked
+          (subst (λ n. IsPolled division weights made u c me asked told build n q) end
+          (subst (λ (d : Division). IsPolled division weights made u c me asked told
           (build_on d u c given host had) (length z.sent) q) dz p)))
 
       pub by_build : report ≡ None
-          → LeadsTo Holds y (asks_them ++ (Built me path given
+          → LeadsTo (Holds build) y (asks_them ++ (Built me path given
           ∷ votes_from behind (count_in build) (behind + count_in build) me asked))
       by_build none =
-          leads_on Waits Holds y asks_them
+          leads_on Waits (Holds build) y asks_them
           (Built me path given
           ∷ votes_from behind (count_in build) (behind + count_in build) me asked)
           (walk Waits None
@@ -305,14 +344,14 @@ module _ (division : Division) (weights : List ℕ) (made : IsMade division weig
 
       -- and else what was reported is proposed.
       pub by_report : (b : Ballot Value) → report ≡ Some b
-          → LeadsTo Holds y (asks_them
+          → LeadsTo (Holds b.value) y (asks_them
           ++ votes_from behind (count_in b.value) (behind + count_in b.value) me asked)
       by_report b is =
-          leads_on (IsPolled division weights made u c me asked b.value behind) Holds y asks_them
+          leads_on (IsPolled division weights made u c me asked told b.value behind) (Holds b.value) y asks_them
           (votes_from behind (count_in b.value) (behind + count_in b.value) me asked)
-          (walk (IsPolled division weights made u c me asked b.value behind) (Some b)
+          (walk (IsPolled division weights made u c me asked told b.value behind) (Some b)
           (λ S kept done k z g old big total end each.
-          subst (λ n. LeadsTo (IsPolled division weights made u c me asked b.value n) z
+          subst (λ n. LeadsTo (IsPolled division weights made u c me asked told b.value n) z
           (asks_by division weights made u c me at0 told host had (length z.sent) (k ∷ []))) end
           (last_proposes division weights made u c me at0 told host had refl asked news b S kept
           done k z g old big total each)) is)
@@ -363,14 +402,18 @@ module _ (division : Division) (weights : List ℕ) (made : IsMade division weig
   abbrev theirs : List ℕ
   theirs = asked_of w
 
-  abbrev HoldsIt : World → Type 0
-  HoldsIt y = HoldsUnit y me u
-
   abbrev its_build : Value
   its_build = next_build w member u host given
 
   abbrev reported : Option (Ballot Value)
   reported = report_of_all w u None theirs
+
+  -- the node holds the unit, and the promises and the proposal were sent
+  abbrev pub HoldsIt : World → Type 0
+  HoldsIt y = HoldsUnit y me u
+      × (((j : ℕ) → Contains (asked_of w) j → WasSent y.sent (promise_of w u claim j))
+      × WasSent y.sent (message w (unit_at w.division u).name claim.member
+      (bodies.Propose claim (proposed_by reported its_build))))
 
   abbrev first : ℕ
   first = behind_promises w u claim (suc (length w.sent)) theirs
@@ -442,8 +485,15 @@ module _ (division : Division) (weights : List ℕ) (made : IsMade division weig
     same_list o e = λ i. list_of me path given theirs (same_events i) (same_first i)
         (same_size o e i) (sym e i)
 
-    by_reported : (o : Option (Ballot Value)) → reported ≡ o → LeadsTo HoldsIt y rest
-    by_reported None e = subst (LeadsTo HoldsIt y)
+    -- what is said where this was reported
+    abbrev HoldsBy : Option (Ballot Value) → World → Type 0
+    HoldsBy o y = HoldsUnit y me u
+        × (((j : ℕ) → Contains (asked_of w) j → WasSent y.sent (promise_of w u claim j))
+        × WasSent y.sent (message w (unit_at w.division u).name claim.member
+        (bodies.Propose claim (proposed_by o its_build))))
+
+    by_reported : (o : Option (Ballot Value)) → reported ≡ o → LeadsTo (HoldsBy o) y rest
+    by_reported None e = subst (LeadsTo (HoldsBy None) y)
         (list_with me path given theirs
         (asks_by division weights made u claim me (length w.sent) voted host held (length y.sent)
         theirs)
@@ -451,7 +501,7 @@ module _ (division : Division) (weights : List ℕ) (made : IsMade division weig
         theirs) (count_in its_build) ∙ same_list None e)
         (by_build division weights made w r me node g.stands g.up u is_unit host are_enough path
         named given is_free.right y gathers (kept ∙ e))
-    by_reported (Some b) e = subst (LeadsTo HoldsIt y)
+    by_reported (Some b) e = subst (LeadsTo (HoldsBy (Some b)) y)
         (list_without me path given theirs
         (asks_by division weights made u claim me (length w.sent) voted host held (length y.sent)
         theirs)
@@ -460,10 +510,15 @@ module _ (division : Division) (weights : List ℕ) (made : IsMade division weig
         (by_report division weights made w r me node g.stands g.up u is_unit host are_enough path
         named given is_free.right y gathers b (kept ∙ e))
 
-  -- From a world that is reached, where nothing is refused of the unit, the list is a way, if each
-  -- offer was opened.
-  pub list_is_way : IsWay w me u (way_of w member u path host given)
-  list_is_way = leads_on Opened HoldsIt w (claims me path host (last_round w u me) ∷ []) rest
+  -- From a world that is reached, where nothing is refused of the unit, the list leads to where the
+  -- node holds the unit, if each offer was opened.
+  pub list_leads : LeadsTo HoldsIt w (way_of w member u path host given)
+  list_leads = leads_on Opened HoldsIt w (claims me path host (last_round w u me) ∷ []) rest
       (is_opened division weights made w r me node g.stands g.up u is_unit path named
       is_free.queued host few is_free.left)
       (λ y d. by_reported y d reported refl)
+
+  -- So it is a way.
+  pub list_is_way : IsWay w me u (way_of w member u path host given)
+  list_is_way = leads_also HoldsIt (λ y. HoldsUnit y me u) w (way_of w member u path host given)
+      list_leads (λ y h. h.0)

@@ -23,6 +23,7 @@ mod Gathering
 mod Proposing
 mod Staying
 mod Acting
+mod Remaining
 mod Seen
 mod Claiming
 mod Building

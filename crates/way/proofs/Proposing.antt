@@ -1,5 +1,5 @@
 -- A proposal that goes to all: it comes behind all that was sent, and votes for it come in.
-use Rattle.std.proofs.Common.{◌≡◌, ◌≢◌, ◌<◌, ◌≤◌, ◌+◌, ◌⊎◌, ℕ, zero, suc, true, false, List, [], ◌∷◌, ◌++◌, length, map, Option, None, Some, slice_get, slice_set, refl, sym, ap, ap₂, subst, ◌∙◌, arith, append-nil, inl, inr, ⊎_elim}
+use Rattle.std.proofs.Common.{◌≡◌, ◌≢◌, ◌<◌, ◌≤◌, ◌+◌, ◌⊎◌, ℕ, zero, suc, true, false, List, [], ◌∷◌, ◌++◌, length, map, Option, None, Some, option_map, slice_get, slice_set, refl, sym, ap, ap₂, subst, ◌∙◌, arith, append-nil, inl, inr, ⊎_elim}
 use Rattle.std.specs.Prelude.{All, AllPairs, Contains}
 use Rattle.std.specs.List.{range_with_len}
 use Rattle.std.proofs.lemmas.Bool.{cases_eq}
@@ -17,6 +17,7 @@ use Rattle.faults.specs.Bytes.{Text, is_among}
 use Rattle.node.specs.Parcels.{datagrams_of}
 use Rattle.package_record.specs.Build.{build_text}
 use Rattle.protocol.specs.Answers.{tree_digest}
+use Rattle.protocol.specs.InTheAgreement.{pair_of}
 use Rattle.protocol.specs.Sends.{sent_to}
 use Rattle.protocol.specs.State.{Value}
 use Rattle.protocol.specs.declared.sends.Send.{Send}
@@ -92,14 +93,16 @@ proposal_texts m c v is =
     (range_with_len 0 (count_in v))
 
 module _ (division : Division) (weights : List ℕ) (made : IsMade division weights)
-    (u : ℕ) (c : Claim) (me : ℕ) (all : List ℕ) where
-  -- The proposal of this build was sent, from this datagram on, and nobody voted yet; all that are
-  -- asked are to vote.
+    (u : ℕ) (c : Claim) (me : ℕ) (all : List ℕ) (told : ℕ → Option (Ballot Value)) where
+  -- The proposal of this build was sent, from this datagram on, and nobody voted yet; all that were
+  -- asked, and promised, are to vote.
   pub record IsPolled (v : Value) (first : ℕ) (y : World) : Type 0 where
     pub some : 0 < count_in v
     pub polls : Polls division weights made u c v (count_in v) (numbers_in v) some first me nobody
         all y
     pub behind : length y.sent ≡ first + count_in v
+    pub said : (j : ℕ) → Contains all j → WasSent y.sent (message y (name_of y u) j
+        (bodies.Promise c (option_map pair_of (told j))))
 
 module _ (division : Division) (weights : List ℕ) (made : IsMade division weights) (w : World)
     (r : IsReached division weights made w) (me : ℕ) (x : WorldNode)
@@ -237,7 +240,7 @@ module _ (division : Division) (weights : List ℕ) (made : IsMade division weig
         }
 
     -- So votes come in.
-    pub is_polled : IsPolled division weights made u c me all v (length w.sent) y
+    pub is_polled : IsPolled division weights made u c me all told v (length w.sent) y
     is_polled = record {
       some = goes_out;
       polls = record {
@@ -255,4 +258,5 @@ module _ (division : Division) (weights : List ℕ) (made : IsMade division weig
         each = pending;
       };
       behind = sent_then;
+      said = λ j at. (asked j at).said;
     }

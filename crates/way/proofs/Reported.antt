@@ -108,7 +108,7 @@ module _ (division : Division) (weights : List ℕ) (made : IsMade division weig
             ∙ ap (λ (o : Outcome Value). (answered s_then u (host_in s_then.claim)
             (everyone s_then) o).sends) is
 
-        polled : IsPolled division weights made u c me all b.value (length then.sent) y
+        polled : IsPolled division weights made u c me all told b.value (length then.sent) y
         polled = is_polled division weights made then h.heard.reached me z.node z.there u
             within_then c b.value
             (gathers_fresh division weights (its_acts division weights made then h.heard.reached)
@@ -131,26 +131,26 @@ module _ (division : Division) (weights : List ℕ) (made : IsMade division weig
 
     -- The last is asked, and votes come in.
     pub last_proposes : LeadsTo
-        (IsPolled division weights made u c me all b.value
+        (IsPolled division weights made u c me all told b.value
         (length w.sent + count_of division weights made u c me at0 told host had k)) w
         (asks_by division weights made u c me at0 told host had (length w.sent) (k ∷ []))
     last_proposes =
         subst (λ es. LeadsTo
-        (IsPolled division weights made u c me all b.value
+        (IsPolled division weights made u c me all told b.value
         (length w.sent + count_of division weights made u c me at0 told host had k)) w
         (events.Deliver at0 k ∷ es))
         (sym (append-nil (deliveries (length w.sent)
         (count_of division weights made u c me at0 told host had k) me)))
         (subst (λ m. LeadsTo
-        (IsPolled division weights made u c me all b.value
+        (IsPolled division weights made u c me all told b.value
         (length w.sent + length (split_of m))) w
         (events.Deliver at0 k ∷ deliveries (length w.sent) (length (split_of m)) me))
         (same_promise division weights made u c me at0 told host had w k (Gathering c S report) tt
         done [] s alone old)
         (hears_promise division weights made u c me at0 told host had w k (Gathering c S report) tt
         done [] s alone old
-        (IsPolled division weights made u c me all b.value
+        (IsPolled division weights made u c me all told b.value
         (length w.sent + length (split_of promise)))
         (λ then h y g.
-        subst (λ n. IsPolled division weights made u c me all b.value n y) (sent_then then h)
+        subst (λ n. IsPolled division weights made u c me all told b.value n y) (sent_then then h)
         (polled then h y g))))
