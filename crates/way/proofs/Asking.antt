@@ -1,21 +1,20 @@
 -- A whole turn of a node that is asked to promise: the offer comes to it, and its promise to the
 -- node whose claim it is.
-use Rattle.std.proofs.Common.{◌≡◌, ◌<◌, ◌+◌, ◌⊎◌, ℕ, zero, suc, true, false, List, [], ◌∷◌, ◌++◌, length, Option, None, Some, option_map, slice_get, slice_set, refl, sym, ap, ap₂, subst, ◌∙◌, arith, append-nil, inl, inr, ⊎_elim}
+use Rattle.std.proofs.Common.{◌≡◌, ◌<◌, ◌+◌, ◌⊎◌, ℕ, zero, suc, true, List, [], ◌∷◌, ◌++◌, length, Option, None, Some, option_map, slice_get, slice_set, refl, sym, ap, ap₂, subst, ◌∙◌, arith, append-nil, ⊎_elim}
 use Rattle.std.specs.Prelude.{Contains}
 use Rattle.std.proofs.lemmas.Bool.{cases_eq}
-use Rattle.std.proofs.lemmas.List.{length-append}
 use Rattle.std.proofs.lemmas.List.Elements.{Contains-append_right}
 use Rattle.agreement.specs.Claims.{is_above}
 use Rattle.agreement.specs.Member.{Facts, Member, Stage}
 use Rattle.agreement.specs.Nodes as nodes
 use Rattle.agreement.specs.Quorums.{is_majority}
 use Rattle.agreement.specs.Step.{Outcome, on_promise, still}
-use Rattle.agreement.specs.Votes.{Ballot, Reaches, report_of}
+use Rattle.agreement.specs.Votes.{Ballot, report_of}
 use Rattle.agreement.specs.declared.claim.Claim.{Claim}
 use Rattle.ballots.specs.declared.message.Body.TheVariants as bodies
 use Rattle.ballots.specs.declared.message.Message.{Message}
 use Rattle.events.specs.Events as events
-use Rattle.faults.specs.Bytes.{Text, is_among}
+use Rattle.faults.specs.Bytes.{is_among}
 use Rattle.node.specs.Parcels.{datagrams_of}
 use Rattle.protocol.specs.Answers.{tree_digest}
 use Rattle.protocol.specs.InTheAgreement.{pair_of, view}
@@ -36,11 +35,9 @@ use Rattle.way.proofs.Promising.{HasPromised, is_promised, promise}
 use Rattle.way.proofs.Reached.{IsReached, its_acts, its_local, its_match, its_own}
 use Rattle.way.proofs.Staying.{IsOpenStage, held_stays, host_stays}
 use Rattle.way.proofs.Unsaid.{unkept}
-use Rattle.wire.specs.Messages.{IsMessage}
 use Rattle.wire.specs.Pieces.{split_of}
 use Rattle.wire.specs.Spelling.{datagram_text}
 use Rattle.wire.specs.declared.datagram.Datagram.TheVariants as datagrams
-use Rattle.wire.specs.declared.datagram.Piece.{Piece}
 use Rattle.protocol.specs.declared.sends.Send.{Send}
 use Rattle.world.specs.Sent.{WasSent, message, with_sends}
 use Rattle.world.specs.World.{IsMade, World, WorldNode, member_at}

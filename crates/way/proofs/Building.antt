@@ -1,14 +1,13 @@
 -- The build of the way: where the claim waits for one, it is made of the files, and proposed to all.
-use Rattle.std.proofs.Common.{◌≡◌, ◌<◌, ◌+◌, ℕ, true, false, List, [], ◌∷◌, length, map, filter_map, option_map, Option, None, Some, Result, slice_get, refl, sym, ap, ap₂, subst, ◌∙◌}
+use Rattle.std.proofs.Common.{◌≡◌, ℕ, List, [], ◌∷◌, length, map, filter_map, option_map, Option, None, Some, slice_get, refl, sym, ap, ap₂, subst, ◌∙◌}
 use Rattle.std.specs.Prelude.{Contains, option_and_then}
-use Rattle.agreement.specs.Member.{Building, Facts, Member, Stage, Voting}
+use Rattle.agreement.specs.Member.{Building, Facts, Member, Voting}
 use Rattle.agreement.specs.Messages as messages
 use Rattle.agreement.specs.Quorums.{nobody}
 use Rattle.agreement.specs.Step as theory
 use Rattle.agreement.specs.Step.{Outcome, on_built, says}
 use Rattle.agreement.specs.Votes.{Ballot, Reaches, ballot}
 use Rattle.agreement.specs.declared.claim.Claim.{Claim}
-use Rattle.claims.specs.Job.{Task}
 use Rattle.engine.specs.declared.Letter.TheVariants.{Q}
 use Rattle.events.specs.Events as events
 use Rattle.faults.specs.Bytes.{Text}
@@ -21,22 +20,20 @@ use Rattle.protocol.specs.State.{State, Value, facts_at, record_in, unit_with}
 use Rattle.protocol.specs.Step as members
 use Rattle.protocol.specs.Step.{answered_or, at_unit, builds, builds_under, files_refusal, host_in, unless}
 use Rattle.protocol.specs.declared.input.Input.TheVariants as inputs
-use Rattle.protocol.specs.declared.refusal.Refusal.{Refusal}
 use Rattle.protocol.specs.declared.refusal.Refusal.TheVariants as refusals
 use Rattle.units.specs.Division.{Division, number_found, unit_at}
 use Rattle.way.specs.Ways.{LeadsTo}
 use Rattle.way.proofs.Acting.{DidSo, IsPlain, does}
 use Rattle.way.proofs.Asking.{Asks, IsAsked, asked_stays, facts_stay, said_stays}
-use Rattle.way.proofs.Deciding.{some_same, stage_here}
+use Rattle.way.proofs.Deciding.{some_same}
 use Rattle.way.proofs.Going.{leads_also}
 use Rattle.way.proofs.NotYet.{waits_fresh}
 use Rattle.way.proofs.Pieces.{put_there}
 use Rattle.way.proofs.Proposing.{IsPolled, is_polled}
-use Rattle.way.proofs.Reached.{IsReached, its_acts, its_match, its_own}
+use Rattle.way.proofs.Reached.{its_acts, its_match, its_own}
 use Rattle.std.proofs.lemmas.Bool.{cases_eq}
 use Rattle.std.proofs.Common.{⊎_elim}
 use Rattle.world.specs.World.{IsMade, World, WorldNode, member_at}
-use Rattle.headline.specs.Matches.{node_of}
 use Rattle.headline.proofs.Asking.{answers_with}
 
 -- what is made of the files under the claim, on this host, where this is held of the units

@@ -1,5 +1,5 @@
 -- The claim of the way: it is opened in the next round, and offered to all.
-use Rattle.std.proofs.Common.{◌≡◌, ◌<◌, ◌≤◌, ◌+◌, ◌⊎◌, ℕ, zero, suc, max, Bool, true, false, nat_le, List, [], ◌∷◌, ◌++◌, length, map, filter, is_some, Option, None, Some, slice_get, slice_set, refl, sym, ap, ap₂, subst, ◌∙◌, ◌&&◌, arith, inl, inr, ⊎_elim}
+use Rattle.std.proofs.Common.{◌≡◌, ◌<◌, ◌≤◌, ◌+◌, ◌⊎◌, ℕ, suc, max, Bool, true, false, nat_le, List, [], ◌∷◌, ◌++◌, length, filter, is_some, Option, None, Some, slice_get, refl, sym, ap, subst, ◌∙◌, arith, ⊎_elim}
 use Rattle.std.specs.Prelude.{All, Contains}
 use Rattle.std.specs.FinSet.{contains-from_list_nat}
 use Rattle.std.specs.List.{range_with_len, slice_index_or}
@@ -10,7 +10,7 @@ use Rattle.std.proofs.lemmas.List.FromFn.{length-range_with_len}
 use Rattle.agreement.specs.Claims.{is_above}
 use Rattle.agreement.specs.Member.{Facts, Gathering, Member, Opened}
 use Rattle.agreement.specs.Messages as messages
-use Rattle.agreement.specs.Quorums.{is_majority, nobody}
+use Rattle.agreement.specs.Quorums.{nobody}
 use Rattle.agreement.specs.Step as theory
 use Rattle.agreement.specs.Step.{Outcome, notes_and_says, on_start}
 use Rattle.agreement.specs.Votes.{Ballot, Has}
@@ -26,14 +26,12 @@ use Rattle.node.specs.Parcels.{datagrams_of}
 use Rattle.protocol.specs.Answers.{Answer, answered, everyone, tree_digest}
 use Rattle.protocol.specs.InTheAgreement.{view}
 use Rattle.protocol.specs.Member.{IsMember}
-use Rattle.protocol.specs.Sends.{sent_to}
-use Rattle.protocol.specs.State.{HasLetter, State, Value, engine_of, facts_at, holds_package, is_held, is_held_any}
+use Rattle.protocol.specs.State.{HasLetter, State, Value, facts_at, holds_package, is_held, is_held_any}
 use Rattle.protocol.specs.Step as members
 use Rattle.protocol.specs.Step.{answered_or, at_unit, claim_refusal, claims, host_in, stranger, unless}
 use Rattle.protocol.specs.declared.input.Input.TheVariants as inputs
 use Rattle.protocol.specs.declared.refusal.Refusal.TheVariants as refusals
-use Rattle.protocol.specs.declared.sends.Send.{Send}
-use Rattle.units.specs.Division.{Division, number_found, number_of, unit_at}
+use Rattle.units.specs.Division.{Division, number_found, unit_at}
 use Rattle.units.specs.Units.{is_in, positions}
 use Rattle.units.proofs.Kept.{unit_listed, unit_some}
 use Rattle.units.proofs.Lists.{below_in, in_kept}
@@ -44,7 +42,6 @@ use Rattle.way.proofs.Acting.{DidSo, IsPlain, does, is_member}
 use Rattle.way.proofs.Adding.{datagrams_differ}
 use Rattle.way.proofs.Asking.{Asks, IsUnasked, facts_stay, unasked_stays}
 use Rattle.way.proofs.Deciding.{behind, some_same}
-use Rattle.way.proofs.Going.{leads_also}
 use Rattle.way.proofs.NotYet.{no_offer}
 use Rattle.way.proofs.Pieces.{put_there}
 use Rattle.way.proofs.Proposing.{of_first, spread}
@@ -55,10 +52,10 @@ use Rattle.way.proofs.Unsaid.{unsent}
 use Rattle.wire.specs.Messages.{IsMessage}
 use Rattle.wire.specs.Spelling.{datagram_text}
 use Rattle.wire.specs.declared.datagram.Datagram.TheVariants as datagrams
-use Rattle.world.specs.Sent.{WasSent, message, with_sends}
+use Rattle.world.specs.Sent.{WasSent, message}
 use Rattle.world.specs.World.{IsMade, World, WorldNode, member_at}
 use Rattle.world.proofs.Sending.{is_found}
-use Rattle.headline.specs.Matches.{name_of, node_of}
+use Rattle.headline.specs.Matches.{name_of}
 use Rattle.headline.specs.Mirrored.{after_all_acts}
 use Rattle.headline.proofs.Asking.{answers_with}
 use Rattle.headline.proofs.Members.{get_within}

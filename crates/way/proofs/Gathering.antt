@@ -1,10 +1,10 @@
 -- The walk over those that are asked to promise.
-use Rattle.std.proofs.Common.{◌≡◌, ◌<◌, ◌+◌, ◌⊎◌, ℕ, zero, suc, true, false, List, [], ◌∷◌, ◌++◌, length, map, Option, None, Some, option_map, refl, sym, ap, ap₂, subst, ◌∙◌, arith, append-nil, inl, inr, ⊎_elim}
+use Rattle.std.proofs.Common.{◌≡◌, ◌+◌, ◌⊎◌, ℕ, zero, suc, true, List, [], ◌∷◌, ◌++◌, length, Option, None, option_map, refl, sym, ap, ap₂, subst, ◌∙◌, arith, append-nil, inl, inr, ⊎_elim}
 use Rattle.std.specs.Prelude.{Contains}
 use Rattle.std.proofs.lemmas.List.{length-append, length-map}
 use Rattle.agreement.specs.Member.{Building, Gathering, Member, Stage}
 use Rattle.agreement.specs.Quorums.{Members, is_majority, with_member}
-use Rattle.agreement.specs.Step.{Outcome, on_promise, on_quorum, still}
+use Rattle.agreement.specs.Step.{on_promise, on_quorum, still}
 use Rattle.agreement.specs.Votes.{Ballot, kept_report}
 use Rattle.agreement.specs.declared.claim.Claim.{Claim}
 use Rattle.ballots.specs.declared.message.Body.TheVariants as bodies
@@ -14,7 +14,7 @@ use Rattle.events.specs.Events.{Event}
 use Rattle.node.specs.Parcels.{datagrams_of}
 use Rattle.protocol.specs.Answers.{tree_digest}
 use Rattle.protocol.specs.InTheAgreement.{pair_of}
-use Rattle.protocol.specs.State.{Value, facts_at}
+use Rattle.protocol.specs.State.{Value}
 use Rattle.units.specs.Division.{Division, unit_at}
 use Rattle.way.specs.Ways.{LeadsTo}
 use Rattle.way.specs.inside.Listed.{deliveries}
@@ -28,7 +28,7 @@ use Rattle.way.proofs.Replies.{is_joined, is_quorum}
 use Rattle.way.proofs.Staying.{IsOpenStage}
 use Rattle.wire.specs.Pieces.{split_of}
 use Rattle.wire.specs.Spelling.{datagram_text}
-use Rattle.world.specs.World.{IsMade, World, member_at}
+use Rattle.world.specs.World.{IsMade, World}
 
 module _ (division : Division) (weights : List ℕ) (made : IsMade division weights)
     (u : ℕ) (c : Claim) (me : ℕ) (at0 : ℕ) (told : ℕ → Option (Ballot Value)) (host : ℕ)

@@ -1,6 +1,6 @@
 -- What was sent comes to a node that is up, and is heard.
-use Rattle.std.proofs.Common.{◌≡◌, ◌≢◌, ◌<◌, ◌⊎◌, ℕ, Bool, true, false, List, [], ◌∷◌, ◌++◌, length, Option, None, Some, Result, Ok, Err, slice_get, slice_set, refl, sym, ap, subst, ◌∙◌, inl, inr, ⊎_elim, arith, leb}
-use Rattle.std.specs.Prelude.{All, Contains}
+use Rattle.std.proofs.Common.{◌≡◌, ◌⊎◌, ℕ, true, false, List, [], ◌∷◌, length, Option, None, Some, Result, Ok, Err, slice_get, slice_set, refl, sym, ap, ◌∙◌, inl, inr, ⊎_elim}
+use Rattle.std.specs.Prelude.{All}
 use Rattle.std.proofs.lemmas.Bool.{lt-leb}
 use Rattle.agreement.specs.Nodes as nodes
 use Rattle.agreement.specs.Quorums.{is_majority}
@@ -14,14 +14,12 @@ use Rattle.faults.specs.Bytes.{Text}
 use Rattle.node.specs.Arrival.{Whole, arrival_of}
 use Rattle.node.specs.Ranges.{CanBeWritten}
 use Rattle.node.specs.Step.{Comes, Taken, after, heard, step_on}
-use Rattle.node.specs.declared.fault.NodeFault.{NodeFault}
 use Rattle.node.proofs.Pieces.{message_good}
 use Rattle.node.proofs.ranges.Written.{answers_written}
 use Rattle.package_record.specs.Content.{Content}
 use Rattle.package_record.proofs.BuildsRead.{build_is_read}
 use Rattle.protocol.specs.Answers.{Answer}
 use Rattle.protocol.specs.Laws.{AnswersMessage}
-use Rattle.protocol.specs.Member.{IsMember}
 use Rattle.protocol.specs.State.{State, Value, facts_at}
 use Rattle.protocol.specs.Step as members
 use Rattle.protocol.specs.Step.{at_unit, header_refusal, hears, members_of, outcome_of, unless}
@@ -30,7 +28,7 @@ use Rattle.protocol.specs.declared.refusal.Refusal.{Refusal}
 use Rattle.protocol.specs.declared.refusal.Refusal.TheVariants as refusals
 use Rattle.protocol.specs.declared.sends.Send.{Send}
 use Rattle.units.specs.Division.{Division, number_named}
-use Rattle.way.specs.Ways.{LeadsTo, no_room}
+use Rattle.way.specs.Ways.{LeadsTo}
 use Rattle.way.proofs.Reached.{IsReached, goes, its_acts, its_local, its_match, its_own, none_before, reached_then}
 use Rattle.wire.specs.Messages.{IsMessage}
 use Rattle.wire.specs.Pieces.{IsDatagram}
@@ -39,7 +37,7 @@ use Rattle.wire.specs.Spelling.{datagram_text}
 use Rattle.wire.specs.declared.datagram.Datagram.TheVariants as datagrams
 use Rattle.wire.specs.declared.datagram.Piece.{Piece}
 use Rattle.wire.proofs.DatagramTexts.{datagram_again}
-use Rattle.world.specs.Happening.{Acts, Happens, IsRefused, Steps, is_up, lacks_datagram, stepped, up_of}
+use Rattle.world.specs.Happening.{Acts, is_up, lacks_datagram, stepped, up_of}
 use Rattle.world.specs.Sent.{WasSent, with_sends}
 use Rattle.world.specs.World.{IsMade, World, WorldNode, member_at, node_at, up_node}
 use Rattle.headline.specs.Matches.{node_of}

@@ -1,7 +1,6 @@
 -- The list that is told leads to where the node holds the unit.
-use Rattle.std.proofs.Common.{◌≡◌, ◌<◌, ◌≤◌, ◌+◌, ◌⊎◌, ℕ, zero, suc, Bool, true, false, not, nat_lt, List, [], ◌∷◌, ◌++◌, length, map, Option, None, Some, option_map, slice_get, refl, sym, ap, ap₂, subst, ◌∙◌, arith, append_assoc, inl, inr, ltb-true, if◌then◌else◌}
+use Rattle.std.proofs.Common.{◌≡◌, ◌<◌, ◌≤◌, ◌+◌, ℕ, zero, suc, Bool, true, false, not, List, [], ◌∷◌, ◌++◌, length, Option, None, Some, option_map, slice_get, refl, sym, ap, subst, ◌∙◌, arith, append_assoc, inr, ltb-true, if◌then◌else◌}
 use Rattle.std.specs.Prelude.{Contains}
-use Rattle.std.specs.List.{range_with_len}
 use Rattle.std.proofs.lemmas.List.{length-map}
 use Rattle.std.proofs.lemmas.List.FromFn.{length-map-range_with_len}
 use Rattle.agreement.specs.Member.{Building, Gathering}
@@ -26,7 +25,6 @@ use Rattle.protocol.specs.Step.{IsLetterOf, files_refusal}
 use Rattle.protocol.specs.declared.refusal.Refusal.{Refusal}
 use Rattle.protocol.specs.declared.refusal.Refusal.TheVariants as refusals
 use Rattle.units.specs.Division.{Division, number_found, unit_at}
-use Rattle.units.proofs.Names.{name_is_found}
 use Rattle.way.specs.Asked.{IsGranted, is_majority_up, is_queued, next_build, refusal_at, refusal_for}
 use Rattle.way.specs.Rounds.{is_round_left, last_round, next_claim, seen_at}
 use Rattle.way.specs.Ways.{HoldsUnit, IsWay, LeadsTo}

@@ -1,27 +1,23 @@
 -- A message that was sent is heard once all its datagrams came, unless the log has no room.
-use Rattle.std.proofs.Common.{◌≡◌, ◌<◌, ◌≤◌, ◌+◌, ◌⊎◌, ◌&&◌, ℕ, zero, suc, Bool, true, false, cond, List, [], ◌∷◌, ◌++◌, length, get_or, map, Option, None, Some, Ok, slice_get, slice_set, refl, sym, ap, ap₂, subst, ◌∙◌, inl, inr, ⊎_elim, arith, append_assoc}
+use Rattle.std.proofs.Common.{◌≡◌, ◌<◌, ◌≤◌, ◌+◌, ◌&&◌, ℕ, zero, suc, true, false, cond, List, [], ◌∷◌, ◌++◌, length, map, Some, Ok, slice_get, slice_set, refl, sym, ap, ap₂, subst, ◌∙◌, arith, append_assoc}
 use Rattle.std.specs.Prelude.{All, Contains}
 use Rattle.std.specs.List.{list_all, range_with_len}
 use Rattle.std.proofs.lemmas.Bool.{cond-false, cond-true}
 use Rattle.std.proofs.lemmas.List.{append-nil}
-use Rattle.std.proofs.lemmas.List.Elements.{All-contains}
 use Rattle.std.proofs.lemmas.List.Folds.{list_all_at}
 use Rattle.std.proofs.lemmas.List.FromFn.{get_or-map-range_with_len, length-map-range_with_len, length-range_with_len, map-range_with_len_more}
 use Rattle.ballots.specs.declared.message.Message.{Message}
-use Rattle.events.specs.Events as events
-use Rattle.events.specs.Events.{Event}
 use Rattle.faults.specs.Bytes.{Text}
-use Rattle.node.specs.Arrival.{Waits, Whole, arrival_of, arrival_of_all, arrival_of_new, arrival_of_piece, refusal_of}
+use Rattle.node.specs.Arrival.{Waits, Whole, arrival_of, arrival_of_all, arrival_of_new, arrival_of_piece}
 use Rattle.node.specs.Kept.{are_all, has_number, with_piece, without}
 use Rattle.node.specs.Step.{Taken, after, nothing, step_on}
 use Rattle.package_record.specs.Build.{build_text}
-use Rattle.package_record.specs.Content.{Content}
 use Rattle.package_record.proofs.BuildsRead.{build_is_read}
 use Rattle.protocol.specs.State.{Value}
 use Rattle.units.specs.Division.{Division}
 use Rattle.way.specs.Ways.{LeadsTo}
 use Rattle.way.specs.inside.Listed.{deliveries}
-use Rattle.way.proofs.Going.{leads_also, leads_on}
+use Rattle.way.proofs.Going.{leads_also}
 use Rattle.way.proofs.Hearing.{HeardBy, comes_on, heard_then, pieces_stay, their}
 use Rattle.way.proofs.Reached.{IsReached, its_acts, its_match, its_own}
 use Rattle.way.proofs.Whole.{has, lacks, left, once, with_first}
@@ -31,7 +27,6 @@ use Rattle.wire.specs.Pieces.{IsDatagram, carried_in, header_with, numbers_of, p
 use Rattle.wire.specs.Reading.{datagram_of, joined}
 use Rattle.wire.specs.Spelling.{datagram_text}
 use Rattle.wire.specs.declared.datagram.Carrier.{Carrier}
-use Rattle.wire.specs.declared.datagram.Datagram.{Datagram}
 use Rattle.wire.specs.declared.datagram.Datagram.TheVariants as datagrams
 use Rattle.wire.specs.declared.datagram.Header.{Header}
 use Rattle.wire.specs.declared.datagram.Piece.{Piece}

@@ -1,5 +1,5 @@
 -- A proposal that goes to all: it comes behind all that was sent, and votes for it come in.
-use Rattle.std.proofs.Common.{◌≡◌, ◌≢◌, ◌<◌, ◌≤◌, ◌+◌, ◌⊎◌, ℕ, zero, suc, true, false, List, [], ◌∷◌, ◌++◌, length, map, Option, None, Some, option_map, slice_get, slice_set, refl, sym, ap, ap₂, subst, ◌∙◌, arith, append-nil, inl, inr, ⊎_elim}
+use Rattle.std.proofs.Common.{◌≡◌, ◌≢◌, ◌<◌, ◌+◌, ◌⊎◌, ℕ, true, List, [], ◌∷◌, ◌++◌, length, map, Option, Some, option_map, slice_get, slice_set, refl, sym, ap, ap₂, subst, ◌∙◌, arith, append-nil, ⊎_elim}
 use Rattle.std.specs.Prelude.{All, AllPairs, Contains}
 use Rattle.std.specs.List.{range_with_len}
 use Rattle.std.proofs.lemmas.Bool.{cases_eq}
@@ -33,7 +33,7 @@ use Rattle.way.proofs.Polling.{IsPending, Polls, proposal_in}
 use Rattle.way.proofs.Reached.{IsReached, its_acts, its_local, its_match, its_own}
 use Rattle.way.proofs.Unsaid.{IsUnsaid, unkept, unsent}
 use Rattle.wire.specs.Messages.{IsMessage}
-use Rattle.wire.specs.Pieces.{header_with, numbers_of, piece_at, split_of}
+use Rattle.wire.specs.Pieces.{header_with, numbers_of, piece_at}
 use Rattle.wire.specs.Spelling.{datagram_text}
 use Rattle.wire.specs.declared.datagram.Carrier.TheVariants as carriers
 use Rattle.wire.specs.declared.datagram.Datagram.TheVariants as datagrams

@@ -1,5 +1,5 @@
 -- What was sent stays sent, whatever happens.
-use Rattle.std.proofs.Common.{◌≡◌, ap, sym, subst}
+use Rattle.std.proofs.Common.{ap, sym, subst}
 use Rattle.ballots.specs.declared.message.Message.{Message}
 use Rattle.events.specs.Events.{Event}
 use Rattle.protocol.specs.State.{Value}

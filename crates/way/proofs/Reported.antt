@@ -1,5 +1,5 @@
 -- The last promise of a majority, where a vote was reported: its build is proposed to all.
-use Rattle.std.proofs.Common.{◌≡◌, ◌<◌, ◌+◌, ℕ, zero, suc, true, List, [], ◌∷◌, ◌++◌, length, Option, None, Some, option_map, refl, sym, ap, subst, ◌∙◌, arith, append-nil}
+use Rattle.std.proofs.Common.{◌≡◌, ◌<◌, ◌+◌, ℕ, true, List, [], ◌∷◌, length, Option, Some, sym, ap, subst, ◌∙◌, arith, append-nil}
 use Rattle.std.specs.Prelude.{Contains}
 use Rattle.std.proofs.lemmas.List.{length-append, length-map}
 use Rattle.agreement.specs.Member.{Gathering, Member, Voting}
@@ -10,13 +10,11 @@ use Rattle.agreement.specs.Step.{Outcome, on_quorum, says}
 use Rattle.agreement.specs.Votes.{Ballot, Reaches, ballot, kept_report}
 use Rattle.agreement.specs.declared.claim.Claim.{Claim}
 use Rattle.ballots.specs.declared.message.Body.{Body}
-use Rattle.ballots.specs.declared.message.Body.TheVariants as bodies
 use Rattle.ballots.specs.declared.message.Message.{Message}
 use Rattle.events.specs.Events as events
 use Rattle.node.specs.Parcels.{datagrams_of}
 use Rattle.protocol.specs.Answers.{answered, everyone}
-use Rattle.protocol.specs.InTheAgreement.{pair_of}
-use Rattle.protocol.specs.State.{State, Value, facts_at}
+use Rattle.protocol.specs.State.{State, Value}
 use Rattle.protocol.specs.Step.{host_in, outcome_of}
 use Rattle.units.specs.Division.{Division}
 use Rattle.way.specs.Ways.{LeadsTo}
@@ -27,11 +25,11 @@ use Rattle.way.proofs.Gathering.{Gathers, asks_by, count_of, same_promise}
 use Rattle.way.proofs.Hearing.{HeardBy}
 use Rattle.way.proofs.NotYet.{gathers_fresh}
 use Rattle.way.proofs.Proposing.{IsPolled, is_polled}
-use Rattle.way.proofs.Reached.{IsReached, its_acts, its_match, its_own}
+use Rattle.way.proofs.Reached.{its_acts, its_match, its_own}
 use Rattle.way.proofs.Replies.{is_quorum}
 use Rattle.wire.specs.Pieces.{split_of}
 use Rattle.wire.specs.Spelling.{datagram_text}
-use Rattle.world.specs.World.{IsMade, World, WorldNode, member_at}
+use Rattle.world.specs.World.{IsMade, World, member_at}
 use Rattle.headline.specs.Matches.{node_of}
 
 module _ (division : Division) (weights : List ℕ) (made : IsMade division weights)

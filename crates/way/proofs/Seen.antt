@@ -1,10 +1,10 @@
 -- What the nodes that are up show, and which of them are asked.
-use Rattle.std.proofs.Common.{◌≡◌, ◌<◌, ◌≤◌, ◌+◌, ◌*◌, ◌||◌, ◌==◌, ◌⊎◌, ℕ, zero, suc, max, Bool, true, false, cond, List, [], ◌∷◌, filter, fold, length, map, nat_lt, Option, None, Some, slice_get, sum, refl, sym, ap, subst, ◌∙◌, arith, inl, inr, ⊎_elim, if◌then◌else◌}
+use Rattle.std.proofs.Common.{◌≡◌, ◌<◌, ◌≤◌, ◌+◌, ◌*◌, ◌==◌, ◌⊎◌, ℕ, zero, suc, max, Bool, true, false, List, [], ◌∷◌, filter, fold, length, map, nat_lt, Option, None, Some, slice_get, sum, refl, sym, ap, subst, ◌∙◌, arith, ⊎_elim, if◌then◌else◌}
 use Rattle.std.specs.Prelude.{Contains}
 use Rattle.std.specs.List.{range_with_len}
 use Rattle.std.proofs.Math.Nat.{le-max_left, le-max_right}
-use Rattle.std.proofs.lemmas.Bool.{and_parts, cond_both, cond-true, eq-eqb, eqb-true, or_cases, or_left, or_right, true≢false}
-use Rattle.agreement.specs.AgreedList.{Act, WasBuilt, beginning}
+use Rattle.std.proofs.lemmas.Bool.{cond_both, eq-eqb, or_left, or_right, true≢false}
+use Rattle.agreement.specs.AgreedList.{WasBuilt, beginning}
 use Rattle.agreement.specs.Claims.{is_above}
 use Rattle.agreement.specs.Member.{Facts, Member, Note, no_facts}
 use Rattle.agreement.specs.Quorums.{Members, is_majority, nobody, weight, with_member}
@@ -24,7 +24,6 @@ use Rattle.way.proofs.Majority.{MakeMajority, joined_by, until_is_enough}
 use Rattle.way.proofs.Reached.{IsReached, its_acts, its_match, its_own}
 use Rattle.world.specs.Happening.{is_up, up_of}
 use Rattle.world.specs.World.{IsMade, World, WorldNode, member_at}
-use Rattle.headline.specs.Matches.{node_of}
 use Rattle.headline.specs.Mirrored.{after_all_acts}
 use Rattle.headline.specs.Needs.{may_build}
 use Rattle.headline.proofs.Headers.{in_order}
