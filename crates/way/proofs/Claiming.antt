@@ -13,7 +13,7 @@ use Rattle.agreement.specs.Messages as messages
 use Rattle.agreement.specs.Quorums.{nobody}
 use Rattle.agreement.specs.Step as theory
 use Rattle.agreement.specs.Step.{Outcome, notes_and_says, on_start}
-use Rattle.agreement.specs.Votes.{Ballot, Has}
+use Rattle.agreement.specs.Votes.{Ballot}
 use Rattle.agreement.specs.declared.claim.Claim.{Claim}
 use Rattle.ballots.specs.declared.message.Body.TheVariants as bodies
 use Rattle.ballots.specs.declared.message.Message.{Message}
@@ -56,7 +56,6 @@ use Rattle.world.specs.Sent.{WasSent, message}
 use Rattle.world.specs.World.{IsMade, World, WorldNode, member_at}
 use Rattle.world.proofs.Sending.{is_found}
 use Rattle.headline.specs.Matches.{name_of}
-use Rattle.headline.specs.Mirrored.{after_all_acts}
 use Rattle.headline.proofs.Asking.{answers_with}
 use Rattle.headline.proofs.Members.{get_within}
 use Rattle.headline.proofs.Speaking.{passes}
@@ -105,16 +104,6 @@ none_of_three a b c x y z ea eb ec =
 
 max_is : (a b : ℕ) → b ≤ a → max a b ≡ a
 max_is a b le = search arith
-
--- Each offer of the unit so far was opened.
-abbrev pub OffersAreOpened : (division : Division) (weights : List ℕ)
-    (made : IsMade division weights) (w : World) → IsReached division weights made w → ℕ → Type 0
-OffersAreOpened division weights made w r u =
-    (d : Claim)
-    → Has ((after_all_acts division weights (its_acts division weights made w r)).at u).sent
-    (messages.Offer d)
-    → d.round ≤ (((after_all_acts division weights (its_acts division weights made w r)).at
-    u).members d.member).opened
 
 -- ---- the step
 
@@ -216,7 +205,7 @@ module _ (division : Division) (weights : List ℕ) (made : IsMade division weig
       let one = (its_local division weights made w r).one_for_each in
       omega (arith, lt, one, length-range_with_len 0 (length w.weights))
 
-  module _ (offers : OffersAreOpened division weights made w r u) (y : World) (d : Did y) where
+  module _ (y : World) (d : Did y) where
     good : IsMessage offer
     good = of_first offer (range_with_len 0 (length w.weights)) everyone_some d.written
 
@@ -230,7 +219,7 @@ module _ (division : Division) (weights : List ℕ) (made : IsMade division weig
         within refl
         (no_offer division weights (its_acts division weights made w r) w made
         (its_own division weights made w r) (its_match division weights made w r) u within me x
-        stands offers c refl (omega (arith, not_above))))
+        stands c refl (omega (arith, not_above))))
 
     was_sent : WasSent y.sent offer
     was_sent = record {

@@ -35,7 +35,7 @@ use Rattle.protocol.proofs.Asked.{unit_is_one}
 use Rattle.way.proofs.Appending.{later}
 use Rattle.way.proofs.Asking.{Asks}
 use Rattle.way.proofs.Building.{build_on, is_proposed}
-use Rattle.way.proofs.Claiming.{Did, OffersAreOpened, asks, is_opened, one_sent}
+use Rattle.way.proofs.Claiming.{Did, asks, is_opened, one_sent}
 use Rattle.way.proofs.Gathering.{AreNew, Gathers, all_asks, asks_by, behind_by, count_of, last_waits, report_by}
 use Rattle.way.proofs.Going.{leads_also, leads_on, leads_with}
 use Rattle.way.proofs.Majority.{MakeMajority}
@@ -381,7 +381,7 @@ list_without me path given asked es first count b =
 module _ (division : Division) (weights : List ℕ) (made : IsMade division weights) (w : World)
     (r : IsReached division weights made w) (me : ℕ) (path : Text) (host : ℕ) (given : Given)
     (g : IsGranted w me path host given) (u : ℕ) (named : number_found w.division path ≡ Some u)
-    (few : host ≤ 65535) (offers : OffersAreOpened division weights made w r u) where
+    (few : host ≤ 65535) where
   abbrev node : WorldNode
   node = g.node
 
@@ -440,12 +440,12 @@ module _ (division : Division) (weights : List ℕ) (made : IsMade division weig
   module _ (y : World) (d : Opened y) where
     sent : length y.sent ≡ suc (length w.sent)
     sent = one_sent division weights made w r me node g.stands g.up u is_unit path named
-        is_free.queued host few is_free.left offers y d
+        is_free.queued host few is_free.left y d
 
     gathers : Asks division weights made u claim me (length w.sent) voted host held
         (Gathering claim nobody None) [] theirs y
     gathers = asks division weights made w r me node g.stands g.up u is_unit path named
-        is_free.queued host few is_free.left offers y d theirs (asked_up w) voted (λ j. refl)
+        is_free.queued host few is_free.left y d theirs (asked_up w) voted (λ j. refl)
 
     same_first : behind_by division weights made u claim me (length w.sent) voted host held
         (length y.sent) theirs ≡ first
@@ -509,7 +509,7 @@ module _ (division : Division) (weights : List ℕ) (made : IsMade division weig
         named given is_free.right y gathers b (kept ∙ e))
 
   -- From a world that is reached, where nothing is refused of the unit, the list leads to where the
-  -- node holds the unit, if each offer was opened.
+  -- node holds the unit.
   pub list_leads : LeadsTo HoldsIt w (way_of w member u path host given)
   list_leads = leads_on Opened HoldsIt w (claims me path host (last_round w u me) ∷ []) rest
       (is_opened division weights made w r me node g.stands g.up u is_unit path named
