@@ -8,7 +8,8 @@ import subprocess
 from topics.tally import TOP, contents
 
 WIDEST = 100
-LONGEST = 12
+# the most lines of a definition: the headline has nine clauses
+LONGEST = 13
 # the most lines of README.md
 FRONT_PAGE = 120
 

@@ -1,7 +1,8 @@
--- What a node's step refuses, notes and sends.
+-- What a node's step refuses, notes and sends, and what a refusal leaves.
 use Rattle.std.proofs.Common.{◌≡◌, false, List, Option, None, Some, Result, Ok, Err, refl, sym, subst}
 use Rattle.member.specs.Prepared.{Prepared}
 use Rattle.node.specs.Arrival.{Arrival, Strange, Waits, Whole, arrival_of}
+use Rattle.node.specs.Calls.{left_by}
 use Rattle.node.specs.State.{NodeState}
 use Rattle.node.specs.Step.{Asked, Comes, Does, Taken, Takes, answer_then, heard, note_in, sends_in, step, step_on, taken}
 use Rattle.node.specs.declared.fault.NodeFault.{NodeFault}
@@ -11,6 +12,7 @@ use Rattle.protocol.specs.Answers.{Answer}
 use Rattle.protocol.specs.State.{State}
 use Rattle.protocol.specs.Step as members
 use Rattle.protocol.specs.declared.refusal.Refusal.{Refusal}
+use Rattle.stable_record.specs.declared.log_fault.LogFault.TheVariants as log
 use Rattle.wire.specs.Reading.{datagram_of}
 use Rattle.wire.specs.declared.datagram.Piece.{Piece}
 
@@ -50,6 +52,36 @@ pub by_step : (n : NodeState) (asked : Asked) (f : NodeFault) → n.stopped ≡ 
     → Takes n asked (Err f) → IsByStep (Err f)
 by_step n asked f runs takes =
     subst IsByStep (sym takes.right_is) (stepped n takes.letter asked runs)
+
+-- ---- what a refusal leaves
+
+-- a refusal leaves the member
+pub member_left : (n : NodeState) (asked : Asked) (f : NodeFault)
+    → (left_by n asked f).member ≡ n.member
+member_left n asked fault.Memory = refl
+member_left n asked (fault.Refused r) = refl
+member_left n asked (fault.Log log.Device) = refl
+member_left n asked (fault.Log log.Full) = refl
+member_left n asked (fault.Log log.Memory) = refl
+member_left n asked (fault.Log log.MustReopen) = refl
+member_left n asked (fault.Log log.NotALog) = refl
+member_left n asked (fault.Log log.OtherCluster) = refl
+member_left n asked fault.Stopped = refl
+member_left n asked (fault.Foreign f) = refl
+
+-- and its notes
+pub notes_left : (n : NodeState) (asked : Asked) (f : NodeFault)
+    → (left_by n asked f).notes ≡ n.notes
+notes_left n asked fault.Memory = refl
+notes_left n asked (fault.Refused r) = refl
+notes_left n asked (fault.Log log.Device) = refl
+notes_left n asked (fault.Log log.Full) = refl
+notes_left n asked (fault.Log log.Memory) = refl
+notes_left n asked (fault.Log log.MustReopen) = refl
+notes_left n asked (fault.Log log.NotALog) = refl
+notes_left n asked (fault.Log log.OtherCluster) = refl
+notes_left n asked fault.Stopped = refl
+notes_left n asked (fault.Foreign f) = refl
 
 -- ---- what is noted and sent
 
