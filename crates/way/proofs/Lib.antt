@@ -29,3 +29,11 @@ mod Claiming
 mod Building
 mod Reported
 mod Leading
+mod Holding
+mod Walking
+mod Short
+mod Enough
+mod Planning
+mod Writing
+mod HasOne
+mod TextLengths
