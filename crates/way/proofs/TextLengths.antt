@@ -1,9 +1,12 @@
 -- How long the texts of builds are, part by part.
-use Rattle.std.proofs.Common.{◌≡◌, ◌<◌, ◌≤◌, ◌+◌, ◌*◌, ◌/◌, ◌%◌, ℕ, zero, suc, min, List, [], ◌∷◌, ◌++◌, flat_map, get_or, length, take, sym, ap, ◌∙◌, arith}
+use Rattle.std.proofs.Common.{◌≡◌, ◌<◌, ◌≤◌, ◌+◌, ◌*◌, ◌/◌, ◌%◌, ℕ, zero, suc, min, List, [], ◌∷◌, ◌++◌, flat_map, get_or, length, map, take, sym, ap, ◌∙◌, arith}
 use Rattle.std.proofs.lemmas.List.{length-append, take_more}
 use Rattle.package_record.specs.Build.{records_text}
 use Rattle.package_record.specs.Content.{Content, NamedFile, record_text}
+use Rattle.std.proofs.lemmas.List.FromFn.{length-range_with_len}
 use Rattle.package_record.proofs.BuildTexts.{text_push}
+use Rattle.wire.specs.Pieces.{numbers_of}
+use Rattle.wire.proofs.PieceNumbers.{AreAll, all_numbers}
 
 -- the first records' texts are no longer than those of all
 pub part_within : (cs : List Content) (n : ℕ)
@@ -60,3 +63,33 @@ one_more_file fs i f lt here =
     ap (λ (gs : List NamedFile). length (flat_map (λ (g : NamedFile). g.bytes) gs))
     (take_more fs i f lt ∙ ap (λ (g : NamedFile). take i fs ++ g ∷ []) (sym here))
     ∙ files_push (take i fs) f
+
+-- the same of what stands for files
+pub some_within : {X : Type 0} (v : X → NamedFile) (xs : List X) (n : ℕ)
+    → length (flat_map (λ (g : NamedFile). g.bytes) (map v (take n xs)))
+    ≤ length (flat_map (λ (g : NamedFile). g.bytes) (map v xs))
+some_within v [] zero = omega arith
+some_within v [] (suc n) = omega arith
+some_within v (x ∷ xs) zero = omega arith
+some_within v (x ∷ xs) (suc n) =
+    let rest = some_within v xs n in
+    let part = length-append (v x).bytes
+    (flat_map (λ (g : NamedFile). g.bytes) (map v (take n xs))) in
+    let all = length-append (v x).bytes (flat_map (λ (g : NamedFile). g.bytes) (map v xs)) in
+    omega (arith, rest, part, all)
+
+-- how many datagrams a build of so many bytes takes
+pub same_count : (size q : ℕ) → size ≤ 4194304 → size ≤ q * 32768 → q * 32768 < size + 32768
+    → length (numbers_of size) ≡ q
+same_count size q few enough close = by (all_numbers size).0 (all_numbers size).1
+  where
+    by : (count : ℕ) → AreAll size count → length (numbers_of size) ≡ q
+    by zero are =
+        let all = are.enough few in
+        let n = ap length are.same ∙ length-range_with_len 0 zero in
+        omega (arith, all, n, enough, close)
+    by (suc k) are =
+        let all = are.enough few in
+        let last = are.within k (omega arith) in
+        let n = ap length are.same ∙ length-range_with_len 0 (suc k) in
+        omega (arith, all, last, n, enough, close)

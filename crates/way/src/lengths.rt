@@ -1,5 +1,5 @@
 //! In how many datagrams a message goes out.
-ghost use Rattle.std.specs.Prelude.{◌≡◌, ◌≤◌, IfOk, Some, length};
+ghost use Rattle.std.specs.Prelude.{◌≡◌, ◌≤◌, IfOk, Some, length, true};
 ghost use Rattle.package_record.specs.Build.{build_text};
 ghost use Rattle.package_record.specs.Content.{most_bytes, record_text};
 ghost use Rattle.units.specs.Division.{number_found};

@@ -110,7 +110,8 @@ fn next_build(
     last: u64,
     packages: Packages,
 ) -> Result<Build, WayFault>
-    requires { IsShown world.now.world node path.now }
+    requires history { IsHistory world.now }
+    requires shown { IsShown world.now.world node path.now }
     ensures { (s : IsShown world.now.world node path.now) → IsRightUnless WayFault.Memory result
         (next_or_fault (member_at world.now.world node s.node) s.unit host last packages) }
 {

@@ -33,7 +33,7 @@ pub(crate) fn events_of(
     ensures { IfOk result (λ events.
         (p : IsPlan world.now.world node path.now host packages plan.now)
         → map event_view events.items ≡ way_of world.now.world
-        (member_at world.now.world node p.node) p.unit path.now host packages) }
+        (member_at world.now.world node p.shown.node) p.shown.unit path.now host packages) }
 {
     let asked = plan.asked.as_slice();
     let offer = world.datagrams().len() as u64;

@@ -15,7 +15,7 @@ record_len-requires c =
     let below : i < length cs = omega (arith, c.loop-record-test.true, ap length is) in
     let here = c.record-item.is ∙ ap (λ (ds : List Content). get_or ds i c.record-item.result) is in
     subst (λ (d : Content). length (record_text d) ≤ most_bytes) (sym here)
-    ((c.unit_path.ensures.build).records i c.record-item.result below).fits
+    ((c.unit_path-path.ensures.build).records i c.record-item.result below).fits
 
 pub overflow_add-len : goal.overflow_add-len
 overflow_add-len c =
@@ -27,8 +27,8 @@ overflow_add-len c =
     let more = one_more_record cs i c.record-item.result below here in
     let part = part_within cs (i + 1) in
     let all = text_length cs in
-    let fits : length (build_text cs) ≤ 4194304 = (c.unit_path.ensures.build).fits in
-    omega (arith, more, part, all, fits, c.loop-record.invariant, c.in_ok-record_len.ensures)
+    let fits : length (build_text cs) ≤ 4194304 = (c.unit_path-path.ensures.build).fits in
+    omega (arith, more, part, all, fits, c.loop-record.invariant, c.in_ok-len.ensures)
 
 pub loop-record-preserved : goal.loop-record-preserved
 loop-record-preserved c =
@@ -38,4 +38,4 @@ loop-record-preserved c =
     let below : i < length cs = omega (arith, c.loop-record-test.true, ap length is) in
     let here = c.record-item.is ∙ ap (λ (ds : List Content). get_or ds i c.record-item.result) is in
     let more = one_more_record cs i c.record-item.result below here in
-    omega (arith, more, c.loop-record.invariant, c.in_ok-record_len.ensures)
+    omega (arith, more, c.loop-record.invariant, c.in_ok-len.ensures)
