@@ -2,6 +2,8 @@
 PREFIX ?=	/usr/local
 BINDIR ?=	$(PREFIX)/bin
 MANDIR ?=	$(PREFIX)/man
+# what is installed beside the program; each has a page in man/
+TOOLS =		expand-listing why-ignored unpack-log make-builds
 
 all:
 	./dpbr status /dev/null /dev/null >/dev/null
@@ -12,9 +14,9 @@ check:
 install: all
 	install -d $(DESTDIR)$(BINDIR) $(DESTDIR)$(MANDIR)/man1 $(DESTDIR)$(MANDIR)/man5
 	install -m 755 crates/dpbr/out/dpbr $(DESTDIR)$(BINDIR)/dpbr
-	install -m 755 tools/expand-listing $(DESTDIR)$(BINDIR)/expand-listing
-	install -m 644 man/dpbr.1 $(DESTDIR)$(MANDIR)/man1/dpbr.1
-	install -m 644 man/dpbn-formats.5 $(DESTDIR)$(MANDIR)/man5/dpbn-formats.5
+	for tool in $(TOOLS); do install -m 755 tools/$$tool $(DESTDIR)$(BINDIR)/$$tool || exit 1; done
+	for page in man/*.1; do install -m 644 $$page $(DESTDIR)$(MANDIR)/man1/ || exit 1; done
+	for page in man/*.5; do install -m 644 $$page $(DESTDIR)$(MANDIR)/man5/ || exit 1; done
 
 dist: all
 	tools/dist

@@ -1,4 +1,4 @@
-"""The manual pages, the width of lines, how much a reader has to believe, and the wrong bodies that documents name."""
+"""The manual pages, the width of lines, how much a reader has to believe, the one order of crates, and what documents count and name."""
 import glob
 import os
 import re
@@ -8,7 +8,10 @@ import subprocess
 from topics.tally import TOP, contents
 
 WIDEST = 100
-LONGEST = 12
+# the most lines of a definition: the headline has nine clauses
+LONGEST = 13
+# the most lines of README.md
+FRONT_PAGE = 120
 
 
 def manual(tally):
@@ -70,11 +73,96 @@ def to_believe(tally):
 
 def wrong_bodies(tally):
     """The wrong bodies that a document names stand somewhere."""
-    standing = {os.path.basename(path) for path in glob.glob(f"{TOP}/crates/*/must-fail/*.edit")}
+    edits = glob.glob(f"{TOP}/crates/*/must-fail/*.edit") + glob.glob(f"{TOP}/tests/wrong-bodies/*/*.edit")
+    standing = {os.path.basename(path) for path in edits}
     for path in sorted(glob.glob(f"{TOP}/docs/*.md")):
         named = set(re.findall(r"`(\w+\.edit)`", contents(path).decode()))
         gone = sorted(named - standing)
         tally.add(f"{os.path.relpath(path, TOP)}, its wrong bodies", f"{gone} are named, and don't stand" if gone else "")
+
+
+def crates():
+    """The crates in the order of crates.txt, and with each those of the repository that it names."""
+    named = {}
+    for line in lines_of(f"{TOP}/crates.txt"):
+        crate, colon, below = line.split("#")[0].partition(":")
+        if colon:
+            named[crate.split()[0]] = below.split()
+    return {crate: [it for it in below if it in named] for crate, below in named.items()}
+
+
+def headings(document, form):
+    """The crate that each heading, or row, of this form names first."""
+    return re.findall(form, contents(f"{TOP}/docs/{document}").decode(), re.MULTILINE)
+
+
+def out_of_order(named, order):
+    """What is wrong with an order of crates, if anything: the first that is none, or stands behind one that is above it."""
+    for crate in named:
+        if crate not in order:
+            return f"{crate} is no crate"
+    for above, crate in zip(named, named[1:]):
+        if order.index(crate) < order.index(above):
+            return f"{crate} stands below {above}, and in crates.txt above it"
+    return ""
+
+
+def one_order(tally):
+    """crates.txt is bottom up, and the documents go by it."""
+    named = crates()
+    order = list(named)
+    early = [f"{crate} above {it}" for crate in order for it in named[crate] if order.index(it) > order.index(crate)]
+    tally.add("crates.txt, bottom up", ", ".join(early))
+    proved = headings("PROVED.md", r"^### `(\w+)`")
+    tally.add("docs/PROVED.md, its order", out_of_order(proved, order))
+    said = set(re.findall(r"`(\w+)`", contents(f"{TOP}/docs/PROVED.md").decode()))
+    lacking = [crate for crate in order if crate not in said]
+    tally.add("docs/PROVED.md, its crates", f"{lacking} aren't named" if lacking else "")
+    rows = headings("MAP.md", r"^\| (`\w+`(?:, `\w+`)*) \| ")
+    mapped = [re.findall(r"\w+", row) for row in rows]
+    tally.add("docs/MAP.md, its order", out_of_order([row[0] for row in mapped], order))
+    lacking = sorted(set(order) - set(sum(mapped, [])))
+    tally.add("docs/MAP.md, its crates", f"{lacking} have no row" if lacking else "")
+    tally.add("docs/DEFINITIONS.md, its order", out_of_order(headings("DEFINITIONS.md", r"^## .*?\(`crates/(\w+)/"), order))
+
+
+def below(crate, named):
+    """The crate, and all that it stands on."""
+    found, left = set(), [crate]
+    while left:
+        it = left.pop()
+        if it not in found:
+            found.add(it)
+            left += named[it]
+    return found
+
+
+def counted(tally):
+    """What documents count: the crates of the program, and stored cases."""
+    def cases(*kinds):
+        return sum(len(os.listdir(f"{TOP}/tests/{kind}")) for kind in kinds)
+
+    program = (len(below("dpbr", crates())),)
+    for name, form, counts in (("README.md", r"its\s+(\d+)\s+crates", program), ("docs/TIMES.md", r"proves\s+(\d+)\s+crates", program),
+                               ("docs/TESTED.md", r"(\d+) stored cases of `dpbr status` and `dpbr audit` and (\d+) of `dpbr run`",
+                                (cases("status", "audit"), cases("traces", "pieces")))):
+        told = re.search(form, contents(f"{TOP}/{name}").decode())
+        tally.add(f"{name}, what it counts", "" if told and tuple(map(int, told.groups())) == counts else f"{told and told[0]}, and there are {counts}")
+    lines = len(lines_of(f"{TOP}/README.md")) - 1
+    tally.add("README.md, its length", "" if lines <= FRONT_PAGE else f"{lines} lines, and more than {FRONT_PAGE} aren't read")
+
+
+def places(tally):
+    """The files that documents name stand; each tool that is installed has a page."""
+    form = r"\b((?:docs|man|tools|tests|examples|bench|crates)/[\w./-]*\w)/?(?![\w*/-])"
+    for path in [f"{TOP}/README.md", f"{TOP}/tests/README.md", *sorted(glob.glob(f"{TOP}/docs/*.md"))]:
+        named = set(re.findall(form, contents(path).decode()))
+        gone = sorted(it for it in named if not os.path.exists(f"{TOP}/{it}") and not re.search(r"\b[A-Z]{4,}$|/out(/|$)|/(NAME|PROGRAM|CRATE)", it))
+        tally.add(f"{os.path.relpath(path, TOP)}, the files that it names", f"{gone} don't stand" if gone else "")
+    tools = re.search(r"^TOOLS\s*=\s*(.*)$", contents(f"{TOP}/Makefile").decode(), re.MULTILINE)[1].split()
+    for tool in tools:
+        stand = os.access(f"{TOP}/tools/{tool}", os.X_OK), os.path.exists(f"{TOP}/man/{tool}.1")
+        tally.add(f"tools/{tool}, which is installed", "" if all(stand) else "it is no program, or has no page")
 
 
 def run(tally):
@@ -82,3 +170,6 @@ def run(tally):
     width(tally)
     to_believe(tally)
     wrong_bodies(tally)
+    one_order(tally)
+    counted(tally)
+    places(tally)

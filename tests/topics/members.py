@@ -7,13 +7,11 @@ import tempfile
 from topics.memory import refusing
 from topics.tally import PROBES, TOP, built_shim, contents
 
+# Rows by their place behind the topic's line, and what happens in each.
 ROWS = {
-    # a plain run, a unit of two packages, and a job that stands on two others
-    "members": (0, 4, 8),
-    # a claim that a crash ends, a unit of two packages, and a build in pieces, which a stop loses
-    "nodes": (1, 4, 5),
-    # a take-over, and a build in pieces
-    "worlds": (1, 10),
+    "members": {0: "a plain run", 4: "a unit of two packages", 8: "a job that stands on two others"},
+    "nodes": {1: "a claim that a crash ends", 4: "a unit of two packages", 5: "a build in pieces, which a stop loses"},
+    "worlds": {1: "a take-over", 10: "a build in pieces"},
 }
 # What parts rows, where it is no blank line.
 ENDS = {"worlds": b"\n"}
@@ -51,8 +49,7 @@ def problem_of(got, right, again):
     return f"{told[-200:]!r}, {said!r:.200}, status {status}"
 
 
-def refused_in_turn(tally, folder, topic, place, row):
-    name = f"row {place} of {topic}"
+def refused_in_turn(tally, folder, name, topic, row):
     right, said, status = run_probe(topic, row)
     if said or status:
         tally.add(name, f"it ended with {status}: {said!r:.200}")
@@ -78,5 +75,5 @@ def run(tally):
         if built_shim(tally, folder, "refuse"):
             for topic, places in ROWS.items():
                 rows = stored_rows(topic)
-                for place in places:
-                    refused_in_turn(tally, folder, topic, place, rows[place].strip() + b"\n")
+                for place, what in places.items():
+                    refused_in_turn(tally, folder, f"memory for {topic}, {what}", topic, rows[place].strip() + b"\n")

@@ -11,14 +11,18 @@ from topics.tally import EXAMPLES, PROGRAM, TESTS, TOP, answer, contents, differ
 STORED = ("status", "audit", "manual")
 
 
+def case(tally, kind, name):
+    """A stored case, of texts whose answers are known: a folder with the words and the three answers."""
+    folder = f"{TESTS}/{kind}/{name}"
+    words = contents(f"{folder}/words").decode().split()
+    wanted = (contents(f"{folder}/stdout"), contents(f"{folder}/stderr"), int(contents(f"{folder}/status")))
+    tally.add(f"{kind}/{name}", difference(answer(words, folder), wanted))
+
+
 def stored_cases(tally, kinds):
-    """Texts whose answers are known, each a folder with the words and the three answers."""
     for kind in kinds:
-        for number in sorted(os.listdir(f"{TESTS}/{kind}")):
-            folder = f"{TESTS}/{kind}/{number}"
-            words = contents(f"{folder}/words").decode().split()
-            wanted = (contents(f"{folder}/stdout"), contents(f"{folder}/stderr"), int(contents(f"{folder}/status")))
-            tally.add(f"{kind}/{number}", difference(answer(words, folder), wanted))
+        for name in sorted(os.listdir(f"{TESTS}/{kind}")):
+            case(tally, kind, name)
 
 
 def shown(page):

@@ -1,5 +1,7 @@
 """What the topics share: where things are, how the program is run, and what passed and failed."""
+import difflib
 import os
+import shlex
 import subprocess
 
 TOP = os.path.dirname(os.path.dirname(os.path.dirname(os.path.abspath(__file__))))
@@ -8,6 +10,10 @@ EXAMPLES = f"{TOP}/examples"
 PROGRAM = f"{TOP}/crates/dpbr/out/dpbr"
 # answers rows of stored cases: behind a line `== TOPIC` those of this topic
 PROBES = f"{TOP}/crates/probes/out/probes"
+
+
+# how much of a difference is shown
+MOST_LINES, MOST_COLUMNS = 40, 200
 
 
 class Tally:
@@ -31,18 +37,54 @@ def contents(path):
         return file.read()
 
 
+class Answer(tuple):
+    """What a program wrote to both streams, and its status; and how it is run by hand, where its folder is still there."""
+
+    by_hand = ""
+
+
 def answer(words, folder, **more):
-    """Runs the program in the folder: what it wrote to both streams, and its status."""
+    """Runs the program in the folder."""
     done = subprocess.run([PROGRAM, *words], cwd=folder, stdin=subprocess.DEVNULL, capture_output=True, timeout=120, **more)
-    return done.stdout, done.stderr, done.returncode
+    got = Answer((done.stdout, done.stderr, done.returncode))
+    if folder.startswith(TOP) and not more:
+        where, program = os.path.relpath(folder, TOP), os.path.relpath(PROGRAM, folder)
+        got.by_hand = f"cd {where} && {program} {' '.join(shlex.quote(os.fsdecode(word)) for word in words)}"
+    return got
+
+
+def cut(line):
+    """A line that is not too long to be looked at."""
+    return line if len(line) <= MOST_COLUMNS else f"{line[:MOST_COLUMNS]} .. ({len(line)} bytes)"
+
+
+def text_difference(one, other):
+    """How a text differs from the one that is wanted: as a diff, and the place where they part."""
+    got, wanted = (text.decode(errors="backslashreplace").split("\n") for text in (one, other))
+    lines = [cut(line) for line in difflib.unified_diff(wanted, got, "wanted", "got", n=1, lineterm="")]
+    if len(lines) > MOST_LINES:
+        lines[MOST_LINES:] = [f".. and {len(lines) - MOST_LINES} lines more"]
+    place = len(os.path.commonprefix([one, other]))
+    line, column = other.count(b"\n", 0, place) + 1, place - (other.rfind(b"\n", 0, place) + 1) + 1
+    lines.append(f"they part at line {line}, byte {column}: {one[place:place + 40]!r}, not {other[place:place + 40]!r}")
+    return "\n".join("    " + line for line in lines)
 
 
 def difference(got, wanted):
-    """What differs first between two answers, or nothing."""
+    """What differs first between two answers, and how the program is run by hand; or nothing."""
     for stream, one, other in zip(("standard output", "standard error", "status"), got, wanted):
         if one != other:
-            return f"{stream} is {one!r:.300}, not {other!r:.300}"
+            told = f"status {one}, not {other}" if stream == "status" else f"{stream} differs\n{text_difference(one, other)}"
+            if stream == "standard output" and got[2] != wanted[2]:
+                told += f"\n    status {got[2]}, not {wanted[2]}; standard error: {got[1]!r:.200}"
+            by_hand = getattr(got, "by_hand", "")
+            return told + (f"\n    by hand: {by_hand}" if by_hand else "")
     return ""
+
+
+def fallen(said, status):
+    """What is wrong with a program that should have ended with 0."""
+    return "" if status == 0 else f"it ended with {status}: {said!r:.300}"
 
 
 def built_shim(tally, folder, name):

@@ -1,9 +1,10 @@
 -- A row of bits, one of which is set or cleared.
-use Rattle.std.proofs.Common.{◌≡◌, ◌≢◌, ◌+◌, ◌*◌, ◌/◌, ◌%◌, ◌<◌, ◌^◌, ℕ, false, List, get_or, length, set, refl, ap, sym, ◌∙◌, inl, inr, arith, w64}
+use Rattle.std.proofs.Common.{◌≡◌, ◌≢◌, ◌+◌, ◌-◌, ◌*◌, ◌/◌, ◌%◌, ◌<◌, ◌≤◌, ◌^◌, ℕ, false, List, get_or, length, set, refl, ap, sym, ◌∙◌, inl, inr, arith, w64}
 use Rattle.std.specs.Int.{bit_at, trailing_zeros}
 use Rattle.std.proofs.lemmas.Bool.{cases_eq, cases_lt}
-use Rattle.std.proofs.lemmas.List.{get_or-set_other, get_or-set_same, length-set}
-use Rattle.std.proofs.lemmas.Nat.Bits.{bit_at-trailing_zeros, bit_at-zero}
+use Rattle.std.proofs.lemmas.List.{get_or-set_other, get_or-set_same, get_or_past, length-set}
+use Rattle.std.proofs.lemmas.Nat.{shr-shr, shr_le}
+use Rattle.std.proofs.lemmas.Nat.Bits.{bit_at-trailing_zeros, bit_at-zero, bit_at_above}
 use Rattle.engine.specs.declared.Letter.{Letter}
 use Rattle.engine.specs.declared.Letter.TheVariants.{T, Q, B, I, Ignored}
 use Rattle.engine.specs.declared.row.Row.{Row}
@@ -12,7 +13,7 @@ use Rattle.engine.specs.inside.Row.{HasQueued, bit_of, is_queued}
 use Rattle.engine.specs.inside.Shown.{letter_at}
 
 -- the bit of a position in the words
-abbrev bit_in : List ℕ → ℕ → ℕ
+abbrev pub bit_in : List ℕ → ℕ → ℕ
 bit_in words p = bit_at (get_or words (p / 64) 0) (p % 64)
 
 pub bit-put : (words : List ℕ) (p v b : ℕ) → p / 64 < length words → bit_at v (p % 64) ≡ b → bit_in (set words (p / 64) v) p ≡ b
@@ -27,23 +28,74 @@ bit-other words p v q within other same = elim (cases_eq (q / 64) (p / 64)) [
   | inr apart ↦ ap (λ w. bit_at w (q % 64)) (get_or-set_other words (p / 64) (q / 64) v 0 apart)
 ]
 
--- the lowest bit of the first word that is not 0
-module _ (words : List ℕ) (n w : ℕ) (is : w ≡ get_or words n 0) (some : 0 < w) (fits : w < 2 ^ 64) where
-  pub first-set : bit_in words (n * 64 + trailing_zeros w64 w) ≡ 1
-  first-set =
+-- the bits of a word that is not 0, from its first position on
+module _ (words : List ℕ) (start n w : ℕ) (within : start ≤ n) (is : w ≡ get_or words n 0) (some : 0 < w) (fits : w < 2 ^ 64) where
+  pub word-from : start * 64 ≤ n * 64 + trailing_zeros w64 w
+  word-from = omega (arith, within)
+
+  pub word-set : bit_in words (n * 64 + trailing_zeros w64 w) ≡ 1
+  word-set =
       let lowest = bit_at-trailing_zeros w64 w some fits in
       let place : (n * 64 + trailing_zeros w64 w) / 64 ≡ n = omega (arith, lowest.0) in
       let bit : (n * 64 + trailing_zeros w64 w) % 64 ≡ trailing_zeros w64 w = omega (arith, lowest.0) in
       rw (place, bit, ← is) lowest.1
 
-  pub first-before : ((k : ℕ) → k < n → get_or words k 0 ≡ 0) → (p : ℕ) → p < n * 64 + trailing_zeros w64 w → bit_in words p ≡ 0
-  first-before none p before = elim (cases_lt (p / 64) n) [
-    | inl earlier ↦ ap (λ v. bit_at v (p % 64)) (none (p / 64) earlier) ∙ bit_at-zero (p % 64)
+  pub word-before : ((k : ℕ) → start ≤ k → k < n → get_or words k 0 ≡ 0) → (p : ℕ) → start * 64 ≤ p → p < n * 64 + trailing_zeros w64 w → bit_in words p ≡ 0
+  word-before none p behind before = elim (cases_lt (p / 64) n) [
+    | inl earlier ↦ ap (λ v. bit_at v (p % 64)) (none (p / 64) (omega (arith, behind)) earlier) ∙ bit_at-zero (p % 64)
     | inr past ↦
         let lowest = bit_at-trailing_zeros w64 w some fits in
-        let place : p / 64 ≡ n = omega (arith, lowest.0) in
-        ap (λ v. bit_at v (p % 64)) (ap (λ k. get_or words k 0) place ∙ sym is) ∙ lowest.2 (p % 64) (omega (arith, place))
+        let place : p / 64 ≡ n = omega (arith, lowest.0, past, before) in
+        ap (λ v. bit_at v (p % 64)) (ap (λ k. get_or words k 0) place ∙ sym is) ∙ lowest.2 (p % 64) (omega (arith, place, before))
   ]
+
+-- where no word is other than 0, no bit is set
+pub words-clear : (words : List ℕ) (start : ℕ) → ((k : ℕ) → start ≤ k → k < length words → get_or words k 0 ≡ 0) → (p : ℕ) → start * 64 ≤ p → bit_in words p ≡ 0
+words-clear words start none p behind = elim (cases_lt (p / 64) (length words)) [
+  | inl within ↦ ap (λ v. bit_at v (p % 64)) (none (p / 64) (omega (arith, behind)) within) ∙ bit_at-zero (p % 64)
+  | inr past ↦ ap (λ v. bit_at v (p % 64)) (get_or_past words (p / 64) 0 past) ∙ bit_at-zero (p % 64)
+]
+
+-- the bits of a word from a position of it on
+module _ (words : List ℕ) (from w : ℕ) (is : w ≡ get_or words (from / 64) 0) (fits : w < 2 ^ 64) where
+  abbrev rest : ℕ
+  rest = w / 2 ^ (from % 64)
+
+  rest-bit : (i : ℕ) → from % 64 + i < 64 → bit_in words (from + i) ≡ bit_at rest i
+  rest-bit i below =
+      let place : (from + i) / 64 ≡ from / 64 = omega (arith, below) in
+      let bit : (from + i) % 64 ≡ from % 64 + i = omega (arith, below) in
+      ap (λ k. bit_at (get_or words k 0) ((from + i) % 64)) place ∙ ap (λ v. bit_at v ((from + i) % 64)) (sym is) ∙ ap (bit_at w) bit
+      ∙ sym (ap (λ v. v % 2) (shr-shr w (from % 64) i))
+
+  -- what is behind the word's last bit is not in the rest
+  rest-within : (i : ℕ) → bit_at rest i ≡ 1 → from % 64 + i < 64
+  rest-within i set = elim (cases_lt (from % 64 + i) 64) [
+    | inl below ↦ below
+    | inr past ↦ absurd (omega (arith, set, ap (λ v. v % 2) (shr-shr w (from % 64) i), bit_at_above w 64 (from % 64 + i) fits past))
+  ]
+
+  rest-fits : rest < 2 ^ 64
+  rest-fits = omega (arith, fits, shr_le w (from % 64))
+
+  pub rest-set : 0 < rest → (from % 64 + trailing_zeros w64 rest < 64) × (bit_in words (from + trailing_zeros w64 rest) ≡ 1)
+  rest-set some =
+      let lowest = bit_at-trailing_zeros w64 rest some rest-fits in
+      let below = rest-within (trailing_zeros w64 rest) lowest.1 in
+      (below, rest-bit (trailing_zeros w64 rest) below ∙ lowest.1)
+
+  pub rest-before : 0 < rest → (p : ℕ) → from ≤ p → p < from + trailing_zeros w64 rest → bit_in words p ≡ 0
+  rest-before some p behind before =
+      let lowest = bit_at-trailing_zeros w64 rest some rest-fits in
+      let below = (rest-set some).0 in
+      let e : p ≡ from + (p - from) = omega (arith, behind) in
+      let within : p - from < trailing_zeros w64 rest = omega (arith, behind, before) in
+      ap (bit_in words) e ∙ rest-bit (p - from) (omega (arith, within, below)) ∙ lowest.2 (p - from) within
+
+  pub rest-clear : rest ≡ 0 → (p : ℕ) → from ≤ p → p < (from / 64 + 1) * 64 → bit_in words p ≡ 0
+  rest-clear none p behind before =
+      let e : p ≡ from + (p - from) = omega (arith, behind) in
+      ap (bit_in words) e ∙ rest-bit (p - from) (omega (arith, behind, before)) ∙ ap (λ v. bit_at v (p - from)) none ∙ bit_at-zero (p - from)
 
 -- a letter is put in place of another, and its bit with it
 pub HasQueued-set : (letters : List Letter) (row now : Row) (p : ℕ) (letter : Letter) → p < length letters → HasQueued letters row

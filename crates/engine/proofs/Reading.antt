@@ -11,7 +11,7 @@ use Rattle.units.specs.Division.{Division, IsDivision, number_of, unit_at}
 use Rattle.units.specs.Units.{Unit}
 use Rattle.units.proofs.Once.{one_unit}
 use Rattle.engine.specs.Letters.{IsInstallable}
-use Rattle.engine.specs.State.{AreCounts, HasLetter, IsEngine, IsNextQueued, State, counts_of, has_agreed}
+use Rattle.engine.specs.State.{AreCounts, HasLetter, IsEngine, IsNextQueued, IsQueuedFrom, State, counts_of, has_agreed}
 use Rattle.engine.specs.declared.Letter.{Letter}
 use Rattle.engine.specs.declared.Letter.TheVariants.{T, Q, B, I, Ignored}
 use Rattle.graph.specs.Walked.{Walked}
@@ -163,15 +163,17 @@ module _ {d : Division} {letters : List Letter} {lacks waiting : List ℕ} {runs
   queued_shown : (p : ℕ) → p < length d.tree → HasLetter (state_of d.tree letters) p Q → letter_at letters p ≡ Q
   queued_shown p within queued = only_one_letter d.tree (has_agreed (state_of d.tree letters)) p (letter_at letters p) Q (has_letter p within) queued
 
-  pub is_next_queued : (o : Option ℕ) → MatchOption o ((p : ℕ) → letter_at letters p ≢ Q) (λ p. (letter_at letters p ≡ Q) × ((k : ℕ) → k < p → letter_at letters k ≢ Q))
-      → IsNextQueued (state_of d.tree letters) o
-  is_next_queued None none = λ p within queued. none p (queued_shown p within queued)
-  is_next_queued (Some p) (here, before) =
+  pub is_queued_from : (from : ℕ) (o : Option ℕ)
+      → MatchOption o ((p : ℕ) → from ≤ p → letter_at letters p ≢ Q) (λ p. (from ≤ p) × (letter_at letters p ≡ Q) × ((k : ℕ) → from ≤ k → k < p → letter_at letters k ≢ Q))
+      → IsQueuedFrom (state_of d.tree letters) from o
+  is_queued_from from None none = λ p behind within queued. none p behind (queued_shown p within queued)
+  is_queued_from from (Some p) (behind, here, before) =
       let inside = letter_within letters p (λ ignored. let e : Q ≡ Ignored = sym here ∙ ignored in cc) in
       let within : p < length d.tree = omega (arith, inside, kept.queueing.are_fitting.each_letter) in (
+        behind,
         within,
         subst (HasLetter (state_of d.tree letters) p) here (has_letter p within),
-        λ k earlier queued. before k earlier (queued_shown k (omega (arith, earlier, within)) queued),
+        λ k later earlier queued. before k later earlier (queued_shown k (omega (arith, earlier, within)) queued),
       )
 
   pub are_counts : AreCounts (state_of d.tree letters) (counts_of letters)
@@ -206,3 +208,8 @@ module _ {d : Division} {letters : List Letter} {lacks waiting : List ℕ} {runs
         kept.queueing.are_fitting.each_letter,
         letter_within letters p (λ e. true≢false (sym (sym (agreed_is_held d.tree letters p) ∙ agreed) ∙ ap is_held e)),
       )
+
+-- the least of all is the least from the first position on
+pub next_queued : (s : State) (o : Option ℕ) → IsQueuedFrom s 0 o → IsNextQueued s o
+next_queued s None none = λ p within. none p (omega arith) within
+next_queued s (Some p) (behind, within, queued, before) = (within, queued, λ k earlier. before k (omega arith) earlier)

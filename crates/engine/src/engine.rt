@@ -1,7 +1,7 @@
 //! The engine, which contracts see as a tree and a set of positions.
 ghost use Rattle.std.specs.Prelude.{◌≡◌, ◌<◌, length, IfOk};
 ghost use Rattle.std.specs.FinSet as set;
-ghost use Rattle.engine.specs.State.{AreCounts, HasLetter, IsEngine, IsNextQueued};
+ghost use Rattle.engine.specs.State.{AreCounts, HasLetter, IsEngine, IsNextQueued, IsQueuedFrom};
 
 use crate::first::first_parts;
 use crate::lacks::lower;
@@ -123,6 +123,14 @@ impl<'a> Engine<'a> {
         ensures queued { IsNextQueued self.now result }
         ensures engine { IsEngine self.now }
     {
-        self.letters.first_queued()
+        self.letters.queued_from(0)
+    }
+
+    /// The least position at or behind this one with the letter Q, if a package has it.
+    pub fn queued_from(&self, from: u32) -> Option<u32>
+        ensures queued { IsQueuedFrom self.now from result }
+        ensures engine { IsEngine self.now }
+    {
+        self.letters.queued_from(from)
     }
 }

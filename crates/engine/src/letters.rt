@@ -1,5 +1,5 @@
 //! The letters of all packages, which contracts see as a list by position.
-ghost use Rattle.std.specs.Prelude.{◌≡◌, ◌≢◌, ◌<◌, ◌^◌, ℕ, IfOk, MatchOption, length, replicate, set};
+ghost use Rattle.std.specs.Prelude.{◌≡◌, ◌≢◌, ◌<◌, ◌≤◌, ◌^◌, ℕ, IfOk, MatchOption, length, replicate, set};
 ghost use Rattle.engine.specs.State.{counts_of};
 ghost use Rattle.engine.specs.inside.Shown.{is_held, letter_at};
 ghost use Rattle.engine.specs.declared.Letter.TheVariants.{Q};
@@ -71,12 +71,13 @@ impl Letters {
         self.counts
     }
 
-    /// The least position with the letter Q, if a package has it.
-    pub(crate) fn first_queued(&self) -> Option<u32>
-        ensures { MatchOption result ((p : ℕ) → letter_at self.now p ≢ Q)
-            (λ p. (letter_at self.now p ≡ Q) × ((k : ℕ) → k < p → letter_at self.now k ≢ Q)) }
+    /// The least position at or behind this one with the letter Q, if a package has it.
+    pub(crate) fn queued_from(&self, from: u32) -> Option<u32>
+        ensures { MatchOption result ((p : ℕ) → from ≤ p → letter_at self.now p ≢ Q)
+            (λ p. (from ≤ p) × (letter_at self.now p ≡ Q)
+            × ((k : ℕ) → from ≤ k → k < p → letter_at self.now k ≢ Q)) }
     {
-        self.queued.first()
+        self.queued.first_from(from)
     }
 
     /// Puts the letter at the position, in place of the one that was there.

@@ -1,5 +1,5 @@
 //! A row of bits, one for each position.
-ghost use Rattle.std.specs.Prelude.{◌≡◌, ◌<◌, ◌≤◌, ◌≢◌, ◌/◌, ◌+◌, ◌^◌, ℕ, IfOk, MatchOption, length};
+ghost use Rattle.std.specs.Prelude.{◌≡◌, ◌<◌, ◌≤◌, ◌≢◌, ◌/◌, ◌*◌, ◌+◌, ◌^◌, ℕ, IfOk, MatchOption, length};
 ghost use Rattle.graph.specs.Lists.{one_if};
 ghost use Rattle.engine.specs.inside.Row.{bit_of};
 
@@ -38,13 +38,32 @@ impl Row {
         }
     }
 
-    /// The least position whose bit is set, if one is.
-    pub(crate) fn first(&self) -> Option<u32>
+    /// The least position at or behind this one whose bit is set, if one is.
+    pub(crate) fn first_from(&self, from: u32) -> Option<u32>
         requires { length self.now.words.items < 2 ^ 26 }
-        ensures { MatchOption result ((p : ℕ) → bit_of self.now p ≡ 0)
-            (λ p. (bit_of self.now p ≡ 1) × ((k : ℕ) → k < p → bit_of self.now k ≡ 0)) }
+        ensures { MatchOption result ((p : ℕ) → from ≤ p → bit_of self.now p ≡ 0)
+            (λ p. (from ≤ p) × (bit_of self.now p ≡ 1)
+            × ((k : ℕ) → from ≤ k → k < p → bit_of self.now k ≡ 0)) }
     {
-        for place in 0..self.words.len() {
+        let place = from as usize / 64;
+        let Some(word) = self.words.get(place) else {
+            return None;
+        };
+        let rest = *word >> (from % 64);
+        if rest != 0 {
+            return Some(from + rest.trailing_zeros());
+        }
+        self.first_in(place + 1)
+    }
+
+    /// The least position whose bit is set in this word or a later one, if one is.
+    fn first_in(&self, start: usize) -> Option<u32>
+        requires { length self.now.words.items < 2 ^ 26 }
+        ensures { MatchOption result ((p : ℕ) → start * 64 ≤ p → bit_of self.now p ≡ 0)
+            (λ p. (start * 64 ≤ p) × (bit_of self.now p ≡ 1)
+            × ((k : ℕ) → start * 64 ≤ k → k < p → bit_of self.now k ≡ 0)) }
+    {
+        for place in start..self.words.len() {
             let word = self.words[place];
             if word != 0 {
                 return Some(place as u32 * 64 + word.trailing_zeros());

@@ -12,13 +12,14 @@ use Rattle.units.specs.Division.{Division}
 use Rattle.units.specs.Units.{AreUnits}
 use Rattle.auditing.specs.Fits.{Fits}
 use Rattle.world.specs.Happening.{Leads}
-use Rattle.world.specs.Headline.{AllFit, AtEachMoment, AuditSaysYes, HasOneAPath, HasOneList, HeldIsListed, HoldAlike, InstallableIsHeld, IsBeginningOf, WasBuilt, entry_of}
+use Rattle.world.specs.Headline.{AllFit, AreRecords, AtEachMoment, AuditSaysYes, HasOneAPath, HasOneList, HeldIsListed, HoldAlike, InstallableIsHeld, IsBeginningOf, WasBuilt, entry_of}
 use Rattle.world.specs.Laws.{EachHappensOrIsRefused, EachStepHasAList, EventsLeadToOneWorld, OneAnswer, OneWorldFollows}
-use Rattle.world.specs.Safety.{EachIsOfAMessage, EqualHeaders, JobsStood, LaterRepeats, OneProposal, PromisesBound}
+use Rattle.world.specs.Safety.{EachIsOfAMessage, EqualHeaders, JobsStood, LaterRepeats, OneProposal, PromisesBound, SentVotesAreNoted}
 use Rattle.world.specs.World.{IsMade, World, start}
 use Rattle.world.proofs.Distinct.{one_a_path, one_there}
 use Rattle.world.proofs.Growing.{each_moment, leads_later, list_grows}
 use Rattle.world.proofs.Leading.{leads_together}
+use Rattle.world.proofs.Records.{always_records}
 use Rattle.headline.specs.Laws.{EachRunHasOneList, EachRunIsActs, InEachRun, IsSafe}
 use Rattle.headline.specs.Matches.{Matches, packages_of}
 use Rattle.headline.specs.Mirrored.{after_all_acts}
@@ -30,7 +31,7 @@ use Rattle.headline.proofs.Headers.{in_order}
 use Rattle.headline.proofs.Installed.{installable_is_held}
 use Rattle.headline.proofs.Listed.{list_fits}
 use Rattle.headline.proofs.Mirroring.{event_is_act, step_has_list, step_has_one_list}
-use Rattle.headline.proofs.Runs.{always_alike, always_bound, always_listed, always_one_proposal, always_repeated, always_told_apart, at_each, runs_are_acts}
+use Rattle.headline.proofs.Runs.{always_alike, always_bound, always_listed, always_noted, always_one_proposal, always_repeated, always_told_apart, at_each, runs_are_acts}
 use Rattle.headline.proofs.Signed.{jobs_stood}
 use Rattle.headline.proofs.Staying.{event_keeps}
 use Rattle.package_record.proofs.BuildsRead.{build_is_read}
@@ -107,6 +108,7 @@ module _ (runs : EachRunIsActs) (again : BuildTextIsReadAgain) (division : Divis
     grows = list_grows division weights events last led;
     one_a_path = one_a_path division weights events last led;
     built = always_built;
+    records = always_records division weights events last led;
     fits = always_fits;
     held = always_listed runs again division weights made events last led;
     alike = always_alike runs again division weights made events last led;
@@ -118,6 +120,7 @@ module _ (runs : EachRunIsActs) (again : BuildTextIsReadAgain) (division : Divis
   is_safe = record {
     one_proposal = always_one_proposal runs again division weights made events last led;
     promises_bound = always_bound runs again division weights made events last led;
+    votes_noted = always_noted runs again division weights made events last led;
     later_repeats = always_repeated runs again division weights made events last led;
     jobs_stood = always_jobs;
     equal_headers = always_told_apart runs again division weights made events last led;
@@ -151,6 +154,10 @@ module _ (runs : EachRunIsActs) (again : BuildTextIsReadAgain) where
       (λ early w. All (WasBuilt division ws early) w.agreed)) (sym later.weights)
       (always_built runs again division weights made events last led))
 
+  pub records_always : InEachRun (λ last early w. AreRecords w)
+  records_always division weights events last made led =
+      always_records division weights events last led
+
   pub fits_always : InEachRun (λ last early w. AllFit w)
   fits_always division weights events last made led =
       always_fits runs again division weights made events last led
@@ -178,6 +185,10 @@ module _ (runs : EachRunIsActs) (again : BuildTextIsReadAgain) where
   pub bound_always : InEachRun (λ last early w. PromisesBound w)
   bound_always division weights events last made led =
       always_bound runs again division weights made events last led
+
+  pub noted_always : InEachRun (λ last early w. SentVotesAreNoted w)
+  noted_always division weights events last made led =
+      always_noted runs again division weights made events last led
 
   pub repeated_always : InEachRun (λ last early w. LaterRepeats w)
   repeated_always division weights events last made led =

@@ -15,7 +15,7 @@ use Rattle.units.specs.Division.{Division, no_unit}
 use Rattle.world.specs.Happening.{Happens, Leads}
 use Rattle.world.specs.Headline.{AtEachMoment, HeldIsListed, HoldAlike}
 use Rattle.world.specs.Laws.{NothingSentIsForeign}
-use Rattle.world.specs.Safety.{EachIsOfAMessage, EqualHeaders, LaterRepeats, OneProposal, PromisesBound, WasSentOf}
+use Rattle.world.specs.Safety.{EachIsOfAMessage, EqualHeaders, LaterRepeats, OneProposal, PromisesBound, SentVotesAreNoted, WasSentOf}
 use Rattle.world.specs.World.{IsMade, World, WorldNode, fresh_node, member_at, start}
 use Rattle.world.proofs.Alike.{held_alike}
 use Rattle.world.proofs.Distinct.{one_there}
@@ -28,7 +28,7 @@ use Rattle.headline.proofs.Foreign.{never_foreign}
 use Rattle.headline.proofs.Headers.{headers_are_equal}
 use Rattle.headline.proofs.Holding.{held_is_listed}
 use Rattle.headline.proofs.Said.{each_is_of_a_message}
-use Rattle.headline.proofs.Safe.{later_repeats, one_proposal, promises_bound}
+use Rattle.headline.proofs.Safe.{later_repeats, one_proposal, promises_bound, votes_noted}
 
 -- ---- at the start
 
@@ -173,6 +173,10 @@ module _ (runs : EachRunIsActs) (again : BuildTextIsReadAgain) (division : Divis
   pub always_bound : AtEachMoment division weights events last (λ early w. PromisesBound w)
   always_bound = at_each PromisesBound (λ acts w of m local. promises_bound division weights acts w
       made of m again)
+
+  pub always_noted : AtEachMoment division weights events last (λ early w. SentVotesAreNoted w)
+  always_noted = at_each SentVotesAreNoted (λ acts w of m local. votes_noted division weights acts w
+      made of m again local)
 
   pub always_repeated : AtEachMoment division weights events last (λ early w. LaterRepeats w)
   always_repeated = at_each LaterRepeats (λ acts w of m local. later_repeats division weights acts w

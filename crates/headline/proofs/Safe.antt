@@ -1,22 +1,21 @@
 -- What is lawful in the agreements holds of the world that matches them: proposals, promises, and
 -- later proposals.
-use Rattle.std.proofs.Common.{◌≡◌, ◌<◌, ◌≤◌, ◌+◌, ◌&&◌, ℕ, suc, Bool, true, false, List, [], ◌∷◌, length, Option, None, Some, refl, sym, ap, subst, ◌∙◌, arith, if◌then◌else◌, ltb-true, lt-ltb, nat_le}
+use Rattle.std.proofs.Common.{◌≡◌, ◌<◌, ◌≤◌, ◌+◌, ◌&&◌, ℕ, suc, Bool, true, false, List, [], ◌∷◌, length, Option, None, Some, refl, sym, ap, subst, ◌∙◌, arith, if◌then◌else◌, ltb-true, lt-ltb, nat_le, nat_lt, slice_get}
 use Rattle.std.specs.Prelude.{Contains}
 use Rattle.std.specs.List.{list_all}
-use Rattle.std.proofs.lemmas.Bool.{and_parts, leb-true}
+use Rattle.std.proofs.lemmas.Bool.{and_from, and_parts, leb-true}
 use Rattle.faults.specs.Bytes.{Text}
-use Rattle.agreement.specs.AgreedList.{Act, Cluster, WasBuilt, beginning}
 use Rattle.agreement.specs.Agreed as theory
+use Rattle.agreement.specs.AgreedList.{Act, Cluster}
 use Rattle.agreement.specs.Member as members
 use Rattle.agreement.specs.Messages as messages
 use Rattle.agreement.specs.Quorums.{Members, is_majority, weight}
 use Rattle.agreement.specs.Votes.{Ballot, Has, IsReported, PromiseOf, Reaches, ballot, report_of}
-use Rattle.agreement.specs.World.{IsLawfulWorld, WasVoted}
+use Rattle.agreement.specs.World.{IsLawfulWorld, WasPromised, WasProposed, WasVoted}
 use Rattle.agreement.specs.declared.claim.Claim.{Claim}
-use Rattle.agreement.proofs.Agreed.{repeats_agreed}
-use Rattle.agreement.proofs.AgreedList.{IsFine}
 use Rattle.agreement.proofs.Kept.{sent_vote}
 use Rattle.agreement.proofs.Majorities.{majorities}
+use Rattle.agreement.proofs.Synod.{repeats}
 use Rattle.ballots.specs.InTheAgreement.{note_of}
 use Rattle.ballots.specs.Weights.{AreWeights, is_weight}
 use Rattle.ballots.specs.declared.message.Body.TheVariants.{Promise, Propose, Vote}
@@ -29,12 +28,13 @@ use Rattle.protocol.specs.State.{Value}
 use Rattle.units.specs.Division.{Division}
 use Rattle.units.proofs.Names.{name_tells}
 use Rattle.wire.specs.Messages.{IsMessage}
-use Rattle.world.specs.Safety.{LaterRepeats, OneProposal, PromisesBound, ReportsAtLeast}
+use Rattle.world.specs.Safety.{HasNotedVote, LaterRepeats, OneProposal, PromisesBound, ReportsAtLeast, SentVotesAreNoted}
 use Rattle.world.specs.Sent.{WasSent, message, voters}
-use Rattle.world.specs.World.{IsMade, World}
+use Rattle.world.specs.World.{IsMade, World, WorldNode}
+use Rattle.world.proofs.Growing.{get_some}
+use Rattle.headline.specs.Local.{AreLocal}
 use Rattle.headline.specs.Matches.{Matches, WasSaid, log_of, name_of}
 use Rattle.headline.specs.Mirrored.{after_all_acts}
-use Rattle.headline.specs.Needs.{may_build}
 use Rattle.headline.proofs.Headers.{divided, in_order, lawful_there, sent_was_said}
 use Rattle.headline.proofs.Logs.{noted_is_on_log, on_log_was_noted}
 
@@ -114,6 +114,19 @@ module _ (division : Division) (weights : List ℕ) (acts : List (Act Value)) (w
       (lawful_there division weights acts w made of m f.unit).one c a b f.said_there
       (subst (λ (u : ℕ). Has (here.at u).sent (messages.Propose (ballot c b))) e s.said_there)
 
+  -- a vote of a unit's member there was noted by its node
+  vote_was_noted : (u k : ℕ) (x : WorldNode) (name : Text) (c : Claim) (v : Value)
+      → u < length w.division.units → name ≡ name_of w u → slice_get w.nodes k ≡ Some x
+      → WasVoted (here.at u) (record { member = k; ballot = ballot c v })
+      → Contains x.notes (record { path = name; fact = fact.Voted c v })
+  vote_was_noted u k x name c v listed about stands voted =
+      let n = on_log_was_noted w u x (members.Voted (ballot c v))
+      (subst (λ (l : List (members.Note Value)). Has l (members.Voted (ballot c v)))
+      (m.logs k u x stands listed) voted) in
+      let path_is : (n.0).path ≡ name = n.2 ∙ sym about in
+      let fact_is = vote_noted (n.0).fact c v n.3 in
+      subst (Contains x.notes) (λ i. record { path = path_is i; fact = fact_is i }) n.1
+
   -- A promise bounds every vote below it, and reports one at or above each.
   pub promises_bound : PromisesBound w
   promises_bound k x name c d report stands promised noted below =
@@ -142,17 +155,9 @@ module _ (division : Division) (weights : List ℕ) (acts : List (Act Value)) (w
           → IsReported (WasVoted (here.at p.unit)) k c (report_of r) → ReportsAtLeast x name r d
       by None reaches reported = absurd reaches
       by (Some b) reaches reported =
-          let n = on_log_was_noted w p.unit x (members.Voted (ballot b.0 b.1))
-          (subst (λ (l : List (members.Note Value)). Has l (members.Voted (ballot b.0 b.1))) logs
-          reported.1) in
-          let path_is : (n.0).path ≡ name = n.2 ∙ sym p.about in
-          let fact_is = vote_noted (n.0).fact b.0 b.1 n.3 in (
-            reaches,
-            subst (Contains x.notes) (λ i. record { path = path_is i; fact = fact_is i })
-                n.1,
-          )
+          (reaches, vote_was_noted p.unit k x name b.0 b.1 p.listed p.about stands reported.1)
 
-  -- ---- later proposals
+  -- ---- votes that were sent
 
   -- who voted for the claim of a unit that was proposed, did so there
   pub voted_there : (u : ℕ) (name : Text) (c : Claim) (a : Value) → u < length w.division.units
@@ -182,15 +187,25 @@ module _ (division : Division) (weights : List ℕ) (acts : List (Act Value)) (w
       v : WasSaid w here (message w name k (Vote c))
       v = said_at (message w name k (Vote c)) is_sent
 
-  -- Where a majority sent votes for a claim, each proposal at or above it repeats its build.
+  -- ---- votes that were noted
+
+  -- a vote that a node noted is one of the unit's member there
+  noted_there : (u k : ℕ) (name : Text) (c : Claim) → u < length w.division.units
+      → name ≡ name_of w u → HasNotedVote w k name c
+      → (v : Value) × WasVoted (here.at u) (record { member = k; ballot = ballot c v })
+  noted_there u k name c listed about (x, stands, (build, noted)) = (
+    build,
+    subst (λ (l : List (members.Note Value)). Has l (members.Voted (ballot c build)))
+        (sym (m.logs k u x stands listed))
+        (noted_is_on_log w u x (record { path = name; fact = fact.Voted c build }) noted about),
+  )
+
+  -- Where a majority noted votes under a claim, each proposal at or above it repeats its build.
   pub later_repeats : LaterRepeats w
-  later_repeats name c d a b enough first second le =
-      repeats_agreed Value (is_majority weights) (majorities weights)
-      (IsFine (may_build division) (WasBuilt (is_majority weights) (may_build division) acts
-      beginning) here.list f.unit)
-      (here.at f.unit) ((in_order division weights acts w made of m).sound f.unit) (ballot c a)
-      (ballot d b)
-      (agreed, f.said_there) proposed le
+  later_repeats name c d a b S enough noted first second le =
+      repeats Value (is_majority weights) (majorities weights) (WasProposed (here.at f.unit))
+      (WasPromised (here.at f.unit)) (WasVoted (here.at f.unit)) law (ballot c a)
+      (record { voters = among; majority = is_enough; voted = voted }) d le b proposed
     where
       f : WasSaid w here (message w name first.0 (Propose c a))
       f = said_at (message w name first.0 (Propose c a)) first.1
@@ -198,12 +213,49 @@ module _ (division : Division) (weights : List ℕ) (acts : List (Act Value)) (w
       s : WasSaid w here (message w name second.0 (Propose d b))
       s = said_at (message w name second.0 (Propose d b)) second.1
 
-      agreed : is_majority weights (theory.voters (here.at f.unit).sent c) ≡ true
-      agreed = majority_within weights (voters w w.sent name c)
-          (theory.voters (here.at f.unit).sent c)
-          (λ k lt e. voted_there f.unit name c a f.listed f.about k lt first.0 first.1.is_message e)
-          (subst (λ (ws : List ℕ). is_majority ws (voters w w.sent name c) ≡ true) of.1 enough)
+      law : IsLawfulWorld (is_majority weights) (here.at f.unit)
+      law = lawful_there division weights acts w made of m f.unit
+
+      -- those of them that are members
+      among : Members
+      among k = nat_lt k (length w.weights) && S k
+
+      is_enough : is_majority weights among ≡ true
+      is_enough = majority_within weights S among
+          (λ k lt e. and_from (nat_lt k (length w.weights)) (S k)
+          (lt-ltb k (length w.weights) (omega (arith, lt, ap length of.1))) e)
+          (subst (λ (ws : List ℕ). is_majority ws S ≡ true) of.1 enough)
+
+      voted : (k : ℕ) → among k ≡ true
+          → WasVoted (here.at f.unit) (record { member = k; ballot = ballot c a })
+      voted k e =
+          let p = and_parts (nat_lt k (length w.weights)) (S k) e in
+          let v = noted_there f.unit k name c f.listed f.about
+          (noted k (ltb-true k (length w.weights) p.0) p.1) in
+          subst
+          (λ (x : Value). WasVoted (here.at f.unit) (record { member = k; ballot = ballot c x }))
+          (law.one c v.0 a (law.votes (record { member = k; ballot = ballot c v.0 }) v.1)
+          f.said_there)
+          v.1
 
       proposed : Has (here.at f.unit).sent (messages.Propose (ballot d b))
       proposed = subst (λ (u : ℕ). Has (here.at u).sent (messages.Propose (ballot d b)))
           (one_unit s.unit f.unit name s.listed f.listed s.about f.about) s.said_there
+
+  -- A vote that was sent, was noted by the node that sent it.
+  pub votes_noted : AreLocal w → SentVotesAreNoted w
+  votes_noted local k name c is_sent = (
+    x.0,
+    x.1,
+    (build.0, vote_was_noted v.unit k x.0 name c build.0 v.listed v.about x.1 build.1),
+  )
+    where
+      v : WasSaid w here (message w name k (Vote c))
+      v = said_at (message w name k (Vote c)) is_sent
+
+      x : (x : WorldNode) × (slice_get w.nodes k ≡ Some x)
+      x = get_some w.nodes k (omega (arith, v.sender, local.one_for_each))
+
+      build : (b : Value) × WasVoted (here.at v.unit) (record { member = k; ballot = ballot c b })
+      build = ((in_order division weights acts w made of m).sound v.unit).said (messages.Vote k c)
+          v.said_there

@@ -28,15 +28,11 @@ use Rattle.protocol.specs.declared.sends.Send.{Send}
 use Rattle.wire.specs.Messages.{IsMessage}
 use Rattle.world.specs.Sent.{WasSent, message, with_sends}
 use Rattle.world.specs.World.{World, WorldNode, member_at}
-use Rattle.world.proofs.Sending.{among_is, is_found, sends_come, sends_stay, sends_there, texts_in}
+use Rattle.world.proofs.Sending.{among_is, is_found, sends_come, sends_stay, sends_there, texts_alone, texts_in}
 use Rattle.headline.specs.Matches.{IsSaid, Matches, name_of, packages_of}
 use Rattle.headline.proofs.Standing.{IsLeftAs, logs_then, members_then, sent_here, sent_there}
 
 -- ---- what sends are, datagram by datagram
-
-pub texts_alone : (texts : List Text) (to : ℕ) → map (λ (s : ℕ × Text). s.1) (each_to texts to) ≡ texts
-texts_alone [] to = refl
-texts_alone (t ∷ ts) to = ap (λ l. t ∷ l) (texts_alone ts to)
 
 texts_first : (z : Send) (zs : List Send) → texts_in (z ∷ zs) ≡ datagrams_of z.message
     ++ texts_in zs

@@ -15,7 +15,7 @@ use Rattle.headline.specs.Needs.{may_build}
 use Rattle.world.specs.Happening.{Happens, IsRefused, Leads}
 use Rattle.world.specs.Headline.{AtEachMoment, HasOneList, HeldIsListed}
 use Rattle.world.specs.Sent.{WasSent}
-use Rattle.world.specs.Safety.{EachIsOfAMessage, EqualHeaders, JobsStood, LaterRepeats, OneProposal, PromisesBound}
+use Rattle.world.specs.Safety.{EachIsOfAMessage, EqualHeaders, JobsStood, LaterRepeats, OneProposal, PromisesBound, SentVotesAreNoted}
 use Rattle.world.specs.World.{IsMade, World, start}
 use Rattle.world.specs.declared.fault.WorldFault.TheVariants as worlds
 
@@ -82,7 +82,7 @@ MatchedIsNotForeign =
     → IsRefused w e (worlds.Node (faults.Foreign f)) → ⊥
 
 -- There a claim has at most one proposal, a promise bounds the votes of its member, and a proposal
--- at or above a claim for which a majority sent votes repeats its build.
+-- at or above a claim for which a majority noted votes repeats its build.
 abbrev pub MatchedVotesAreLawful : Type 0
 MatchedVotesAreLawful =
     (division : Division) (weights : List ℕ) (acts : List (Act Value)) (w : World)
@@ -90,6 +90,15 @@ MatchedVotesAreLawful =
     → (w.division ≡ division) × (w.weights ≡ weights)
     → Matches w (after_all_acts division weights acts)
     → OneProposal w × PromisesBound w × LaterRepeats w
+
+-- And each vote that was sent was noted, where nodes are as they have to be.
+abbrev pub MatchedVotesAreNoted : Type 0
+MatchedVotesAreNoted =
+    (division : Division) (weights : List ℕ) (acts : List (Act Value)) (w : World)
+    → IsMade division weights
+    → (w.division ≡ division) × (w.weights ≡ weights) → AreLocal w
+    → Matches w (after_all_acts division weights acts)
+    → SentVotesAreNoted w
 
 -- And what nodes hold is in the list, where nodes are as they have to be.
 abbrev pub MatchedHeldIsListed : Type 0
@@ -107,7 +116,9 @@ pub record IsSafe (division : Division) (weights : List ℕ) (events : List Even
   pub one_proposal : AtEachMoment division weights events last (λ early w. OneProposal w)
   -- a promise bounds every earlier vote of its member
   pub promises_bound : AtEachMoment division weights events last (λ early w. PromisesBound w)
-  -- a proposal above a claim with a majority of votes repeats its build
+  -- a vote that was sent, was noted before
+  pub votes_noted : AtEachMoment division weights events last (λ early w. SentVotesAreNoted w)
+  -- a proposal above a claim for which a majority noted votes repeats its build
   pub later_repeats : AtEachMoment division weights events last (λ early w. LaterRepeats w)
   -- the dependencies of every build ever proposed stood in the list when its job was given
   pub jobs_stood : AtEachMoment division weights events last

@@ -11,11 +11,14 @@ ghost use Rattle.headline.specs.Laws.{
   MatchedHeldIsListed,
   MatchedIsNotForeign,
   MatchedVotesAreLawful,
+  MatchedVotesAreNoted,
   NeedsAreMonotone,
   SentWasSaid,
 };
+ghost use Rattle.headline.specs.Lost.{AnythingMayBeLeft};
 ghost use Rattle.world.specs.Headline.{
   AllFit,
+  AreRecords,
   AuditSaysYes,
   HasOneAPath,
   HeldIsListed,
@@ -39,6 +42,7 @@ ghost use Rattle.world.specs.Safety.{
   LaterRepeats,
   OneProposal,
   PromisesBound,
+  SentVotesAreNoted,
 };
 
 /// What a build needs is spoiled by nothing that is held besides.
@@ -62,9 +66,10 @@ pub fn sent_was_said()
     ensures foreign { MatchedIsNotForeign }
 {}
 
-/// Votes are lawful, and what nodes hold is in the list.
+/// Votes are lawful, those that were sent were noted, and what nodes hold is in the list.
 pub fn matched_worlds_are_safe()
     ensures votes { MatchedVotesAreLawful }
+    ensures noted { MatchedVotesAreNoted }
     ensures held { MatchedHeldIsListed }
 {}
 
@@ -91,6 +96,7 @@ pub fn worlds_have_one_list()
     ensures one_a_path { InEachRun (λ last early w. HasOneAPath w) }
     ensures built { InEachRun
         (λ last early w. All (WasBuilt last.division last.weights early) w.agreed) }
+    ensures records { InEachRun (λ last early w. AreRecords w) }
     ensures fits { InEachRun (λ last early w. AllFit w) }
     ensures held { InEachRun (λ last early w. HeldIsListed w) }
     ensures alike { InEachRun (λ last early w. HoldAlike w last) }
@@ -100,6 +106,7 @@ pub fn worlds_have_one_list()
     // Why that is so.
     ensures one_proposal { InEachRun (λ last early w. OneProposal w) }
     ensures promises_bound { InEachRun (λ last early w. PromisesBound w) }
+    ensures votes_noted { InEachRun (λ last early w. SentVotesAreNoted w) }
     ensures later_repeats { InEachRun (λ last early w. LaterRepeats w) }
     ensures jobs_stood { InEachRun
         (λ last early w. JobsStood last.division last.weights early w) }
@@ -107,4 +114,11 @@ pub fn worlds_have_one_list()
 
     // All of it, by the names of two definitions.
     ensures together { EachRunHasOneList }
+{}
+
+/// Where nodes went down inside a step that left nothing of its note, and never start again,
+/// anything might have been left in place of nothing: the events lead then, too, to a world with
+/// one list, which differs in nodes that are down alone.
+pub fn anything_may_be_left()
+    ensures { AnythingMayBeLeft }
 {}

@@ -1,6 +1,6 @@
 -- A build goes to all as the proposal of the claim that waits for it.
 use Rattle.std.proofs.Common.{◌≡◌, ◌==◌, ℕ, Bool, true, false, Option, Some, None, Result}
-use Rattle.std.proofs.Common.{Ok, Err, eqb-true, inl, inr, option_map, refl, sym, subst, ap}
+use Rattle.std.proofs.Common.{Ok, Err, eqb-true, inl, inr, refl, sym, subst, ap}
 use Rattle.std.proofs.Common.{◌∙◌, if◌then◌else◌}
 use Rattle.std.specs.Prelude.{◌⊎◌, option_and_then, unwrap_or}
 use Rattle.std.proofs.lemmas.Bool.{false≢true}
@@ -24,7 +24,7 @@ use Rattle.protocol.specs.Sends.{sent_to}
 use Rattle.protocol.specs.Answers.{Answer, answered, everyone, message_of}
 use Rattle.protocol.specs.Jobs.{build_by, job_of}
 use Rattle.protocol.specs.Step.{answered_or, at_unit, builds, builds_under, files_refusal, host_in}
-use Rattle.protocol.specs.Step.{job_again, proposes, unit_in, unless}
+use Rattle.protocol.specs.Step.{job_again, made_by, proposes, unit_in, unless}
 use Rattle.protocol.specs.declared.input.Input.TheVariants as inputs
 use Rattle.protocol.specs.declared.refusal.Refusal.{Refusal}
 use Rattle.protocol.specs.declared.refusal.Refusal.TheVariants as refusals
@@ -32,8 +32,9 @@ use Rattle.protocol.proofs.Asked.{stage_is}
 use Rattle.member.specs.OpenClaims.{joined_in}
 use Rattle.member.specs.Prepared.{IsChangeWeighedBy, Prepared, changed}
 use Rattle.member.specs.inside.Steps.{IsPrepared, Makes}
-use Rattle.member.specs.inside.Waiting.{job_at, made_by, waiting_for}
+use Rattle.member.specs.inside.Waiting.{job_at, waiting_for}
 use Rattle.member.specs.declared.step.ClaimChange.TheVariants.{Becomes}
+use Rattle.member.proofs.MadeBuild.{both}
 use Rattle.member.proofs.Preparing.{made_so}
 
 -- The open claim waits for the build of the unit that the path names, and this is its job.
@@ -45,10 +46,6 @@ record IsWaiting (s : State) (path : Text) (u : ℕ) (job : Task) : Type 0 where
   under : Claim
   builds : claim.progress ≡ Building under
   is : job_of s claim.unit claim.host under ≡ job
-
--- the unit and the job, as one
-abbrev both : ℕ → Option Task → Option (ℕ × Task)
-both u = option_map (λ job. (u, job))
 
 is_waiting : (s : State) (path : Text) (u : ℕ) (job : Task) → waiting_for s path ≡ Some (u, job)
     → IsWaiting s path u job

@@ -7,6 +7,7 @@ use Rattle.std.specs.List.{slice_index_or}
 use Rattle.std.proofs.lemmas.List.{get_or-map, length-map}
 use Rattle.std.proofs.lemmas.List.Elements.{Contains-get_or}
 use Rattle.faults.specs.Answers.{first_that_applies, option_or, unless_fault}
+use Rattle.faults.specs.Bytes.{Text}
 use Rattle.faults.proofs.Members.{contains_first, contains_later}
 use Rattle.claims.specs.Claim.{IsClaim}
 use Rattle.claims.specs.Deps.{is_ascending}
@@ -23,10 +24,10 @@ use Rattle.protocol.specs.Given.{Given}
 use Rattle.protocol.specs.State.{OpenClaim, Progress, Gathering, Building, Voting, State, Value}
 use Rattle.protocol.specs.Member.{IsMember, claim_in}
 use Rattle.protocol.specs.Jobs.{are_given, build_by, paths_at, record_by}
-use Rattle.protocol.specs.Step.{job_again}
+use Rattle.protocol.specs.Step.{job_again, made_by, unit_in}
 use Rattle.protocol.specs.declared.refusal.Refusal.TheVariants.{BadFiles, OtherPackages}
 use Rattle.member.specs.inside.Packages.{FilesByPath, Made, files_at, made_at, made_of}
-use Rattle.member.specs.inside.Waiting.{job_at, made_by}
+use Rattle.member.specs.inside.Waiting.{job_at, waiting_for}
 use Rattle.member.proofs.GivenFiles.{files_are_found}
 use Rattle.protocol.proofs.PackageOrder.{in_order_ascends}
 
@@ -54,6 +55,28 @@ job_is_claimed s u job is e = by_claim s.claim refl e
         else None) claim ≡ Some job → IsClaim job.claim
     by_claim None at e = absurd (let no : None ≡ Some job = e in cc)
     by_claim (Some o) at e = by_unit o (u == o.unit) (is.claim o at).claim e
+
+-- the unit and the job, as one
+abbrev pub both : ℕ → Option Task → Option (ℕ × Task)
+both u = option_map (λ job. (u, job))
+
+-- and so is that of the unit whose build it waits for
+pub waiting_is_claimed : (s : State) (path : Text) (u : ℕ) (job : Task) → IsMember s
+    → waiting_for s path ≡ Some (u, job) → IsClaim job.claim
+waiting_is_claimed s path u job is e = by_unit (unit_in s path) e
+  where
+    by_job : (v : ℕ) (j : Option Task) → job_at s v ≡ j
+        → both v j ≡ Some (u, job) → IsClaim job.claim
+    by_job v None at e = absurd (let no : None ≡ Some (u, job) = e in cc)
+    by_job v (Some j) at e =
+        let same = ap (λ (x : ℕ × Task). x.1) (ap (λ x. unwrap_or x (u, job)) e) in
+        subst IsClaim (ap (λ (t : Task). t.claim) same) (job_is_claimed s v j is at)
+
+    by_unit : (v : Option ℕ)
+        → option_and_then (λ v. both v (job_at s v)) v ≡ Some (u, job)
+        → IsClaim job.claim
+    by_unit None e = absurd (let no : None ≡ Some (u, job) = e in cc)
+    by_unit (Some v) e = by_job v (job_at s v) refl e
 
 -- ---- packages that were made so
 

@@ -1,15 +1,17 @@
 //! What becomes of a claim that waits for a build.
 ghost use Rattle.std.specs.Prelude.{◌≡◌, ◌≢◌, ◌<◌, ◌⊎◌, IfOk, MatchResult};
-ghost use Rattle.std.specs.Prelude.{None, Some, false, length, map, true};
+ghost use Rattle.std.specs.Prelude.{None, Some, false, is_some, length, map, true, ℕ};
+ghost use Rattle.claims.specs.Claim.{IsClaim};
 ghost use Rattle.faults.specs.Answers.{IsRightUnless};
 ghost use Rattle.units.specs.Division.{unit_at};
 ghost use Rattle.protocol.specs.Answers.{message_of};
 ghost use Rattle.protocol.specs.Sends.{sent_to};
-ghost use Rattle.protocol.specs.Jobs.{are_given, paths_at};
+ghost use Rattle.protocol.specs.Jobs.{are_given, job_of, paths_at};
 ghost use Rattle.protocol.specs.Member.{IsMember};
+ghost use Rattle.protocol.specs.Step.{made_by, unit_in};
 ghost use Rattle.member.specs.inside.Packages.{files_at, made_at, made_of};
 ghost use Rattle.member.specs.inside.Steps.{IsPrepared};
-ghost use Rattle.member.specs.inside.Waiting.{job_at, made_by, waiting_for};
+ghost use Rattle.member.specs.inside.Waiting.{waiting_for};
 
 use crate::packages::{by_path, made};
 use crate::receivers::everyone;
@@ -23,6 +25,30 @@ use pkgpath::PkgPath;
 use protocol::{Input, Packages, Refusal, Sends};
 
 impl<'a> Member<'a> {
+    /// The build of the unit that the path names, which this host makes of these files under the
+    /// claim, on what is held. No claim has to be open.
+    ///
+    /// # Errors
+    ///
+    /// `Memory`; else the first that applies: `OtherPackages`; `BadFiles`.
+    pub fn build(
+        &self,
+        path: &PkgPath,
+        host: u16,
+        claim: Claim,
+        packages: Packages,
+    ) -> Result<Build, Refusal>
+        requires unit { is_some (unit_in self.now path.now) ≡ true }
+        requires claim { IsClaim claim }
+        ensures { (unit : ℕ) → unit_in self.now path.now ≡ Some unit
+            → IsRightUnless Refusal.Memory result
+            (made_by self.now unit (job_of self.now unit host claim) packages) }
+    {
+        let unit = self.units.find(path).unwrap();
+        let job = self.job_for(unit, host, claim)?;
+        self.build_of(unit, &job, packages)
+    }
+
     /// The claim's host built the unit, which goes to all as the claim's proposal.
     pub(crate) fn built(&self, path: &PkgPath, packages: Packages) -> Result<Step, Refusal>
         ensures { IsPrepared self.now (Input.Built path.now packages) result }
@@ -70,8 +96,9 @@ impl<'a> Member<'a> {
 
     /// The unit that the path names, and its job, where the open claim waits for its build.
     fn building(&self, path: &PkgPath) -> Result<(u32, &Job), Refusal>
-        ensures { MatchResult result (λ x. waiting_for self.now path.now ≡ Some (x.0, x.1.now))
+        ensures job { MatchResult result (λ x. waiting_for self.now path.now ≡ Some (x.0, x.1.now))
             (λ e. (e ≡ Refusal.NoClaim) × (waiting_for self.now path.now ≡ None)) }
+        ensures member { IsMember self.now }
     {
         let (Some(unit), Some(open), Some(job)) = (self.units.find(path), &self.claim, &self.job)
         else {
@@ -86,7 +113,7 @@ impl<'a> Member<'a> {
     /// The build of the unit that its job and these files make.
     fn build_of(&self, unit: u32, job: &Job, packages: Packages) -> Result<Build, Refusal>
         requires unit { unit < length self.now.division.units }
-        requires job { job_at self.now unit ≡ Some job.now }
+        requires claim { IsClaim job.now.claim }
         ensures { IsRightUnless Refusal.Memory result (made_by self.now unit job.now packages) }
     {
         let packages = self.packages_of(unit, packages)?;

@@ -215,12 +215,35 @@ impl<'a> Member<'a> {
         }
     }
 
+    /// The tree that it is over.
+    pub fn tree(&self) -> &'a Tree
+        ensures { result.now ≡ self.now.division.tree }
+    {
+        self.tree
+    }
+
     /// The units of the tree, which facts are kept by.
     pub fn units(&self) -> &Units<'a>
         ensures division { result.now ≡ self.now.division }
         ensures member { IsMember self.now }
     {
         &self.units
+    }
+
+    /// What each member weighs.
+    pub fn weights(&self) -> &Weights
+        ensures weights { result.now ≡ self.now.weights }
+        ensures member { IsMember self.now }
+    {
+        &self.weights
+    }
+
+    /// Its number among them.
+    pub fn me(&self) -> u8
+        ensures me { result ≡ self.now.me }
+        ensures member { IsMember self.now }
+    {
+        self.me
     }
 
     /// The record that is held for the package path.
@@ -240,6 +263,14 @@ impl<'a> Member<'a> {
         ensures member { IsMember self.now }
     {
         self.engine.letter(position)
+    }
+
+    /// The least position at or behind this one with the letter Q, if a package has it.
+    pub fn queued_from(&self, from: u32) -> Option<u32>
+        ensures queued { engines.IsQueuedFrom (engine_of self.now) from result }
+        ensures member { IsMember self.now }
+    {
+        self.engine.queued_from(from)
     }
 
     /// How many packages have each letter.
@@ -285,7 +316,7 @@ impl<'a> Member<'a> {
     }
 
     /// What its collections are kept by.
-    pub(crate) fn allocator(&self) -> Global {
+    pub fn allocator(&self) -> Global {
         *self.known.allocator()
     }
 }

@@ -1,6 +1,8 @@
 -- A step that is taken, and what a log's refusal leaves.
-use Rattle.std.proofs.Common.{◌≡◌, ◌⊎◌, ⊎_elim, inl, inr, ◌++◌, All, Bool, true, false, List, [], ◌∷◌, Option, None, Some, Ok, Err, Result, IsErrOf, option_map, refl, sym, subst, ap, ◌∙◌, if◌then◌else◌}
+use Rattle.std.proofs.Common.{◌≡◌, ◌⊎◌, ⊎_elim, inl, inr, ◌+◌, ◌++◌, All, arith, length, length-append, Bool, true, false, List, [], ◌∷◌, Option, None, Some, Ok, Err, Result, IsErrOf, option_map, refl, sym, subst, ap, ◌∙◌, if◌then◌else◌}
+use Rattle.std.specs.Int.{to_be_bytes, w32}
 use Rattle.std.specs.Option.{ForSome}
+use Rattle.std.proofs.lemmas.Grind.{flat_map-append}
 use Rattle.std.proofs.lemmas.List.{map-append}
 use Rattle.std.proofs.lemmas.List.Elements.{All-head, All-tail}
 use Rattle.faults.specs.Bytes.{Text}
@@ -11,7 +13,8 @@ use Rattle.protocol.specs.Answers.{after as member_after}
 use Rattle.protocol.specs.State.{State, Value}
 use Rattle.stable_record.specs.Crash.{AllAlong, Leaves, at_first}
 use Rattle.stable_record.specs.History.{History}
-use Rattle.stable_record.specs.Log.{HasBeforeOrAfter}
+use Rattle.stable_record.specs.Log.{HasBeforeOrAfter, entries, entry, gate_place, open_gate}
+use Rattle.stable_record.specs.declared.identity.Identity.{Identity}
 use Rattle.stable_record.specs.declared.log.Log.{Log}
 use Rattle.stable_record.specs.declared.log_fault.LogFault.TheVariants as log
 use Rattle.wire.specs.Messages.{IsNote}
@@ -19,20 +22,21 @@ use Rattle.wire.specs.Spelling.{note_text}
 use Rattle.node.proofs.Sent.{note_more}
 use Rattle.node.proofs.ranges.Leaving.{facts_after}
 use Rattle.node.specs.Calls.{HasTaken, IsLogCause}
-use Rattle.node.specs.OnLog.{HasRoomForNote, IsOnLog, LacksRoom, LeavesOneMoreAtMost, identity_of, texts_of}
+use Rattle.node.specs.Laws.{OnlyRunningNodesTake, StepsAreTheMembers}
+use Rattle.node.specs.OnLog.{HasRoomForNote, IsLogged, IsOnLog, LacksRoom, LeavesOneMoreAtMost, identity_of, texts_of}
 use Rattle.stable_record.specs.OpenLog.{Holds}
-use Rattle.node.specs.State.{IsLogged, IsNode, LoggedNode, NodeState, restored_member, with_note}
+use Rattle.node.specs.State.{IsNode, LoggedNode, NodeState, restored_member, with_note}
 use Rattle.node.specs.Step.{Asked, IsReadyFor, ReadyStep, Taken, Takes, after, answer_then, changed, note_in, running_step, sends_in, taken_by}
 use Rattle.node.specs.Parcels.{datagrams_to}
 use Rattle.node.specs.declared.fault.NodeFault.{NodeFault}
 use Rattle.node.specs.declared.ready.Out.{Out}
 use Rattle.node.specs.declared.fault.NodeFault.TheVariants as fault
 use Rattle.node.specs.Noted.{notes_in}
-use Rattle.node.specs.inside.Stepping.{GoesOnWith, HasRoomForText, IsNoteCause, LacksRoomFor, committed, with_text}
+use Rattle.node.specs.inside.Stepping.{GoesOnWith, HasRoomForText, IsNoteCause, LacksRoomFor, committed, entry_len, with_text}
 use Rattle.wire.specs.declared.datagram.Piece.{Piece}
 
 -- a node that takes a step is not stopped
-pub takes_when_running : (n : NodeState) (asked : Asked) (t : Taken) → Takes n asked (Ok t) → n.stopped ≡ false
+pub takes_when_running : OnlyRunningNodesTake
 takes_when_running n asked t takes = by n.stopped takes.right_is
   where
     by : (b : Bool) → Ok t ≡ (if b then Err fault.Stopped else running_step n.member n.pieces takes.letter asked) → b ≡ false
@@ -59,12 +63,23 @@ pub texts_with : (notes : List (Note Value)) (note : Option (Note Value)) → te
 texts_with notes None = refl
 texts_with notes (Some n) = map-append note_text notes (n ∷ [])
 
+-- where the gate stands behind these texts and one more, if there is one
+place_with : (i : Identity) (texts : List Text) (text : Option Text) → gate_place i (with_text texts text) ≡ gate_place i texts + entry_len text
+place_with i texts None = omega arith
+place_with i texts (Some t) =
+    omega (arith, ap length (flat_map-append entry texts (t ∷ [])), length-append (entries texts) (entries (t ∷ [])), length-append (entry t) [], length-append (open_gate ∷ to_be_bytes w32 (length t)) t)
+
 -- and they are read as these notes
 pub notes_with : (texts : List Text) (note : Option (Note Value)) → ForSome note IsNote → notes_in (with_text texts (option_map note_text note)) ≡ with_note (notes_in texts) note
 notes_with texts None is = refl
 notes_with texts (Some n) is = note_more texts n (is n refl)
 
 -- ---- the member
+
+-- what the answer leaves of the member is what the step leaves
+pub members_step : StepsAreTheMembers
+members_step n t is =
+    sym (ap (λ (fs : List (Facts Value)). record n.member { facts = fs; claim = t.answer.claim }) (facts_after n.member n.notes t.answer.note is.restored))
 
 -- the member's step is the node's
 pub member_taken : (n : NodeState) (is : IsNode n) (p : Prepared)
@@ -172,8 +187,29 @@ module _ {D : Type 0} (history : D → History) (s : State) (texts : List Text) 
         let same : stops ≡ stopped = running ∙ sym (runs before.node r ready) in
         rw (member, noted, kept, had_them, same) (finished s texts pieces stopped is.node r (noted_good before.node r ready.leaves) text e)
 
-    pub done_invariant : now.stopped ≡ stops → IsLogged (record { node = node_with new more left stops; log = now })
-    done_invariant together = record { node = subst IsNode (sym done_state) ready.leaves; together = together }
+    -- the notes are those that its log has then
+    has_texts : texts_of (notes_in more) ≡ with_text (texts_of (notes_in texts)) text
+    has_texts =
+        let notes : notes_in more ≡ with_note (notes_in texts) (note_in r.step) =
+        rw (noted, e) (notes_with texts (note_in r.step) (noted_good before.node r ready.leaves)) in
+        ap texts_of notes ∙ texts_with (notes_in texts) (note_in r.step) ∙ ap (with_text (texts_of (notes_in texts))) (sym e)
+
+    -- the log is still its member's
+    same_owner : identity_of new ≡ identity_of s
+    same_owner = ap identity_of member ∙ same r.step
+      where
+        same : (step : Option Prepared) → identity_of (committed s step) ≡ identity_of s
+        same None = refl
+        same (Some p) = refl
+
+    pub done_invariant : now.stopped ≡ stops → now.identity ≡ l.identity → now.end ≡ l.end + entry_len text
+        → IsLogged (record { node = node_with new more left stops; log = now })
+    done_invariant together owner end = record {
+      node = subst IsNode (sym done_state) ready.leaves;
+      together = together;
+      owner = owner ∙ is.owner ∙ sym same_owner;
+      end = end ∙ ap (λ n. n + entry_len text) is.end ∙ sym (place_with (identity_of s) (texts_of (notes_in texts)) text) ∙ λ j. gate_place (sym same_owner j) (sym has_texts j);
+    }
 
     -- what comes out is what it tells
     pub done_taken : (out : Out) → out.sends ≡ datagrams_to (sends_in r.step) → out.job ≡ (answer_then s r.step).job
@@ -187,14 +223,7 @@ module _ {D : Type 0} (history : D → History) (s : State) (texts : List Text) 
     pub done_on_log : now.identity ≡ l.identity → ((ts : List Text) → Holds history l ts → Holds history now (with_text ts text)) → IsOnLog history before
         → IsOnLog history (record { node = node_with new more left stops; log = now })
     done_on_log owner acknowledged on =
-        let notes : notes_in more ≡ with_note (notes_in texts) (note_in r.step) =
-        rw (noted, e) (notes_with texts (note_in r.step) (noted_good before.node r ready.leaves)) in
-        let has : texts_of (notes_in more) ≡ with_text (texts_of (notes_in texts)) text = ap texts_of notes ∙ texts_with (notes_in texts) (note_in r.step) ∙ ap (with_text (texts_of (notes_in texts))) (sym e) in
-        record { owner = owner ∙ on.owner ∙ sym (ap identity_of member ∙ same r.step); holds = subst (Holds history now) (sym has) (acknowledged (texts_of (notes_in texts)) on.holds) }
-      where
-        same : (step : Option Prepared) → identity_of (committed s step) ≡ identity_of s
-        same None = refl
-        same (Some p) = refl
+        record { owner = owner ∙ on.owner ∙ sym same_owner; holds = subst (Holds history now) (sym has_texts) (acknowledged (texts_of (notes_in texts)) on.holds) }
 
 -- ---- a refusal of the log
 
@@ -213,8 +242,8 @@ cause_told l noted text (fault.Foreign f) e cause = cause
 
 -- the node once the note was not taken
 module _ {D : Type 0} (history : D → History) (s : State) (texts : List Text) (pieces : List Piece) (stopped : Bool) (l : Log D) (stops : Bool) (now : Log D) (f : NodeFault) where
-  pub still_logged : IsLogged (record { node = node_with s texts pieces stopped; log = l }) → now.stopped ≡ stops → IsLogged (record { node = node_with s texts pieces stops; log = now })
-  still_logged is together = record {
+  pub still_logged : IsLogged (record { node = node_with s texts pieces stopped; log = l }) → now.stopped ≡ stops → now.identity ≡ l.identity → now.end ≡ l.end → IsLogged (record { node = node_with s texts pieces stops; log = now })
+  still_logged is together owner end = record {
     node = record {
       member = is.node.member;
       restored = is.node.restored;
@@ -226,6 +255,8 @@ module _ {D : Type 0} (history : D → History) (s : State) (texts : List Text) 
       let_through = is.node.let_through;
     };
     together = together;
+    owner = owner ∙ is.owner;
+    end = end ∙ is.end;
   }
 
   -- it stays, unless the device failed

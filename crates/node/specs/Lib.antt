@@ -8,4 +8,5 @@ pub mod Parcels
 pub mod Step
 pub mod OnLog
 pub mod Calls
+pub mod Laws
 pub mod inside

@@ -5,7 +5,7 @@ use Rattle.ballots.specs.declared.message.Note.{Note}
 use Rattle.listing.specs.Tree.{Tree}
 use Rattle.protocol.specs.State.{State, Value}
 use Rattle.protocol.specs.Answers.{tree_digest}
-use Rattle.node.specs.State.{LoggedNode, NodeState}
+use Rattle.node.specs.State.{IsNode, LoggedNode, NodeState}
 use Rattle.stable_record.specs.Crash.{AllAlong}
 use Rattle.stable_record.specs.History.{History}
 use Rattle.stable_record.specs.Log.{HasBeforeOrAfter, gate_place, most_bytes}
@@ -26,6 +26,13 @@ identity_of s = identity s.division.tree s.weights s.me
 -- the notes, as the log has them
 abbrev pub texts_of : List (Note Value) → List Text
 texts_of notes = map note_text notes
+
+-- A node over its log: they stop together, and the log is the node's and ends behind its notes.
+pub record IsLogged {D : Type 0} (n : LoggedNode D) : Type 0 where
+  pub node : IsNode n.node
+  pub together : n.log.stopped ≡ n.node.stopped
+  pub owner : n.log.identity ≡ identity_of n.node.member
+  pub end : n.log.end ≡ gate_place (identity_of n.node.member) (texts_of n.node.notes)
 
 -- The log is the node's, it has the node's notes, and it takes more.
 pub record IsOnLog {D : Type 0} (history : D → History) (n : LoggedNode D) : Type 0 where

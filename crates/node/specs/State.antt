@@ -46,11 +46,6 @@ pub record IsNode (n : NodeState) : Type 0 where
   pub once : AllPairs (λ p q. is_numbered q.header q.number p ≡ false) n.pieces
   pub let_through : AreLetThrough n.member n.pieces
 
--- A node over its log: they stop together.
-pub record IsLogged {D : Type 0} (n : LoggedNode D) : Type 0 where
-  pub node : IsNode n.node
-  pub together : n.log.stopped ≡ n.node.stopped
-
 -- the node as it is opened: it has what the notes restore, no open claim, and no pieces
 abbrev pub opened_node : Division → List ℕ → ℕ → List (Note Value) → NodeState
 opened_node division weights me notes =

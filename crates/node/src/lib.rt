@@ -13,7 +13,9 @@ mod stepping;
 mod written;
 
 pub use crate::fault::{Foreign, NodeFault};
-pub use crate::laws::what_is_said_can_be_written;
+pub use crate::laws::{
+    only_running_nodes_take, steps_are_the_members, what_is_said_can_be_written,
+};
 pub use crate::node::Node;
 pub use crate::noted::Noted;
 pub use crate::parcels::Parcels;

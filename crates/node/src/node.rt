@@ -1,11 +1,14 @@
 //! A node, which contracts see as its member, its notes, its pieces, and the log that it stands on.
-ghost use Rattle.std.specs.Prelude.{◌≡◌, ◌<◌, length, option_map};
+ghost use Rattle.std.specs.Prelude.{◌≡◌, ◌<◌, Some, is_some, length, option_map, true, ℕ};
 ghost use Rattle.std.specs.Option.{option_copied};
 ghost use Rattle.agreement.specs.Votes.{report_of};
+ghost use Rattle.claims.specs.Claim.{IsClaim};
 ghost use Rattle.engine.specs.State as engines;
+ghost use Rattle.faults.specs.Answers.{IsRightUnless};
 ghost use Rattle.member.specs.OpenClaims.{open_of};
+ghost use Rattle.protocol.specs.Jobs.{job_of};
 ghost use Rattle.protocol.specs.State.{engine_of, held_record};
-ghost use Rattle.protocol.specs.Step.{facts_named};
+ghost use Rattle.protocol.specs.Step.{facts_named, made_by, unit_in};
 ghost use Rattle.stable_record.specs.History.{seen};
 ghost use Rattle.stable_record.specs.OpenLog.{file_len};
 ghost use Rattle.node.specs.OnLog.{IsOnLog};
@@ -15,11 +18,15 @@ use crate::noted::Noted;
 use ballots::Weights;
 use claims::Claim;
 use engine::{Counts, Letter};
+use listing::Tree;
 use member::{Member, OpenClaim};
 use package_record::{Build, Record};
 use pkgpath::PkgPath;
+use protocol::{Packages, Refusal};
 use stable_record::{Disk, Log};
+use std::alloc::Global;
 use std::marker::Model;
+use units::Units;
 use wire::Piece;
 
 /// A member over its log.
@@ -39,7 +46,8 @@ pub struct Node<'a, D: Disk> {
 }
 
 impl<'a, D: Disk> Model for Node<'a, D> {
-    ghost use Rattle.node.specs.State.{IsLogged, LoggedNode};
+    ghost use Rattle.node.specs.OnLog.{IsLogged};
+    ghost use Rattle.node.specs.State.{LoggedNode};
     ghost use Rattle.node.specs.Noted.{notes_in};
 
     ghost Value = { LoggedNode D };
@@ -66,7 +74,55 @@ impl<'a, D: Disk> Model for Node<'a, D> {
 }
 
 impl<'a, D: Disk> Node<'a, D> {
-    ghost use Rattle.node.specs.State.{IsLogged};
+    ghost use Rattle.node.specs.OnLog.{IsLogged};
+
+    /// Its member.
+    pub fn member(&self) -> &Member<'a>
+        ensures member { result.now ≡ self.now.node.member }
+        ensures node { IsLogged self.now }
+    {
+        &self.member
+    }
+
+    /// Whether its device failed, so that it takes no step until it is opened again.
+    pub fn is_stopped(&self) -> bool
+        ensures { result ≡ self.now.node.stopped }
+    {
+        self.stopped
+    }
+
+    /// The tree that it is over.
+    pub fn tree(&self) -> &'a Tree
+        ensures { result.now ≡ self.now.node.member.division.tree }
+    {
+        self.member.tree()
+    }
+
+    /// The units of the tree.
+    pub fn units(&self) -> &Units<'a>
+        ensures { result.now ≡ self.now.node.member.division }
+    {
+        self.member.units()
+    }
+
+    /// What each member weighs.
+    pub fn weights(&self) -> &Weights
+        ensures { result.now ≡ self.now.node.member.weights }
+    {
+        self.member.weights()
+    }
+
+    /// The number of its member.
+    pub fn me(&self) -> u8
+        ensures { result ≡ self.now.node.member.me }
+    {
+        self.member.me()
+    }
+
+    /// What its collections are kept by.
+    pub fn allocator(&self) -> Global {
+        *self.pieces.allocator()
+    }
 
     /// The record that is held for the package path.
     pub fn held(&self, path: &PkgPath) -> Option<&Record>
@@ -82,6 +138,14 @@ impl<'a, D: Disk> Node<'a, D> {
         ensures node { IsLogged self.now }
     {
         self.member.letter(position)
+    }
+
+    /// The least position at or behind this one with the letter Q, if a package has it.
+    pub fn queued_from(&self, from: u32) -> Option<u32>
+        ensures queued { engines.IsQueuedFrom (engine_of self.now.node.member) from result }
+        ensures node { IsLogged self.now }
+    {
+        self.member.queued_from(from)
     }
 
     /// How many packages have each letter.
@@ -120,6 +184,29 @@ impl<'a, D: Disk> Node<'a, D> {
             ≡ (facts_named self.now.node.member path.now).voted }
     {
         self.member.voted(path)
+    }
+
+    /// The build of the unit that the path names, which this host makes of these files under the
+    /// claim, on what is held. No claim has to be open.
+    ///
+    /// # Errors
+    ///
+    /// `Memory`; else the first that applies: `OtherPackages`; `BadFiles`.
+    pub fn build(
+        &self,
+        path: &PkgPath,
+        host: u16,
+        claim: Claim,
+        packages: Packages,
+    ) -> Result<Build, Refusal>
+        requires unit { is_some (unit_in self.now.node.member path.now) ≡ true }
+        requires claim { IsClaim claim }
+        ensures { (unit : ℕ) → unit_in self.now.node.member path.now ≡ Some unit
+            → IsRightUnless Refusal.Memory result
+            (made_by self.now.node.member unit (job_of self.now.node.member unit host claim)
+            packages) }
+    {
+        self.member.build(path, host, claim, packages)
     }
 
     /// The length of its log's file in bytes.

@@ -4,7 +4,7 @@ ghost use Rattle.ballots.specs.Weights.{AreWeights};
 ghost use Rattle.stable_record.specs.Crash.{AllAlong};
 ghost use Rattle.stable_record.specs.Faults.{HasRisen};
 ghost use Rattle.stable_record.specs.History.{seen};
-ghost use Rattle.stable_record.specs.Log.{note_of};
+ghost use Rattle.stable_record.specs.Log.{gate_place, note_of};
 ghost use Rattle.stable_record.specs.Opening.{HasOneAnswer, Opens, OpensAsLeft};
 ghost use Rattle.node.specs.Calls.{AreNotes, IsOpenFault, IsOpened, IsUntouched, OpensAsOne};
 ghost use Rattle.node.specs.OnLog.{IsOnLog, identity, identity_of, texts_of};
@@ -101,6 +101,8 @@ fn over<'a, D: Disk>(
 ) -> Result<Node<'a, D>, (NodeFault, D)>
     requires member { IsNew member }
     requires log { log.stopped ≡ false }
+    requires owner { log.identity ≡ identity_of member }
+    requires end { log.end ≡ gate_place log.identity (map note_of texts.now) }
     ensures node { IfOk result (λ n. IsOver member.entry (map note_of texts.now) n.node) }
     ensures log { IfOk result (λ n. n.log ≡ log) }
     ensures refused { IfErr result

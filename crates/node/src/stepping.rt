@@ -1,6 +1,7 @@
 //! The steps of a node.
 ghost use Rattle.std.specs.Prelude.{
   ◌≡◌,
+  ◌+◌,
   ◌≤◌,
   ◌<◌,
   ◌⊎◌,
@@ -63,6 +64,7 @@ ghost use Rattle.node.specs.inside.Stepping.{
   MakesReady,
   committed,
   dropped_by,
+  entry_len,
   foreign_by,
   is_device,
   refused_by,
@@ -79,7 +81,6 @@ use claims::Job;
 use member::{Input, Member, Step};
 use protocol::{Outcome, Refusal};
 use stable_record::{Disk, Log, LogFault};
-use std::alloc::Global;
 use wire::{Datagram, Header, Piece, WireFault, decode};
 
 impl<'a, D: Disk> Node<'a, D> {
@@ -351,11 +352,6 @@ impl<'a, D: Disk> Node<'a, D> {
         let ready = self.prepare_datagram(bytes)?;
         self.finish(ready)
     }
-
-    /// What its collections are kept by.
-    fn allocator(&self) -> Global {
-        *self.pieces.allocator()
-    }
 }
 
 /// Writes the note of a step to the log of a node that is not stopped, if there is a note. Where
@@ -381,6 +377,9 @@ fn write_note<D: Disk>(
     ensures kept { D.is_kept log.new.disk → D.is_kept log.old.disk }
     ensures later { D.failures_of log.old.disk ≤ D.failures_of log.new.disk }
     ensures owner { log.new.identity ≡ log.old.identity }
+    ensures end { OnOk result
+        (log.new.end ≡ log.old.end + entry_len (option_copied note.entry)) }
+    ensures same_end { OnErr result (log.new.end ≡ log.old.end) }
     ensures causes { IfErr result (IsNoteCause log.old (option_copied note.entry)) }
     ensures within { OnOk result (¬ (LacksRoomFor log.old (option_copied note.entry))) }
     ensures is_full { LacksRoomFor log.old (option_copied note.entry)
@@ -422,6 +421,9 @@ fn write<D: Disk>(log: &mut Log<D>, noted: &mut Noted, note: Option<&[u8]>) -> R
     ensures kept { D.is_kept log.new.disk → D.is_kept log.old.disk }
     ensures later { D.failures_of log.old.disk ≤ D.failures_of log.new.disk }
     ensures owner { log.new.identity ≡ log.old.identity }
+    ensures end { OnOk result
+        (log.new.end ≡ log.old.end + entry_len (option_copied note.entry)) }
+    ensures same_end { OnErr result (log.new.end ≡ log.old.end) }
     ensures full { IsErrOf result LogFault.Full → LacksRoomFor log.old (option_copied note.entry) }
     ensures within { OnOk result (¬ (LacksRoomFor log.old (option_copied note.entry))) }
     ensures is_full { log.old.stopped ≡ false → LacksRoomFor log.old (option_copied note.entry)

@@ -6,7 +6,7 @@ use Rattle.std.proofs.lemmas.List.{take_more, length-map}
 use Rattle.faults.specs.Answers.{first_given}
 use Rattle.faults.specs.Bytes.{Text}
 use Rattle.package_record.specs.Content.{AreFileNames, is_next_name, most_bytes, names_of}
-use Rattle.package_record.specs.Views.{file_view}
+use Rattle.package_record.specs.FileView.{file_view}
 use Rattle.package_record.specs.Making.{names_fault, too_large}
 use Rattle.package_record.specs.declared.file.File.{File}
 use Rattle.package_record.specs.declared.RecordFault.TheVariants.{BadFileName, TooLarge}

@@ -10,6 +10,7 @@ pub mod Digests
 pub mod Equals
 pub mod FileBytes
 pub mod FirstBad
+pub mod Hashing
 pub mod Following
 pub mod Lacking
 pub mod Lists

@@ -39,3 +39,11 @@ ended_next_lines v f old mid new xs i x lt e before lines =
     ∙ ap (λ (ls : List Text). old ++ ended ls)
     (sym (ap (λ ys. flat_map f (map v ys)) (taken_more xs i x lt e) ∙ ap (flat_map f) (map-append v (take i xs) (x ∷ []))
     ∙ flat_map-append f (map v (take i xs)) (v x ∷ []) ∙ ap (λ (ls : List Text). flat_map f (map v (take i xs)) ++ ls) (append-nil (f (v x)))))
+
+-- the lines of one more item, which is seen as it is
+pub ended_next_seen : {X : Type 0} (f : X → List Text) (old mid new : Text) (xs : List X) (i : ℕ) (x : X) → i < length xs → x ≡ get_or xs i x
+    → mid ≡ old ++ ended (flat_map f (take i xs)) → new ≡ mid ++ ended (f x) → new ≡ old ++ ended (flat_map f (take (i + 1) xs))
+ended_next_seen f old mid new xs i x lt e before lines =
+    ended_more _ _ _ _ _ before lines
+    ∙ ap (λ (ls : List Text). old ++ ended ls)
+    (sym (ap (flat_map f) (taken_more xs i x lt e) ∙ flat_map-append f (take i xs) (x ∷ []) ∙ ap (λ (ls : List Text). flat_map f (take i xs) ++ ls) (append-nil (f x))))

@@ -1,6 +1,7 @@
 pub mod Build
 pub mod BuildReading
 pub mod Content
+pub mod FileView
 pub mod Laws
 pub mod Making
 pub mod Packages

@@ -1,5 +1,6 @@
 pub mod Cursor
 pub mod Given
+pub mod Hashed
 pub mod Heads
 pub mod Names
 pub mod Same

@@ -2,7 +2,7 @@
 ghost use Rattle.std.specs.Prelude.{◌≡◌, IfOk};
 ghost use Rattle.package_record.specs.Views.{content_of};
 
-use crate::File;
+use crate::hashed_files::HashedFiles;
 use claims::{Claim, Deps, Texts};
 use faults::Memory;
 use pkgname::PkgName;
@@ -18,7 +18,7 @@ pub struct Fields {
     pub claim: Claim,
     pub built: Deps,
     pub run: Vec<PkgPath>,
-    pub files: Vec<File>,
+    pub files: HashedFiles,
 }
 
 impl Fields {

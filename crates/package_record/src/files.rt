@@ -1,6 +1,6 @@
 //! The files of a package.
 ghost use Rattle.std.specs.Prelude.{◌≡◌, IfOk, map};
-ghost use Rattle.package_record.specs.Views.{file_view};
+ghost use Rattle.package_record.specs.FileView.{file_view};
 
 use crate::File;
 use faults::Memory;
@@ -17,7 +17,7 @@ pub struct Files {
 impl Model for Files {
     ghost use Rattle.std.specs.Prelude.{List, map};
     ghost use Rattle.package_record.specs.Content.{NamedFile};
-    ghost use Rattle.package_record.specs.Views.{file_view};
+    ghost use Rattle.package_record.specs.FileView.{file_view};
 
     ghost Value = { List NamedFile };
 

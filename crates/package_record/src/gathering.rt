@@ -11,6 +11,7 @@ ghost use Rattle.package_record.specs.Packages.{content_from, contents_of};
 use crate::build::Package;
 use crate::build_writing::put_lines;
 use crate::fields::Fields;
+use crate::hashed_files::HashedFiles;
 use crate::making::test_names;
 use crate::package::sized;
 use crate::{LIMIT, Record, RecordFault};
@@ -57,7 +58,7 @@ fn record_of(
         files,
     } = source;
     let built = built.copy()?;
-    let files = files.into_vec();
+    let files = HashedFiles::of(alloc, files.into_vec())?;
     let fields = Fields {
         path,
         name,

@@ -19,6 +19,7 @@ mod file;
 mod file_name;
 mod files;
 mod gathering;
+mod hashed_files;
 mod header;
 mod laws;
 mod making;

@@ -2,7 +2,8 @@
 ghost use Rattle.std.specs.Prelude.{◌≡◌, IfOk, OnOk, length, map, min};
 ghost use Rattle.faults.specs.Answers.{IsRightUnless, unless_fault};
 ghost use Rattle.package_record.specs.Content.{AreFileNames, HasNames, names_of, record_text};
-ghost use Rattle.package_record.specs.Views.{content_of, file_view};
+ghost use Rattle.package_record.specs.FileView.{file_view};
+ghost use Rattle.package_record.specs.Views.{content_of};
 ghost use Rattle.package_record.specs.Making.{names_fault};
 
 use crate::fields::Fields;

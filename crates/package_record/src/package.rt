@@ -6,10 +6,12 @@ ghost use Rattle.claims.specs.Claim.{IsClaim};
 ghost use Rattle.claims.specs.Deps.{AreInOrder, is_ascending};
 ghost use Rattle.package_record.specs.Content.{AreFileNames, Content, IsRecord, header_text, names_of, record_text};
 ghost use Rattle.package_record.specs.Making.{make_fault, too_large};
-ghost use Rattle.package_record.specs.Views.{content_of, file_view};
+ghost use Rattle.package_record.specs.FileView.{file_view};
+ghost use Rattle.package_record.specs.Views.{content_of};
 ghost use Rattle.package_record.specs.Reading.{first_of, whole_of};
 
 use crate::fields::Fields;
+use crate::hashed_files::HashedFiles;
 use crate::making::{test_names, text_length};
 use crate::{File, LIMIT, RecordFault, parsing, writing};
 use claims::{Claim, Dep, Deps, Texts};
@@ -68,6 +70,7 @@ pub fn make(
     } in IsRightUnless RecordFault.Memory result (unless_fault (make_fault content) content) }
 {
     test_names(alloc, files.as_slice())?;
+    let files = HashedFiles::of(alloc, files)?;
     let fields = Fields {
         path,
         name,
@@ -86,7 +89,7 @@ pub fn sized(alloc: Global, fields: Fields) -> Result<(Record, usize), RecordFau
     requires claim { IsClaim fields.claim }
     requires built { AreInOrder fields.built }
     requires run { is_ascending fields.run.items ≡ true }
-    requires names { AreFileNames (names_of (map file_view fields.files.items)) }
+    requires names { AreFileNames (names_of fields.files) }
     ensures record { IsRightUnless RecordFault.Memory (map_ok (λ x. x.0) result)
         (unless_fault (too_large (length (record_text (content_of fields)))) (content_of fields)) }
     ensures good { IfOk result (λ x. IsRecord x.0) }
@@ -175,7 +178,7 @@ impl Record {
     }
 
     fn allocator(&self) -> Global {
-        *self.fields.files.allocator()
+        self.fields.files.allocator()
     }
 
     /// The path of the package.

@@ -2,11 +2,13 @@
 ghost use Rattle.std.specs.Prelude.{◌≡◌, ◌≤◌, [], length, map, sum_by};
 ghost use Rattle.package_record.specs.inside.Given.{Gives};
 ghost use Rattle.package_record.specs.inside.Heads.{head_of, header_view};
-ghost use Rattle.package_record.specs.Views.{content_of, file_view};
+ghost use Rattle.package_record.specs.FileView.{file_view};
+ghost use Rattle.package_record.specs.Views.{content_of};
 ghost use Rattle.package_record.specs.Reading.{content_of_parts, files_in, first_of, total_of, whole_of};
 
 use crate::fault::ReadError;
 use crate::fields::Fields;
+use crate::hashed_files::HashedFiles;
 use crate::header::{Head, Header, read_header};
 use crate::{File, LIMIT, RecordFault};
 use claims::Deps;
@@ -18,12 +20,12 @@ fn files<'a>(
     alloc: Global,
     heads: &[Head<'_>],
     bytes: &'a [u8],
-) -> Result<(Vec<File>, &'a [u8]), ReadError>
+) -> Result<(HashedFiles, &'a [u8]), ReadError>
     requires { sum_by (λ h. h.size) (map head_of heads.now) ≤ length bytes.now }
-    ensures { Gives (λ x. (map file_view x.0.items, x.1.now)) result
+    ensures { Gives (λ x. (x.0, x.1.now)) result
         (files_in [] (map head_of heads.now) bytes.entry.now) }
 {
-    let mut files = Vec::with_capacity(alloc, heads.len())?;
+    let mut files = HashedFiles::with_capacity(alloc, heads.len())?;
     let mut rest = bytes;
     for head in heads {
         let (front, behind) = rest.split_at(head.size);
@@ -33,7 +35,7 @@ fn files<'a>(
         }
         let name = Vec::from_slice(alloc, head.name)?;
         let bytes = Vec::from_slice(alloc, front)?;
-        files.push(File { name, bytes })?;
+        files.push(File { name, bytes }, digest)?;
         rest = behind;
     }
     Ok((files, rest))

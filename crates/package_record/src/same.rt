@@ -1,7 +1,7 @@
 //! Equal records.
 ghost use Rattle.std.specs.Prelude.{◌≡◌, map};
 ghost use Rattle.std.specs.Cmp.Lexicographic.{pointwise};
-ghost use Rattle.package_record.specs.Views.{file_view};
+ghost use Rattle.package_record.specs.FileView.{file_view};
 ghost use Rattle.package_record.specs.inside.Same.{is_same_content, is_same_file};
 
 use crate::alike::are_same_deps;

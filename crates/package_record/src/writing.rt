@@ -5,16 +5,17 @@ ghost use Rattle.sha2.specs.Sha256.{sha256};
 ghost use Rattle.pkgname.specs.PkgName.{IsName};
 ghost use Rattle.pkgpath.specs.PkgPath.{IsPath};
 ghost use Rattle.package_record.specs.Content.{HasNames, IsDep, built_line, claim_line, ended, file_lines, front_lines, header_text, name_lines, record_text, run_line};
-ghost use Rattle.package_record.specs.Views.{content_of, file_view};
+ghost use Rattle.package_record.specs.FileView.{file_view};
+ghost use Rattle.package_record.specs.Views.{content_of};
 
 use crate::File;
 use crate::digest::digest_text;
 use crate::fields::Fields;
+use crate::hashed_files::HashedFiles;
 use claims::{Claim, Dep};
 use faults::Memory;
 use itoa::Buffer;
 use pkgpath::PkgPath;
-use sha2::{Digest, Sha256};
 use std::alloc::Global;
 
 /// Appends a line that is made of these parts.
@@ -101,12 +102,11 @@ fn put_built(out: &mut Vec<u8>, dep: &Dep) -> Result<(), Memory>
     )
 }
 
-fn put_digest(out: &mut Vec<u8>, bytes: &[u8]) -> Result<(), Memory>
+fn put_digest(out: &mut Vec<u8>, digest: &[u8; 32]) -> Result<(), Memory>
     ensures { OnOk result (out.new.items
-        ≡ out.old.items ++ ended ((codes "@sha " ++ encode_lower (sha256 bytes.now)) ∷ [])) }
+        ≡ out.old.items ++ ended ((codes "@sha " ++ encode_lower digest.now) ∷ [])) }
 {
-    let digest: [u8; 32] = Sha256::digest(bytes);
-    put_field(out, b"@sha ", digest_text(&digest).as_slice())
+    put_field(out, b"@sha ", digest_text(digest).as_slice())
 }
 
 fn put_size(out: &mut Vec<u8>, size: usize) -> Result<(), Memory>
@@ -117,12 +117,13 @@ fn put_size(out: &mut Vec<u8>, size: usize) -> Result<(), Memory>
     put_field(out, b"@size ", text.format(size).as_bytes())
 }
 
-fn put_file(out: &mut Vec<u8>, file: &File) -> Result<(), Memory>
+fn put_file(out: &mut Vec<u8>, file: &File, digest: &[u8; 32]) -> Result<(), Memory>
+    requires { digest.now ≡ sha256 file.now.bytes.items }
     ensures { OnOk result
         (out.new.items ≡ out.old.items ++ ended (file_lines (file_view file.now))) }
 {
     put_field(out, b"", file.name.as_slice())?;
-    put_digest(out, file.bytes.as_slice())?;
+    put_digest(out, digest)?;
     put_size(out, file.bytes.len())?;
     Ok(())
 }
@@ -147,12 +148,12 @@ fn put_run(out: &mut Vec<u8>, paths: &[PkgPath]) -> Result<(), Memory>
     Ok(())
 }
 
-fn put_files(out: &mut Vec<u8>, files: &[File]) -> Result<(), Memory>
+fn put_files(out: &mut Vec<u8>, files: &HashedFiles) -> Result<(), Memory>
     ensures { OnOk result
-        (out.new.items ≡ out.old.items ++ ended (flat_map file_lines (map file_view files.now))) }
+        (out.new.items ≡ out.old.items ++ ended (flat_map file_lines files.now)) }
 {
-    for file in files {
-        put_file(out, file)?;
+    for (index, file) in files.as_slice().iter().enumerate() {
+        put_file(out, file, files.digest(index))?;
     }
     Ok(())
 }
@@ -167,7 +168,7 @@ pub fn header(alloc: Global, fields: &Fields) -> Result<Vec<u8>, Memory>
     put_front(&mut text, fields)?;
     put_dependencies(&mut text, fields.built.as_slice())?;
     put_run(&mut text, fields.run.as_slice())?;
-    put_files(&mut text, fields.files.as_slice())?;
+    put_files(&mut text, &fields.files)?;
     text.push(b'\n')?;
     Ok(text)
 }

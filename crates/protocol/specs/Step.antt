@@ -6,7 +6,7 @@ use Rattle.std.specs.Prelude.{Option, None, Some, is_none, is_some, length, opti
 use Rattle.std.specs.Prelude.{Err, if◌then◌else◌}
 use Rattle.std.specs.List.{list_all}
 use Rattle.std.specs.Str.{bytes_eq}
-use Rattle.faults.specs.Answers.{IsRightUnless, first_that_applies, option_or}
+use Rattle.faults.specs.Answers.{IsRightUnless, first_that_applies, option_or, unless_fault}
 use Rattle.faults.specs.Bytes.{Text}
 use Rattle.agreement.specs.Quorums.{is_majority}
 use Rattle.agreement.specs.Member as members
@@ -104,6 +104,11 @@ abbrev pub files_refusal : State → ℕ → Given → Value → Option Refusal
 files_refusal s u given build = option_or
     (first_that_applies ((not (are_given (paths_at s u) given), refusals.OtherPackages) ∷ []))
     (option_map refusals.BadFiles (build_fault build))
+
+-- the build of the unit by the job, or why the files make none
+abbrev pub made_by : State → ℕ → Task → Given → Result Value Refusal
+made_by s u job given =
+    unless_fault (files_refusal s u given (build_by s u job given)) (build_by s u job given)
 
 -- the build goes to all as the claim's proposal
 abbrev pub proposes : State → ℕ → ℕ → Given → Value → Result Answer Refusal

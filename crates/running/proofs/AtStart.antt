@@ -17,7 +17,7 @@ use Rattle.running.specs.declared.placed.Placed.TheVariants.{Up, Down}
 use Rattle.running.specs.declared.scene.Scene.{Scene}
 use Rattle.running.specs.inside.Opening.{IsNodeOf}
 use Rattle.running.specs.inside.Placing.{IsStanding, StandsOn, node_view, world_of}
-use Rattle.running.specs.inside.Posting.{AreListed, list_in, sent_in}
+use Rattle.running.specs.inside.Posting.{AreListed, list_in}
 use Rattle.running.specs.inside.Starting.{AreFresh, IsFresh, IsUpFresh}
 
 -- ---- an empty file
@@ -119,7 +119,7 @@ fresh_more tree weights nodes now n me each count fresh is k x at = ⊎_elim
 module _ (s : Scene) (tree : Tree) (weights : List ℕ) (of_tree : s.units.tree ≡ tree)
     (divided : IsDivision s.units) (weigh : s.weights ≡ weights)
     (fresh : AreFresh tree weights s.nodes.items) where
-  pub world_starts : sent_in s.posted ≡ [] → list_in s.posted ≡ []
+  pub world_starts : s.posted.sent ≡ [] → list_in s.posted ≡ []
       → world_of s ≡ start s.units weights
   world_starts es el = λ i. record {
     division = s.units;

@@ -1,26 +1,22 @@
 -- What is entered in a world's tables stands behind what was there.
-use Rattle.std.proofs.Common.{◌≡◌, ◌≢◌, ◌<◌, ◌≤◌, ◌+◌, ℕ, zero, suc, Bool, true, false, cond, List, [], ◌∷◌, ◌++◌, length, map, take, get_or, fold, refl, sym, ap, subst, ◌∙◌, arith, append_assoc, ◌||◌, Vec}
-use Rattle.std.specs.Prelude.{AllPairs, flat_map}
+use Rattle.std.proofs.Common.{◌≡◌, ◌≢◌, ◌<◌, ◌≤◌, ◌+◌, ℕ, zero, suc, Bool, true, false, cond, List, [], ◌∷◌, ◌++◌, length, map, take, get_or, refl, sym, ap, subst, ◌∙◌, arith, append_assoc, ◌||◌}
+use Rattle.std.specs.Prelude.{AllPairs}
 use Rattle.std.specs.List.{list_any}
 use Rattle.std.specs.Str.{bytes_eq}
 use Rattle.std.specs.Cmp.Lexicographic.{nat_list_eq_equiv}
-use Rattle.std.specs.declared.alloc.Global.{Global}
 use Rattle.std.proofs.lemmas.Bool.{or_parts}
 use Rattle.std.proofs.lemmas.List.{append-nil, get_or-map, get_or-take, get_or_default, length-map, length-take, map-append, take-map, take-take, take_all, take_at, take_more}
 use Rattle.std.proofs.lemmas.List.Folds.{list_any-append, list_any_none}
-use Rattle.std.proofs.lemmas.List.Sums.{fold-append}
-use Rattle.faults.specs.Bytes.{Text, is_among}
-use Rattle.headline.proofs.Speaking.{texts_alone}
+use Rattle.faults.specs.Bytes.{Text}
+use Rattle.datagrams.proofs.Entering as datagrams
 use Rattle.indexmap.specs.IndexSet.{insert_key}
-use Rattle.node.specs.Parcels.{each_to, parcels_to}
 use Rattle.package_record.specs.Build.{IsBuild, paths_of, unit_path}
 use Rattle.package_record.specs.Content.{Content}
 use Rattle.units.proofs.Places.{same_bytes}
 use Rattle.world.proofs.Distinct.{build_paths_differ}
 use Rattle.world.specs.Lists.{has_path}
-use Rattle.world.specs.Sent.{with_datagram}
 use Rattle.running.specs.declared.posted.Posted.{Posted}
-use Rattle.running.specs.inside.Posting.{HasGrown, list_in, sent_in}
+use Rattle.running.specs.inside.Posting.{HasGrown, list_in}
 
 -- ---- tables that grow
 
@@ -34,8 +30,7 @@ begins_on m n a b c short long ab bc =
 -- tables that grew, and grew on, have grown
 pub grown_on : (p q r : Posted) → HasGrown p q → HasGrown q r → HasGrown p r
 grown_on p q r first then = record {
-  sent = begins_on _ _ (sent_in p) (sent_in q) (sent_in r) (length-map p.sent.keys (λ d. d.items))
-      (length-map q.sent.keys (λ d. d.items)) first.sent then.sent;
+  sent = datagrams.grown_on p.sent q.sent r.sent first.sent then.sent;
   list = begins_on _ _ (list_in p) (list_in q) (list_in r) refl refl first.list then.list;
   listed = begins_on _ _ p.listed.keys q.listed.keys r.listed.keys refl refl first.listed
       then.listed;
@@ -43,11 +38,10 @@ grown_on p q r first then = record {
 
 -- tables whose lists have more behind them have grown
 pub grown_by : (p q : Posted) (sent : List Text) (list : List Content) (listed : List Text)
-    → sent_in q ≡ sent_in p ++ sent → list_in q ≡ list_in p ++ list
+    → q.sent ≡ p.sent ++ sent → list_in q ≡ list_in p ++ list
     → q.listed.keys ≡ p.listed.keys ++ listed → HasGrown p q
 grown_by p q sent list listed es el ek = record {
-  sent = ap (take (length p.sent.keys)) es ∙ take_at (sent_in p) sent (length p.sent.keys)
-      (length-map p.sent.keys (λ d. d.items));
+  sent = ap (take (length p.sent)) es ∙ take_at p.sent sent (length p.sent) refl;
   list = ap (take (length p.agreed.items)) el
       ∙ take_at (list_in p) list (length p.agreed.items) refl;
   listed = ap (take (length p.listed.keys)) ek
@@ -55,11 +49,10 @@ grown_by p q sent list listed es el ek = record {
 }
 
 -- the same lists have grown by nothing
-pub grown_none : (p q : Posted) → sent_in q ≡ sent_in p → list_in q ≡ list_in p
+pub grown_none : (p q : Posted) → q.sent ≡ p.sent → list_in q ≡ list_in p
     → q.listed.keys ≡ p.listed.keys → HasGrown p q
 grown_none p q es el ek = record {
-  sent = ap (take (length p.sent.keys)) es ∙ take_all (length p.sent.keys) (sent_in p)
-      (omega (arith, length-map p.sent.keys (λ d. d.items)));
+  sent = ap (take (length p.sent)) es ∙ datagrams.grown_none p.sent;
   list = ap (take (length p.agreed.items)) el
       ∙ take_all (length p.agreed.items) (list_in p) (omega arith);
   listed = ap (take (length p.listed.keys)) ek
@@ -67,75 +60,15 @@ grown_none p q es el ek = record {
 }
 
 -- tables where a path alone was kept more have grown
-pub grown_key : (p q : Posted) (path : Text) → sent_in q ≡ sent_in p → list_in q ≡ list_in p
+pub grown_key : (p q : Posted) (path : Text) → q.sent ≡ p.sent → list_in q ≡ list_in p
     → q.listed.keys ≡ insert_key bytes_eq p.listed.keys path → HasGrown p q
 grown_key p q path es el ek = by_case (list_any (bytes_eq path) p.listed.keys) ek
   where
     by_case : (b : Bool) → q.listed.keys ≡ cond b p.listed.keys (p.listed.keys ++ path ∷ [])
         → HasGrown p q
     by_case true e = grown_none p q es el e
-    by_case false e = grown_by p q [] [] (path ∷ []) (es ∙ sym (append-nil (sent_in p)))
+    by_case false e = grown_by p q [] [] (path ∷ []) (es ∙ sym (append-nil p.sent))
         (el ∙ sym (append-nil (list_in p))) e
-
--- ---- datagrams
-
--- a key that equals the text is the text among these
-among_texts : (text : Text) (keys : List (Vec ℕ Global))
-    → list_any (λ v. bytes_eq text v.items) keys ≡ is_among (map (λ d. d.items) keys) text
-among_texts text [] = refl
-among_texts text (v ∷ keys) = rw (nat_list_eq_equiv.symm text v.items, among_texts text keys) refl
-
--- a datagram that is there stays
-pub text_there : (keys : List (Vec ℕ Global)) (text : Text)
-    → list_any (λ v. bytes_eq text v.items) keys ≡ true
-    → map (λ d. d.items) keys ≡ with_datagram (map (λ d. d.items) keys) text
-text_there keys text there =
-    let sent = map (λ (d : Vec ℕ Global). d.items) keys in
-    sym (ap (λ b. cond b sent (sent ++ text ∷ [])) (sym (among_texts text keys) ∙ there))
-
--- and one that isn't goes last
-pub text_entered : (keys now : List (Vec ℕ Global)) (text : Text) (v : Vec ℕ Global)
-    → v.items ≡ text
-    → now ≡ insert_key (λ (a b : Vec ℕ Global). bytes_eq a.items b.items) keys v
-    → map (λ d. d.items) now ≡ with_datagram (map (λ d. d.items) keys) text
-text_entered keys now text v is e =
-    ap (map (λ (d : Vec ℕ Global). d.items)) e
-    ∙ by_case (list_any (λ w. bytes_eq v.items w.items) keys)
-    ∙ ap (λ b. cond b sent (sent ++ v.items ∷ [])) (among_texts v.items keys)
-    ∙ ap (with_datagram sent) is
-  where
-    sent : List Text
-    sent = map (λ (d : Vec ℕ Global). d.items) keys
-
-    by_case : (b : Bool) → map (λ (d : Vec ℕ Global). d.items) (cond b keys (keys ++ v ∷ []))
-        ≡ cond b sent (sent ++ v.items ∷ [])
-    by_case true = refl
-    by_case false = map-append (λ (d : Vec ℕ Global). d.items) keys (v ∷ [])
-
--- ---- datagrams to several receivers
-
-flat_map_push : {X Y : Type 0} (f : X → List Y) (xs : List X) (x : X)
-    → flat_map f (xs ++ x ∷ []) ≡ flat_map f xs ++ f x
-flat_map_push f [] x = append-nil (f x)
-flat_map_push f (y ∷ ys) x = ap (λ l. f y ++ l) (flat_map_push f ys x)
-    ∙ sym (append_assoc (f y) (flat_map f ys) (f x))
-
-pub receivers_more : (sent : List Text) (receivers : List ℕ) (texts : List Text) (i : ℕ)
-    (now : List Text) → i < length receivers
-    → now ≡ fold with_datagram (fold with_datagram sent
-    (map (λ s. s.1) (parcels_to (take i receivers) texts))) texts
-    → now ≡ fold with_datagram sent (map (λ s. s.1) (parcels_to (take (i + 1) receivers) texts))
-receivers_more sent receivers texts i now within is =
-    let r = get_or receivers i 0 in
-    let before = parcels_to (take i receivers) texts in
-    is ∙ sym (fold-append with_datagram sent (map (λ (s : ℕ × Text). s.1) before) texts)
-    ∙ ap (λ l. fold with_datagram sent (map (λ (s : ℕ × Text). s.1) before ++ l))
-    (sym (texts_alone texts r))
-    ∙ ap (fold with_datagram sent) (sym (map-append (λ (s : ℕ × Text). s.1) before
-    (each_to texts r)))
-    ∙ ap (λ l. fold with_datagram sent (map (λ (s : ℕ × Text). s.1) l))
-    (sym (flat_map_push (each_to texts) (take i receivers) r)
-    ∙ ap (λ l. parcels_to l texts) (sym (take_more receivers i 0 within)))
 
 -- ---- the list
 

@@ -2,7 +2,6 @@ pub mod Voting
 pub mod VoteSent
 pub mod Entering
 pub mod AtStart
-pub mod ByStep
 pub mod OnlyMemory
 pub mod Shown
 pub mod Taking

@@ -30,6 +30,7 @@ use Rattle.headline.specs.Mirrored.{after_all_acts, with_act}
 use Rattle.headline.proofs.Doing.{Acted, IsAct, IsDone, act, matches_then, new, stepped, world}
 use Rattle.headline.proofs.Headers.{in_order}
 use Rattle.headline.proofs.Hearing.{delivery_is_act}
+use Rattle.headline.proofs.Hosting.{set_there}
 use Rattle.headline.proofs.Inputs.{ask_is_act, claim_is_act, failed_is_act, nudged_is_act}
 use Rattle.headline.proofs.Logs.{noted_is_on_log}
 use Rattle.headline.proofs.Making.{build_is_act}
@@ -121,13 +122,6 @@ noted_vote : (o : Option (Note Value)) (b : Ballot Value)
 noted_vote None b e = absurd (let wrong : None ≡ Some (members.Voted b) = e in cc)
 noted_vote (Some n) b e =
     record { note = n; is = refl; votes = note_same (note_of n.fact) (members.Voted b) e }
-
--- who is put there stands there
-set_there : {X : Type 0} (xs : List X) (k : ℕ) (x y : X) → slice_get xs k ≡ Some x
-    → slice_get (slice_set xs k y) k ≡ Some y
-set_there [] k x y e = absurd (let wrong : None ≡ Some x = e in cc)
-set_there (z ∷ zs) zero x y e = refl
-set_there (z ∷ zs) (suc k) x y e = set_there zs k x y e
 
 -- where the same was sent, the list stays
 list_stays : (w : World) (after : List Text) → after ≡ w.sent → IsListAfter w after w.agreed

@@ -1,15 +1,18 @@
 -- A node that stands on its log, and what a stop leaves of it.
-use Rattle.std.proofs.Common.{◌≡◌, ℕ, List, [], ◌∷◌, ◌++◌, ◌-◌, length, length-append, append_assoc, append-nil, refl, sym, ap, subst, ◌∙◌, arith, false}
+use Rattle.std.proofs.Common.{◌≡◌, ℕ, List, [], ◌∷◌, ◌++◌, ◌-◌, length, length-append, append_assoc, append-nil, refl, sym, ap, subst, ◌∙◌, arith, Option}
 use Rattle.std.proofs.lemmas.List.{drop_all, drop_at}
 use Rattle.faults.specs.Bytes.{Text}
-use Rattle.node.specs.OnLog.{IsOnLog, identity, identity_of, texts_of}
+use Rattle.ballots.specs.declared.message.Note.{Note}
+use Rattle.headline.proofs.Hosting.{after_stands, full_here, full_of_lack, full_there, lack_of_full, whose}
+use Rattle.node.specs.OnLog.{IsFull, IsOnLog, LacksRoom, identity, identity_of, texts_of}
 use Rattle.node.specs.State.{LoggedNode, NodeState}
 use Rattle.node.specs.Step.{Taken, after}
 use Rattle.node.specs.Noted.{notes_in}
 use Rattle.stable_record.specs.Crash.{IsOnDisk}
 use Rattle.stable_record.specs.History.{seen, stands}
 use Rattle.stable_record.specs.InMemory.{mem_history}
-use Rattle.stable_record.specs.Log.{entries, header, log_file, open_gate}
+use Rattle.protocol.specs.State.{Value}
+use Rattle.stable_record.specs.Log.{entries, gate_place, header, log_file, open_gate}
 use Rattle.stable_record.specs.declared.identity.Identity.{Identity}
 use Rattle.stable_record.specs.declared.mem_disk.MemDisk.{MemDisk}
 use Rattle.world.specs.World.{World, WorldNode, down_node, node_at, up_node}
@@ -36,12 +39,22 @@ last_again file torn = drop_at file torn (length (file ++ torn) - length torn)
 
 module _ (w : World) (k : ℕ) (n : LoggedNode MemDisk) (is : StandsOn w k (Up n)) where
   -- its log is the member's
-  pub owner : n.log.identity ≡ identity w.division.tree w.weights k
-  owner = is.1.owner ∙ ap (λ (x : NodeState). identity_of x.member) is.0
+  owner : n.log.identity ≡ identity w.division.tree w.weights k
+  owner = is.1.owner ∙ whose w k n.node is.0
 
-  -- it is not stopped
-  pub runs : n.node.stopped ≡ false
-  runs = ap (λ (x : NodeState). x.stopped) is.0
+  -- and ends behind its notes
+  end : n.log.end ≡ gate_place (identity_of n.node.member) (texts_of n.node.notes)
+  end = is.1.holds.settled.place
+      ∙ ap (λ (j : Identity). gate_place j (texts_of n.node.notes)) is.1.owner
+
+  -- so it is full where the notes say so
+  pub lacks_room : (o : Option (Note Value)) → IsFull (node_at w k (up_node n.node)) o
+      → LacksRoom n.log o
+  lacks_room o full = lack_of_full n end o (full_here w k n.node is.0 o full)
+
+  pub is_full : (o : Option (Note Value)) → LacksRoom n.log o
+      → IsFull (node_at w k (up_node n.node)) o
+  is_full o lacks = full_there w k n.node is.0 o (full_of_lack n end o lacks)
 
   -- its file with these bytes behind it
   pub file_left : (torn : Text) (disk : MemDisk) → file_of disk ≡ file_of n.log.disk ++ torn
@@ -97,14 +110,10 @@ module _ (w : World) (k : ℕ) (n : LoggedNode MemDisk) (is : StandsOn w k (Up n
       }
 
   -- it took a step
-  pub after_stands : (t : Taken) → after n.node t ≡ node_at w k (up_node (after n.node t))
-  after_stands t = subst (λ (x : NodeState). after x t ≡ node_at w k (up_node (after x t)))
-      (sym is.0) refl
-
   pub took_so : (t : Taken) (m : LoggedNode MemDisk) → m.node ≡ after n.node t
       → IsOnLog mem_history m → StandsOn w k (Up m)
   took_so t m e on_log = (
-    subst (λ (x : NodeState). x ≡ node_at w k (up_node x)) (sym e) (after_stands t),
+    subst (λ (x : NodeState). x ≡ node_at w k (up_node x)) (sym e) (after_stands w k n.node is.0 t),
     on_log,
   )
 

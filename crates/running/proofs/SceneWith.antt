@@ -14,7 +14,7 @@ use Rattle.running.specs.declared.placed.Placed.{Placed}
 use Rattle.running.specs.declared.placed.Placed.TheVariants.{Down, Up}
 use Rattle.running.specs.declared.scene.Scene.{Scene}
 use Rattle.running.specs.inside.Placing.{IsStanding, StandsOn, node_view, rest_view, world_of}
-use Rattle.running.specs.inside.Posting.{AreListed, list_in, sent_in}
+use Rattle.running.specs.inside.Posting.{AreListed, list_in}
 
 -- The scenes differ in their nodes alone.
 pub record IsBut (s t : Scene) : Type 0 where
@@ -78,7 +78,7 @@ module _ (s t : Scene) (is : IsBut s t) (k : ℕ) (x : Placed)
         division = is.units i;
         weights = is.weights i;
         nodes = nodes i;
-        sent = sent_in (is.posted i);
+        sent = (is.posted i).sent;
         agreed = list_in (is.posted i);
       }
 

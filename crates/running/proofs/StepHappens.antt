@@ -9,15 +9,14 @@ use Rattle.events.specs.Events as events
 use Rattle.events.specs.Events.{Event, event_view, is_step}
 use Rattle.events.specs.declared.event.Event as declared
 use Rattle.faults.specs.Bytes.{Text}
-use Rattle.headline.proofs.OneList.{each_run_is_acts}
-use Rattle.headline.proofs.Runs.{none_is_foreign}
+use Rattle.headline.proofs.ByStep.{by_step, note_answered, sends_answered}
+use Rattle.headline.proofs.Hosting.{IsHosted, acts_there, refused_there, runs}
 use Rattle.node.specs.Calls.{left_by}
 use Rattle.node.specs.OnLog.{IsOnLog, LacksRoom}
 use Rattle.node.specs.State.{LoggedNode, NodeState}
 use Rattle.node.specs.Step.{Asked, IsAsked, Taken, Takes, after, note_in, sends_in, taken_by}
 use Rattle.node.specs.declared.fault.NodeFault.{NodeFault}
 use Rattle.node.specs.declared.fault.NodeFault.TheVariants as fault
-use Rattle.package_record.proofs.BuildsRead.{build_is_read}
 use Rattle.package_record.specs.Content.{Content}
 use Rattle.stable_record.specs.InMemory.{mem_history}
 use Rattle.stable_record.specs.declared.mem_disk.MemDisk.{MemDisk}
@@ -32,14 +31,14 @@ use Rattle.running.specs.declared.scene.Scene.{Scene}
 use Rattle.running.specs.inside.Asking.{CanBeAsked, asked_by, refused_by}
 use Rattle.running.specs.inside.Deciding.{decision}
 use Rattle.running.specs.inside.Placing.{IsReached, IsStanding, StandsOn, disk_of, node_view, world_of}
-use Rattle.running.specs.inside.Posting.{AreListed, AreSame, list_in, sent_in}
+use Rattle.running.specs.inside.Posting.{AreListed, AreSame, list_in}
 use Rattle.running.specs.inside.Stepping.{RefusesStep, TakesStep, with_decision}
 use Rattle.running.specs.inside.Stopping.{IsStopped}
-use Rattle.running.proofs.ByStep.{IsByStep, by_step, note_answered, sends_answered}
 use Rattle.running.proofs.Listing.{step_lists}
-use Rattle.running.proofs.NodeStands.{same_so, stopped_so, took_so}
+use Rattle.running.proofs.NodeStands.{is_full, lacks_room, same_so, stopped_so, took_so}
+use Rattle.running.proofs.Taking.{told_so}
 use Rattle.running.proofs.SceneWith.{IsBut, put_again, standing_with, stands_there, world_with}
-use Rattle.running.proofs.StopsInside.{NoneApplies, asks_so, can_be_asked, full_of_lack, get_mapped, lack_of_full, none_applies}
+use Rattle.running.proofs.StopsInside.{NoneApplies, asks_so, can_be_asked, get_mapped, none_applies}
 
 was_true : (b : Bool) → not b ≡ false → b ≡ true
 was_true true e = refl
@@ -86,7 +85,7 @@ module _ (s t : Scene) (k : ℕ) (x : Placed) (is : IsWith s t k x) where
       record w { nodes = nodes; sent = texts; agreed = packages }
 
   world_is : world_of t ≡ with_tables (world_of s)
-      (slice_set (map node_view s.nodes.items) k (node_view x)) (sent_in t.posted)
+      (slice_set (map node_view s.nodes.items) k (node_view x)) t.posted.sent
       (list_in t.posted)
   world_is =
       let nodes = views in
@@ -94,7 +93,7 @@ module _ (s t : Scene) (k : ℕ) (x : Placed) (is : IsWith s t k x) where
         division = is.units i;
         weights = is.weights i;
         nodes = nodes i;
-        sent = sent_in t.posted;
+        sent = t.posted.sent;
         agreed = list_in t.posted;
       }
 
@@ -270,59 +269,31 @@ module _ (s : Scene) (e : Event) (standing : IsStanding s) (reached : IsReached 
     is_up_there : IsUp w e x
     is_up_there = record { stands = get_mapped node_view nodes k (Up n) at; up = refl }
 
-    takes_there : (asked : Asked) (r : Result Taken NodeFault) → Takes n.node asked r
-        → Takes (node_at w k x) asked r
-    takes_there asked r = subst (λ (z : NodeState). Takes z asked r) on_log.0
+    hosted : IsHosted w k n.node
+    hosted = record { stands = is_up_there.stands; is = on_log.0 }
 
     -- ---- refused
 
-    refuses : (asked : Asked) → asked_by w.sent e ≡ Some asked → (f : NodeFault)
-        → Takes n.node asked (Err f) → IsRefusedByNode w e (worlds.Node f)
-    refuses asked asks f takes = inl (
-      f,
-      record {
-        node = x;
-        is_up = is_up_there;
-        asked = asked;
-        asks = asks_so w e asked asks;
-        refuses = takes_there asked (Err f) takes;
-      },
-      refl,
-    )
-
-    -- a refusal changes nothing: no datagram that was sent is foreign
-    refused_so : (f : NodeFault) → IsByStep (Err f) → (asked : Asked)
-        → asked_by w.sent e ≡ Some asked → Takes n.node asked (Err f)
-        → (m : NodeState) → m ≡ left_by n.node asked f
+    -- what is refused is refused in the world, and changes nothing
+    refused_so : (f : NodeFault) (asked : Asked) → asked_by w.sent e ≡ Some asked
+        → Takes n.node asked (Err f) → (m : NodeState) → m ≡ left_by n.node asked f
         → (m ≡ n.node) × IsRefusedByNode w e (refused_by f)
-    refused_so fault.Memory kind asked asks takes m state = absurd kind
-    refused_so (fault.Refused r) kind asked asks takes m state =
-        (state, refuses asked asks (fault.Refused r) takes)
-    refused_so (fault.Log f) kind asked asks takes m state = absurd kind
-    refused_so fault.Stopped kind asked asks takes m state =
-        (state, refuses asked asks fault.Stopped takes)
-    refused_so (fault.Foreign f) kind asked asks takes m state =
-        absurd (none_is_foreign build_is_read each_run_is_acts w.division w.weights reached.events
-        w e f reached.made reached.led (inr (may, refuses asked asks (fault.Foreign f) takes)))
+    refused_so f asked asks takes m state =
+        let r = refused_there w e n.node hosted reached.made reached.events reached.led may asked
+        (asks_so w e asked asks) f takes m state in
+        (r.0, told_so w e f (by_step n.node asked f (runs w k n.node on_log.0) takes) r.1)
 
     module _ (fits : (asked : Asked) → asked_by w.sent e ≡ Some asked → IsAsked asked)
         (m : LoggedNode MemDisk) where
       acts : (asked : Asked) → asked_by w.sent e ≡ Some asked → (t : Taken)
           → Takes n.node asked (Ok t) → Acts w e x t
-      acts asked asks t takes = record {
-        is_up = is_up_there;
-        asked = asked;
-        asks = asks_so w e asked asks;
-        can_be = fits asked asks;
-        takes = takes_there asked (Ok t) takes;
-      }
+      acts asked asks = acts_there w e n.node hosted asked (asks_so w e asked asks) (fits asked asks)
 
       pub is_refused : (f : NodeFault) → RefusesStep w.sent e n m f
           → (m.node ≡ n.node) × ((f ≡ fault.Memory) ⊎ IsRefusedByNode w e (refused_by f))
       is_refused f (inl memory) = (memory.1, inl memory.0)
       is_refused f (inr (inl none)) =
-          let r = refused_so f (by_step (node_at w k x) none.asked f refl (takes_there none.asked
-          (Err f) none.refuses)) none.asked none.asks none.refuses m.node none.leaves in
+          let r = refused_so f none.asked none.asks none.refuses m.node none.leaves in
           (r.0, inr r.1)
       is_refused f (inr (inr full)) = (
         full.leaves,
@@ -332,7 +303,7 @@ module _ (s : Scene) (e : Event) (standing : IsStanding s) (reached : IsReached 
             taken = full.taken;
             acts = acts full.asked full.asks full.taken full.takes;
             noted = leaves_its_note e is_a_step;
-            full = full_of_lack w k n on_log full.taken.answer.note full.lacks;
+            full = is_full w k n on_log full.taken.answer.note full.lacks;
           },
           ap refused_by full.fault,
         )),
@@ -356,7 +327,7 @@ module _ (s : Scene) (e : Event) (standing : IsStanding s) (reached : IsReached 
             (member_at w k x) took.ready.step) =
             took.finished.list ∙ ap (λ (z : NodeState). with_decision w.agreed
             (decision w.weights w.sent z.member took.ready.step)) on_log.0 in
-            let sent : sent_in t.posted ≡ with_sends w.sent took_now.answer.sends =
+            let sent : t.posted.sent ≡ with_sends w.sent took_now.answer.sends =
             took.finished.sent ∙ ap (with_sends w.sent) (sym sends) in
             let left : m.node ≡ after (node_at w k x) took_now =
             took.finished.node ∙ ap (λ (z : NodeState). after z took_now) on_log.0 in
@@ -365,7 +336,7 @@ module _ (s : Scene) (e : Event) (standing : IsStanding s) (reached : IsReached 
               taken = took_now;
               acts = acted;
               room = λ full. took.finished.room (subst (LacksRoom n.log) note
-                  (lack_of_full w k n on_log took_now.answer.note full));
+                  (lacks_room w k n on_log took_now.answer.note full));
               list = subst (IsListAfter w (with_sends w.sent took_now.answer.sends)) (sym list)
                   (step_lists w reached e is_a_step x took_now acted took.ready same);
               leaves = world_is s t k (Up m) is

@@ -6,7 +6,7 @@ use Rattle.std.proofs.lemmas.List.{map-append}
 use Rattle.events.specs.Events.{Event, event_view}
 use Rattle.events.specs.declared.event.Event as declared
 use Rattle.world.specs.Happening.{Happens}
-use Rattle.world.specs.Headline.{AllFit, AuditSaysYes, HasOneAPath, HasOneList, HeldIsListed, HoldAlike, IsBeginningOf, IsLater}
+use Rattle.world.specs.Headline.{AllFit, AreRecords, AuditSaysYes, HasOneAPath, HasOneList, HeldIsListed, HoldAlike, IsBeginningOf, IsLater}
 use Rattle.world.specs.declared.fault.WorldFault.{WorldFault}
 use Rattle.world.proofs.Alike.{held_alike}
 use Rattle.world.proofs.Growing.{at_end, event_later, same_later}
@@ -39,6 +39,10 @@ module _ (h : History) (is : IsHistory h) where
   pub one_there : HasOneAPath h.world
   one_there = at_end h.world.division h.world.weights (λ early w. HasOneAPath w) (taken h) h.world
       one_list.one_a_path
+
+  pub records_there : AreRecords h.world
+  records_there = at_end h.world.division h.world.weights (λ early w. AreRecords w) (taken h) h.world
+      one_list.records
 
   pub fits_there : AllFit h.world
   fits_there = at_end h.world.division h.world.weights (λ early w. AllFit w) (taken h) h.world

@@ -5,27 +5,22 @@ use Rattle.std.proofs.lemmas.Option.{slice_get_within}
 use Rattle.std.proofs.lemmas.List.{length-map, set-set}
 use Rattle.faults.specs.Answers.{first_that_applies}
 use Rattle.faults.specs.Bytes.{Text}
-use Rattle.ballots.specs.declared.message.Note.{Note}
 use Rattle.events.specs.Events as events
 use Rattle.events.specs.Events.{Event, is_step}
 use Rattle.events.specs.declared.event.Left.{Left}
 use Rattle.events.specs.declared.event.Left.TheVariants as left
+use Rattle.headline.proofs.ByStep.{by_step, note_answered}
 use Rattle.headline.proofs.Headers.{some_same}
-use Rattle.headline.proofs.OneList.{each_run_is_acts}
-use Rattle.headline.proofs.Runs.{none_is_foreign}
+use Rattle.headline.proofs.Hosting.{IsHosted, acts_there, refused_there as refused_in_world, runs}
 use Rattle.node.specs.Calls.{left_by}
-use Rattle.node.specs.OnLog.{IsFull, IsOnLog, LacksRoom, identity_of, texts_of}
+use Rattle.node.specs.OnLog.{IsOnLog, LacksRoom}
 use Rattle.node.specs.State.{LoggedNode, NodeState, with_note}
 use Rattle.node.specs.Step.{Asked, Comes, Does, IsAsked, IsReadyFor, ReadyStep, Taken, Takes, note_in, taken_by}
 use Rattle.node.specs.declared.fault.NodeFault.{NodeFault}
 use Rattle.node.specs.declared.fault.NodeFault.TheVariants as fault
-use Rattle.package_record.proofs.BuildsRead.{build_is_read}
-use Rattle.protocol.specs.State.{Value}
 use Rattle.protocol.specs.declared.input.Input.TheVariants as inputs
 use Rattle.stable_record.specs.History.{stands}
 use Rattle.stable_record.specs.InMemory.{mem_history}
-use Rattle.stable_record.specs.Log.{gate_place}
-use Rattle.stable_record.specs.declared.identity.Identity.{Identity}
 use Rattle.stable_record.specs.declared.mem_disk.MemDisk.{MemDisk}
 use Rattle.world.specs.Happening.{Acts, Asks, HasRoomFor, IsRefusedByNode, IsUp, LogIsFull, StopsIn, fault_before, is_up, lacks_datagram, left_node, leaves_note, up_of}
 use Rattle.world.specs.World.{World, WorldNode, down_node, node_at, up_node, with_node}
@@ -38,9 +33,9 @@ use Rattle.running.specs.declared.scene.Scene.{Scene}
 use Rattle.running.specs.inside.Asking.{CanBeAsked, IsReadied, asked_by, refused_by}
 use Rattle.running.specs.inside.Placing.{IsReached, IsStanding, StandsOn, disk_of, file_of, node_view, world_of}
 use Rattle.running.specs.inside.Stopping.{IsNotStoppedWith, IsStopped, IsStoppedWith, ReadiesStep, StandsReady, TookNone, TookStep}
-use Rattle.running.proofs.ByStep.{IsByStep, by_step, note_answered}
-use Rattle.running.proofs.NodeStands.{IsLeftAs, owner, runs, same_so, stopped_so, took_so, torn_so}
+use Rattle.running.proofs.NodeStands.{IsLeftAs, is_full, lacks_room, same_so, stopped_so, took_so, torn_so}
 use Rattle.running.proofs.PutBack.{stands_at}
+use Rattle.running.proofs.Taking.{told_so}
 use Rattle.running.proofs.SceneWith.{IsBut, put_again, put_there, standing_with, world_with}
 
 -- ---- tests
@@ -128,25 +123,6 @@ asks_so w (events.Stop n) asked h = absurd (let wrong : None ≡ Some asked = h 
 asks_so w (events.StopIn e l) asked h = absurd (let wrong : None ≡ Some asked = h in cc)
 asks_so w (events.Restart n) asked h = absurd (let wrong : None ≡ Some asked = h in cc)
 
--- ---- notes that lack room
-
-module _ (w : World) (k : ℕ) (n : LoggedNode MemDisk) (is : StandsOn w k (Up n)) where
-  place_is : n.log.end ≡ gate_place (identity_of (node_at w k (up_node n.node)).member)
-      (texts_of n.node.notes)
-  place_is = is.1.holds.settled.place ∙ ap (λ (j : Identity). gate_place j (texts_of n.node.notes))
-      (owner w k n is)
-
-  -- the log is full where the notes say so
-  pub lack_of_full : (o : Option (Note Value)) → IsFull (node_at w k (up_node n.node)) o
-      → LacksRoom n.log o
-  lack_of_full None full = full
-  lack_of_full (Some note) full = omega (arith, full, place_is)
-
-  pub full_of_lack : (o : Option (Note Value)) → LacksRoom n.log o
-      → IsFull (node_at w k (up_node n.node)) o
-  full_of_lack None lacks = lacks
-  full_of_lack (Some note) lacks = omega (arith, lacks, place_is)
-
 -- ---- a stop inside a step
 
 module _ (s : Scene) (e : Event) (l : Left) (standing : IsStanding s)
@@ -203,9 +179,8 @@ module _ (s : Scene) (e : Event) (l : Left) (standing : IsStanding s)
   up_there : IsUp w e (up_node n.node)
   up_there = record { stands = get_mapped node_view nodes k (Up n) its_node.1; up = refl }
 
-  takes_there : (asked : Asked) (r : Result Taken NodeFault) → Takes n.node asked r
-      → Takes (node_at w k (up_node n.node)) asked r
-  takes_there asked r = subst (λ (x : NodeState). Takes x asked r) is.0
+  hosted : IsHosted w k n.node
+  hosted = record { stands = up_there.stands; is = is.0 }
 
   -- ---- readied
 
@@ -232,39 +207,16 @@ module _ (s : Scene) (e : Event) (l : Left) (standing : IsStanding s)
         takes = subst (Takes n.node asked) p.given p.takes;
       }
 
-  -- why a node refuses a step
-  refuses : (asked : Asked) → asked_by w.sent e ≡ Some asked → (f : NodeFault)
-      → Takes n.node asked (Err f)
-      → IsRefusedByNode w (events.StopIn e l) (worlds.Node f)
-  refuses asked asks f takes = inl (
-    f,
-    record {
-      node = up_node n.node;
-      is_up = record { stands = up_there.stands; up = refl };
-      asked = asked;
-      asks = asks_so w e asked asks;
-      refuses = takes_there asked (Err f) takes;
-    },
-    refl,
-  )
-
-  refused_so : (f : NodeFault) → IsByStep (Err f) → (asked : Asked)
-      → asked_by w.sent e ≡ Some asked
+  -- what is refused is refused in the world, and changes nothing
+  refused_so : (f : NodeFault) (asked : Asked) → asked_by w.sent e ≡ Some asked
       → Takes n.node asked (Err f) → (m : NodeState) → m ≡ left_by n.node asked f
       → (m ≡ n.node) × IsRefusedByNode w (events.StopIn e l) (refused_by f)
-  refused_so fault.Memory kind asked asks takes m state = absurd kind
-  refused_so (fault.Refused r) kind asked asks takes m state =
-      (state, refuses asked asks (fault.Refused r) takes)
-  refused_so (fault.Log f) kind asked asks takes m state = absurd kind
-  refused_so fault.Stopped kind asked asks takes m state =
-      (state, refuses asked asks fault.Stopped takes)
-  refused_so (fault.Foreign f) kind asked asks takes m state =
-      absurd (none_is_foreign build_is_read each_run_is_acts w.division w.weights reached.events w
-      (events.StopIn e l) f reached.made reached.led
-      (inr (may, refuses asked asks (fault.Foreign f) takes)))
-
-  kind_of : (asked : Asked) (f : NodeFault) → Takes n.node asked (Err f) → IsByStep (Err f)
-  kind_of asked f = by_step n.node asked f (runs w k n is)
+  refused_so f asked asks takes m state =
+      let r = refused_in_world w (events.StopIn e l) n.node hosted reached.made reached.events
+      reached.led may asked (asks_so w e asked asks) f takes m state in (
+        r.0,
+        told_so w (events.StopIn e l) f (by_step n.node asked f (runs w k n.node is.0) takes) r.1,
+      )
 
   pub readied_refused : (x : Placed) (f : NodeFault) → ReadiesStep w.sent e (Up n) x (Err f)
       → (x ≡ Up n)
@@ -283,7 +235,7 @@ module _ (s : Scene) (e : Event) (l : Left) (standing : IsStanding s)
           (λ memory. (same (p.state ∙ ap (left_by n.node asked) memory), inl memory))
           (λ right.
           let takes = subst (Takes n.node asked) right p.takes in
-          let r = refused_so f (kind_of asked f takes) asked asks takes m.node p.state in
+          let r = refused_so f asked asks takes m.node p.state in
           (same r.0, inr r.1))
           p.given
 
@@ -334,13 +286,8 @@ module _ (s : Scene) (e : Event) (l : Left) (standing : IsStanding s)
     acts : Acts w e (up_node n.node) took
     acts =
         let t = ready_same x r h in
-        record {
-          is_up = up_there;
-          asked = t.asked;
-          asks = asks_so w e t.asked t.asks;
-          can_be = fits t.asked t.asks;
-          takes = takes_there t.asked (Ok took) t.takes;
-        }
+        acts_there w e n.node hosted t.asked (asks_so w e t.asked t.asks) (fits t.asked t.asks) took
+        t.takes
 
     note_is : took.answer.note ≡ note_in r.step
     note_is = note_answered n.node.member r.step
@@ -377,7 +324,7 @@ module _ (s : Scene) (e : Event) (l : Left) (standing : IsStanding s)
         takes = acts.takes;
       };
       noted = noted;
-      full = full_of_lack w k n is took.answer.note
+      full = is_full w k n is took.answer.note
           (subst (LacksRoom n.log) (sym note_is) lacks);
     }
 
@@ -462,7 +409,7 @@ module _ (s : Scene) (e : Event) (standing : IsStanding s) (reached : IsReached 
           })
           (λ full. took.room (subst (LacksRoom n.0.log)
           (note_answered n.0.node.member r.step)
-          (lack_of_full (world_of s) (events.node_of e) n.0 is (taken_by n.0.node r).answer.note
+          (lacks_room (world_of s) (events.node_of e) n.0 is (taken_by n.0.node r).answer.note
           full)))
 
   pub stops_not : (l : Left) (may : fault_before (world_of s) (events.StopIn e l) ≡ None)

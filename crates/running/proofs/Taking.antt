@@ -3,6 +3,7 @@ use Rattle.std.proofs.Common.{◌≡◌, ◌⊎◌, inl, inr, ℕ, List, Option,
 use Rattle.faults.specs.Bytes.{Text}
 use Rattle.events.specs.Events.{Event}
 use Rattle.ballots.specs.declared.message.Note.{Note}
+use Rattle.headline.proofs.ByStep.{IsByStep, member_left, notes_left}
 use Rattle.node.proofs.Finishing.{note_is}
 use Rattle.node.specs.Calls.{IsLogCause, left_by}
 use Rattle.node.specs.OnLog.{IsOnLog, LacksRoom, identity_of, texts_of}
@@ -12,44 +13,27 @@ use Rattle.node.specs.declared.fault.NodeFault.{NodeFault}
 use Rattle.node.specs.declared.fault.NodeFault.TheVariants as node_fault
 use Rattle.protocol.specs.State.{Value}
 use Rattle.running.specs.declared.posted.Posted.{Posted}
-use Rattle.running.specs.inside.Asking.{IsReadied, asked_by}
-use Rattle.running.specs.inside.Posting.{sent_in}
+use Rattle.running.specs.inside.Asking.{IsReadied, asked_by, refused_by}
 use Rattle.running.specs.inside.Stepping.{HasFinished, RefusesStep, TakesStep}
 use Rattle.stable_record.specs.InMemory.{mem_history}
 use Rattle.stable_record.specs.OpenLog.{Holds}
 use Rattle.stable_record.specs.declared.log.Log.{Log}
 use Rattle.stable_record.specs.declared.log_fault.LogFault.TheVariants as log
 use Rattle.stable_record.specs.declared.mem_disk.MemDisk.{MemDisk}
+use Rattle.world.specs.Happening.{IsRefusedByNode}
+use Rattle.world.specs.World.{World}
+use Rattle.world.specs.declared.fault.WorldFault.TheVariants as worlds
 
 -- ---- refusals
 
--- a refusal leaves the member
-pub member_left : (n : NodeState) (asked : Asked) (f : NodeFault)
-    → (left_by n asked f).member ≡ n.member
-member_left n asked node_fault.Memory = refl
-member_left n asked (node_fault.Refused r) = refl
-member_left n asked (node_fault.Log log.Device) = refl
-member_left n asked (node_fault.Log log.Full) = refl
-member_left n asked (node_fault.Log log.Memory) = refl
-member_left n asked (node_fault.Log log.MustReopen) = refl
-member_left n asked (node_fault.Log log.NotALog) = refl
-member_left n asked (node_fault.Log log.OtherCluster) = refl
-member_left n asked node_fault.Stopped = refl
-member_left n asked (node_fault.Foreign f) = refl
-
--- and its notes
-pub notes_left : (n : NodeState) (asked : Asked) (f : NodeFault)
-    → (left_by n asked f).notes ≡ n.notes
-notes_left n asked node_fault.Memory = refl
-notes_left n asked (node_fault.Refused r) = refl
-notes_left n asked (node_fault.Log log.Device) = refl
-notes_left n asked (node_fault.Log log.Full) = refl
-notes_left n asked (node_fault.Log log.Memory) = refl
-notes_left n asked (node_fault.Log log.MustReopen) = refl
-notes_left n asked (node_fault.Log log.NotALog) = refl
-notes_left n asked (node_fault.Log log.OtherCluster) = refl
-notes_left n asked node_fault.Stopped = refl
-notes_left n asked (node_fault.Foreign f) = refl
+-- what a step refuses, as a world tells it
+pub told_so : (w : World) (e : Event) (f : NodeFault) → IsByStep (Err f)
+    → IsRefusedByNode w e (worlds.Node f) → IsRefusedByNode w e (refused_by f)
+told_so w e node_fault.Memory kind r = absurd kind
+told_so w e (node_fault.Refused f) kind r = r
+told_so w e (node_fault.Log f) kind r = r
+told_so w e node_fault.Stopped kind r = r
+told_so w e (node_fault.Foreign f) kind r = r
 
 -- A node with the same log, member and notes is on its log.
 pub stays_on_log : (n m : LoggedNode MemDisk) → IsOnLog mem_history n → m.log ≡ n.log
@@ -138,10 +122,10 @@ same_node n m node log_is = λ i. record { node = node i; log = log_is i }
 
 -- A step that was made ready and finished is taken.
 pub takes_step : (weights : List ℕ) (e : Event) (old new : Posted) (n m k : LoggedNode MemDisk)
-    (r : ReadyStep) → IsReadied (sent_in old) e n.node m.node (Ok (taken_by n.node r))
+    (r : ReadyStep) → IsReadied old.sent e n.node m.node (Ok (taken_by n.node r))
     → m.log ≡ n.log → HasFinished weights old m r new k → TakesStep weights e old n new k
 takes_step weights e old new n m k r ready log_is done =
-    let s = stands_ready (sent_in old) e n.node m.node (taken_by n.node r) ready in record {
+    let s = stands_ready old.sent e n.node m.node (taken_by n.node r) ready in record {
       ready = r;
       asked = s.asked;
       asks = s.asks;

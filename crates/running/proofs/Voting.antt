@@ -17,11 +17,6 @@ same_tests true b f g = sym (f refl)
 same_tests false true f g = g refl
 same_tests false false f g = refl
 
--- the bytes are compared either way
-eq_turned : (s t : Text) → bytes_eq s t ≡ bytes_eq t s
-eq_turned s t = same_tests (bytes_eq s t) (bytes_eq t s)
-    (λ e. equal_bytes t s (sym (same_bytes s t e))) (λ e. equal_bytes s t (sym (same_bytes t s e)))
-
 -- ---- tallies
 
 -- a set has one that is named already
@@ -116,12 +111,6 @@ voters_same n sent vote none = λ i k. at k i
       where
         a : ℕ → Bool
         a j = is_among sent (slice_set vote sender_place j)
-
--- what a set of vectors says of bytes, as texts
-pub found_among : {Z : Type 0} (vs : List (Vec ℕ Z)) (t : Text)
-    → list_any (λ v. bytes_eq t v.items) vs ≡ is_among (map (λ v. v.items) vs) t
-found_among [] t = refl
-found_among (v ∷ vs) t = ap₂ (λ a b. a || b) (eq_turned t v.items) (found_among vs t)
 
 -- ---- one turn more
 

@@ -1,5 +1,5 @@
 //! What an event asks, and of which node.
-ghost use Rattle.std.specs.Prelude.{◌≡◌, IfErr, IfOk, OnOk, length, map};
+ghost use Rattle.std.specs.Prelude.{◌≡◌, IfErr, IfOk, OnOk, length};
 ghost use Rattle.faults.specs.Answers.{map_ok};
 ghost use Rattle.events.specs.Events as events;
 ghost use Rattle.events.specs.Events.{event_view};
@@ -12,9 +12,9 @@ ghost use Rattle.stable_record.specs.InMemory.{mem_history};
 ghost use Rattle.world.specs.Happening as happening;
 ghost use Rattle.world.specs.World as worlds;
 
+use datagrams::Datagrams;
 use events::Event;
 use faults::Memory;
-use indexmap::IndexSet;
 use node::{Node, NodeFault, Ready};
 use pkgpath::PkgPath;
 use protocol::{Input, Packages};
@@ -84,11 +84,11 @@ pub(crate) fn lacks_datagram(sent: usize, event: &Event) -> bool
 /// delivers was sent.
 pub(crate) fn ready(
     node: &mut Node<'_, MemDisk>,
-    sent: &IndexSet<Vec<u8>>,
+    sent: &Datagrams,
     event: &Event,
 ) -> Result<Ready, NodeFault>
-    requires { CanBeAsked (map (λ d. d.items) sent.now.keys) (event_view event.now) }
-    ensures step { IsReadied (map (λ d. d.items) sent.now.keys) (event_view event.now)
+    requires { CanBeAsked sent.now (event_view event.now) }
+    ensures step { IsReadied sent.now (event_view event.now)
         node.old.node node.new.node (map_ok (taken_by node.old.node) result) }
     ensures ready { IfOk result (IsReadyFor node.new.node) }
     ensures log { node.new.log ≡ node.old.log }
@@ -107,9 +107,10 @@ pub(crate) fn ready(
         } => node.prepare(built(path, packages)?),
         Event::Failed { node: _, path } => node.prepare(failed(path)?),
         Event::Ask { node: _, path } => node.prepare(ask(path)?),
-        Event::Deliver { datagram, node: _ } => {
-            node.prepare_datagram(sent[*datagram as usize].as_slice())
-        }
+        Event::Deliver { datagram, node: _ } => match sent.get(*datagram as usize) {
+            Some(text) => node.prepare_datagram(text),
+            None => unreachable!(),
+        },
         _ => node.prepare(Input::Nudge),
     }
 }

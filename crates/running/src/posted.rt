@@ -1,16 +1,14 @@
 //! What a world's nodes sent, and what is agreed.
-ghost use Rattle.std.specs.Prelude.{◌≡◌, ◌++◌, ◌∷◌, [], OnOk, fold, length, map, take};
+ghost use Rattle.std.specs.Prelude.{◌≡◌, ◌++◌, ◌∷◌, [], OnOk, length, take};
 ghost use Rattle.std.specs.List.{list_any};
 ghost use Rattle.std.specs.Str.{bytes_eq};
 ghost use Rattle.indexmap.specs.IndexSet.{insert_key};
-ghost use Rattle.node.specs.Parcels.{texts_in};
 ghost use Rattle.world.specs.Lists.{has_path, with_build};
-ghost use Rattle.world.specs.Sent.{with_datagram};
-ghost use Rattle.running.specs.inside.Posting.{AreListed, HasGrown, list_in, sent_in};
+ghost use Rattle.running.specs.inside.Posting.{AreListed, HasGrown, list_in};
 
+use datagrams::Datagrams;
 use faults::Memory;
 use indexmap::IndexSet;
-use node::Parcels;
 use package_record::{Build, Record};
 use pkgpath::PkgPath;
 use std::alloc::Global;
@@ -19,7 +17,7 @@ use std::alloc::Global;
 #[derive(Drop)]
 pub(crate) struct Posted {
     /// The different datagrams, in order of first sending.
-    pub(crate) sent: IndexSet<Vec<u8>>,
+    pub(crate) sent: Datagrams,
     /// The list, in the order in which it grew.
     pub(crate) agreed: Vec<Record>,
     /// The paths of its packages, in that order.
@@ -29,12 +27,12 @@ pub(crate) struct Posted {
 impl Posted {
     /// Nothing was sent, and nothing is agreed.
     pub(crate) fn new(alloc: Global) -> Posted
-        ensures sent { sent_in result ≡ [] }
+        ensures sent { result.sent ≡ [] }
         ensures list { list_in result ≡ [] }
         ensures listed { AreListed result }
     {
         Posted {
-            sent: IndexSet::new(alloc),
+            sent: Datagrams::new(alloc),
             agreed: Vec::new(alloc),
             listed: IndexSet::new(alloc),
         }
@@ -42,61 +40,21 @@ impl Posted {
 
     /// How many datagrams and packages there are.
     pub(crate) fn lengths(&self) -> (usize, usize)
-        ensures { result ≡ (length self.now.sent.keys, length self.now.agreed.items) }
+        ensures { result ≡ (length self.now.sent, length self.now.agreed.items) }
     {
         (self.sent.len(), self.agreed.len())
     }
 
     /// Keeps so many datagrams and packages. It takes no memory.
     pub(crate) fn cut_back(&mut self, lengths: (usize, usize))
-        ensures sent { sent_in self.new ≡ take lengths.0 (sent_in self.old) }
+        ensures sent { self.new.sent ≡ take lengths.0 self.old.sent }
         ensures list { list_in self.new ≡ take lengths.1 (list_in self.old) }
         ensures listed { self.new.listed.keys ≡ take lengths.1 self.old.listed.keys }
     {
         let (sent, agreed) = lengths;
-        self.sent.truncate(sent);
+        self.sent.cut_back(sent);
         self.agreed.truncate(agreed);
         self.listed.truncate(agreed);
-    }
-
-    /// Enters the datagrams. One that was sent before keeps its number.
-    pub(crate) fn enter(&mut self, sends: &Parcels) -> Result<(), Memory>
-        ensures ok { OnOk result (sent_in self.new
-            ≡ fold with_datagram (sent_in self.old) (map (λ s. s.1) sends.now)) }
-        ensures grown { HasGrown self.old self.new }
-        ensures list { (self.new.agreed ≡ self.old.agreed) × (self.new.listed ≡ self.old.listed) }
-    {
-        let (receivers, texts) = sends.parts();
-        for _ in receivers {
-            self.enter_all(texts)?;
-        }
-        Ok(())
-    }
-
-    /// Enters these datagrams.
-    fn enter_all(&mut self, texts: &[Vec<u8>]) -> Result<(), Memory>
-        ensures ok { OnOk result (sent_in self.new
-            ≡ fold with_datagram (sent_in self.old) (texts_in texts.now)) }
-        ensures grown { HasGrown self.old self.new }
-        ensures list { (self.new.agreed ≡ self.old.agreed) × (self.new.listed ≡ self.old.listed) }
-    {
-        for text in texts {
-            self.enter_text(text.as_slice())?;
-        }
-        Ok(())
-    }
-
-    /// Enters the datagram, unless it was sent before.
-    fn enter_text(&mut self, text: &[u8]) -> Result<(), Memory>
-        ensures ok { OnOk result (sent_in self.new ≡ with_datagram (sent_in self.old) text.now) }
-        ensures grown { HasGrown self.old self.new }
-        ensures list { (self.new.agreed ≡ self.old.agreed) × (self.new.listed ≡ self.old.listed) }
-    {
-        if !self.sent.contains(text) {
-            let alloc: Global = *self.sent.allocator();
-            self.sent.insert(text.to_vec(alloc)?)?;
-        }
-        Ok(())
     }
 
     /// Appends the build's packages, unless one of their paths is in the list.

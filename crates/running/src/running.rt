@@ -1,16 +1,24 @@
 //! A world, which contracts see as its nodes, its datagrams, its list, and the events that led to
 //! it.
-ghost use Rattle.std.specs.Prelude.{◌≡◌, ◌<◌, [], IfOk, Some, length, map, slice_get, true};
+ghost use Rattle.std.specs.Prelude.{◌≡◌, ◌<◌, [], IfOk, Some, length, slice_get, true};
 ghost use Rattle.std.specs.Option.{option_copied};
 ghost use Rattle.engine.specs.State as engines;
 ghost use Rattle.protocol.specs.State.{engine_of};
 ghost use Rattle.running.specs.History.{IsHistory, file_length};
 ghost use Rattle.world.specs.Happening.{is_up};
-ghost use Rattle.world.specs.Headline.{AllFit, AuditSaysYes, HasOneAPath, HeldIsListed, holds};
+ghost use Rattle.world.specs.Headline.{
+  AllFit,
+  AreRecords,
+  AuditSaysYes,
+  HasOneAPath,
+  HeldIsListed,
+  holds,
+};
 ghost use Rattle.world.specs.World.{member_at, node_at, start};
 
 use crate::scene::Scene;
 use ballots::Weights;
+use datagrams::DatagramBytes;
 use engine::{Counts, Letter};
 use events::Event;
 use faults::Memory;
@@ -63,11 +71,12 @@ impl<'a> World<'a> {
         })
     }
 
-    /// The agreed list, in the order in which it grew: it has at most one package a path, each fits
-    /// the tree, an audit of it says yes, and all that nodes hold is in it.
+    /// The agreed list, in the order in which it grew: it has at most one package a path, each is a
+    /// record and fits the tree, an audit of it says yes, and all that nodes hold is in it.
     pub fn agreed(&self) -> &[Record]
         ensures list { result.now ≡ self.now.world.agreed }
         ensures one_a_path { HasOneAPath self.now.world }
+        ensures records { AreRecords self.now.world }
         ensures fits { AllFit self.now.world }
         ensures allowed { AuditSaysYes self.now.world }
         ensures held { HeldIsListed self.now.world }
@@ -94,10 +103,10 @@ impl<'a> World<'a> {
     }
 
     /// The different datagrams that were sent, in order of first sending.
-    pub fn datagrams(&self) -> &IndexSet<Vec<u8>>
-        ensures { map (λ d. d.items) result.now.keys ≡ self.now.world.sent }
+    pub fn datagrams(&self) -> &IndexSet<DatagramBytes>
+        ensures { result.now.keys ≡ self.now.world.sent }
     {
-        &self.scene.posted.sent
+        self.scene.posted.sent.as_set()
     }
 
     /// How many nodes there are, one for each member.
@@ -114,13 +123,13 @@ impl<'a> World<'a> {
         self.scene.is_up(node)
     }
 
-    /// The node, which is up.
-    pub fn node(&self, node: u8) -> &Node<'a, MemDisk>
-        requires { is_up self.now.world node ≡ true }
-        ensures { (x : _) → slice_get self.now.world.nodes node ≡ Some x
-            → result.now.node ≡ node_at self.now.world node x }
+    /// The node with this number, which is up.
+    pub fn node(&self, number: u8) -> &Node<'a, MemDisk>
+        requires { is_up self.now.world number ≡ true }
+        ensures { (x : _) → slice_get self.now.world.nodes number ≡ Some x
+            → result.now.node ≡ node_at self.now.world number x }
     {
-        self.scene.up(node)
+        self.scene.up(number)
     }
 
     /// The units of the tree.
@@ -128,13 +137,6 @@ impl<'a> World<'a> {
         ensures { result.now ≡ self.now.world.division }
     {
         &self.scene.units
-    }
-
-    /// The tree.
-    pub fn tree(&self) -> &Tree
-        ensures { result.now ≡ self.now.world.division.tree }
-    {
-        self.scene.tree
     }
 
     /// What each member weighs.
@@ -148,7 +150,8 @@ impl<'a> World<'a> {
     pub fn into_events(self) -> Vec<Event>
         ensures { result.items ≡ self.entry.events }
     {
-        self.events
+        let World { events, .. } = self;
+        events
     }
 
     /// The record that a node which is up holds for the path.

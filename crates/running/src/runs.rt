@@ -3,6 +3,7 @@ ghost use Rattle.std.specs.Prelude.{◌≡◌, All, IfErr, IfOk, map};
 ghost use Rattle.events.specs.Events.{event_view};
 ghost use Rattle.world.specs.Headline.{
   AllFit,
+  AreRecords,
   AuditSaysYes,
   HasOneAPath,
   HeldIsListed,
@@ -18,6 +19,7 @@ ghost use Rattle.world.specs.Safety.{
   LaterRepeats,
   OneProposal,
   PromisesBound,
+  SentVotesAreNoted,
 };
 ghost use Rattle.running.specs.Faults.{cause_of, number_of};
 ghost use Rattle.running.specs.History.{AlongRun, IsHistory, IsRunFault, taken};
@@ -29,17 +31,28 @@ use events::Event;
 use faults::Fault;
 use listing::Tree;
 use std::alloc::Global;
-use thiserror::Error;
+use std::error::Error;
+use std::fmt;
 use world::WorldFault;
 
 /// The event at which a run stopped, counted from 1, and why. Where memory was wanting before the
 /// first, there is none.
-#[derive(Clone, Copy, Debug, PartialEq, Eq, Error)]
-#[error("{fault}")]
+#[derive(Clone, Copy, Debug, PartialEq, Eq)]
 pub struct RunFault {
     pub event: Option<u64>,
     pub fault: WorldFault,
 }
+
+impl fmt::Display for RunFault {
+    fn fmt<W: fmt::Write>(&self, f: &mut fmt::Formatter<W>) -> fmt::Result {
+        match self.event {
+            Some(event) => write!(f, "event {event}: {}", self.fault),
+            None => write!(f, "{}", self.fault),
+        }
+    }
+}
+
+impl Error for RunFault {}
 
 impl Fault for RunFault {
     ghost number_of = { number_of };
@@ -93,6 +106,7 @@ pub fn run<'a>(
     ensures one_a_path { IfOk result (λ w. AlongRun w (λ early v. HasOneAPath v)) }
     ensures built { IfOk result (λ w. AlongRun w (λ early v.
         All (WasBuilt w.world.division w.world.weights early) v.agreed)) }
+    ensures records { IfOk result (λ w. AlongRun w (λ early v. AreRecords v)) }
     ensures fits { IfOk result (λ w. AlongRun w (λ early v. AllFit v)) }
     ensures held { IfOk result (λ w. AlongRun w (λ early v. HeldIsListed v)) }
     ensures alike { IfOk result (λ w. AlongRun w (λ early v. HoldAlike v w.world)) }
@@ -102,6 +116,7 @@ pub fn run<'a>(
     // Why that is so.
     ensures one_proposal { IfOk result (λ w. AlongRun w (λ early v. OneProposal v)) }
     ensures promises_bound { IfOk result (λ w. AlongRun w (λ early v. PromisesBound v)) }
+    ensures votes_noted { IfOk result (λ w. AlongRun w (λ early v. SentVotesAreNoted v)) }
     ensures later_repeats { IfOk result (λ w. AlongRun w (λ early v. LaterRepeats v)) }
     ensures jobs_stood { IfOk result (λ w. AlongRun w (λ early v.
         JobsStood w.world.division w.world.weights early v)) }

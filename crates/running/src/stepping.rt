@@ -12,7 +12,7 @@ ghost use Rattle.running.specs.History.{IsHistory, taken};
 ghost use Rattle.running.specs.inside.Asking.{CanBeAsked, refused_by};
 ghost use Rattle.running.specs.inside.Deciding.{decision};
 ghost use Rattle.running.specs.inside.Placing.{IsReached, IsStanding, world_of};
-ghost use Rattle.running.specs.inside.Posting.{AreListed, AreSame, HasGrown, list_in, sent_in};
+ghost use Rattle.running.specs.inside.Posting.{AreListed, AreSame, HasGrown, list_in};
 ghost use Rattle.running.specs.inside.Stepping.{
   HasFinished,
   RefusesStep,
@@ -52,6 +52,7 @@ impl<'a> World<'a> {
             ⊎ IsRefused self.old.world (event_view event.now) f) }
 
         // Whichever it was, of the world before and the one after.
+        ensures before { IsHistory self.old }
         ensures fixed { (self.new.world.division ≡ self.old.world.division)
             × (self.new.world.weights ≡ self.old.world.weights) }
         ensures grows { IsBeginningOf self.old.world.agreed self.new.world.agreed }
@@ -168,7 +169,7 @@ fn take(
     node: &mut Node<'_, MemDisk>,
     event: &Event,
 ) -> Result<(), NodeFault>
-    requires asks { CanBeAsked (sent_in posted.old) (event_view event.now) }
+    requires asks { CanBeAsked posted.old.sent (event_view event.now) }
     requires on_log { IsOnLog mem_history node.old }
     requires listed { AreListed posted.old }
     ensures taken { OnOk result (TakesStep weights.now (event_view event.now) posted.old node.old
@@ -176,7 +177,7 @@ fn take(
     ensures on_log { IsOnLog mem_history node.new }
     ensures listed { AreListed posted.new }
     ensures same { OnErr result (AreSame posted.old posted.new) }
-    ensures refused { IfErr result (RefusesStep (sent_in posted.old) (event_view event.now)
+    ensures refused { IfErr result (RefusesStep posted.old.sent (event_view event.now)
         node.old node.new) }
 {
     let ready = ready(node, &posted.sent, event)?;
@@ -225,10 +226,10 @@ fn grow(
     ready: &Ready,
 ) -> Result<(), Memory>
     requires listed { AreListed posted.old }
-    ensures sent { OnOk result (sent_in posted.new
-        ≡ with_sends (sent_in posted.old) (sends_in ready.now.step)) }
+    ensures sent { OnOk result (posted.new.sent
+        ≡ with_sends posted.old.sent (sends_in ready.now.step)) }
     ensures list { OnOk result (list_in posted.new ≡ with_decision (list_in posted.old)
-        (decision weights.now (sent_in posted.old) node.now.node.member ready.now.step)) }
+        (decision weights.now posted.old.sent node.now.node.member ready.now.step)) }
     ensures listed { OnOk result (AreListed posted.new) }
     ensures grown { HasGrown posted.old posted.new }
 {
@@ -236,5 +237,5 @@ fn grow(
     if let Some(build) = decided(alloc, weights, &posted.sent, node, ready)? {
         posted.append(build)?;
     }
-    posted.enter(ready.sends())
+    posted.sent.enter(ready.sends())
 }

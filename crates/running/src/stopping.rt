@@ -11,7 +11,6 @@ ghost use Rattle.std.specs.Prelude.{
   OnOk,
   Some,
   length,
-  map,
   slice_set,
   true,
 };
@@ -49,9 +48,9 @@ use crate::opening::opened;
 use crate::placed::{Placed, Rest};
 use crate::scene::Scene;
 use ballots::Weights;
+use datagrams::Datagrams;
 use events::{Event, Left};
 use faults::Memory;
-use indexmap::IndexSet;
 use listing::Tree;
 use node::{Node, NodeFault, Ready};
 use stable_record::MemDisk;
@@ -98,14 +97,10 @@ pub(crate) fn host_fits(event: &Event)
 }
 
 /// The step of a node that is up on what the event asks, ready.
-fn readied(
-    placed: &mut Placed<'_>,
-    sent: &IndexSet<Vec<u8>>,
-    step: &Event,
-) -> Result<Ready, NodeFault>
-    requires asks { CanBeAsked (map (λ d. d.items) sent.now.keys) (event_view step.now) }
+fn readied(placed: &mut Placed<'_>, sent: &Datagrams, step: &Event) -> Result<Ready, NodeFault>
+    requires asks { CanBeAsked sent.now (event_view step.now) }
     requires up { (node_view placed.old).up ≡ true }
-    ensures { ReadiesStep (map (λ d. d.items) sent.now.keys) (event_view step.now) placed.old
+    ensures { ReadiesStep sent.now (event_view step.now) placed.old
         placed.new result }
 {
     match placed {

@@ -1,5 +1,5 @@
 //! What a vote decides.
-ghost use Rattle.std.specs.Prelude.{◌≡◌, ◌<◌, IfOk, length, map, option_and_then, option_map};
+ghost use Rattle.std.specs.Prelude.{◌≡◌, ◌<◌, IfOk, length, option_and_then, option_map};
 ghost use Rattle.ballots.specs.Support.{set_of};
 ghost use Rattle.protocol.specs.Step.{facts_named};
 ghost use Rattle.running.specs.inside.Deciding.{
@@ -15,8 +15,8 @@ ghost use Rattle.running.specs.inside.Deciding.{
 
 use ballots::{Body, Fact, Message, Tally, Weights};
 use claims::Claim;
+use datagrams::{DatagramBytes, Datagrams};
 use faults::Memory;
-use indexmap::IndexSet;
 use member::Step;
 use node::{Node, Ready};
 use package_record::Build;
@@ -51,22 +51,17 @@ fn is_same(a: Claim, b: Claim) -> bool
 
 /// Those of the members that sent this vote. Votes of two members for one claim differ in their
 /// senders alone.
-fn voters(
-    alloc: Global,
-    weights: &Weights,
-    sent: &IndexSet<Vec<u8>>,
-    text: &[u8],
-) -> Result<Tally, Memory>
+fn voters(alloc: Global, weights: &Weights, sent: &Datagrams, text: &[u8]) -> Result<Tally, Memory>
     requires { SENDER < length text.now }
     ensures weights { IfOk result (λ tally. tally.weights ≡ weights.now) }
     ensures voters { IfOk result (λ tally. set_of tally
-        ≡ voters_in weights.now (map (λ d. d.items) sent.now.keys) text.now) }
+        ≡ voters_in weights.now sent.now text.now) }
 {
-    let mut vote = text.to_vec(alloc)?;
+    let mut vote = DatagramBytes::new(text.to_vec(alloc)?);
     let mut tally = Tally::new(weights);
     for member in 0..weights.len() as u8 {
-        vote[SENDER] = member;
-        if sent.contains(vote.as_slice()) {
+        vote.put(SENDER, member);
+        if sent.contains(&vote) {
             tally.join(member);
         }
     }
@@ -136,12 +131,12 @@ fn voted<'a>(
 pub(crate) fn decided<'a>(
     alloc: Global,
     weights: &Weights,
-    sent: &IndexSet<Vec<u8>>,
+    sent: &Datagrams,
     node: &'a Node<'_, MemDisk>,
     ready: &'a Ready,
 ) -> Result<Option<&'a Build>, Memory>
     ensures { IfOk result (λ build. option_map (λ b. b.now) build
-        ≡ decision weights.now (map (λ d. d.items) sent.now.keys) node.entry.now.node.member
+        ≡ decision weights.now sent.now node.entry.now.node.member
         ready.entry.now.step) }
 {
     let Some(step) = ready.step() else {

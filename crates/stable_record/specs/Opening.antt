@@ -53,8 +53,9 @@ pub record IsBroken (i : Identity) (file : List ℕ) : Type 0 where
   pub lengths : All (λ note. length note < 2 ^ 32) whole
   pub cut_short : IsCutShort end
 
--- The file can't be opened by anybody: a log can't be made of it, nor is it one; or it is one that
--- lacks weights, or that breaks off behind the right header.
+-- For this owner the file is no log: it isn't blank for it, nor a log of anybody; or it is one that
+-- lacks weights, or that breaks off behind the right header. Another owner may still find it blank:
+-- 47 bytes with first byte 0 are blank for one of three members with weights, and not for others.
 pub data IsNoLog (i : Identity) (file : List ℕ) : Type 0 where
   neither : ¬ (IsBlank i file) → ¬ (IsLog file) → IsNoLog i file
   lacks_weights : IsLog file → LacksWeights file → IsNoLog i file

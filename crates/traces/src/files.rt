@@ -1,6 +1,6 @@
 //! Files, and packages with their files.
 ghost use Rattle.std.specs.Prelude.{◌≡◌, map};
-ghost use Rattle.package_record.specs.Views.{file_view};
+ghost use Rattle.package_record.specs.FileView.{file_view};
 ghost use Rattle.serde_json.specs.View.{view};
 ghost use Rattle.traces.specs.Fields.{file_in, files_in, package_in, packages_in};
 ghost use Rattle.traces.specs.inside.Given.{Gives};

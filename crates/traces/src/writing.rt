@@ -1,7 +1,7 @@
 //! Traces as JSON values.
 ghost use Rattle.std.specs.Prelude.{◌≡◌, IfOk, codes, map};
 ghost use Rattle.events.specs.Events.{event_view};
-ghost use Rattle.package_record.specs.Views.{file_view};
+ghost use Rattle.package_record.specs.FileView.{file_view};
 ghost use Rattle.serde_json.specs.View.{members_view, view};
 ghost use Rattle.traces.specs.Faults.{trace_view};
 ghost use Rattle.traces.specs.Written.{

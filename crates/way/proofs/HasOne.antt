@@ -83,5 +83,5 @@ each_has_one division weights before w k path host given made led few g =
     let n = granted_unit w k path host given g in (
       way_of w (member_at w k g.node) n.0 path host given,
       has_way division weights made w r k path host given g n.0 n.1 few
-      (list_leads division weights made w r k path host given g n.0 n.1 few),
+          (list_leads division weights made w r k path host given g n.0 n.1 few),
     )

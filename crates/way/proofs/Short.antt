@@ -73,26 +73,35 @@ pub record IsGreatest (f : ℕ → ℕ) (ks : List ℕ) (base m : ℕ) : Type 0 
   pub whose : (m ≡ base) ⊎ ((k : ℕ) × Contains ks k × (m ≡ f k))
 
 pub greatest : (f : ℕ → ℕ) (ks : List ℕ) (base : ℕ) → (m : ℕ) × IsGreatest f ks base m
-greatest f [] base = (base, record {
-  above = omega arith;
-  each = λ k at. absurd (omega (arith, at.1));
-  whose = inl refl;
-})
+greatest f [] base = (
+  base,
+  record {
+    above = omega arith;
+    each = λ k at. absurd (omega (arith, at.1));
+    whose = inl refl;
+  },
+)
 greatest f (k ∷ ks) base =
     let rest = greatest f ks base in
     ⊎_elim
-    (λ less. (f k, record {
-      above = let a = (rest.1).above in omega (arith, a, less);
-      each = λ j at. among j at (f k) (omega arith)
-          (λ h. let e = (rest.1).each j h in omega (arith, e, less));
-      whose = inr (k, (zero, omega arith, refl), refl);
-    }))
-    (λ enough. (rest.0, record {
-      above = (rest.1).above;
-      each = λ j at. among j at rest.0 enough (λ h. (rest.1).each j h);
-      whose = ⊎_elim (λ e. inl e)
-          (λ h. inr (h.0, (suc h.1.0, omega (arith, h.1.1), h.1.2), h.2)) (rest.1).whose;
-    }))
+    (λ less. (
+      f k,
+      record {
+        above = let a = (rest.1).above in omega (arith, a, less);
+        each = λ j at. among j at (f k) (omega arith)
+            (λ h. let e = (rest.1).each j h in omega (arith, e, less));
+        whose = inr (k, (zero, omega arith, refl), refl);
+      },
+    ))
+    (λ enough. (
+      rest.0,
+      record {
+        above = (rest.1).above;
+        each = λ j at. among j at rest.0 enough (λ h. (rest.1).each j h);
+        whose = ⊎_elim (λ e. inl e)
+            (λ h. inr (h.0, (suc h.1.0, omega (arith, h.1.1), h.1.2), h.2)) (rest.1).whose;
+      },
+    ))
     (cases_lt rest.0 (f k))
   where
     among : (j : ℕ) → Contains (k ∷ ks) j → (m : ℕ) → f k ≤ m → (Contains ks j → f j ≤ m)
@@ -183,9 +192,9 @@ module _ (w : World) (s : State) (u host : ℕ) (given : Given) (c : Claim) wher
         b.value,
         inr (k, b, e, refl),
         ap size e ∙ length-map (numbers_of (length (build_text b.value))) (λ j. datagrams.Piece
-        (piece_at (header_with (message w (unit_at w.division u).name k
-        (bodies.Promise c (Some (pair_of b)))) (carriers.Promise c b.claim) b.value)
-        (build_text b.value) j)),
+            (piece_at (header_with (message w (unit_at w.division u).name k
+            (bodies.Promise c (Some (pair_of b)))) (carriers.Promise c b.claim) b.value)
+            (build_text b.value) j)),
       )
 
   -- and the proposal as many as the build that is made, or that was reported

@@ -47,8 +47,12 @@ files_push : (fs : List NamedFile) (f : NamedFile)
     ≡ length (flat_map (λ (g : NamedFile). g.bytes) fs) + length f.bytes
 files_push [] f = omega (arith, length-append f.bytes [])
 files_push (g ∷ fs) f =
-    omega (arith, length-append g.bytes (flat_map (λ (h : NamedFile). h.bytes) (fs ++ f ∷ [])),
-    length-append g.bytes (flat_map (λ (h : NamedFile). h.bytes) fs), files_push fs f)
+    omega (
+      arith,
+      length-append g.bytes (flat_map (λ (h : NamedFile). h.bytes) (fs ++ f ∷ [])),
+      length-append g.bytes (flat_map (λ (h : NamedFile). h.bytes) fs),
+      files_push fs f,
+    )
 
 -- one file more
 pub one_more_file : (fs : List NamedFile) (i : ℕ) (f : NamedFile) → i < length fs

@@ -9,7 +9,7 @@ use Rattle.std.proofs.lemmas.List.Folds.{Any-from_list_any, list_any_at}
 use Rattle.std.proofs.lemmas.List.Quantifiers.{all_pairs_push}
 use Rattle.faults.specs.Bytes.{Text, is_among}
 use Rattle.units.proofs.Places.{equal_bytes, same_bytes}
-use Rattle.node.specs.Parcels.{datagrams_to}
+use Rattle.node.specs.Parcels.{datagrams_to, each_to}
 use Rattle.protocol.specs.declared.sends.Send.{Send}
 use Rattle.world.specs.Sent.{with_datagram, with_sends}
 
@@ -95,6 +95,12 @@ pub texts_once : (sent texts : List Text) → AllPairs ◌≢◌ sent
     → AllPairs ◌≢◌ (fold with_datagram sent texts)
 texts_once sent [] once = once
 texts_once sent (t ∷ ts) once = texts_once (with_datagram sent t) ts (datagram_once sent t once)
+
+-- what goes to one receiver, without the receiver
+pub texts_alone : (texts : List Text) (to : ℕ)
+    → map (λ (s : ℕ × Text). s.1) (each_to texts to) ≡ texts
+texts_alone [] to = refl
+texts_alone (t ∷ ts) to = ap (λ l. t ∷ l) (texts_alone ts to)
 
 -- ---- the same of sends
 

@@ -13,7 +13,7 @@ use Rattle.claims.specs.Job.{Task}
 use Rattle.claims.specs.declared.deps.Dep.{Dep}
 use Rattle.engine.specs.State as engine
 use Rattle.engine.specs.declared.Letter.TheVariants as letters
-use Rattle.package_record.specs.Content.{Content, record_text}
+use Rattle.package_record.specs.Content.{Content, IsRecord, record_text}
 use Rattle.protocol.specs.Given.{Given}
 use Rattle.protocol.specs.Jobs.{job_of, record_by, signature}
 use Rattle.protocol.specs.State.{Building, Value, engine_of, facts_at, held_record}
@@ -115,6 +115,10 @@ pub record IsLater (w later : World) : Type 0 where
 abbrev pub HasOneAPath : World → Type 0
 HasOneAPath w = AllPairs ◌≢◌ (map (λ r. r.path) w.agreed)
 
+-- Each package of the list is a record: it has a text, which is read as that package again.
+abbrev pub AreRecords : World → Type 0
+AreRecords w = All IsRecord w.agreed
+
 -- Each package of the list fits the tree.
 abbrev pub AllFit : World → Type 0
 AllFit w = All (λ r. Fits w.division.tree r.path r.name r.built r.run) w.agreed
@@ -154,8 +158,8 @@ AuditSaysYes w = IsAllowed w.division.tree (map entry_of w.agreed)
 -- package a path; each was built by a host under a claim for its unit, after every dependency in
 -- its signature stood in the list with that very signature; every package that a node holds is in
 -- it, so that no node holds then another package for a path than a node does at the end; and a path
--- that a node shows as installable has its run closure held there. Besides, each package fits the
--- tree, and an audit of the list says yes.
+-- that a node shows as installable has its run closure held there. Besides, each package is a record
+-- and fits the tree, and an audit of the list says yes.
 pub record HasOneList (division : Division) (weights : List ℕ) (events : List Event) (last : World)
     : Type 0 where
   pub grows : AtEachMoment division weights events last
@@ -163,6 +167,7 @@ pub record HasOneList (division : Division) (weights : List ℕ) (events : List 
   pub one_a_path : AtEachMoment division weights events last (λ early w. HasOneAPath w)
   pub built : AtEachMoment division weights events last
       (λ early w. All (WasBuilt division weights early) w.agreed)
+  pub records : AtEachMoment division weights events last (λ early w. AreRecords w)
   pub fits : AtEachMoment division weights events last (λ early w. AllFit w)
   pub held : AtEachMoment division weights events last (λ early w. HeldIsListed w)
   pub alike : AtEachMoment division weights events last (λ early w. HoldAlike w last)

@@ -1,12 +1,13 @@
 -- Why one list stands: what holds of proposals, promises, votes and pieces, unit by unit, in each
 -- world that is reached.
 use Rattle.units.specs.Division.{Division}
-use Rattle.std.specs.Prelude.{◌≡◌, ◌++◌, ℕ, true, List, ◌∷◌, Option, Some, None, All, Contains, slice_get}
+use Rattle.std.specs.Prelude.{◌≡◌, ◌++◌, ◌<◌, ℕ, true, List, ◌∷◌, Option, Some, None, All, Contains, length, slice_get}
 use Rattle.faults.specs.Bytes.{Text}
 use Rattle.agreement.specs.Claims.{AtMost, Below}
 use Rattle.agreement.specs.declared.claim.Claim.{Claim}
-use Rattle.agreement.specs.Quorums.{is_majority}
+use Rattle.agreement.specs.Quorums.{Members, is_majority}
 use Rattle.claims.specs.Job.{Task}
+use Rattle.ballots.specs.declared.message.Body.TheVariants.{Vote}
 use Rattle.ballots.specs.declared.message.Fact.TheVariants as fact
 use Rattle.ballots.specs.declared.message.Message.{Message}
 use Rattle.package_record.specs.Content.{Content}
@@ -19,7 +20,7 @@ use Rattle.wire.specs.declared.datagram.Datagram.TheVariants as datagram
 use Rattle.wire.specs.declared.datagram.Piece.{Piece}
 use Rattle.world.specs.Happening.{Acts, Happens, Leads}
 use Rattle.world.specs.Headline.{HasSignature}
-use Rattle.world.specs.Sent.{WasPromised, WasProposed, WasSent, voters}
+use Rattle.world.specs.Sent.{WasPromised, WasProposed, WasSent, message}
 use Rattle.world.specs.World.{World, WorldNode, start}
 
 -- A claim has at most one proposal.
@@ -48,12 +49,22 @@ PromisesBound w =
     → WasPromised w w.sent name k c report → NotedVote x name d → Below d c
     → ReportsAtLeast x name report d
 
--- Where a majority sent votes for a proposal, each proposal at or above its claim repeats its
--- build.
+-- Node k noted a vote for the unit of this name, under the claim.
+abbrev pub HasNotedVote : World → ℕ → Text → Claim → Type 0
+HasNotedVote w k name c = (x : WorldNode) × (slice_get w.nodes k ≡ Some x) × NotedVote x name c
+
+-- A vote that was sent, was noted by the node that sent it.
+abbrev pub SentVotesAreNoted : World → Type 0
+SentVotesAreNoted w =
+    (k : ℕ) (name : Text) (c : Claim) → WasSent w.sent (message w name k (Vote c))
+    → HasNotedVote w k name c
+
+-- Where a majority noted votes under the claim of a proposal, whether or not these were sent, each
+-- proposal at or above it repeats its build.
 abbrev pub LaterRepeats : World → Type 0
 LaterRepeats w =
-    (name : Text) (c d : Claim) (a b : Value)
-    → is_majority w.weights (voters w w.sent name c) ≡ true
+    (name : Text) (c d : Claim) (a b : Value) (S : Members) → is_majority w.weights S ≡ true
+    → ((k : ℕ) → k < length w.weights → S k ≡ true → HasNotedVote w k name c)
     → WasProposed w w.sent name c a → WasProposed w w.sent name d b → AtMost c d → b ≡ a
 
 -- The event is a delivery, and the step that it made gave this job. Each dependency of the job

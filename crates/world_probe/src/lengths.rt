@@ -46,7 +46,7 @@ fn add_logs(alloc: Global, world: &World<'_>, text: &mut String) -> Result<(), M
 fn add_sent(alloc: Global, world: &World<'_>, text: &mut String) -> Result<(), Memory> {
     text.push_str(" datagrams")?;
     for datagram in world.datagrams() {
-        add_number(alloc, text, datagram.len())?;
+        add_number(alloc, text, datagram.as_bytes().len())?;
     }
     Ok(())
 }

@@ -81,7 +81,7 @@ fn add_kinds(
 ) -> Result<(), Memory> {
     for place in sent..world.datagrams().len() {
         if let Some(datagram) = world.datagrams().get_index(place) {
-            add_kind(alloc, text, datagram.as_slice())?;
+            add_kind(alloc, text, datagram.as_bytes())?;
         }
     }
     Ok(())

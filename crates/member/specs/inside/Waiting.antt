@@ -1,14 +1,10 @@
 -- The claim that waits for a build.
-use Rattle.std.specs.Prelude.{◌==◌, ℕ, Bool, true, false, Option, None, Some, Result}
+use Rattle.std.specs.Prelude.{◌==◌, ℕ, Bool, true, false, Option, None, Some}
 use Rattle.std.specs.Prelude.{if◌then◌else◌, option_and_then, option_map}
-use Rattle.faults.specs.Answers.{unless_fault}
 use Rattle.faults.specs.Bytes.{Text}
 use Rattle.claims.specs.Job.{Task}
-use Rattle.protocol.specs.Given.{Given}
-use Rattle.protocol.specs.Jobs.{build_by}
-use Rattle.protocol.specs.State.{Gathering, Building, Voting, OpenClaim, Progress, State, Value}
-use Rattle.protocol.specs.Step.{files_refusal, job_again, unit_in}
-use Rattle.protocol.specs.declared.refusal.Refusal.{Refusal}
+use Rattle.protocol.specs.State.{Gathering, Building, Voting, OpenClaim, Progress, State}
+use Rattle.protocol.specs.Step.{job_again, unit_in}
 
 -- the job of the open claim, where it is for the unit and waits for a build
 abbrev pub job_at : State → ℕ → Option Task
@@ -19,11 +15,6 @@ job_at s u =
 abbrev pub waiting_for : State → Text → Option (ℕ × Task)
 waiting_for s path =
     option_and_then (λ u. option_map (λ job. (u, job)) (job_at s u)) (unit_in s path)
-
--- the build of the unit, or why the files make none
-abbrev pub made_by : State → ℕ → Task → Given → Result Value Refusal
-made_by s u job given =
-    unless_fault (files_refusal s u given (build_by s u job given)) (build_by s u job given)
 
 -- ---- whether a claim is open that waits, and for which unit
 

@@ -1,5 +1,5 @@
 -- What the functions have done that make a node's step ready, and that write its note.
-use Rattle.std.specs.Prelude.{◌≡◌, ◌++◌, All, AllPairs, false, List, [], ◌∷◌, Option, None, Some, Result, Ok, Err, IfOk, Bool, true}
+use Rattle.std.specs.Prelude.{◌≡◌, ◌+◌, ◌++◌, ℕ, All, AllPairs, false, List, [], ◌∷◌, Option, None, Some, Result, Ok, Err, IfOk, Bool, true, length}
 use Rattle.std.specs.Option.{ForSome}
 use Rattle.engine.specs.declared.Letter.{Letter}
 use Rattle.faults.specs.Answers.{IsRightUnless, map_ok}
@@ -146,6 +146,11 @@ is_device log.OtherCluster = false
 abbrev pub with_text : List Text → Option Text → List Text
 with_text texts None = texts
 with_text texts (Some text) = texts ++ text ∷ []
+
+-- so many bytes such a text takes on a log, if there is one
+abbrev pub entry_len : Option Text → ℕ
+entry_len None = 0
+entry_len (Some text) = 5 + length text
 
 -- At each moment a crash leaves these notes, with this one or without; and without a note there are
 -- no calls.

@@ -9,7 +9,7 @@ use Rattle.running.specs.declared.placed.Placed.TheVariants.{Up, Down}
 use Rattle.running.specs.declared.placed.Rest.{Rest}
 use Rattle.running.specs.declared.running.World.TheInside.{Inside}
 use Rattle.running.specs.declared.scene.Scene.{Scene}
-use Rattle.running.specs.inside.Posting.{AreListed, list_in, sent_in}
+use Rattle.running.specs.inside.Posting.{AreListed, list_in}
 use Rattle.stable_record.specs.Crash.{IsOnDisk}
 use Rattle.stable_record.specs.History.{seen}
 use Rattle.stable_record.specs.InMemory.{mem_history}
@@ -63,7 +63,7 @@ world_of s = record {
   division = s.units;
   weights = s.weights;
   nodes = map node_view s.nodes.items;
-  sent = sent_in s.posted;
+  sent = s.posted.sent;
   agreed = list_in s.posted;
 }
 

@@ -1,12 +1,8 @@
 -- What a step enters in a world's tables.
 use Rattle.std.specs.Prelude.{◌≡◌, List, length, map, take}
-use Rattle.faults.specs.Bytes.{Text}
+use Rattle.datagrams.specs.Growing as datagrams
 use Rattle.package_record.specs.Content.{Content}
 use Rattle.running.specs.declared.posted.Posted.{Posted}
-
--- the datagrams that were sent
-abbrev pub sent_in : Posted → List Text
-sent_in p = map (λ d. d.items) p.sent.keys
 
 -- the agreed list
 abbrev pub list_in : Posted → List Content
@@ -18,12 +14,12 @@ AreListed p = p.listed.keys ≡ map (λ r. r.path) p.agreed.items
 
 -- What there is more than in the old tables stands at their ends.
 pub record HasGrown (old new : Posted) : Type 0 where
-  pub sent : take (length old.sent.keys) (sent_in new) ≡ sent_in old
+  pub sent : datagrams.HasGrown old.sent new.sent
   pub list : take (length old.agreed.items) (list_in new) ≡ list_in old
   pub listed : take (length old.listed.keys) new.listed.keys ≡ old.listed.keys
 
 -- The tables are the same again.
 pub record AreSame (old new : Posted) : Type 0 where
-  pub sent : sent_in new ≡ sent_in old
+  pub sent : new.sent ≡ old.sent
   pub list : list_in new ≡ list_in old
   pub listed : new.listed.keys ≡ old.listed.keys

@@ -13,7 +13,7 @@ use Rattle.protocol.specs.State.{Value}
 use Rattle.running.specs.declared.posted.Posted.{Posted}
 use Rattle.running.specs.inside.Asking.{asked_by}
 use Rattle.running.specs.inside.Deciding.{decision}
-use Rattle.running.specs.inside.Posting.{list_in, sent_in}
+use Rattle.running.specs.inside.Posting.{list_in}
 use Rattle.stable_record.specs.declared.log_fault.LogFault.TheVariants.{Full}
 use Rattle.stable_record.specs.declared.mem_disk.MemDisk.{MemDisk}
 use Rattle.world.specs.Lists.{with_build}
@@ -30,16 +30,16 @@ pub record HasFinished (weights : List ℕ) (old : Posted) (n : LoggedNode MemDi
     (new : Posted) (m : LoggedNode MemDisk) : Type 0 where
   pub node : m.node ≡ after n.node (taken_by n.node r)
   pub room : ¬ (LacksRoom n.log (note_in r.step))
-  pub sent : sent_in new ≡ with_sends (sent_in old) (sends_in r.step)
+  pub sent : new.sent ≡ with_sends old.sent (sends_in r.step)
   pub list : list_in new
-      ≡ with_decision (list_in old) (decision weights (sent_in old) n.node.member r.step)
+      ≡ with_decision (list_in old) (decision weights old.sent n.node.member r.step)
 
 -- The node took the step on what the event asks.
 pub record TakesStep (weights : List ℕ) (e : Event) (old : Posted) (n : LoggedNode MemDisk)
     (new : Posted) (m : LoggedNode MemDisk) : Type 0 where
   pub ready : ReadyStep
   pub asked : Asked
-  pub asks : asked_by (sent_in old) e ≡ Some asked
+  pub asks : asked_by old.sent e ≡ Some asked
   pub takes : Takes n.node asked (Ok (taken_by n.node ready))
   pub finished : HasFinished weights old n ready new m
 

@@ -1,5 +1,5 @@
 use Rattle.headline.proofs.Holding.{held_is_listed}
-use Rattle.headline.proofs.Safe.{later_repeats, one_proposal, promises_bound}
+use Rattle.headline.proofs.Safe.{later_repeats, one_proposal, promises_bound, votes_noted}
 use Rattle.headline.proofs.laws.matched_worlds_are_safe.Goals as goal
 use Rattle.package_record.proofs.BuildsRead.{build_is_read}
 
@@ -9,6 +9,10 @@ returns-clause-votes c = λ division weights acts w made of m. (
   promises_bound division weights acts w made of m build_is_read,
   later_repeats division weights acts w made of m build_is_read,
 )
+
+pub returns-clause-noted : goal.returns-clause-noted
+returns-clause-noted c = λ division weights acts w made of local m. votes_noted division weights acts
+    w made of m build_is_read local
 
 pub returns-clause-held : goal.returns-clause-held
 returns-clause-held c = λ division weights acts w made of local m. held_is_listed division weights

@@ -1,4 +1,4 @@
-use Rattle.headline.proofs.OneList.{alike_always, allowed_always, always_grows, bound_always, built_always, each_has_one_list, each_run_is_acts, fits_always, held_always, installable_always, jobs_always, one_always, one_proposal_always, repeated_always, told_apart_always}
+use Rattle.headline.proofs.OneList.{alike_always, allowed_always, always_grows, bound_always, built_always, each_has_one_list, each_run_is_acts, fits_always, held_always, installable_always, jobs_always, one_always, noted_always, one_proposal_always, records_always, repeated_always, told_apart_always}
 use Rattle.headline.proofs.laws.worlds_have_one_list.Goals as goal
 use Rattle.package_record.proofs.BuildsRead.{build_is_read}
 
@@ -10,6 +10,9 @@ returns-clause-one_a_path c = one_always each_run_is_acts build_is_read
 
 pub returns-clause-built : goal.returns-clause-built
 returns-clause-built c = built_always each_run_is_acts build_is_read
+
+pub returns-clause-records : goal.returns-clause-records
+returns-clause-records c = records_always each_run_is_acts build_is_read
 
 pub returns-clause-fits : goal.returns-clause-fits
 returns-clause-fits c = fits_always each_run_is_acts build_is_read
@@ -31,6 +34,9 @@ returns-clause-one_proposal c = one_proposal_always each_run_is_acts build_is_re
 
 pub returns-clause-promises_bound : goal.returns-clause-promises_bound
 returns-clause-promises_bound c = bound_always each_run_is_acts build_is_read
+
+pub returns-clause-votes_noted : goal.returns-clause-votes_noted
+returns-clause-votes_noted c = noted_always each_run_is_acts build_is_read
 
 pub returns-clause-later_repeats : goal.returns-clause-later_repeats
 returns-clause-later_repeats c = repeated_always each_run_is_acts build_is_read

@@ -1,7 +1,7 @@
 use Rattle.std.proofs.Common.{◌≡◌, ◌<◌, ℕ, [], true, map, take}
 use Rattle.std.specs.List.{slice_index_or}
 use Rattle.package_record.specs.Content.{is_next_name, names_of}
-use Rattle.package_record.specs.Views.{file_view}
+use Rattle.package_record.specs.FileView.{file_view}
 use Rattle.package_record.specs.inside.Names.{names_in}
 use Rattle.package_record.proofs.making.test_names.Given as goal
 

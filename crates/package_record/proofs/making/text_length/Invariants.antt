@@ -1,5 +1,5 @@
 use Rattle.std.proofs.Common.{◌≡◌, ◌+◌, length, map, take, flat_map, min}
-use Rattle.package_record.specs.Views.{file_view}
+use Rattle.package_record.specs.FileView.{file_view}
 use Rattle.package_record.proofs.making.text_length.Given as goal
 
 abbrev pub invariant-loop-file : goal.invariant-loop-file

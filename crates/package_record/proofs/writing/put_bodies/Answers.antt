@@ -1,6 +1,6 @@
 use Rattle.std.proofs.Common.{◌≡◌, ℕ, ◌+◌, ◌<◌, List, [], ◌∷◌, ◌++◌, length, get_or, take, flat_map, map, sym, ap, ◌∙◌}
 use Rattle.std.proofs.lemmas.List.{flat_map_more, map-append, take_more}
-use Rattle.package_record.specs.Views.{file_view}
+use Rattle.package_record.specs.FileView.{file_view}
 use Rattle.package_record.proofs.writing.put_bodies.Goals as goal
 
 -- the pieces of one more item

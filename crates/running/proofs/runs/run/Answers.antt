@@ -10,6 +10,9 @@ returns-clause-one_a_path c = (has_one_list c.in_ok-world.world c.in_ok-world.en
 pub returns-clause-built : goal.returns-clause-built
 returns-clause-built c = (has_one_list c.in_ok-world.world c.in_ok-world.ensures.history).built
 
+pub returns-clause-records : goal.returns-clause-records
+returns-clause-records c = (has_one_list c.in_ok-world.world c.in_ok-world.ensures.history).records
+
 pub returns-clause-fits : goal.returns-clause-fits
 returns-clause-fits c = (has_one_list c.in_ok-world.world c.in_ok-world.ensures.history).fits
 
@@ -30,6 +33,9 @@ returns-clause-one_proposal c = (is_safe c.in_ok-world.world c.in_ok-world.ensur
 
 pub returns-clause-promises_bound : goal.returns-clause-promises_bound
 returns-clause-promises_bound c = (is_safe c.in_ok-world.world c.in_ok-world.ensures.history).promises_bound
+
+pub returns-clause-votes_noted : goal.returns-clause-votes_noted
+returns-clause-votes_noted c = (is_safe c.in_ok-world.world c.in_ok-world.ensures.history).votes_noted
 
 pub returns-clause-later_repeats : goal.returns-clause-later_repeats
 returns-clause-later_repeats c = (is_safe c.in_ok-world.world c.in_ok-world.ensures.history).later_repeats

@@ -1,17 +1,16 @@
 use Rattle.events.specs.Events.{event_view}
 use Rattle.running.proofs.Taking.{ready_on_log, refused_on_log, refuses_step, takes_step}
-use Rattle.running.specs.inside.Posting.{sent_in}
 use Rattle.running.proofs.stepping.take.Goals as goal
 
 pub returns-in_err-ready-clause-on_log : goal.returns-in_err-ready-clause-on_log
 returns-in_err-ready-clause-on_log c =
-    refused_on_log (sent_in c.args.posted.now) (event_view c.args.event.now) c.args.node.now
+    refused_on_log c.args.posted.now.sent (event_view c.args.event.now) c.args.node.now
     c.ready.new.node c.in_err-ready.field-0.0 c.in_err-ready.ensures.step c.in_err-ready.ensures.log
     c.requires.on_log
 
 pub finish-requires-clause-on_log : goal.finish-requires-clause-on_log
 finish-requires-clause-on_log c =
-    ready_on_log (sent_in c.args.posted.now) (event_view c.args.event.now) c.args.node.now
+    ready_on_log c.args.posted.now.sent (event_view c.args.event.now) c.args.node.now
     c.ready.new.node c.in_ok-ready.ready c.in_ok-ready.ensures.step c.in_ok-ready.ensures.log
     c.requires.on_log
 
@@ -23,7 +22,7 @@ returns-in-Ok-clause-taken c =
 
 pub returns-in-Err-clause-refused : goal.returns-in-Err-clause-refused
 returns-in-Err-clause-refused c =
-    refuses_step (sent_in c.args.posted.now) (event_view c.args.event.now) c.args.node.now
+    refuses_step c.args.posted.now.sent (event_view c.args.event.now) c.args.node.now
     c.ready.new.node c.finish.new.node c.in_ok-ready.ready c.in-Err.fault
     c.in_ok-ready.ensures.step c.in_ok-ready.ensures.log c.in-Err.ensures.same
     c.in-Err.ensures.refused

@@ -1,6 +1,6 @@
 use Rattle.std.proofs.Common.{map, [], ◌∷◌}
 use Rattle.std.proofs.lemmas.List.{map-append}
-use Rattle.package_record.specs.Views.{file_view}
+use Rattle.package_record.specs.FileView.{file_view}
 use Rattle.traces.specs.Fields.{file_in}
 use Rattle.traces.proofs.Lists.{all_more}
 use Rattle.traces.proofs.files.files.Goals as goal

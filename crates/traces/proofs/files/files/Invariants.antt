@@ -1,5 +1,5 @@
 use Rattle.std.proofs.Common.{◌≡◌, map, drop}
-use Rattle.package_record.specs.Views.{file_view}
+use Rattle.package_record.specs.FileView.{file_view}
 use Rattle.serde_json.specs.View.{items_view}
 use Rattle.traces.specs.Fields.{all_of, file_in}
 use Rattle.traces.proofs.Lists.{behind}

@@ -1,5 +1,5 @@
 use Rattle.std.proofs.Common.{◌≡◌, map, take}
-use Rattle.package_record.specs.Views.{file_view}
+use Rattle.package_record.specs.FileView.{file_view}
 use Rattle.serde_json.specs.View.{view}
 use Rattle.traces.specs.Written.{file_data}
 use Rattle.traces.proofs.writing.files.Given as goal

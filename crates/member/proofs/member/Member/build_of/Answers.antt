@@ -8,15 +8,13 @@ use Rattle.units.proofs.Kept.{unit_some}
 use Rattle.protocol.specs.Jobs.{build_by}
 use Rattle.protocol.proofs.PackageOrder.{few_packages, grouped, paths_ascend}
 use Rattle.member.specs.inside.Packages.{files_at}
-use Rattle.member.proofs.MadeBuild.{as_many, build_made, build_refused, job_is_claimed, one_group}
+use Rattle.member.proofs.MadeBuild.{as_many, build_made, build_refused, one_group}
 use Rattle.member.proofs.MadeBuild.{paths_made, records_made, runs_ascend}
 use Rattle.member.proofs.member.Member.build_of.Goals as goal
 
 pub make-requires-clause-claim : goal.make-requires-clause-claim
 make-requires-clause-claim c =
-    subst IsClaim (ap (λ (x : Task). x.claim) (sym c.job.view_is))
-    (job_is_claimed c.args.self.now c.args.unit c.args.job.now c.packages_of.ensures.member
-    c.requires.job)
+    subst IsClaim (ap (λ (x : Task). x.claim) (sym c.job.view_is)) c.requires.claim
 
 pub make-requires-clause-run : goal.make-requires-clause-run
 make-requires-clause-run c =

@@ -8,6 +8,7 @@ use Rattle.protocol.specs.Answers.{everyone, message_of}
 use Rattle.protocol.specs.Sends.{sent_to}
 use Rattle.protocol.specs.State.{State}
 use Rattle.member.proofs.BuiltAnswers.{built_refused, built_said}
+use Rattle.member.proofs.MadeBuild.{waiting_is_claimed}
 use Rattle.member.proofs.member.Member.built.Goals as goal
 
 pub returns-in_err-build : goal.returns-in_err-build
@@ -15,7 +16,7 @@ returns-in_err-build c =
     let p = err_from_is_err_and c.from_residual-in_err-build.result
     c.from_residual-in_err-build.ensures.1 in
     rw (p.1, p.2) (built_refused c.args.self.now c.args.path.now c.args.packages
-    c.in_ok-unit.unit c.in_ok-unit.job.now c.in_ok-unit.ensures _ c.in_err-build.ensures)
+    c.in_ok-unit.unit c.in_ok-unit.job.now c.in_ok-unit.ensures.job _ c.in_err-build.ensures)
 
 pub returns : goal.returns
 returns c =
@@ -27,7 +28,7 @@ returns c =
     c.saying.ensures.sends
     ∙ (c.in_ok-sends.ensures
     ∙ ap (sent_to (Some (message_of s u (Propose claim c.in_ok-build.build)))) all) in
-    built_said s c.args.path.now c.args.packages u c.in_ok-unit.job.now c.in_ok-unit.ensures
+    built_said s c.args.path.now c.args.packages u c.in_ok-unit.job.now c.in_ok-unit.ensures.job
     c.in_ok-build.build c.saying.result c.job.inside.host claim c.new.result c.in_ok-build.ensures
     (ap (λ (j : Task). j.host) c.job.view_is) (ap (λ (j : Task). j.claim) c.job.view_is)
     (c.new.ensures ∙ ap (λ (s : State). of_nobody s.weights) c.self.view_is)
@@ -35,3 +36,7 @@ returns c =
 
 pub proposed-requires : goal.proposed-requires
 proposed-requires c = grind (arith, common_steps)
+
+pub build_of-requires-clause-claim : goal.build_of-requires-clause-claim
+build_of-requires-clause-claim c =
+    waiting_is_claimed c.args.self.now c.args.path.now c.in_ok-unit.unit c.in_ok-unit.job.now c.building.ensures.member c.in_ok-unit.ensures.job

@@ -8,4 +8,6 @@ invariant_of-self g c =
     rw c.drop_pieces.ensures (record {
       node = other_pieces _ _ is.node (others_kept _ c.args.header.now _ (record { each = is.node.pieces; once = is.node.once; let_through = is.node.let_through }));
       together = is.together;
+      owner = is.owner;
+      end = is.end;
     })

@@ -17,7 +17,7 @@ invariant_of-self-in-Err-write_note g c =
     let i = c.self.inside in
     rw (c.in-Err-write_note.ensures.not_noted, c.make_room.ensures.same)
     (still_logged g.D.Disk.history i.member i.noted.texts i.pieces.items i.stopped i.log c.write_note.new.stopped c.write_note.new.log c.in-Err-write_note.fault
-    c.self.invariant c.in-Err-write_note.ensures.together)
+    c.self.invariant c.in-Err-write_note.ensures.together c.in-Err-write_note.ensures.owner c.in-Err-write_note.ensures.same_end)
 
 pub returns-in-Err-write_note-clause-any_moment : goal.returns-in-Err-write_note-clause-any_moment
 returns-in-Err-write_note-clause-any_moment g c =
@@ -33,7 +33,7 @@ invariant_of-self-in-Ok g c =
     done_invariant g.D.Disk.history i.member i.noted.texts i.pieces.items i.stopped i.log c.args.ready (option_copied c.note-note.result)
     c.self.invariant ready c.note-note.ensures c.take.new.member c.write_note.new.noted.texts c.make_room.new.pieces.items c.take.new.pieces.items c.write_note.new.stopped c.write_note.new.log
     c.take.ensures.member c.in-Ok.ensures.noted c.make_room.ensures.same c.take.ensures.pieces c.in-Ok.ensures.goes_on
-    c.in-Ok.ensures.together
+    c.in-Ok.ensures.together c.in-Ok.ensures.owner c.in-Ok.ensures.end
 
 pub returns-in-Ok-clause-taken : goal.returns-in-Ok-clause-taken
 returns-in-Ok-clause-taken g c =

@@ -1,11 +1,12 @@
-use Rattle.std.proofs.Common.{Ok, map, subst, sym}
+use Rattle.std.proofs.Common.{◌≡◌, ◌∙◌, Ok, ap, map, subst, sym}
 use Rattle.stable_record.specs.History.{seen}
-use Rattle.stable_record.specs.Log.{note_of}
+use Rattle.protocol.specs.State.{State}
+use Rattle.stable_record.specs.Log.{gate_place, note_of}
 use Rattle.stable_record.specs.Opening.{Opens}
 use Rattle.node.proofs.AtFirst.{not_begun}
 use Rattle.node.proofs.OneNode.{opens_as_one, whichever}
 use Rattle.node.proofs.Opened.{both_err, both_ok, log_refused, log_untouched, notes_refused, notes_untouched, opens_as, told_device}
-use Rattle.node.specs.OnLog.{identity}
+use Rattle.node.specs.OnLog.{identity, identity_of}
 use Rattle.node.proofs.node.Node.open.Goals as goal
 
 pub returns-in_default-clause-any_moment_err : goal.returns-in_default-clause-any_moment_err
@@ -66,3 +67,15 @@ returns-in-Err-clause-untouched g c = λ kept.
 
 pub returns-in-Err-clause-device : goal.returns-in-Err-clause-device
 returns-in-Err-clause-device g c = λ told. c.in-Err.ensures.device (told_device c.in-Err.fault (rw c.told.ensures at told))
+
+pub over-requires-clause-owner : goal.over-requires-clause-owner
+over-requires-clause-owner g c =
+    let m = c.in-Ok.member in
+    let new = c.in-Ok.ensures.fresh in
+    let whose : identity_of m ≡ identity c.args.tree.now c.args.weights.now c.args.me =
+    λ j. identity (c.in-Ok.ensures.tree j) (ap (λ (s : State). s.weights) new j) (ap (λ (s : State). s.me) new j) in
+    c.in-Ok-open.ensures.owner ∙ c.owner-owner.ensures.identity ∙ sym whose
+
+pub over-requires-clause-end : goal.over-requires-clause-end
+over-requires-clause-end g c =
+    c.in-Ok-open.ensures.end ∙ λ j. gate_place (sym c.in-Ok-open.ensures.owner j) (map note_of (sym c.as_slice.ensures.value j))

@@ -1,11 +1,15 @@
 use Rattle.std.proofs.Common.{rules, subst}
 use Rattle.running.specs.History.{IsHistory}
-use Rattle.running.proofs.StepHistory.{allowed_there, fits_there, listed_there, one_there}
+use Rattle.running.proofs.StepHistory.{allowed_there, fits_there, listed_there, one_there, records_there}
 use Rattle.running.proofs.running.World.agreed.Goals as goal
 
 pub returns-clause-one_a_path : goal.returns-clause-one_a_path
 returns-clause-one_a_path c =
     one_there c.args.self.now (subst IsHistory c.self.view_is c.self.invariant.history)
+
+pub returns-clause-records : goal.returns-clause-records
+returns-clause-records c =
+    records_there c.args.self.now (subst IsHistory c.self.view_is c.self.invariant.history)
 
 pub returns-clause-fits : goal.returns-clause-fits
 returns-clause-fits c =

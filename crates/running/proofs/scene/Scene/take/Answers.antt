@@ -4,7 +4,6 @@ use Rattle.events.specs.Events.{event_view}
 use Rattle.running.specs.declared.placed.Placed.TheVariants.{Down, Up}
 use Rattle.running.specs.declared.scene.Scene.{Scene}
 use Rattle.running.specs.inside.Placing.{world_of}
-use Rattle.running.specs.inside.Posting.{sent_in}
 use Rattle.running.proofs.StepHappens.{IsLeft, at_place, can, is_left, never_down, no_restart, ok_steps_happen, on_log}
 use Rattle.running.proofs.scene.Scene.take.Goals as goal
 
@@ -41,7 +40,7 @@ left c =
     (no_restart (event_view c.args.event.now) c.requires.step) c.node_of.result c.node_of.ensures
     c.index_mut.result.now
     (Up c.in-Up.node) c.index_mut.ensures.value c.in-Up.is)
-    (c.host_fits.ensures (sent_in c.args.self.now.posted)) c.take.new.node (scene_then c)
+    (c.host_fits.ensures c.args.self.now.posted.sent) c.take.new.node (scene_then c)
     (record {
       tree = refl;
       units = refl;

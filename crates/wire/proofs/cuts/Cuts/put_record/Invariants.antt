@@ -1,5 +1,5 @@
 use Rattle.std.proofs.Common.{◌≡◌, ◌++◌, flat_map, map, take}
-use Rattle.package_record.specs.Views.{file_view}
+use Rattle.package_record.specs.FileView.{file_view}
 use Rattle.wire.specs.inside.Cuts.{IsCut, text_in}
 use Rattle.wire.proofs.cuts.Cuts.put_record.Given as goal
 
