@@ -31,6 +31,5 @@ pub(crate) fn build_of(
         → IsRightUnless Refusal.Memory result
         (made_under (member_at world.now.world node x) u host claim packages) }
 {
-    drop(packages);
-    Err(Refusal::Memory)
+    world.node(node).build(path, host, claim, packages)
 }

@@ -12,9 +12,7 @@ use faults::Memory;
 use package_record::{Build, Record};
 use pkgpath::PkgPath;
 use running::World;
-
-/// How many bytes of a build's text each of its datagrams has but the last.
-const PIECE_SIZE: usize = 32_768;
+use wire::PIECE_SIZE;
 
 /// How many datagrams the promise of the node, which is up, takes: one, or those of its last vote
 /// for the unit that the path names.

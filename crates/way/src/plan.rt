@@ -1,5 +1,5 @@
 //! What a way is made of, or why there is none.
-ghost use Rattle.std.specs.Prelude.{◌≡◌, ◌⊎◌, IfErr, IfOk, MatchResult, None, Some, true};
+ghost use Rattle.std.specs.Prelude.{◌≡◌, ◌⊎◌, IfErr, IfOk, MatchResult, None, Some, slice_get, true};
 ghost use Rattle.faults.specs.Answers.{IsRightUnless};
 ghost use Rattle.protocol.specs.Given.{Given};
 ghost use Rattle.running.specs.History.{IsHistory};
@@ -80,7 +80,7 @@ fn test_unit(world: &World<'_>, node: u8, path: &PkgPath) -> Result<(), WayFault
 {
     let units = world.units();
     let Some(unit) = units.find(path) else {
-        return Err(stranger(world, path));
+        return Err(stranger(world, node, path));
     };
     let first = units.packages(unit)[0];
     match world.letter(node, first) {
@@ -90,11 +90,12 @@ fn test_unit(world: &World<'_>, node: u8, path: &PkgPath) -> Result<(), WayFault
 }
 
 /// Why a path that names no unit is refused.
-fn stranger(world: &World<'_>, path: &PkgPath) -> WayFault
-    ensures { (k : _) → (x : _)
-        → result ≡ refusal_of_stranger (member_at world.now.world k x) path.now }
+fn stranger(world: &World<'_>, node: u8, path: &PkgPath) -> WayFault
+    requires { is_up world.now.world node ≡ true }
+    ensures { (x : _) → slice_get world.now.world.nodes node ≡ Some x
+        → result ≡ refusal_of_stranger (member_at world.now.world node x) path.now }
 {
-    match world.tree().position(path) {
+    match world.node(node).tree().position(path) {
         Some(_) => WayFault::NotQueued,
         None => WayFault::Refused(Refusal::Unlisted),
     }

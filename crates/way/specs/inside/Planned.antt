@@ -3,12 +3,11 @@ use Rattle.std.specs.Prelude.{◌≡◌, ◌<◌, ℕ, suc, true, Some, Result, 
 use Rattle.agreement.specs.declared.claim.Claim.{Claim}
 use Rattle.claims.specs.Claim.{greatest_round}
 use Rattle.engine.specs.declared.Letter.TheVariants as letters
-use Rattle.faults.specs.Answers.{unless_fault}
 use Rattle.faults.specs.Bytes.{Text}
 use Rattle.protocol.specs.Given.{Given}
-use Rattle.protocol.specs.Jobs.{build_by, job_of}
+use Rattle.protocol.specs.Jobs.{job_of}
 use Rattle.protocol.specs.State.{HasLetter, State, Value}
-use Rattle.protocol.specs.Step.{files_refusal}
+use Rattle.protocol.specs.Step.{made_by}
 use Rattle.protocol.specs.declared.refusal.Refusal.{Refusal}
 use Rattle.protocol.specs.declared.refusal.Refusal.TheVariants as refusals
 use Rattle.units.specs.Division.{number_found}
@@ -31,9 +30,7 @@ pub record IsShown (w : World) (k : ℕ) (path : Text) : Type 0 where
 
 -- what member s makes of the files for unit u, under the claim, or why they make none
 abbrev pub made_under : State → ℕ → ℕ → Claim → Given → Result Value Refusal
-made_under s u host c given = unless_fault
-    (files_refusal s u given (build_by s u (job_of s u host c) given))
-    (build_by s u (job_of s u host c) given)
+made_under s u host c given = made_by s u (job_of s u host c) given
 
 -- a member's refusal as that of a way
 abbrev pub fault_of : Refusal → WayFault

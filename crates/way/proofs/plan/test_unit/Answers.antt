@@ -21,6 +21,6 @@ returns-in_default-clause-refused c = λ host given.
       up = n.2;
       letter = letters.T;
       shown = subst (λ o. IsLetterOf (member_at w k n.0) o letters.T) (sym none) tt;
-      tested_is = ap (λ f. Some f) (c.stranger.ensures k n.0)
+      tested_is = ap (λ f. Some f) (c.stranger.ensures n.0 n.1)
           ∙ ap (refusal_at w (member_at w k n.0) letters.T path host given) (sym none);
     }
