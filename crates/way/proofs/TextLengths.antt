@@ -1,6 +1,6 @@
 -- How long the texts of builds are, part by part.
 use Rattle.std.proofs.Common.{◌≡◌, ◌<◌, ◌≤◌, ◌+◌, ◌*◌, ◌/◌, ◌%◌, ℕ, zero, suc, min, List, [], ◌∷◌, ◌++◌, flat_map, get_or, length, map, take, sym, ap, ◌∙◌, arith}
-use Rattle.std.proofs.lemmas.List.{length-append, take_more}
+use Rattle.std.proofs.lemmas.List.{length-append, map-append, take_more}
 use Rattle.package_record.specs.Build.{records_text}
 use Rattle.package_record.specs.Content.{Content, NamedFile, record_text}
 use Rattle.std.proofs.lemmas.List.FromFn.{length-range_with_len}
@@ -77,6 +77,18 @@ some_within v (x ∷ xs) (suc n) =
     (flat_map (λ (g : NamedFile). g.bytes) (map v (take n xs))) in
     let all = length-append (v x).bytes (flat_map (λ (g : NamedFile). g.bytes) (map v xs)) in
     omega (arith, rest, part, all)
+
+-- and one more of these
+pub some_more : {X : Type 0} (v : X → NamedFile) (xs : List X) (i : ℕ) (x : X) → i < length xs
+    → x ≡ get_or xs i x
+    → length (flat_map (λ (g : NamedFile). g.bytes) (map v (take (i + 1) xs)))
+    ≡ length (flat_map (λ (g : NamedFile). g.bytes) (map v (take i xs))) + length (v x).bytes
+some_more v xs i x lt here =
+    ap (λ l. length (flat_map (λ (g : NamedFile). g.bytes) (map v l)))
+    (take_more xs i x lt ∙ ap (λ y. take i xs ++ y ∷ []) (sym here))
+    ∙ ap (λ (l : List NamedFile). length (flat_map (λ (g : NamedFile). g.bytes) l))
+    (map-append v (take i xs) (x ∷ []))
+    ∙ files_push (map v (take i xs)) (v x)
 
 -- how many datagrams a build of so many bytes takes
 pub same_count : (size q : ℕ) → size ≤ 4194304 → size ≤ q * 32768 → q * 32768 < size + 32768

@@ -39,3 +39,22 @@ loop-record-preserved c =
     let here = c.record-item.is ∙ ap (λ (ds : List Content). get_or ds i c.record-item.result) is in
     let more = one_more_record cs i c.record-item.result below here in
     omega (arith, more, c.loop-record.invariant, c.in_ok-len.ensures)
+
+pub returns-clause-len : goal.returns-clause-len
+returns-clause-len c =
+    let cs = c.args.build.now in
+    let is = c.packages-record-items.ensures.records in
+    let i = c.loop-record.record-index in
+    let all = ap (λ (ds : List Content). length (records_text ds))
+    (take_all i cs (omega (arith, c.loop-record-test.false, ap length is))) in
+    omega (arith, c.loop-record.invariant, all, text_length cs)
+
+pub returns-clause-few : goal.returns-clause-few
+returns-clause-few c =
+    let cs = c.args.build.now in
+    let is = c.packages-record-items.ensures.records in
+    let i = c.loop-record.record-index in
+    let all = ap (λ (ds : List Content). length (records_text ds))
+    (take_all i cs (omega (arith, c.loop-record-test.false, ap length is))) in
+    let fits : length (build_text cs) ≤ 4194304 = (c.unit_path-path.ensures.build).fits in
+    omega (arith, c.loop-record.invariant, all, text_length cs, fits)
