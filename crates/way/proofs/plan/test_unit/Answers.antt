@@ -1,0 +1,26 @@
+use Rattle.std.proofs.Common.{◌≡◌, ℕ, None, Some, sym, ap, subst, ◌∙◌}
+use Rattle.engine.specs.declared.Letter.TheVariants as letters
+use Rattle.protocol.specs.Step.{IsLetterOf}
+use Rattle.units.specs.Division.{number_found}
+use Rattle.way.specs.Asked.{refusal_at}
+use Rattle.way.proofs.Seen.{node_up}
+use Rattle.way.proofs.plan.test_unit.Goals as goal
+use Rattle.world.specs.World.{member_at}
+
+pub returns-in_default-clause-refused : goal.returns-in_default-clause-refused
+returns-in_default-clause-refused c = λ host given.
+    let w = c.args.world.now.world in
+    let k = c.args.node in
+    let path = c.args.path.now in
+    let n = node_up w k c.requires.up in
+    let none : number_found w.division path ≡ None =
+    ap (λ d. number_found d path) (sym c.units-units.ensures) ∙ sym c.in_default.ensures in
+    record {
+      node = n.0;
+      stands = n.1;
+      up = n.2;
+      letter = letters.T;
+      shown = subst (λ o. IsLetterOf (member_at w k n.0) o letters.T) (sym none) tt;
+      tested_is = ap (λ f. Some f) (c.stranger.ensures n.0 n.1)
+          ∙ ap (refusal_at w (member_at w k n.0) letters.T path host given) (sym none);
+    }
