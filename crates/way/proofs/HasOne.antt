@@ -1,5 +1,5 @@
 -- Where nothing is refused, the list that is told is a short way.
-use Rattle.std.proofs.Common.{◌≡◌, ◌<◌, ◌≤◌, ℕ, true, List, length, Option, None, Some, option_map, slice_get, refl, sym, ap, ◌∙◌}
+use Rattle.std.proofs.Common.{◌≡◌, ◌<◌, ◌≤◌, ℕ, true, List, length, Option, None, Some, option_map, slice_get, refl, sym, ap, subst, ◌∙◌}
 use Rattle.std.specs.Prelude.{Contains}
 use Rattle.agreement.specs.declared.claim.Claim.{Claim}
 use Rattle.ballots.specs.declared.message.Body.TheVariants as bodies
@@ -9,6 +9,7 @@ use Rattle.headline.proofs.OneList.{each_run_is_acts, one_answer, one_world}
 use Rattle.package_record.proofs.BuildsRead.{build_is_read}
 use Rattle.protocol.specs.Given.{Given}
 use Rattle.protocol.specs.State.{State}
+use Rattle.running.specs.History.{History, IsHistory, taken}
 use Rattle.units.specs.Division.{Division, number_found, unit_at}
 use Rattle.way.specs.Asked.{IsGranted, next_build, refusal_at}
 use Rattle.way.specs.Laws.{EachHasAWay, HasWay}
@@ -16,16 +17,18 @@ use Rattle.way.specs.Rounds.{next_claim}
 use Rattle.way.specs.Ways.{HoldsUnit, LeadsTo}
 use Rattle.way.specs.declared.fault.WayFault.{WayFault}
 use Rattle.way.specs.inside.Listed.{asked_of, promise_of, proposed_by, report_of_all, way_of}
+use Rattle.way.specs.inside.Planned.{IsShown}
 use Rattle.way.proofs.Arriving.{at_the_end}
 use Rattle.way.proofs.Going.{leads_also}
 use Rattle.way.proofs.Leading.{list_leads}
 use Rattle.protocol.proofs.Asked.{unit_is_one}
 use Rattle.way.proofs.Reached.{IsReached}
+use Rattle.way.proofs.Reasons.{some_node}
 use Rattle.way.proofs.Short.{is_short}
 use Rattle.way.proofs.Walking.{are_on_way}
 use Rattle.world.specs.Happening.{Leads, up_of}
 use Rattle.world.specs.Sent.{WasSent, message}
-use Rattle.world.specs.World.{IsMade, World, member_at, start}
+use Rattle.world.specs.World.{IsMade, World, WorldNode, member_at, start}
 
 -- a path of which nothing is refused names a unit
 pub granted_unit : (w : World) (k : ℕ) (path : Text) (host : ℕ) (given : Given)
@@ -85,3 +88,18 @@ each_has_one division weights before w k path host given made led few g =
       has_way division weights made w r k path host given g n.0 n.1 few
           (list_leads division weights made w r k path host given g n.0 n.1 few),
     )
+
+-- So the list that is told of what is shown is a short way.
+pub way_told : (h : History) (is : IsHistory h) (me : ℕ) (path : Text) (host : ℕ) (given : Given)
+    → host ≤ 65535 → IsGranted h.world me path host given → (s : IsShown h.world me path)
+    → HasWay h.world me path host given
+    (way_of h.world (member_at h.world me s.node) s.unit path host given)
+way_told h is me path host given few g s =
+    let w = h.world in
+    let r : IsReached w.division w.weights is.made w =
+    record { before = taken h; led = is.led } in
+    subst (λ (x : WorldNode). HasWay w me path host given
+    (way_of w (member_at w me x) s.unit path host given))
+    (some_node g.node s.node (sym g.stands ∙ s.stands))
+    (has_way w.division w.weights is.made w r me path host given g s.unit s.named few
+    (list_leads w.division w.weights is.made w r me path host given g s.unit s.named few))

@@ -4,6 +4,8 @@ use Rattle.std.specs.Prelude.{Contains, is_some}
 use Rattle.events.specs.Events.{Event}
 use Rattle.listing.specs.Tree.{path_at}
 use Rattle.protocol.specs.State.{Value, facts_at, holds_package, is_held, is_held_any}
+use Rattle.running.specs.History.{History, IsHistory, taken}
+use Rattle.std.proofs.lemmas.List.{length-replicate}
 use Rattle.units.specs.Division.{Division, number_of, unit_at}
 use Rattle.units.proofs.Kept.{unit_listed}
 use Rattle.units.proofs.WellMade.{one_unit_has}
@@ -11,7 +13,8 @@ use Rattle.way.specs.Ways.{HoldsUnit}
 use Rattle.way.proofs.Deciding.{some_same}
 use Rattle.way.proofs.Reached.{IsReached, its_acts, its_local, its_match, its_own}
 use Rattle.world.specs.Headline.{holds}
-use Rattle.world.specs.World.{IsMade, World, WorldNode, member_at}
+use Rattle.world.proofs.Growing.{leads_later}
+use Rattle.world.specs.World.{IsMade, World, WorldNode, fresh_node, member_at, start}
 use Rattle.headline.proofs.Building.{has_its_record}
 use Rattle.headline.proofs.Cutting.{made_here}
 use Rattle.headline.proofs.Holding.{held_within}
@@ -41,3 +44,9 @@ module _ (division : Division) (weights : List ℕ) (made : IsMade division weig
           ap (is_held_any (member_at w k h.node)) number ∙ h.held in
           ap is_some (has_its_record division weights acts w made own local m k h.node h.stands p
           (unit_listed w.division u p here.divided lt within) packed).1
+
+-- In a world that is reached there is a node for each member.
+pub one_for_each : (h : History) → IsHistory h → length h.world.nodes ≡ length h.world.weights
+one_for_each h is =
+    let later = leads_later (start h.world.division h.world.weights) h.world (taken h) is.led in
+    later.nodes ∙ length-replicate (length h.world.weights) fresh_node

@@ -14,8 +14,11 @@ use Rattle.agreement.proofs.AgreedList.{IsFine}
 use Rattle.agreement.proofs.Majorities.{majorities}
 use Rattle.agreement.proofs.Order.{below_test}
 use Rattle.agreement.proofs.Sound.{IsSound, IsVoted}
+use Rattle.faults.specs.Bytes.{Text}
+use Rattle.node.specs.State.{NodeState}
 use Rattle.protocol.specs.State.{Value, facts_at}
-use Rattle.units.specs.Division.{Division}
+use Rattle.protocol.specs.Step.{facts_named, facts_of_unit}
+use Rattle.units.specs.Division.{Division, number_found}
 use Rattle.way.specs.Asked.{is_majority_up}
 use Rattle.way.specs.Rounds.{last_round, next_claim, round_in, rounds_promised, seen_at, seen_of}
 use Rattle.way.specs.inside.Listed.{asked_of, nodes_up, until_majority}
@@ -23,7 +26,7 @@ use Rattle.way.proofs.Appending.{later}
 use Rattle.way.proofs.Majority.{MakeMajority, joined_by, until_is_enough}
 use Rattle.way.proofs.Reached.{IsReached, its_acts, its_match, its_own}
 use Rattle.world.specs.Happening.{is_up, up_of}
-use Rattle.world.specs.World.{IsMade, World, WorldNode, member_at}
+use Rattle.world.specs.World.{IsMade, World, WorldNode, member_at, node_at}
 use Rattle.headline.specs.Mirrored.{after_all_acts}
 use Rattle.headline.specs.Needs.{may_build}
 use Rattle.headline.proofs.Headers.{in_order}
@@ -118,6 +121,27 @@ next_unvoted division weights made w r u k j x within stands up h =
     (omega (arith, le))
     (subst (λ (f : Facts Value). Reaches f.voted (next_claim w u k)) (seen_is w u j x stands up) h)
 
+-- a node that is up stands
+pub node_up : (w : World) (j : ℕ) → is_up w j ≡ true
+    → (x : WorldNode) × (slice_get w.nodes j ≡ Some x) × (x.up ≡ true)
+node_up w j on = by (slice_get w.nodes j) refl on
+  where
+    by : (o : Option WorldNode) → slice_get w.nodes j ≡ o → up_of o ≡ true
+        → (x : WorldNode) × (slice_get w.nodes j ≡ Some x) × (x.up ≡ true)
+    by None e up = absurd (true≢false (sym up))
+    by (Some x) e up = (x, e, up)
+
+-- and what it tells of the path that names the unit
+pub told_is : (w : World) (path : Text) (u j : ℕ) (n : NodeState)
+    → number_found w.division path ≡ Some u → is_up w j ≡ true
+    → ((x : WorldNode) → slice_get w.nodes j ≡ Some x → n ≡ node_at w j x)
+    → facts_named n.member path ≡ seen_at w u j
+told_is w path u j n named on is =
+    let x = node_up w j on in
+    ap (λ (m : NodeState). facts_named m.member path) (is x.0 x.1)
+    ∙ ap (facts_of_unit (member_at w j x.0)) named
+    ∙ sym (seen_is w u j x.0 x.1 x.2)
+
 -- ---- who is asked
 
 -- each once
@@ -195,15 +219,6 @@ asked_apart w = until_apart w.weights nobody (nodes_up w)
     (range_apart (is_up w) 0 (length w.nodes))
 
 -- each of them is up
-pub node_up : (w : World) (j : ℕ) → is_up w j ≡ true
-    → (x : WorldNode) × (slice_get w.nodes j ≡ Some x) × (x.up ≡ true)
-node_up w j on = by (slice_get w.nodes j) refl on
-  where
-    by : (o : Option WorldNode) → slice_get w.nodes j ≡ o → up_of o ≡ true
-        → (x : WorldNode) × (slice_get w.nodes j ≡ Some x) × (x.up ≡ true)
-    by None e up = absurd (true≢false (sym up))
-    by (Some x) e up = (x, e, up)
-
 pub asked_up : (w : World) (j : ℕ) → Contains (asked_of w) j
     → (x : WorldNode) × (slice_get w.nodes j ≡ Some x) × (x.up ≡ true)
 asked_up w j h = node_up w j (kept_pass (is_up w) (range_with_len 0 (length w.nodes)) j
@@ -251,12 +266,14 @@ kept_in p (x ∷ xs) j h on =
     left rest off (zero, lt, e) = absurd (true≢false (sym on ∙ sym (ap p e) ∙ off))
     left rest off (suc i, lt, e) = rest (i, omega (arith, lt), e)
 
+pub up_joined : (w : World) (j : ℕ) → is_up w j ≡ true → joined_by nobody (nodes_up w) j ≡ true
+up_joined w j on = joined_has nobody (nodes_up w) j
+    (kept_in (is_up w) (range_with_len 0 (length w.nodes)) j
+    (let n = node_up w j on in let lt = get_within w.nodes j n.0 n.1 in
+    in_first 0 (length w.nodes) j (omega arith) (omega (arith, lt))) on)
+
 pub asked_are_enough : (w : World) → is_majority_up w ≡ true
     → MakeMajority w.weights nobody (asked_of w)
 asked_are_enough w up =
     until_is_enough w.weights nobody (nodes_up w) (nobody_is_none w.weights)
-    ((majorities w.weights).grow (is_up w) (joined_by nobody (nodes_up w))
-    (λ j on. joined_has nobody (nodes_up w) j
-    (kept_in (is_up w) (range_with_len 0 (length w.nodes)) j
-    (let n = node_up w j on in let lt = get_within w.nodes j n.0 n.1 in
-    in_first 0 (length w.nodes) j (omega arith) (omega (arith, lt))) on)) up)
+    ((majorities w.weights).grow (is_up w) (joined_by nobody (nodes_up w)) (up_joined w) up)

@@ -29,7 +29,8 @@ pub(crate) fn events_of(
     packages: Packages,
     plan: &Plan,
 ) -> Result<Vec<Event>, Memory>
-    requires { IsHistory world.now }
+    requires history { IsHistory world.now }
+    requires plan { IsPlan world.now.world node path.now host packages plan.now }
     ensures { IfOk result (λ events.
         (p : IsPlan world.now.world node path.now host packages plan.now)
         → map event_view events.items ≡ way_of world.now.world

@@ -1,7 +1,7 @@
 use Rattle.std.proofs.Common.{◌≡◌, ◌+◌, List, ap, flat_map, length, map, sym, ◌∙◌, arith}
 use Rattle.std.proofs.lemmas.List.{length-append}
 use Rattle.package_record.specs.Content.{NamedFile, header_text}
-use Rattle.package_record.specs.Views.{file_view}
+use Rattle.package_record.specs.FileView.{file_view}
 use Rattle.way.proofs.TextLengths.{some_more, some_within}
 use Rattle.way.proofs.lengths.record_len.Goals as goal
 

@@ -1,6 +1,6 @@
 use Rattle.std.proofs.Common.{◌≡◌, ◌+◌, flat_map, length, map, take}
 use Rattle.package_record.specs.Content.{header_text}
-use Rattle.package_record.specs.Views.{file_view}
+use Rattle.package_record.specs.FileView.{file_view}
 use Rattle.way.proofs.lengths.record_len.Given as goal
 
 abbrev pub invariant-loop-file : goal.invariant-loop-file

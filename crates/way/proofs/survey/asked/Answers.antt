@@ -1,7 +1,9 @@
 use Rattle.std.proofs.Common.{◌≡◌, ◌<◌, ◌≤◌, ◌++◌, ℕ, true, false, [], ◌∷◌, List, filter, ap, length, sym, subst, ◌∙◌, arith}
+use Rattle.std.specs.List.{range_with_len}
 use Rattle.agreement.specs.Quorums.{is_majority, named_in}
 use Rattle.member.proofs.KeptNumbers.{no_more, none_more_kept, one_more_kept}
-use Rattle.way.proofs.Enough.{nobody_is_none}
+use Rattle.way.proofs.Enough.{asked_stops, none_up, nobody_is_none}
+use Rattle.way.proofs.Holding.{one_for_each}
 use Rattle.way.proofs.survey.asked.Goals as goal
 use Rattle.way.proofs.survey.asked.Goals.{then-is_up+else-is_majority, else-is_up}
 use Rattle.world.specs.Happening.{is_up}
@@ -48,3 +50,36 @@ loop-node-preserved c =
                 ∙ c.loop-node.invariant.none;
           }
     ]
+
+pub returns-then-is_majority : goal.returns-then-is_majority
+returns-then-is_majority c =
+    let w = c.args.world.now.world in
+    let k = c.loop-node.node in
+    let xs = c.loop-node.asked.items in
+    let pushed = c.push.ensures.items in
+    let each = one_for_each c.args.world.now c.requires in
+    let many = c.len-node-end.ensures.members in
+    let weights = ap length c.weights-weights.ensures in
+    let lt : k < length w.nodes = omega (arith, c.loop-node-test.true, many, weights, each) in
+    let all : is_majority w.weights (named_in (xs ++ k ∷ [])) ≡ true =
+    ap (λ l. is_majority w.weights (named_in l)) (sym pushed)
+    ∙ ap (λ l. is_majority w.weights (named_in l)) (sym c.as_slice-then-is_up.ensures.value)
+    ∙ ap (λ l. is_majority l (named_in c.as_slice-then-is_up.result.now))
+    (sym (c.as_slice.ensures.weights ∙ c.weights-weights.ensures))
+    ∙ sym c.is_majority.ensures ∙ c.if-is_majority.true in
+    let n = asked_stops w k xs lt (sym c.is_up.ensures ∙ c.if-is_up.true)
+    c.loop-node.invariant.kept c.loop-node.invariant.none all in
+    (n.0, pushed ∙ n.1)
+
+pub returns : goal.returns
+returns c =
+    let w = c.args.world.now.world in
+    let xs = c.loop-node.asked.items in
+    let each = one_for_each c.args.world.now c.requires in
+    let many = c.len-node-end.ensures.members in
+    let few = c.len-node-end.ensures.few in
+    let weights = ap length c.weights-weights.ensures in
+    let last : c.loop-node.node ≡ length w.nodes =
+    omega (arith, c.loop-node-test.false, many, few, weights, each) in
+    none_up w xs (c.loop-node.invariant.kept
+    ∙ ap (λ n. filter (is_up w) (range_with_len 0 n)) last) c.loop-node.invariant.none
