@@ -51,7 +51,8 @@ abbrev pub as_way : Result Value Refusal → Result Value WayFault
 as_way (Ok build) = Ok build
 as_way (Err r) = Err (fault_of r)
 
--- what member s makes of the files under its claim in the round above this one, or why it makes none
+-- what member s makes of the files under its claim in the round above this one, or why it makes
+-- none
 abbrev pub next_or_fault : State → ℕ → ℕ → ℕ → Given → Result Value WayFault
 next_or_fault s u host last given =
     if nat_lt last greatest_round

@@ -15,5 +15,13 @@ overflow_add-len c =
     let files = ap (λ (fs : List NamedFile). length (flat_map (λ (g : NamedFile). g.bytes) fs))
     c.files-file-items.ensures in
     let all = length-append (header_text part) (flat_map (λ (g : NamedFile). g.bytes) part.files) in
-    omega (arith, more, within, files, all, c.loop-file.invariant, c.len-len-in-loop-file.ensures,
-    c.requires)
+    omega (
+      arith,
+      more,
+      within,
+      files,
+      all,
+      c.loop-file.invariant,
+      c.len-len-in-loop-file.ensures,
+      c.requires,
+    )
