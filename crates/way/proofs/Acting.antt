@@ -1,5 +1,5 @@
 -- What a node is asked by an event of its own, and takes, happens.
-use Rattle.std.proofs.Common.{◌≡◌, ◌<◌, ◌⊎◌, ℕ, true, false, List, [], ◌∷◌, length, Some, slice_get, slice_set, refl, sym, ap, subst, ◌∙◌, inl, inr, ⊎_elim}
+use Rattle.std.proofs.Common.{◌≡◌, ◌<◌, ℕ, true, false, List, [], ◌∷◌, length, Some, slice_get, slice_set, refl, sym, ap, subst, ◌∙◌, inl, inr, ⊎_elim}
 use Rattle.std.specs.Prelude.{All}
 use Rattle.agreement.specs.Nodes as nodes
 use Rattle.agreement.specs.Quorums.{is_majority}
@@ -27,7 +27,7 @@ use Rattle.units.proofs.Names.{name_is_found}
 use Rattle.way.specs.Ways.{LeadsTo}
 use Rattle.way.proofs.Reached.{IsReached, goes, its_acts, its_local, its_match, its_own, none_before, reached_then}
 use Rattle.wire.specs.Messages.{IsMessage}
-use Rattle.world.specs.Happening.{Acts, Asks, Happens, Steps, is_bad_stop, is_restart, is_up, lacks_datagram, leaves_note, stepped, up_of}
+use Rattle.world.specs.Happening.{Acts, Asks, Happens, Steps, is_bad_stop, is_restart, lacks_datagram, leaves_note, stepped, up_of}
 use Rattle.world.specs.Sent.{with_sends}
 use Rattle.world.specs.World.{IsMade, World, WorldNode, member_at, node_at, up_node}
 use Rattle.headline.specs.Matches.{node_of}

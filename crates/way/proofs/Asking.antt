@@ -1,6 +1,6 @@
 -- A whole turn of a node that is asked to promise: the offer comes to it, and its promise to the
 -- node whose claim it is.
-use Rattle.std.proofs.Common.{◌≡◌, ◌<◌, ◌+◌, ◌⊎◌, ℕ, zero, suc, true, List, [], ◌∷◌, ◌++◌, length, Option, None, Some, option_map, slice_get, slice_set, refl, sym, ap, ap₂, subst, ◌∙◌, arith, append-nil, ⊎_elim}
+use Rattle.std.proofs.Common.{◌≡◌, ◌<◌, ℕ, zero, suc, true, List, [], ◌∷◌, ◌++◌, length, Option, None, Some, option_map, slice_get, slice_set, refl, sym, ap, ap₂, subst, ◌∙◌, arith, append-nil, ⊎_elim}
 use Rattle.std.specs.Prelude.{Contains}
 use Rattle.std.proofs.lemmas.Bool.{cases_eq}
 use Rattle.std.proofs.lemmas.List.Elements.{Contains-append_right}

@@ -1,6 +1,6 @@
 -- The claim of the way: it is opened in the next round, and offered to all.
-use Rattle.std.proofs.Common.{◌≡◌, ◌<◌, ◌≤◌, ◌+◌, ◌⊎◌, ℕ, suc, max, Bool, true, false, nat_le, List, [], ◌∷◌, ◌++◌, length, filter, is_some, Option, None, Some, slice_get, refl, sym, ap, subst, ◌∙◌, arith, ⊎_elim}
-use Rattle.std.specs.Prelude.{All, Contains}
+use Rattle.std.proofs.Common.{◌≡◌, ◌<◌, ◌≤◌, ◌+◌, ℕ, suc, max, Bool, true, false, nat_le, List, [], ◌∷◌, ◌++◌, length, filter, is_some, Option, None, Some, slice_get, refl, sym, ap, subst, ◌∙◌, arith, ⊎_elim}
+use Rattle.std.specs.Prelude.{Contains}
 use Rattle.std.specs.FinSet.{contains-from_list_nat}
 use Rattle.std.specs.List.{range_with_len, slice_index_or}
 use Rattle.std.proofs.lemmas.Bool.{and_from, cases_eq, lt-leb, true≢false}

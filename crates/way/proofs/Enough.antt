@@ -1,5 +1,5 @@
 -- Members that are taken one after the other, until with the last they are a majority.
-use Rattle.std.proofs.Common.{◌≡◌, ◌<◌, ◌⊎◌, ℕ, zero, suc, Bool, true, false, ◌||◌, ◌==◌, ◌+◌, ◌-◌, ◌*◌, List, [], ◌∷◌, ◌++◌, filter, length, refl, inl, inr, ⊎_elim, sym, ap, ◌∙◌, subst, eqb-true, eq-eqb, arith, sum, append_assoc}
+use Rattle.std.proofs.Common.{◌≡◌, ◌<◌, ◌⊎◌, ℕ, zero, suc, Bool, true, false, ◌==◌, ◌+◌, ◌-◌, ◌*◌, List, [], ◌∷◌, ◌++◌, filter, length, refl, inl, inr, ⊎_elim, sym, ap, ◌∙◌, eqb-true, eq-eqb, arith, sum}
 use Rattle.std.specs.List.{range_with_len}
 use Rattle.std.proofs.lemmas.List.Elements.{filter-append}
 use Rattle.std.proofs.lemmas.Bool.{cond_both, cond-true, cond-false, false_from_ne_true, le-ltb, or_cases, or_left, or_right, true≢false}

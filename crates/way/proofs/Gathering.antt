@@ -22,7 +22,6 @@ use Rattle.way.proofs.Appending.{later}
 use Rattle.way.proofs.Asking.{Asks, one_ask, theirs}
 use Rattle.way.proofs.Going.{leads_also, leads_on}
 use Rattle.way.proofs.Majority.{MakeMajority}
-use Rattle.way.proofs.Promising.{promise}
 use Rattle.way.proofs.Reached.{its_own}
 use Rattle.way.proofs.Replies.{is_joined, is_quorum}
 use Rattle.way.proofs.Staying.{IsOpenStage}

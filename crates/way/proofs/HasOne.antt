@@ -1,5 +1,5 @@
 -- Where nothing is refused, the list that is told is a short way.
-use Rattle.std.proofs.Common.{◌≡◌, ◌<◌, ◌≤◌, ℕ, true, List, length, Option, None, Some, option_map, slice_get, refl, sym, ap, subst, ◌∙◌}
+use Rattle.std.proofs.Common.{◌≡◌, ◌≤◌, ℕ, List, Option, None, Some, refl, sym, ap, subst, ◌∙◌}
 use Rattle.std.specs.Prelude.{Contains}
 use Rattle.agreement.specs.declared.claim.Claim.{Claim}
 use Rattle.ballots.specs.declared.message.Body.TheVariants as bodies
@@ -15,7 +15,6 @@ use Rattle.way.specs.Asked.{IsGranted, next_build, refusal_at}
 use Rattle.way.specs.Laws.{EachHasAWay, HasWay}
 use Rattle.way.specs.Rounds.{next_claim}
 use Rattle.way.specs.Ways.{HoldsUnit, LeadsTo}
-use Rattle.way.specs.declared.fault.WayFault.{WayFault}
 use Rattle.way.specs.inside.Listed.{asked_of, promise_of, proposed_by, report_of_all, way_of}
 use Rattle.way.specs.inside.Planned.{IsShown}
 use Rattle.way.proofs.Arriving.{at_the_end}
@@ -26,9 +25,9 @@ use Rattle.way.proofs.Reached.{IsReached}
 use Rattle.way.proofs.Reasons.{some_node}
 use Rattle.way.proofs.Short.{is_short}
 use Rattle.way.proofs.Walking.{are_on_way}
-use Rattle.world.specs.Happening.{Leads, up_of}
+use Rattle.world.specs.Happening.{up_of}
 use Rattle.world.specs.Sent.{WasSent, message}
-use Rattle.world.specs.World.{IsMade, World, WorldNode, member_at, start}
+use Rattle.world.specs.World.{IsMade, World, WorldNode, member_at}
 
 -- a path of which nothing is refused names a unit
 pub granted_unit : (w : World) (k : ℕ) (path : Text) (host : ℕ) (given : Given)

@@ -1,5 +1,5 @@
 -- What was sent comes to a node that is up, and is heard.
-use Rattle.std.proofs.Common.{◌≡◌, ◌⊎◌, ℕ, true, false, List, [], ◌∷◌, length, Option, None, Some, Result, Ok, Err, slice_get, slice_set, refl, sym, ap, ◌∙◌, inl, inr, ⊎_elim}
+use Rattle.std.proofs.Common.{◌≡◌, ℕ, true, false, List, [], ◌∷◌, length, Option, None, Some, Result, Ok, Err, slice_get, slice_set, refl, sym, ap, ◌∙◌, inl, inr, ⊎_elim}
 use Rattle.std.specs.Prelude.{All}
 use Rattle.std.proofs.lemmas.Bool.{lt-leb}
 use Rattle.agreement.specs.Nodes as nodes
@@ -11,7 +11,7 @@ use Rattle.engine.specs.declared.Letter.TheVariants.{Q}
 use Rattle.events.specs.Events as events
 use Rattle.events.specs.Events.{Event}
 use Rattle.faults.specs.Bytes.{Text}
-use Rattle.node.specs.Arrival.{Whole, arrival_of}
+use Rattle.node.specs.Arrival.{arrival_of}
 use Rattle.node.specs.Ranges.{CanBeWritten}
 use Rattle.node.specs.Step.{Comes, Taken, after, heard, step_on}
 use Rattle.node.proofs.Pieces.{message_good}
@@ -37,7 +37,7 @@ use Rattle.wire.specs.Spelling.{datagram_text}
 use Rattle.wire.specs.declared.datagram.Datagram.TheVariants as datagrams
 use Rattle.wire.specs.declared.datagram.Piece.{Piece}
 use Rattle.wire.proofs.DatagramTexts.{datagram_again}
-use Rattle.world.specs.Happening.{Acts, is_up, lacks_datagram, stepped, up_of}
+use Rattle.world.specs.Happening.{Acts, lacks_datagram, stepped, up_of}
 use Rattle.world.specs.Sent.{WasSent, with_sends}
 use Rattle.world.specs.World.{IsMade, World, WorldNode, member_at, node_at, up_node}
 use Rattle.headline.specs.Matches.{node_of}

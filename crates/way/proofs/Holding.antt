@@ -1,12 +1,11 @@
 -- A node that holds the unit has a record for each of its packages.
-use Rattle.std.proofs.Common.{◌≡◌, ◌<◌, ℕ, Bool, true, false, List, length, Option, None, Some, slice_get, refl, sym, ap, subst, ◌∙◌, true≢false}
+use Rattle.std.proofs.Common.{◌≡◌, ℕ, true, List, length, Option, None, Some, slice_get, refl, sym, ap, subst, ◌∙◌, true≢false}
 use Rattle.std.specs.Prelude.{Contains, is_some}
-use Rattle.events.specs.Events.{Event}
 use Rattle.listing.specs.Tree.{path_at}
-use Rattle.protocol.specs.State.{Value, facts_at, holds_package, is_held, is_held_any}
+use Rattle.protocol.specs.State.{Value, facts_at, holds_package, is_held_any}
 use Rattle.running.specs.History.{History, IsHistory, taken}
 use Rattle.std.proofs.lemmas.List.{length-replicate}
-use Rattle.units.specs.Division.{Division, number_of, unit_at}
+use Rattle.units.specs.Division.{Division, unit_at}
 use Rattle.units.proofs.Kept.{unit_listed}
 use Rattle.units.proofs.WellMade.{one_unit_has}
 use Rattle.way.specs.Ways.{HoldsUnit}

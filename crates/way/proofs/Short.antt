@@ -1,5 +1,5 @@
 -- How long the way is.
-use Rattle.std.proofs.Common.{◌≡◌, ◌<◌, ◌≤◌, ◌+◌, ◌*◌, ◌⊎◌, ℕ, zero, suc, true, List, [], ◌∷◌, ◌++◌, length, map, filter, Option, None, Some, option_map, slice_get, refl, sym, ap, subst, ◌∙◌, arith, inl, inr, ⊎_elim}
+use Rattle.std.proofs.Common.{◌≡◌, ◌<◌, ◌≤◌, ◌+◌, ◌*◌, ◌⊎◌, ℕ, zero, suc, true, List, [], ◌∷◌, ◌++◌, length, Option, None, Some, option_map, slice_get, refl, sym, ap, subst, ◌∙◌, arith, inl, inr, ⊎_elim}
 use Rattle.std.specs.Prelude.{Contains}
 use Rattle.std.specs.List.{range_with_len}
 use Rattle.std.proofs.lemmas.Bool.{cases_lt, cond_both}
@@ -11,7 +11,6 @@ use Rattle.agreement.specs.AgreedList.{WasBuilt, beginning}
 use Rattle.agreement.specs.Claims.{claim_below}
 use Rattle.agreement.specs.Messages as theory
 use Rattle.agreement.specs.Member.{Facts, Member}
-use Rattle.agreement.specs.Nodes as nodes
 use Rattle.agreement.specs.Quorums.{Members, is_majority, nobody, with_member}
 use Rattle.agreement.specs.Votes.{Ballot, ballot, kept_report}
 use Rattle.agreement.specs.declared.claim.Claim.{Claim}
@@ -19,7 +18,7 @@ use Rattle.agreement.proofs.AgreedList.{IsFine}
 use Rattle.agreement.proofs.Sound.{IsFresh, IsSound}
 use Rattle.ballots.specs.declared.message.Body.TheVariants as bodies
 use Rattle.ballots.specs.declared.message.Message.{Message}
-use Rattle.events.specs.Events.{Built, Claim as claims, Deliver, Event}
+use Rattle.events.specs.Events.{Built, Deliver, Event}
 use Rattle.faults.specs.Bytes.{Text}
 use Rattle.package_record.specs.Build.{build_text}
 use Rattle.protocol.specs.Given.{Given}
@@ -27,9 +26,8 @@ use Rattle.protocol.specs.InTheAgreement.{pair_of}
 use Rattle.protocol.specs.State.{State, Value, facts_at}
 use Rattle.units.specs.Division.{Division, unit_at}
 use Rattle.way.specs.Asked.{next_build}
-use Rattle.way.specs.Length.{IsShort, MayCarry, MayTake, SentOne, pieces_in}
+use Rattle.way.specs.Length.{IsShort, MayTake, pieces_in}
 use Rattle.way.specs.Rounds.{last_round, next_claim, seen_at}
-use Rattle.way.specs.Ways.{HoldsUnit, LeadsTo}
 use Rattle.way.specs.inside.Listed.{asked_of, asks_from, behind_promises, deliveries, nodes_up, promise_of, promised_in, proposed_by, proposed_in, report_of_all, told_of, until_majority, votes_from, way_of}
 use Rattle.way.proofs.NotYet.{no_promise, no_proposal}
 use Rattle.way.proofs.Reached.{IsReached, its_acts, its_match, its_own}

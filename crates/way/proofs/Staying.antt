@@ -1,5 +1,5 @@
 -- What stays of a node when a message comes to it: the host of its open claim, and what it holds.
-use Rattle.std.proofs.Common.{◌≡◌, ◌<◌, ◌⊎◌, ℕ, true, List, length, Option, Some, slice_get, refl, sym, ap, subst, ◌∙◌, ⊎_elim}
+use Rattle.std.proofs.Common.{◌≡◌, ◌<◌, ℕ, true, List, length, Option, Some, slice_get, refl, sym, ap, subst, ◌∙◌, ⊎_elim}
 use Rattle.std.proofs.lemmas.Bool.{cases_eq}
 use Rattle.agreement.specs.Member.{Building, Closed, Facts, Gathering, Member, Stage, Voting}
 use Rattle.ballots.specs.declared.message.Body.{Body}

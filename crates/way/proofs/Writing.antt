@@ -1,5 +1,5 @@
 -- The events of a way as they are pushed, one node that is asked after the other.
-use Rattle.std.proofs.Common.{◌≡◌, ◌+◌, ℕ, suc, List, [], ◌∷◌, ◌++◌, Option, length, map, refl, sym, ap, ◌∙◌, arith, append_assoc}
+use Rattle.std.proofs.Common.{◌≡◌, ◌+◌, ℕ, suc, List, [], ◌∷◌, ◌++◌, Option, length, refl, sym, ap, ◌∙◌, arith, append_assoc}
 use Rattle.std.proofs.lemmas.List.{append-nil}
 use Rattle.agreement.specs.Votes.{Ballot, kept_report}
 use Rattle.agreement.specs.declared.claim.Claim.{Claim}

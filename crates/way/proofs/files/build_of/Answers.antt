@@ -1,4 +1,4 @@
-use Rattle.std.proofs.Common.{◌≡◌, Some, ap, subst, ◌∙◌}
+use Rattle.std.proofs.Common.{ap, subst, ◌∙◌}
 use Rattle.faults.specs.Answers.{IsRightUnless}
 use Rattle.node.specs.State.{NodeState}
 use Rattle.protocol.specs.Step.{unit_in}

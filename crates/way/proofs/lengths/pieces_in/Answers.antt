@@ -1,4 +1,4 @@
-use Rattle.std.proofs.Common.{length, sym, ◌∙◌, arith}
+use Rattle.std.proofs.Common.{length, sym, arith}
 use Rattle.std.proofs.lemmas.Grind.{div_ceil_times}
 use Rattle.package_record.specs.Build.{build_text}
 use Rattle.way.proofs.TextLengths.{same_count}

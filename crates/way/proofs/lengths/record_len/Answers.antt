@@ -1,4 +1,4 @@
-use Rattle.std.proofs.Common.{◌≡◌, ◌+◌, List, ap, flat_map, length, map, sym, ◌∙◌, arith}
+use Rattle.std.proofs.Common.{◌+◌, List, ap, flat_map, length, arith}
 use Rattle.std.proofs.lemmas.List.{length-append}
 use Rattle.package_record.specs.Content.{NamedFile, header_text}
 use Rattle.package_record.specs.FileView.{file_view}

@@ -1,8 +1,7 @@
-use Rattle.std.proofs.Common.{◌≡◌, ◌<◌, ◌≤◌, ◌+◌, List, get_or, length, take, sym, ap, subst, ◌∙◌, arith}
-use Rattle.std.specs.Prelude.{All}
+use Rattle.std.proofs.Common.{◌<◌, ◌≤◌, ◌+◌, List, get_or, length, sym, ap, subst, ◌∙◌, arith}
 use Rattle.std.proofs.lemmas.List.{take_all}
-use Rattle.package_record.specs.Build.{build_text, lines_before, records_text}
-use Rattle.package_record.specs.Content.{Content, IsRecord, most_bytes, record_text}
+use Rattle.package_record.specs.Build.{build_text, records_text}
+use Rattle.package_record.specs.Content.{Content, most_bytes, record_text}
 use Rattle.package_record.proofs.BuildTexts.{text_length}
 use Rattle.way.proofs.TextLengths.{one_more_record, part_within}
 use Rattle.way.proofs.lengths.text_len.Goals as goal

@@ -1,15 +1,9 @@
-use Rattle.std.proofs.Common.{◌≡◌, ◌<◌, ◌≤◌, ◌+◌, ℕ, suc, nat_lt, Result, Ok, Err, length, sym, ap, subst, ◌∙◌, arith, inl, inr, lt-ltb, ⊎_elim}
-use Rattle.std.proofs.lemmas.Bool.{cases_lt, cond-true}
-use Rattle.agreement.specs.declared.claim.Claim.{Claim}
-use Rattle.claims.specs.Claim.{greatest_round}
+use Rattle.std.proofs.Common.{◌≡◌, ◌<◌, ◌≤◌, suc, Err, length, sym, ap, ◌∙◌, arith, inl, inr, ⊎_elim}
+use Rattle.std.proofs.lemmas.Bool.{cases_lt}
 use Rattle.headline.proofs.Members.{get_within}
-use Rattle.protocol.specs.State.{Value}
-use Rattle.protocol.specs.declared.refusal.Refusal.{Refusal}
-use Rattle.protocol.specs.declared.refusal.Refusal.TheVariants as refusals
 use Rattle.running.proofs.Shown.{few_nodes}
 use Rattle.way.proofs.Planning.{next_left}
-use Rattle.way.specs.declared.fault.WayFault.TheVariants as fault
-use Rattle.way.specs.inside.Planned.{as_way, fault_of, made_under}
+use Rattle.way.specs.inside.Planned.{as_way, fault_of}
 use Rattle.world.specs.World.{member_at}
 use Rattle.way.proofs.plan.next_build.Goals as goal
 

@@ -1,4 +1,4 @@
-use Rattle.std.proofs.Common.{◌≡◌, inl, inr, refl, ⊎_elim}
+use Rattle.std.proofs.Common.{inl, inr, refl, ⊎_elim}
 use Rattle.std.proofs.lemmas.Result.{err_from_is_err_and}
 use Rattle.way.proofs.Planning.{is_granted, is_planned, no_build, no_majority}
 use Rattle.way.proofs.plan.planned.Goals as goal

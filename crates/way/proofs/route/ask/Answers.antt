@@ -1,4 +1,4 @@
-use Rattle.std.proofs.Common.{◌≡◌, ◌+◌, ◌++◌, [], ◌∷◌, List, suc, ap, get_or, map, take, sym, ◌∙◌, append_assoc, arith}
+use Rattle.std.proofs.Common.{◌+◌, ◌++◌, [], ◌∷◌, List, suc, ap, get_or, map, take, sym, ◌∙◌, append_assoc, arith}
 use Rattle.std.proofs.lemmas.List.{take_more}
 use Rattle.events.specs.Events.{Deliver, Event, event_view}
 use Rattle.way.specs.inside.Listed.{asks_from, behind_promises, deliveries, promised_in}

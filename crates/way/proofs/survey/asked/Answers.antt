@@ -1,4 +1,4 @@
-use Rattle.std.proofs.Common.{◌≡◌, ◌<◌, ◌≤◌, ◌++◌, ℕ, true, false, [], ◌∷◌, List, filter, ap, length, sym, subst, ◌∙◌, arith}
+use Rattle.std.proofs.Common.{◌≡◌, ◌<◌, ◌++◌, true, [], ◌∷◌, filter, ap, length, sym, ◌∙◌, arith}
 use Rattle.std.specs.List.{range_with_len}
 use Rattle.agreement.specs.Quorums.{is_majority, named_in}
 use Rattle.member.proofs.KeptNumbers.{no_more, none_more_kept, one_more_kept}

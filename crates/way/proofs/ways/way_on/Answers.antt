@@ -1,5 +1,5 @@
-use Rattle.std.proofs.Common.{◌≡◌, ◌≤◌, List, map, sym, subst, arith}
-use Rattle.events.specs.Events.{Event, event_view}
+use Rattle.std.proofs.Common.{◌≤◌, List, sym, subst, arith}
+use Rattle.events.specs.Events.{Event}
 use Rattle.protocol.specs.Given.{Given}
 use Rattle.way.specs.Asked.{IsGranted}
 use Rattle.way.specs.Laws.{HasWay}
