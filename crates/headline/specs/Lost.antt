@@ -1,5 +1,5 @@
--- Nodes that are lost: they went down inside a step, and never start again. What they were left with
--- matters to nobody.
+-- Nodes that are lost: they went down inside a step, and never start again. What they were left
+-- with matters to nobody.
 use Rattle.std.specs.Prelude.{◌≡◌, ◌≢◌, ◌⊎◌, ◌++◌, ◌∷◌, ℕ, false, List, Some, All, length, slice_get}
 use Rattle.std.specs.List.{AllZip}
 use Rattle.events.specs.Events.{Event, Restart, StopIn, node_of}
@@ -43,7 +43,8 @@ AreLeftAs events others = AllZip IsLeftAs events others
 pub record IsButLost (w v : World) : Type 0 where
   pub but : v ≡ record w { nodes = v.nodes }
   pub count : length v.nodes ≡ length w.nodes
-  pub nodes : (k : ℕ) (x y : WorldNode) → slice_get w.nodes k ≡ Some x → slice_get v.nodes k ≡ Some y
+  pub nodes : (k : ℕ) (x y : WorldNode)
+      → slice_get w.nodes k ≡ Some x → slice_get v.nodes k ≡ Some y
       → (y ≡ x) ⊎ ((x.up ≡ false) × (y.up ≡ false))
 
 -- Where nodes went down inside steps that left nothing of their notes, and never start again,

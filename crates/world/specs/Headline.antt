@@ -158,8 +158,8 @@ AuditSaysYes w = IsAllowed w.division.tree (map entry_of w.agreed)
 -- package a path; each was built by a host under a claim for its unit, after every dependency in
 -- its signature stood in the list with that very signature; every package that a node holds is in
 -- it, so that no node holds then another package for a path than a node does at the end; and a path
--- that a node shows as installable has its run closure held there. Besides, each package is a record
--- and fits the tree, and an audit of the list says yes.
+-- that a node shows as installable has its run closure held there. Besides, each package is a
+-- record and fits the tree, and an audit of the list says yes.
 pub record HasOneList (division : Division) (weights : List ℕ) (events : List Event) (last : World)
     : Type 0 where
   pub grows : AtEachMoment division weights events last
