@@ -1,0 +1,11 @@
+use Rattle.std.proofs.Common.{◌≡◌, ℕ, None, Some, take}
+use Rattle.std.specs.Option.{option_copied}
+use Rattle.agreement.specs.Votes.{report_of}
+use Rattle.units.specs.Division.{number_found}
+use Rattle.way.specs.inside.Listed.{report_of_all}
+use Rattle.way.proofs.survey.report.Given as goal
+
+abbrev pub invariant-loop-node : goal.invariant-loop-node
+invariant-loop-node l = (u : ℕ) → number_found l.world.world.division l.path ≡ Some u
+    → report_of (option_copied l.kept)
+    ≡ report_of_all l.world.world u None (take l.node-index l.asked)

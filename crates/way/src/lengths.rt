@@ -1,0 +1,67 @@
+//! In how many datagrams a message goes out.
+ghost use Rattle.std.specs.Prelude.{◌≡◌, ◌≤◌, IfOk, Some, length, true};
+ghost use Rattle.package_record.specs.Build.{build_text};
+ghost use Rattle.package_record.specs.Content.{most_bytes, record_text};
+ghost use Rattle.units.specs.Division.{number_found};
+ghost use Rattle.way.specs.Length.{pieces_in};
+ghost use Rattle.way.specs.inside.Listed as listed;
+ghost use Rattle.wire.specs.Pieces.{most_pieces};
+ghost use Rattle.world.specs.Happening.{is_up};
+
+use faults::Memory;
+use package_record::{Build, Record};
+use pkgpath::PkgPath;
+use running::World;
+use wire::PIECE_SIZE;
+
+/// How many datagrams the promise of the node, which is up, takes: one, or those of its last vote
+/// for the unit that the path names.
+pub(crate) fn promised_in(world: &World<'_>, node: u8, path: &PkgPath) -> Result<u64, Memory>
+    requires { is_up world.now.world node ≡ true }
+    ensures count { IfOk result (λ count. (u : _) → (c : _)
+        → number_found world.now.world.division path.now ≡ Some u
+        → count ≡ listed.promised_in world.now.world u c node) }
+    ensures few { IfOk result (λ count. count ≤ most_pieces) }
+{
+    match world.node(node).voted(path) {
+        Some(vote) => pieces_in(&vote.1),
+        None => Ok(1),
+    }
+}
+
+/// In how many datagrams the build goes out.
+pub(crate) fn pieces_in(build: &Build) -> Result<u64, Memory>
+    ensures count { IfOk result (λ count. count ≡ pieces_in build.now) }
+    ensures few { IfOk result (λ count. count ≤ most_pieces) }
+{
+    let len = text_len(build)?;
+    Ok(len.div_ceil(PIECE_SIZE) as u64)
+}
+
+/// The length of the build's text.
+fn text_len(build: &Build) -> Result<usize, Memory>
+    ensures len { IfOk result (λ len. len ≡ length (build_text build.now)) }
+    ensures few { IfOk result (λ len. len ≤ most_bytes) }
+{
+    // Its path says that it is a build, whose text is within the limit.
+    let _path = build.unit_path();
+    let lines = build.lines()?;
+    let mut len = lines.len();
+    for record in build.packages() {
+        len += record_len(record)?;
+    }
+    Ok(len)
+}
+
+/// The length of the record's text, of which no byte of a file is copied.
+fn record_len(part: &Record) -> Result<usize, Memory>
+    requires { length (record_text part.now) ≤ most_bytes }
+    ensures { IfOk result (λ len. len ≡ length (record_text part.now)) }
+{
+    let header = part.header()?;
+    let mut len = header.len();
+    for file in part.files() {
+        len += file.bytes.len();
+    }
+    Ok(len)
+}
