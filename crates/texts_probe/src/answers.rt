@@ -1,5 +1,5 @@
 // The answer to a line.
-use crate::lists::{build_list, copies};
+use crate::packages::{build_list, copies};
 use crate::trees::trace;
 use faults::Fault;
 use pkgname::Pieces;

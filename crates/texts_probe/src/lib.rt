@@ -9,7 +9,7 @@
 #![tactic(auto)]
 
 mod answers;
-mod lists;
+mod packages;
 mod trees;
 
 pub use crate::answers::answer;
