@@ -1,0 +1,5 @@
+pub mod Answered
+pub mod DoingOwn
+pub mod GivenFiles
+pub mod Owned
+pub mod Waiting

@@ -1,0 +1,38 @@
+-- What a node is asked whose open claim waits for a build.
+use Rattle.std.proofs.Common.{◌≡◌, ℕ, Option, None, Some, refl, sym, ap, subst, ◌∙◌}
+use Rattle.std.specs.Prelude.{option_and_then}
+use Rattle.choice.specs.Answering.{answer_of, answer_to, built_of, given_for}
+use Rattle.faults.specs.Bytes.{Text}
+use Rattle.node.specs.State.{LoggedNode}
+use Rattle.node.specs.Step.{Does}
+use Rattle.protocol.specs.Given.{Given}
+use Rattle.protocol.specs.Jobs.{paths_at}
+use Rattle.protocol.specs.Member.{IsMember}
+use Rattle.protocol.specs.State.{State, name_at}
+use Rattle.parts.proofs.GivenFiles.{whole_given}
+use Rattle.parts.specs.Readied.{IsPart, IsReadied}
+use Rattle.parts.specs.declared.readied.Readied.{Readied}
+use Rattle.parts.specs.inside.Answering.{AreParts, IsWaiting}
+
+-- its name, and what is given for it
+pub parts_are : (s m : State) → m ≡ s → IsMember s → (u : ℕ) (name : Text) → name ≡ name_at m u
+    → (builds : Given) (given : Option Given) → given ≡ given_for builds (paths_at m u)
+    → AreParts s u name given
+parts_are s m same is u name named builds given files = record {
+  member = is;
+  named = named ∙ ap (λ x. name_at x u) same;
+  whole = whole_given builds (paths_at s u) given
+      (files ∙ ap (λ x. given_for builds (paths_at x u)) same);
+}
+
+-- its answer is its part
+pub answer_part : {D : Type 0} (n : LoggedNode D) (s m : State) → m ≡ s → (u : ℕ) (builds : Given)
+    (given : Option Given) → given ≡ given_for builds (paths_at m u) → (r : Readied)
+    → (w : IsWaiting s u)
+    → IsReadied n (Does (built_of s u w.host w.claim given)) r
+    → IsPart n (answer_of s builds) (Some r)
+answer_part n s m same u builds given files r w readied =
+    subst (λ own. IsPart n own (Some r))
+    (sym (ap (option_and_then (λ o. answer_to s builds o o.progress)) w.is_open))
+    (subst (λ g. IsReadied n (Does (built_of s u w.host w.claim g)) r)
+    (files ∙ ap (λ x. given_for builds (paths_at x u)) same) readied)

@@ -1,0 +1,5 @@
+use Rattle.parts.proofs.GivenFiles.{NoneHas}
+use Rattle.parts.proofs.answering.files_of.Given as goal
+
+abbrev pub invariant-loop-given : goal.invariant-loop-given
+invariant-loop-given l = NoneHas l.builds l.path l.given-index

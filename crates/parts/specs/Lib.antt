@@ -1,0 +1,3 @@
+pub mod Offered
+pub mod Readied
+pub mod inside

@@ -1,0 +1,27 @@
+-- A node's part in a turn, with its step ready.
+use Rattle.std.specs.Prelude.{◌≡◌, ◌⊎◌, Option, None, Some, Result, Ok, Err}
+use Rattle.choice.specs.Acts.{asked_by}
+use Rattle.node.specs.State.{LoggedNode}
+use Rattle.node.specs.Step.{Asked, Does, IsReadyFor, Takes, taken_by}
+use Rattle.node.specs.declared.fault.NodeFault.{NodeFault}
+use Rattle.node.specs.declared.fault.NodeFault.TheVariants.{Memory}
+use Rattle.protocol.specs.declared.input.Input.{Input}
+use Rattle.parts.specs.declared.readied.Readied.{Readied}
+
+-- The step on what the node is asked is ready.
+pub record IsReadied {D : Type 0} (n : LoggedNode D) (asked : Asked) (r : Readied) : Type 0 where
+  pub asks : asked_by r.act ≡ asked
+  pub takes : Takes n.node asked (Ok (taken_by n.node r.ready))
+  pub may : IsReadyFor n.node r.ready
+
+-- The node's part was made ready, if it has one; and else there is none.
+abbrev pub IsPart : {D : Type 0} → LoggedNode D → Option Input → Option Readied → Type 0
+IsPart n None None = Prim.Unit {0}
+IsPart n None (Some r) = ⊥
+IsPart n (Some input) None = ⊥
+IsPart n (Some input) (Some r) = IsReadied n (Does input) r
+
+-- Memory was wanting, or the node takes no step on its part.
+abbrev pub IsNoPart : {D : Type 0} → LoggedNode D → Option Input → NodeFault → Type 0
+IsNoPart n own f =
+    (f ≡ Memory) ⊎ ((input : Input) × (own ≡ Some input) × Takes n.node (Does input) (Err f))

@@ -1,0 +1,12 @@
+//! A node's part in a turn, with its step ready.
+#![tactic(auto)]
+
+mod answering;
+mod offering;
+mod owning;
+mod readied;
+
+pub use crate::answering::answer;
+pub use crate::offering::offer;
+pub use crate::owning::own;
+pub use crate::readied::{Readied, take_in};

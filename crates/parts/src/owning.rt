@@ -1,0 +1,123 @@
+//! What a node does of itself.
+ghost use Rattle.std.specs.List.{list_any};
+ghost use Rattle.std.specs.Prelude.{◌≡◌, ◌<◌, ◌==◌, ◌||◌, IfErr, IfOk, Option, false, length};
+ghost use Rattle.choice.specs.Own.{IsLeastFree, IsOwn, claim_of, is_barred, renewed};
+ghost use Rattle.choice.specs.Pending.{has_failed};
+ghost use Rattle.protocol.specs.State as members;
+ghost use Rattle.protocol.specs.declared.input.Input.{Input as Asks};
+ghost use Rattle.units.specs.Division.{number_of};
+ghost use Rattle.parts.specs.Readied.{IsNoPart, IsPart};
+
+use crate::Readied;
+use crate::readied::make_ready;
+use choice::Pending;
+use faults::Memory;
+use member::{Input, Member};
+use node::{Node, NodeFault};
+use stable_record::Disk;
+
+/// What the node does of itself, if anything, where these units are claimed elsewhere, and greater
+/// claims with rounds up to this one stand in the way of its open one.
+///
+/// # Errors
+///
+/// `Memory`, or why the node opens no new claim.
+pub fn own<D: Disk>(
+    node: &mut Node<'_, D>,
+    above: Option<u64>,
+    pending: &Pending,
+    elsewhere: &[u32],
+) -> Result<Option<Readied>, NodeFault>
+    requires { node.old.node.stopped ≡ false }
+    ensures same { node.new ≡ node.old }
+    ensures part { IfOk result (λ r. (own : Option Asks)
+        × IsOwn node.old.node.member above
+        (λ u. has_failed pending.now u || list_any (λ v. v == u) elsewhere.now) own
+        × IsPart node.new own r) }
+    ensures refused { IfErr result (λ f. (own : Option Asks)
+        × IsOwn node.old.node.member above
+        (λ u. has_failed pending.now u || list_any (λ v. v == u) elsewhere.now) own
+        × IsNoPart node.new own f) }
+{
+    match input_of(node.member(), above, pending, elsewhere)? {
+        Some(input) => Ok(Some(make_ready(node, input)?)),
+        None => Ok(None),
+    }
+}
+
+/// What the member does of itself, if anything.
+fn input_of(
+    member: &Member<'_>,
+    above: Option<u64>,
+    pending: &Pending,
+    elsewhere: &[u32],
+) -> Result<Option<Input>, Memory>
+    ensures { IfOk result (IsOwn member.now above
+        (λ u. has_failed pending.now u || list_any (λ v. v == u) elsewhere.now)) }
+{
+    if let Some(open) = member.open_claim() {
+        return Ok(Some(renewed(member, open.unit, above)?));
+    }
+    match least_free(member, pending, elsewhere) {
+        Some(position) => Ok(Some(claim_of(member, position)?)),
+        None => Ok(None),
+    }
+}
+
+/// A new claim for the unit above this round, where a greater claim stands in the way of the open
+/// one; and else a nudge.
+fn renewed(member: &Member<'_>, unit: u32, above: Option<u64>) -> Result<Input, Memory>
+    requires { unit < length member.now.division.units }
+    ensures { IfOk result (λ input. (o : members.OpenClaim) → o.unit ≡ unit
+        → input ≡ renewed member.now o above) }
+{
+    let Some(above) = above else {
+        return Ok(Input::Nudge);
+    };
+    let path = member.units().name(unit).copy()?;
+    let host = u16::from(member.me());
+    Ok(Input::Claim { path, host, above })
+}
+
+/// The member's own claim for the package at the position.
+fn claim_of(member: &Member<'_>, position: u32) -> Result<Input, Memory>
+    requires { position < length member.now.division.tree }
+    ensures { IfOk result (λ input. input ≡ claim_of member.now position) }
+{
+    let path = member.tree().path(position).copy()?;
+    let host = u16::from(member.me());
+    Ok(Input::Claim {
+        path,
+        host,
+        above: 0,
+    })
+}
+
+/// The least queued position whose unit may be claimed.
+fn least_free(member: &Member<'_>, pending: &Pending, elsewhere: &[u32]) -> Option<u32>
+    ensures { IsLeastFree member.now
+        (λ u. has_failed pending.now u || list_any (λ v. v == u) elsewhere.now) result }
+{
+    let mut from = 0;
+    for _ in 0..member.tree().len() {
+        let position = member.queued_from(from)?;
+        if !is_barred(member, pending, elsewhere, position) {
+            return Some(position);
+        }
+        from = position + 1;
+    }
+    None
+}
+
+/// Whether the unit of the package at the position may not be claimed.
+fn is_barred(member: &Member<'_>, pending: &Pending, elsewhere: &[u32], position: u32) -> bool
+    requires { position < length member.now.division.tree }
+    ensures { result ≡ is_barred
+        (λ u. has_failed pending.now u || list_any (λ v. v == u) elsewhere.now)
+        (number_of member.now.division position) }
+{
+    match member.units().unit_of(position) {
+        Some(unit) => pending.has_failed(unit) || elsewhere.contains(&unit),
+        None => true,
+    }
+}
