@@ -1,67 +1,56 @@
 //! Jobs are copied, and rounds follow each other.
 use crate::said::claim;
 use claims::{Dep, Deps, GREATEST_ROUND, Job, next_round};
+use faults::Memory;
 use pkgname::PkgName;
 use pkgpath::PkgPath;
 use std::alloc::Global;
+use std::test::Fail;
 
-fn deps(alloc: Global) -> Option<Deps> {
-    let path = PkgPath::parse(alloc, b"a/q").ok()?;
-    let name = PkgName::parse(alloc, b"q-1").ok()?;
-    let dep = Dep {
+fn dep(alloc: Global) -> Result<Dep, Fail> {
+    let path = PkgPath::parse(alloc, b"a/q")?;
+    let name = PkgName::parse(alloc, b"q-1")?;
+    Ok(Dep {
         path,
         name,
         digest: [3; 32],
-    };
-    Some(Deps::new(Vec::from_array(alloc, [dep]).ok()?))
+    })
 }
 
-fn paths(alloc: Global) -> Option<(PkgPath, Vec<PkgPath>)> {
-    let path = PkgPath::parse(alloc, b"a/b").ok()?;
-    let copy = path.copy().ok()?;
-    let packages = Vec::from_array(alloc, [copy]).ok()?;
-    Some((path, packages))
-}
-
-fn job(alloc: Global) -> Option<Job> {
-    let deps = deps(alloc)?;
-    let (path, packages) = paths(alloc)?;
-    Some(Job {
+fn job(alloc: Global) -> Result<Job, Fail> {
+    let path = PkgPath::parse(alloc, b"a/b")?;
+    let packages = Vec::from_array(alloc, [path.copy()?])?;
+    let deps = Vec::from_array(alloc, [dep(alloc)?])?;
+    Ok(Job {
         path,
         packages,
         claim: claim(1, 0),
         host: 7,
-        deps,
+        deps: Deps::new(deps),
     })
 }
 
-/// Whether the job's one dependency has the digest.
-fn has_digest(job: &Job) -> bool {
+/// The digest of its one dependency.
+fn digest_of(job: &Job) -> Option<[u8; 32]> {
     match job.deps().as_slice() {
-        [dep] => dep.digest == [3; 32],
-        _ => false,
+        [dep] => Some(dep.digest),
+        _ => None,
     }
 }
 
-fn are_same(copy: &Job, job: &Job) -> bool {
+/// Whether a copy of the job says the same.
+fn is_copied(job: &Job) -> Result<bool, Memory> {
+    let copy = job.copy()?;
     let same = copy.path == job.path && copy.packages() == job.packages();
-    same && copy.claim == job.claim && copy.host == 7 && has_digest(copy)
-}
-
-fn is_copied(job: &Job) -> bool {
-    match job.copy() {
-        Ok(copy) => are_same(&copy, job),
-        Err(_) => false,
-    }
+    Ok(same && copy.claim == job.claim && copy.host == 7 && digest_of(&copy) == Some([3; 32]))
 }
 
 #[test]
-fn copies_jobs(rt: HostRuntime) {
-    let is_so = match job(rt.alloc()) {
-        Some(job) => is_copied(&job),
-        None => false,
-    };
-    assert!(rt; is_so);
+fn copies_jobs(rt: HostRuntime) -> Result<(), Fail> {
+    let job = job(rt.alloc())?;
+    let is_copied = is_copied(&job)?;
+    assert!(rt; is_copied);
+    Ok(())
 }
 
 #[test]

@@ -2,7 +2,7 @@
 ghost use Rattle.std.specs.Prelude.{◌<◌};
 
 use ballots::{BadWeights, Tally, Weights};
-use faults::Fault;
+use faults::{Fault, Memory};
 
 /// Whether these two members are a majority.
 fn are_majority(weights: &[u8], one: u8, other: u8) -> Result<bool, BadWeights>
@@ -53,19 +53,17 @@ fn weights_are_copied(rt: HostRuntime) {
 }
 
 /// Whether a tally has its one member, and is empty once it is emptied.
-fn is_emptied(weights: &Weights) -> bool {
-    let Ok(tally) = Tally::new(weights).with(2) else {
-        return false;
-    };
+fn is_emptied(weights: &Weights) -> Result<bool, Memory> {
+    let tally = Tally::new(weights).with(2)?;
     let emptied = tally.emptied();
-    tally.has(2) && !emptied.has(2) && emptied.weights().len() == weights.len()
+    Ok(tally.has(2) && !emptied.has(2) && emptied.weights().len() == weights.len())
 }
 
 #[test]
 fn tallies_are_emptied(rt: HostRuntime) {
-    let is_so = match Weights::new(&[1, 1, 3]) {
-        Ok(weights) => is_emptied(&weights),
+    let emptied = match Weights::new(&[1, 1, 3]) {
+        Ok(weights) => is_emptied(&weights).is_ok_and(|emptied| emptied),
         Err(_) => false,
     };
-    assert!(rt; is_so);
+    assert!(rt; emptied);
 }
