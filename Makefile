@@ -29,6 +29,6 @@ bench: all
 	-bench/wire
 	-bench/member
 	-bench/node
-	-bench/run
+	-bench/traces
 
 .PHONY: all check install dist bench
