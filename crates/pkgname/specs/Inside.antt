@@ -8,7 +8,7 @@ use Rattle.pkgname.specs.declared.name.PkgName.TheInside.{Inside}
 
 -- the text of a name
 abbrev pub text_of : Inside → List ℕ
-text_of n = n.text.value.items
+text_of n = n.text
 
 -- what stands behind the byte at the place, if there is one
 abbrev pub behind_place : Text → ℕ → Option Text
@@ -24,8 +24,8 @@ parts_by_lengths text stem_length version_length = record {
 
 -- the text is a name, and its parts are those by the lengths of its stem and its version
 pub record IsSplit (n : Inside) : Type 0 where
-  pub name : IsName n.text.value.items
-  pub within : n.stem_length + 1 + n.version_length ≤ length n.text.value.items
-  pub parts : parts_of n.text.value.items
-      ≡ Some (parts_by_lengths n.text.value.items n.stem_length n.version_length)
-  pub version : IsVersion (take n.version_length (drop (n.stem_length + 1) n.text.value.items))
+  pub name : IsName n.text
+  pub within : n.stem_length + 1 + n.version_length ≤ length n.text
+  pub parts : parts_of n.text
+      ≡ Some (parts_by_lengths n.text n.stem_length n.version_length)
+  pub version : IsVersion (take n.version_length (drop (n.stem_length + 1) n.text))

@@ -16,11 +16,11 @@ ghost use Rattle.pkgname.specs.Pieces.{pieces_behind};
 use crate::bytes::{dash_before_version, has_name_bytes};
 use crate::{NameFault, Pieces, Version};
 use faults::{Memory, split_once};
+use shared_bytes::SharedBytes;
 use std::alloc::Global;
 use std::cmp::Ordering;
 use std::hash::{Hash, Hasher};
 use std::marker::Model;
-use std::rc::Rc;
 
 /// The most bytes that a name may have.
 const LONGEST: usize = 255;
@@ -30,7 +30,7 @@ const LONGEST: usize = 255;
 /// Copies share their text.
 #[derive(Drop)]
 pub struct PkgName {
-    text: Rc<Vec<u8>>,
+    text: SharedBytes,
     stem_length: u8,
     version_length: u8,
 }
@@ -67,8 +67,7 @@ impl PkgName {
             return Err(NameFault::NoVersion);
         };
         let version_length = version_length(&text[dash + 1..])?;
-        let bytes = Vec::from_slice(alloc, text)?;
-        let text = Rc::new(alloc, bytes)?;
+        let text = SharedBytes::of(alloc, text)?;
         Ok(PkgName {
             text,
             stem_length: dash as u8,
@@ -120,7 +119,7 @@ impl PkgName {
     pub fn copy(&self) -> Result<PkgName, Memory>
         ensures { IfOk result (λ name. name ≡ self.now) }
     {
-        let text = self.text.clone()?;
+        let text = self.text.copy()?;
         Ok(PkgName {
             text,
             stem_length: self.stem_length,

@@ -11,11 +11,11 @@ ghost use Rattle.pkgpath.specs.PkgPath.{IsPath, path_of, without_subpackage};
 use crate::PathFault;
 use crate::spelling::{canonical_text, len_without_subpackage};
 use faults::Memory;
+use shared_bytes::SharedBytes;
 use std::alloc::Global;
 use std::cmp::Ordering;
 use std::hash::{Hash, Hasher};
 use std::marker::Model;
-use std::rc::Rc;
 
 /// A path of pkgpath(7), as its canonical text: the directory, then behind a comma each the
 /// flavors in byte order and the subpackage with its dash. A path that says that it has no flavor
@@ -24,7 +24,7 @@ use std::rc::Rc;
 /// Paths are compared, ordered and hashed by the bytes of that text, which copies share.
 #[derive(Drop)]
 pub struct PkgPath {
-    text: Rc<Vec<u8>>,
+    text: SharedBytes,
 }
 
 impl Model for PkgPath {
@@ -33,9 +33,9 @@ impl Model for PkgPath {
 
     ghost Value = { List ℕ };
 
-    ghost view = { λ p. p.text.value.items };
+    ghost view = { λ p. p.text };
 
-    ghost invariant = { λ p. IsPath p.text.value.items };
+    ghost invariant = { λ p. IsPath p.text };
 }
 
 impl PkgPath {
@@ -51,7 +51,6 @@ impl PkgPath {
         ensures { IsRightUnless PathFault.Memory result (path_of text.now) }
     {
         let text = canonical_text(alloc, text)?;
-        let text = Rc::new(alloc, text)?;
         Ok(PkgPath { text })
     }
 
@@ -82,9 +81,7 @@ impl PkgPath {
         if len == path.len() {
             return self.copy();
         }
-        let alloc: Global = *self.text.allocator();
-        let bytes = Vec::from_slice(alloc, &path[..len])?;
-        let text = Rc::new(alloc, bytes)?;
+        let text = SharedBytes::of(self.text.allocator(), &path[..len])?;
         Ok(PkgPath { text })
     }
 
@@ -92,7 +89,7 @@ impl PkgPath {
     pub fn copy(&self) -> Result<PkgPath, Memory>
         ensures { IfOk result (λ path. path ≡ self.now) }
     {
-        let text = self.text.clone()?;
+        let text = self.text.copy()?;
         Ok(PkgPath { text })
     }
 }

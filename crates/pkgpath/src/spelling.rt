@@ -13,6 +13,7 @@ use crate::flavors::flavor_set;
 use crate::grammar::is_directory;
 use crate::parts::{Tally, count_parts};
 use faults::split_once;
+use shared_bytes::SharedBytes;
 use std::alloc::{AllocError, Global};
 
 /// The most bytes that the text of a path has.
@@ -33,17 +34,16 @@ fn directory_fault(directory: &[u8]) -> Option<PathFault>
 }
 
 /// The canonical text of a text without commas.
-fn read_directory(alloc: Global, text: &[u8]) -> Result<Vec<u8>, PathFault>
+fn read_directory(alloc: Global, text: &[u8]) -> Result<SharedBytes, PathFault>
     requires filled { 0 < length text.now }
     requires short { length text.now ≤ grammar.most_bytes }
     requires alone { pieces_at comma text.now ≡ text.now ∷ [] }
-    ensures { IsRightUnless PathFault.Memory (map_ok (λ v. v.items) result)
-        (grammar.path_of text.now) }
+    ensures { IsRightUnless PathFault.Memory result (grammar.path_of text.now) }
 {
     if let Some(fault) = directory_fault(text) {
         return Err(fault);
     }
-    Ok(Vec::from_slice(alloc, text)?)
+    Ok(SharedBytes::of(alloc, text)?)
 }
 
 /// Appends a part behind a comma.
@@ -158,9 +158,8 @@ fn read_parts(
 }
 
 /// The canonical text of what the text spells.
-pub(crate) fn canonical_text(alloc: Global, text: &[u8]) -> Result<Vec<u8>, PathFault>
-    ensures { IsRightUnless PathFault.Memory (map_ok (λ v. v.items) result)
-        (grammar.path_of text.now) }
+pub(crate) fn canonical_text(alloc: Global, text: &[u8]) -> Result<SharedBytes, PathFault>
+    ensures { IsRightUnless PathFault.Memory result (grammar.path_of text.now) }
 {
     if text.is_empty() {
         return Err(PathFault::Empty);
@@ -170,7 +169,10 @@ pub(crate) fn canonical_text(alloc: Global, text: &[u8]) -> Result<Vec<u8>, Path
     }
     match split_once(text, b',') {
         None => read_directory(alloc, text),
-        Some((directory, parts)) => read_parts(alloc, text, directory, parts),
+        Some((directory, parts)) => {
+            let canonical = read_parts(alloc, text, directory, parts)?;
+            Ok(SharedBytes::of(alloc, canonical.as_slice())?)
+        }
     }
 }
 

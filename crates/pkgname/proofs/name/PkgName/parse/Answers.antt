@@ -24,7 +24,7 @@ invariant_of-result c =
     let pieces : pieces_at dash (drop (place + 1) text) ≡ take long (drop (place + 1) text) ∷ pieces_behind dash (behind_place text (place + 1 + long)) =
     cut.1 ∙ ap (λ left. take long (drop (place + 1) text) ∷ pieces_behind dash left) behind in
     let filled : list_any is_empty (pieces_behind dash (behind_place text (place + 1 + long))) ≡ false = rw pieces at cut.2 in
-    let same : c.in_ok-text.text.value.items ≡ text = ap (λ v. v.items) c.in_ok-text.ensures.ok ∙ c.in_ok-bytes.ensures.items in
+    let same : c.in_ok-text.text ≡ text = c.in_ok-text.ensures in
     let parts = parts_from_pieces text place _ _ found pieces in
     record {
       name = rw same (name_from_parts text _ c.if-text-gt-LONGEST.false bytes parts filled);

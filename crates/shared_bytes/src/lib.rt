@@ -1,0 +1,93 @@
+//! Bytes that copies share, for texts of which there are many, short and never changed: as package
+//! paths and names.
+#![tactic(auto)]
+
+ghost use Rattle.std.specs.Prelude.{◌≡◌, IfOk};
+
+use arrayvec::ArrayVec;
+use faults::Memory;
+use std::alloc::Global;
+use std::marker::Model;
+use std::rc::Rc;
+
+/// How many bytes stand beside the count of owners, with no memory of their own.
+const SHORT: usize = 39;
+
+/// Bytes, beside which nothing else stands where they are few.
+#[derive(Drop)]
+enum Bytes {
+    Short(ArrayVec<u8, SHORT>),
+    Long(Vec<u8>),
+}
+
+impl Bytes {
+    ghost use Rattle.shared_bytes.specs.Bytes.{items_of};
+
+    /// Equal bytes.
+    fn of(alloc: Global, bytes: &[u8]) -> Result<Bytes, Memory>
+        ensures { IfOk result (λ b. items_of b ≡ bytes.now) }
+    {
+        match ArrayVec::try_from(bytes) {
+            Ok(short) => Ok(Bytes::Short(short)),
+            Err(_) => Ok(Bytes::Long(bytes.to_vec(alloc)?)),
+        }
+    }
+
+    fn as_slice(&self) -> &[u8]
+        ensures { result.now ≡ items_of self.now }
+    {
+        match self {
+            Bytes::Short(bytes) => bytes.as_slice(),
+            Bytes::Long(bytes) => bytes.as_slice(),
+        }
+    }
+}
+
+/// Bytes that copies share, which contracts see as their list.
+#[derive(Drop)]
+pub struct SharedBytes {
+    bytes: Rc<Bytes>,
+    alloc: Global,
+}
+
+impl Model for SharedBytes {
+    ghost use Rattle.std.specs.Prelude.{ℕ, List};
+    ghost use Rattle.shared_bytes.specs.Bytes.{items_of};
+
+    ghost Value = { List ℕ };
+
+    ghost view = { λ s. items_of s.bytes.value };
+}
+
+impl SharedBytes {
+    /// Equal bytes, which nobody shares yet.
+    pub fn of(alloc: Global, bytes: &[u8]) -> Result<SharedBytes, Memory>
+        ensures { IfOk result (λ shared. shared ≡ bytes.now) }
+    {
+        let bytes = Rc::new(alloc, Bytes::of(alloc, bytes)?)?;
+        Ok(SharedBytes { bytes, alloc })
+    }
+
+    /// The bytes.
+    pub fn as_slice(&self) -> &[u8]
+        ensures { result.now ≡ self.now }
+    {
+        self.bytes.as_slice()
+    }
+
+    /// Equal bytes, which are shared.
+    pub fn copy(&self) -> Result<SharedBytes, Memory>
+        ensures { IfOk result (λ shared. shared ≡ self.now) }
+    {
+        let bytes = self.bytes.clone()?;
+        Ok(SharedBytes {
+            bytes,
+            alloc: self.alloc,
+        })
+    }
+
+    /// Where their memory comes from.
+    pub fn allocator(&self) -> Global {
+        self.alloc
+    }
+}
