@@ -24,6 +24,7 @@ mod listed;
 mod read_error;
 mod reading;
 mod stream;
+mod tree_event;
 mod writing;
 
 /// What each member weighs, and the events of a run, in turn.
