@@ -111,7 +111,7 @@ pub fn path(alloc: Global, value: &Value) -> Result<PkgPath, ReadError>
 }
 
 /// The bytes that the digits spell.
-fn bytes_of(alloc: Global, text: &str) -> Result<Vec<u8>, ReadError>
+pub fn bytes_of(alloc: Global, text: &str) -> Result<Vec<u8>, ReadError>
     ensures { Gives (λ v. v.items) result (answer_in (decode_of text.now)) }
 {
     match hex::decode(alloc, text.as_bytes()) {

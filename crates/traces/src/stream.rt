@@ -66,9 +66,13 @@ fn with_tree(alloc: Global, tree: &json::Value<'_>, listed: Listed) -> Result<Li
     ensures ok { IfOk result (ListsTree (value_view tree.now) listed) }
     ensures err { IfErr result (λ e. Fails e (of_json (value_view tree.now))) }
 {
-    match tree_event(tree) {
-        Some(event) => listed.with(event),
-        None => {
+    match tree_event(alloc, tree) {
+        Ok(event) => listed.with(event),
+        Err(ReadError::Memory) => {
+            drop(listed);
+            Err(ReadError::Memory)
+        }
+        Err(ReadError::Bad) => {
             let item = untreed(alloc, tree)?;
             listed.then(alloc, &item)
         }
