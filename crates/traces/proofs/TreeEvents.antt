@@ -13,7 +13,7 @@ use Rattle.json.specs.Find as find
 use Rattle.json.specs.Json as json
 use Rattle.json.specs.Value.{items_view, value_view}
 use Rattle.json.specs.declared.value.Value.{Value}
-use Rattle.serde_json.specs.Data.{Data, Items, array, item, no_items, no_members, number, object, put, string, unsigned}
+use Rattle.serde_json.specs.Data.{Items, array, item, no_items, no_members, number, object, put, string, unsigned}
 use Rattle.serde_json.specs.Read.{of_items, of_json, number_of, number_from, is_integer}
 use Rattle.pkgpath.specs.PkgPath.{path_of}
 use Rattle.package_record.specs.Content.{NamedFile}
@@ -86,10 +86,10 @@ pub named_tree : (k l h n : List ℕ) (hex name : json.Json) (bytes : List ℕ) 
     → Reads file_in (json.object (json.member k hex (json.member l name json.no_members))) (record { name = n; bytes = bytes })
 unfolding file_in
 named_tree k l h n hex name bytes first second is called reads = (
-      object (put (codes "name") (string n) (put (codes "hex") (string h) no_members)),
-      rw (first, second, is, called) refl,
-      rw reads refl,
-    )
+  object (put (codes "name") (string n) (put (codes "hex") (string h) no_members)),
+  rw (first, second, is, called) refl,
+  rw reads refl,
+)
 
 -- the items of an array are these files
 abbrev pub ReadsItems : List (Value Global) → List NamedFile → Type 0
@@ -119,37 +119,37 @@ pub nudge_tree : (k l : List ℕ) (event node : json.Json) (n : ℕ) → k ≡ c
     → Reads event_in (json.object (json.member k event (json.member l node json.no_members))) (Nudge n)
 unfolding node_alone_in
 nudge_tree k l event node n first second is goes = (
-      object (put (codes "node") goes.0 (put (codes "event") (string (codes "nudge")) no_members)),
-      rw (first, second, is, goes.1) refl,
-      rw goes.2 refl,
-    )
+  object (put (codes "node") goes.0 (put (codes "event") (string (codes "nudge")) no_members)),
+  rw (first, second, is, goes.1) refl,
+  rw goes.2 refl,
+)
 
 pub delivery_tree : (k l m : List ℕ) (datagram event node : json.Json) (d n : ℕ) → k ≡ codes "datagram" → l ≡ codes "event" → m ≡ codes "node" → Reads (fields.number_of most) datagram d → event ≡ json.string (codes "deliver") → Reads (fields.number_of 255) node n
     → Reads event_in (json.object (json.member k datagram (json.member l event (json.member m node json.no_members)))) (Deliver d n)
 unfolding deliver_in
 delivery_tree k l m datagram event node d n first second third comes is goes = (
-      object (put (codes "node") goes.0 (put (codes "event") (string (codes "deliver")) (put (codes "datagram") comes.0 no_members))),
-      rw (first, second, third, comes.1, is, goes.1) refl,
-      rw comes.2 (rw goes.2 refl),
-    )
+  object (put (codes "node") goes.0 (put (codes "event") (string (codes "deliver")) (put (codes "datagram") comes.0 no_members))),
+  rw (first, second, third, comes.1, is, goes.1) refl,
+  rw comes.2 (rw goes.2 refl),
+)
 
 pub build_tree : (k l m o : List ℕ) (event files node path : json.Json) (fs : List NamedFile) (n : ℕ) (p : List ℕ) → k ≡ codes "event" → l ≡ codes "files" → m ≡ codes "node" → o ≡ codes "path" → event ≡ json.string (codes "built") → Reads files_in files fs → Reads (fields.number_of 255) node n → Reads path_in path p
     → Reads event_in (json.object (json.member k event (json.member l files (json.member m node (json.member o path json.no_members))))) (Built n p ((p, fs) ∷ []))
 unfolding built_alone_in
 build_tree k l m o event files node path fs n p first second third fourth is given goes of = (
-      object (put (codes "path") of.0 (put (codes "node") goes.0 (put (codes "files") given.0 (put (codes "event") (string (codes "built")) no_members)))),
-      rw (first, second, third, fourth, is, given.1, goes.1, of.1) refl,
-      rw goes.2 (rw of.2 (rw given.2 refl)),
-    )
+  object (put (codes "path") of.0 (put (codes "node") goes.0 (put (codes "files") given.0 (put (codes "event") (string (codes "built")) no_members)))),
+  rw (first, second, third, fourth, is, given.1, goes.1, of.1) refl,
+  rw goes.2 (rw of.2 (rw given.2 refl)),
+)
 
 pub claim_tree : (k l m o q : List ℕ) (above event host node path : json.Json) (a h n : ℕ) (p : List ℕ) → k ≡ codes "above" → l ≡ codes "event" → m ≡ codes "host" → o ≡ codes "node" → q ≡ codes "path" → Reads (fields.number_of most) above a → event ≡ json.string (codes "claim") → Reads (fields.number_of 65535) host h → Reads (fields.number_of 255) node n → Reads path_in path p
     → Reads event_in (json.object (json.member k above (json.member l event (json.member m host (json.member o node (json.member q path json.no_members)))))) (Claim n p h a)
 unfolding claim_in
 claim_tree k l m o q above event host node path a h n p first second third fourth fifth over is by goes of = (
-      object (put (codes "path") of.0 (put (codes "node") goes.0 (put (codes "host") by.0 (put (codes "event") (string (codes "claim")) (put (codes "above") over.0 no_members))))),
-      rw (first, second, third, fourth, fifth, over.1, is, by.1, goes.1, of.1) refl,
-      rw goes.2 (rw of.2 (rw by.2 (rw over.2 refl))),
-    )
+  object (put (codes "path") of.0 (put (codes "node") goes.0 (put (codes "host") by.0 (put (codes "event") (string (codes "claim")) (put (codes "above") over.0 no_members))))),
+  rw (first, second, third, fourth, fifth, over.1, is, by.1, goes.1, of.1) refl,
+  rw goes.2 (rw of.2 (rw by.2 (rw over.2 refl))),
+)
 
 -- ---- members in turn
 

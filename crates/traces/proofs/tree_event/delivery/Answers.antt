@@ -2,8 +2,8 @@ use Rattle.std.proofs.Common.{◌≡◌, ap, codes, sym, subst, ◌∙◌}
 use Rattle.json.specs.Json.{string}
 use Rattle.json.specs.Value.{value_view}
 use Rattle.traces.specs.Events.{most}
-use Rattle.traces.specs.Fields.{files_in, number_of}
-use Rattle.traces.specs.inside.Trees.{Reads, path_in}
+use Rattle.traces.specs.Fields.{number_of}
+use Rattle.traces.specs.inside.Trees.{Reads}
 use Rattle.traces.proofs.TreeEvents.{delivery_tree}
 use Rattle.traces.proofs.tree_event.delivery.Goals as goal
 

@@ -1,7 +1,6 @@
 use Rattle.std.proofs.Common.{◌≡◌, ap, sym, subst, ◌∙◌}
 use Rattle.json.specs.Json.{string}
 use Rattle.json.specs.Value.{value_view}
-use Rattle.package_record.specs.Content.{NamedFile}
 use Rattle.traces.specs.Fields.{file_in}
 use Rattle.traces.specs.inside.Trees.{Reads, two}
 use Rattle.traces.proofs.TreeEvents.{named_tree}
