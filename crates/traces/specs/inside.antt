@@ -2,3 +2,4 @@
 pub mod Given
 pub mod Kept
 pub mod Listing
+pub mod Trees

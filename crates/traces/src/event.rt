@@ -57,7 +57,7 @@ fn claim(alloc: Global, value: &Value) -> Result<Event, ReadError>
 }
 
 /// The path with these files.
-fn alone(alloc: Global, path: &PkgPath, files: Files) -> Result<Packages, Memory>
+pub fn alone(alloc: Global, path: &PkgPath, files: Files) -> Result<Packages, Memory>
     ensures { IfOk result (λ packages. packages ≡ (path.now, files) ∷ []) }
 {
     let mut packages = Vec::new(alloc);

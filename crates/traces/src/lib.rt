@@ -17,6 +17,7 @@ use std::alloc::Global;
 use thiserror::Error;
 
 mod builds;
+mod digits;
 mod event;
 mod fields;
 mod files;
@@ -24,6 +25,7 @@ mod listed;
 mod read_error;
 mod reading;
 mod stream;
+mod tree_event;
 mod writing;
 
 /// What each member weighs, and the events of a run, in turn.

@@ -1,6 +1,8 @@
 //! What the items of an array are as events.
-ghost use Rattle.std.specs.Prelude.{◌≡◌, ◌≤◌, length, IfOk, IfErr};
-ghost use Rattle.serde_json.specs.Data.{Items, item as item_and};
+ghost use Rattle.std.specs.Prelude.{◌≡◌, ◌≤◌, length, IfOk, IfErr, Some};
+ghost use Rattle.events.specs.Events.{event_view};
+ghost use Rattle.serde_json.specs.Data.{Data, Items, item as item_and};
+ghost use Rattle.traces.specs.Events.{event_in};
 ghost use Rattle.serde_json.specs.View.{view};
 ghost use Rattle.traces.specs.declared.read_error.ReadError.TheVariants.{Memory as out_of_memory};
 ghost use Rattle.traces.specs.inside.Listing.{answer_behind};
@@ -35,5 +37,24 @@ impl Listed {
             Err(ReadError::Bad) => return Ok(Listed::BadAt(events.len() as u64 + 1)),
         }
         Ok(Listed::Events(events))
+    }
+
+    /// With one item more, which is this event.
+    pub fn with(self, event: Event) -> Result<Listed, ReadError>
+        ensures ok { IfOk result (λ listed. (d : Data) → event_in d ≡ Some (event_view event)
+            → (rest : Items)
+            → answer_behind self (item_and d rest) ≡ answer_behind listed rest) }
+        ensures err { IfErr result (λ e. e ≡ out_of_memory) }
+    {
+        match self {
+            Listed::Events(mut events) => {
+                events.push(event)?;
+                Ok(Listed::Events(events))
+            }
+            Listed::BadAt(place) => {
+                drop(event);
+                Ok(Listed::BadAt(place))
+            }
+        }
     }
 }

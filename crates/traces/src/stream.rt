@@ -8,16 +8,18 @@ ghost use Rattle.json.specs.Print.{IsNumber, IsPrintable};
 ghost use Rattle.json.specs.Reads.{token_of};
 ghost use Rattle.json.specs.Token.{begin_object};
 ghost use Rattle.json.specs.Tree.{HasNumbers, depth as nesting};
+ghost use Rattle.json.specs.declared.error.Error.TheVariants.{Invalid as invalid};
 ghost use Rattle.json.specs.Value.{value_view};
 ghost use Rattle.serde_json.specs.Read.{number_of, of_json, read as read_text};
 ghost use Rattle.serde_json.specs.View.{members_view, view};
 ghost use Rattle.traces.specs.Trace.{value_of};
 ghost use Rattle.traces.specs.inside.Given.{Fails, Gives};
-ghost use Rattle.traces.specs.inside.Kept.{Keeps, KeepsAll, KeepsEvents, KeepsWhole, ListsAll, ListsMore, PassesMembers, PassesNoArray, PassesValue, items_read, members_read, opens_object, outer_of, value_read, whole_read};
+ghost use Rattle.traces.specs.inside.Kept.{Keeps, KeepsAll, KeepsEvents, KeepsWhole, ListsAll, ListsMore, ListsTree, PassesMembers, PassesNoArray, PassesValue, items_read, members_read, opens_object, outer_of, value_read, whole_read};
 
 use crate::listed::Listed;
 use crate::read_error::ReadError;
 use crate::reading;
+use crate::tree_event::tree_event;
 use json::{Reader, Scratch, Token};
 use serde_json::{Map, Value, put};
 use std::alloc::Global;
@@ -43,8 +45,37 @@ fn next_value(alloc: Global, reader: &mut Reader<'_>, depth: usize) -> Result<Va
 {
     match json::Value::read(alloc, reader, depth) {
         Ok(tree) => untreed(alloc, &tree),
-        Err(json::Error::Invalid) => Err(ReadError::Bad),
-        Err(_) => Err(ReadError::Memory),
+        Err(error) => Err(refused(error)),
+    }
+}
+
+/// Why no tree is read.
+fn refused(error: json::Error) -> ReadError
+    ensures { result ≡ ReadError.Bad → error ≡ invalid }
+{
+    match error {
+        json::Error::Invalid => ReadError::Bad,
+        _ => ReadError::Memory,
+    }
+}
+
+/// The items so far, and one more, which is the value that the tree stands for.
+fn with_tree(alloc: Global, tree: &json::Value<'_>, listed: Listed) -> Result<Listed, ReadError>
+    requires numbers { HasNumbers (value_view tree.now) }
+    requires nests { nesting (value_view tree.now) ≤ 127 }
+    ensures ok { IfOk result (ListsTree (value_view tree.now) listed) }
+    ensures err { IfErr result (λ e. Fails e (of_json (value_view tree.now))) }
+{
+    match tree_event(alloc, tree) {
+        Ok(event) => listed.with(event),
+        Err(ReadError::Memory) => {
+            drop(listed);
+            Err(ReadError::Memory)
+        }
+        Err(ReadError::Bad) => {
+            let item = untreed(alloc, tree)?;
+            listed.then(alloc, &item)
+        }
     }
 }
 
@@ -59,8 +90,13 @@ fn next_listed(
     ensures ok { IfOk result (ListsMore depth reader.old reader.new listed) }
     ensures err { IfErr result (λ e. Fails e (value_read depth reader.old)) }
 {
-    let item = next_value(alloc, reader, depth)?;
-    listed.then(alloc, &item)
+    match json::Value::read(alloc, reader, depth) {
+        Ok(tree) => with_tree(alloc, &tree, listed),
+        Err(error) => {
+            drop(listed);
+            Err(refused(error))
+        }
+    }
 }
 
 /// The rest of an array, whose items are to be events.

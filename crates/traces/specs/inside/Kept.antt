@@ -91,6 +91,12 @@ pub record ListsMore (depth : ℕ) (old new : List Token) (before after : Listed
   pub shorter : length new < length old
   pub lists : (rest : Items) → answer_behind before (item datum rest) ≡ answer_behind after rest
 
+-- with the value that the tree stands for as an item more the answer is the same
+abbrev pub ListsTree : json.Json → Listed → Listed → Type 0
+ListsTree tree before after =
+    (datum : Data) × (of_json tree ≡ Some datum)
+    × ((rest : Items) → answer_behind before (item datum rest) ≡ answer_behind after rest)
+
 -- the rest of an array was read, and these are its events
 pub record ListsAll (depth : ℕ) (old new : List Token) (listed : Listed) : Type 0 where
   pub all : Items

@@ -1,0 +1,15 @@
+use Rattle.std.proofs.Common.{◌≡◌, ap, codes, sym, subst, ◌∙◌}
+use Rattle.json.specs.Json.{string}
+use Rattle.json.specs.Value.{value_view}
+use Rattle.traces.specs.Fields.{number_of}
+use Rattle.traces.specs.inside.Trees.{Reads}
+use Rattle.traces.proofs.TreeEvents.{nudge_tree}
+use Rattle.traces.proofs.tree_event.nudge.Goals as goal
+
+pub returns : goal.returns
+returns c =
+    let e = c.in_ok-event in
+    let n = c.in_ok-node in
+    let event : value_view c.args.first.now.1 ≡ string (codes "nudge") = ap value_view (sym e.ensures.value) ∙ c.in_ok-test_text.ensures in
+    let node = subst (λ v. Reads (number_of 255) (value_view v) c.in_ok-node-2.field-0) n.ensures.value c.in_ok-node-2.ensures.reads in
+    nudge_tree c.args.first.now.0.now c.args.second.now.0.now (value_view c.args.first.now.1) (value_view c.args.second.now.1) c.in_ok-node-2.field-0 e.ensures.key n.ensures.key event node

@@ -1,0 +1,38 @@
+-- What a tree of a text's tokens is read as.
+use Rattle.std.specs.Prelude.{◌≡◌, ℕ, List, Option, Some}
+use Rattle.std.specs.Global.{Global}
+use Rattle.json.specs.Json as json
+use Rattle.json.specs.Value.{value_view}
+use Rattle.json.specs.declared.value.Value.{Value}
+use Rattle.pkgpath.specs.PkgPath.{path_of}
+use Rattle.faults.specs.Bytes.{Text}
+use Rattle.serde_json.specs.Data.{Data}
+use Rattle.serde_json.specs.Find.{as_str}
+use Rattle.serde_json.specs.Read.{of_json}
+use Rattle.std.specs.Borrow.{Bor}
+use Rattle.traces.specs.Fields.{◌>>=◌, answer_in}
+
+-- the tree is a value that reads as this
+abbrev pub Reads : {X : Type 0} → (Data → Option X) → json.Json → X → Type 0
+Reads read j x = (d : Data) × (of_json j ≡ Some d) × (read d ≡ Some x)
+
+-- the canonical text of the path that the value spells
+abbrev pub path_in : Data → Option Text
+path_in d = as_str d >>= (λ text. answer_in (path_of text))
+
+-- ---- objects of so many members, each a key and a value
+
+abbrev pub Entry : Type 0
+Entry = Bor (List ℕ) × Value Global
+
+abbrev pub two : Entry → Entry → json.Json
+two a b = json.object (json.member a.0.now (value_view a.1) (json.member b.0.now (value_view b.1) json.no_members))
+
+abbrev pub three : Entry → Entry → Entry → json.Json
+three a b c = json.object (json.member a.0.now (value_view a.1) (json.member b.0.now (value_view b.1) (json.member c.0.now (value_view c.1) json.no_members)))
+
+abbrev pub four : Entry → Entry → Entry → Entry → json.Json
+four a b c d = json.object (json.member a.0.now (value_view a.1) (json.member b.0.now (value_view b.1) (json.member c.0.now (value_view c.1) (json.member d.0.now (value_view d.1) json.no_members))))
+
+abbrev pub five : Entry → Entry → Entry → Entry → Entry → json.Json
+five a b c d e = json.object (json.member a.0.now (value_view a.1) (json.member b.0.now (value_view b.1) (json.member c.0.now (value_view c.1) (json.member d.0.now (value_view d.1) (json.member e.0.now (value_view e.1) json.no_members)))))
