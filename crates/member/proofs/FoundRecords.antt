@@ -106,9 +106,9 @@ module _ (path : Text) where
 
   -- where a binary search ends at a record, that is the one
   pub found_by : (rs : List Content) (i : ℕ) (r : Content) → is_ascending (paths_of rs) ≡ true
-      → i < length rs → r ≡ slice_index_or rs i r → IsBinarySearchResult place rs (Ok i)
-      → record_in path rs ≡ Some r
-  found_by rs i r up inside is at = found rs i r up inside (at r) ∙ ap (λ r. Some r) (sym is)
+      → i < length rs → IsBinarySearchResult place rs (Ok i)
+      → record_in path rs ≡ Some (slice_index_or rs i r)
+  found_by rs i r up inside at = found rs i r up inside (at r)
 
   -- and where it ends at none, there is none
   pub none_by : (rs : List Content) (i : ℕ) → is_ascending (paths_of rs) ≡ true

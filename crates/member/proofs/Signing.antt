@@ -21,6 +21,18 @@ given_behind {X} {Y} f (z ∷ zs) x = by (f z) (given_behind f zs x)
     by None rest = rest
     by (Some y) rest = ap (λ ys. y ∷ ys) rest
 
+-- what f makes of one item more
+pub made_more : {X Y : Type 0} (f : X → Y) (xs : List X) (k : ℕ) (x : X) (y : Y)
+    (before after : List Y)
+    → k < length xs → x ≡ slice_index_or xs k x → y ≡ f x
+    → before ≡ map f (take k xs) → after ≡ before ++ y ∷ []
+    → after ≡ map f (take (k + 1) xs)
+made_more f xs k x y before after lt here made was is =
+    is ∙ (ap (λ ys. ys ++ y ∷ []) was
+    ∙ (ap (λ z. map f (take k xs) ++ z ∷ []) (made ∙ ap f here)
+    ∙ (sym (map-append f (take k xs) (slice_index_or xs k x ∷ []))
+    ∙ ap (map f) (sym (take_more xs k x lt)))))
+
 -- what f gives of one item more, which is seen as now
 pub given_more : {X T Y : Type 0} (now : X → T) (f : T → Option Y) (xs : List X) (k : ℕ) (x : X)
     (o : Option Y) (before after : List Y)

@@ -304,8 +304,8 @@ impl<'a> Member<'a> {
         ensures { IfOk result (Makes self.now (hears self.now unit sender Body.Ask)) }
     {
         match &self.known[unit as usize].held {
-            Some(build) => {
-                let build = build.copy()?;
+            Some(held) => {
+                let build = held.build().copy()?;
                 let sends = self.sent(unit, one(sender), Body::Agreed(build))?;
                 Ok(Step::saying(sends, ClaimChange::Stays))
             }

@@ -1,17 +1,51 @@
 //! What is to be built.
-ghost use Rattle.std.specs.Prelude.{◌≡◌, ◌<◌, ◌++◌, ◌∷◌, [], IfOk, OnOk, filter_map, length};
+ghost use Rattle.std.specs.Prelude.{◌≡◌, ◌<◌, ◌++◌, ◌∷◌, [], IfOk, IfSome, OnOk, filter_map, length};
 ghost use Rattle.std.specs.Prelude.{map, option_map};
 ghost use Rattle.protocol.specs.Jobs.{deps_of, job_of, signature};
 ghost use Rattle.protocol.specs.State.{held_record};
 
 use crate::Member;
+use crate::held::HeldRecord;
+use crate::known::Known;
 use crate::packages::{in_order, paths_of};
+use ballots::{Body, Claimer};
 use claims::{Claim, Dep, Deps, Job};
 use faults::Memory;
-use package_record::Record;
 use pkgpath::PkgPath;
+use protocol::Input;
+use std::alloc::Global;
+use units::Units;
 
 impl<'a> Member<'a> {
+    /// Computes the digests that the job of the open claim needs and that are not kept yet, if the
+    /// input may ask for that job. What is built on the same records later finds them kept. Where
+    /// memory runs out, the job computes what it misses.
+    pub(crate) fn sign_before(&mut self, input: &Input)
+        ensures { self.new ≡ self.old }
+    {
+        if let Some(unit) = self.unit_to_build(input) {
+            let alloc = self.allocator();
+            let _ = sign_needed(alloc, &self.units, self.known.as_mut_slice(), unit);
+        }
+    }
+
+    /// The unit of the open claim, if the input may be the promise after which it is built.
+    fn unit_to_build(&self, input: &Input) -> Option<u32>
+        ensures { IfSome result (λ unit. unit < length self.now.division.units) }
+    {
+        let Input::Message(message) = input else {
+            return None;
+        };
+        let Body::Promise(_, _) = &message.body else {
+            return None;
+        };
+        let open = self.claim.as_ref()?;
+        match &open.claimer {
+            Claimer::Gathering { .. } => Some(open.unit),
+            _ => None,
+        }
+    }
+
     /// The job for the unit, on what is held.
     pub(crate) fn job_for(&self, unit: u32, host: u16, claim: Claim) -> Result<Job, Memory>
         requires { unit < length self.now.division.units }
@@ -49,16 +83,36 @@ impl<'a> Member<'a> {
             (map (λ path. path.now) paths.now)) }
     {
         for path in paths {
-            if let Some(record) = self.held(*path) {
-                add(record, deps)?;
+            if let Some(held) = self.held_record(*path) {
+                add(&held, deps)?;
             }
         }
         Ok(())
     }
 }
 
+/// Computes the digests of what is held of all that the unit's build needs, where they are not kept
+/// yet.
+fn sign_needed(
+    alloc: Global,
+    units: &Units<'_>,
+    known: &mut [Known],
+    unit: u32,
+) -> Result<(), Memory>
+    requires unit { unit < length units.now.units }
+    requires each { length known.old ≡ length units.now.units }
+    ensures { known.new ≡ known.old }
+{
+    for position in units.build_deps(unit) {
+        if let Some(owner) = units.unit_of(*position) {
+            known[owner as usize].sign(alloc)?;
+        }
+    }
+    Ok(())
+}
+
 /// Adds the signature of the package.
-fn add(held: &Record, deps: &mut Vec<Dep>) -> Result<(), Memory>
+fn add(held: &HeldRecord<'_>, deps: &mut Vec<Dep>) -> Result<(), Memory>
     ensures { OnOk result (deps.new.items ≡ deps.old.items ++ signature held.now ∷ []) }
 {
     let dep = signature(held)?;
@@ -67,11 +121,11 @@ fn add(held: &Record, deps: &mut Vec<Dep>) -> Result<(), Memory>
 }
 
 /// The signature of the package: its path, its name, and the SHA-256 of its record's text.
-fn signature(held: &Record) -> Result<Dep, Memory>
+fn signature(held: &HeldRecord<'_>) -> Result<Dep, Memory>
     ensures { IfOk result (λ dep. dep ≡ signature held.now) }
 {
-    let path = held.path().copy()?;
-    let name = held.name().copy()?;
+    let path = held.record().path().copy()?;
+    let name = held.record().name().copy()?;
     let digest = held.digest()?;
     Ok(Dep { path, name, digest })
 }

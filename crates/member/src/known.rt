@@ -3,8 +3,11 @@ ghost use Rattle.std.specs.Prelude.{◌≡◌};
 ghost use Rattle.agreement.specs.Member.{no_facts, noted};
 ghost use Rattle.ballots.specs.InTheAgreement.{note_of};
 
+use crate::held::Held;
 use ballots::{Fact, Voter};
+use faults::Memory;
 use package_record::Build;
+use std::alloc::Global;
 
 /// What a member knows of a unit, also after a stop.
 #[derive(Drop)]
@@ -12,7 +15,7 @@ pub(crate) struct Known {
     /// The greatest round that it opened, or 0.
     pub(crate) opened: u64,
     pub(crate) voter: Voter,
-    pub(crate) held: Option<Build>,
+    pub(crate) held: Option<Held>,
 }
 
 impl Known {
@@ -43,9 +46,19 @@ impl Known {
             Fact::Voted(claim, build) => self.voter.apply(Some(Fact::Voted(claim, build))),
             Fact::Held(build) => {
                 if self.held.is_none() {
-                    self.held = Some(self.shared(build));
+                    self.held = Some(Held::new(self.shared(build)));
                 }
             }
+        }
+    }
+
+    /// Computes the digests of the records that are held, if that was not done before.
+    pub(crate) fn sign(&mut self, alloc: Global) -> Result<(), Memory>
+        ensures { self.new ≡ self.old }
+    {
+        match &mut self.held {
+            Some(held) => held.sign(alloc),
+            None => Ok(()),
         }
     }
 

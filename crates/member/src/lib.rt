@@ -10,6 +10,7 @@ mod change;
 mod claiming;
 mod facts;
 mod hearing;
+mod held;
 mod jobs;
 mod known;
 mod member;

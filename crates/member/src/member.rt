@@ -12,7 +12,7 @@ ghost use Rattle.units.specs.Division.{IsDivision};
 ghost use Rattle.protocol.specs.Answers.{after};
 ghost use Rattle.protocol.specs.Member.{IsMember};
 ghost use Rattle.protocol.specs.Restoring.{AreOnUnits, restored};
-ghost use Rattle.protocol.specs.State.{engine_of, fresh, held_record, record_in};
+ghost use Rattle.protocol.specs.State.{engine_of, fresh, held_record};
 ghost use Rattle.protocol.specs.Step.{HasAnswered, HasHandled, facts_named, header_refusal};
 ghost use Rattle.member.specs.OpenClaims.{open_of};
 ghost use Rattle.member.specs.Outcomes.{told};
@@ -22,6 +22,7 @@ ghost use Rattle.member.specs.inside.Steps.{IsPrepared};
 
 use crate::change::{change_claim, change_job};
 use crate::facts::keep_fact;
+use crate::held::HeldRecord;
 use crate::known::Known;
 use crate::naming::unit_named;
 use crate::{OpenClaim, Step};
@@ -129,6 +130,7 @@ impl<'a> Member<'a> {
         ensures step { HasAnswered self.old input (map_ok (answer_by self.old) result) }
         ensures taken { IfOk result (MayBeTaken self.old) }
     {
+        self.sign_before(&input);
         self.prepared(input)
     }
 
@@ -250,10 +252,18 @@ impl<'a> Member<'a> {
     pub fn held(&self, path: &PkgPath) -> Option<&Record>
         ensures { option_copied result ≡ held_record self.now path.now }
     {
+        let held = self.held_record(path)?;
+        Some(held.record())
+    }
+
+    /// The record that is held for the package path, with the digest that may be kept of it.
+    pub(crate) fn held_record(&self, path: &PkgPath) -> Option<HeldRecord<'_>>
+        ensures { result ≡ held_record self.now path.now }
+    {
         let position = self.tree.position(path)?;
         let unit = self.units.unit_of(position)?;
-        let build = self.known[unit as usize].held.as_ref()?;
-        record_of(build, path)
+        let held = self.known[unit as usize].held.as_ref()?;
+        held.record_of(path)
     }
 
     /// The letter of the package at the position.
@@ -354,15 +364,4 @@ fn are_below(members: &[u8], number: usize) -> bool
         }
     }
     true
-}
-
-/// The record of the path in the build, whose records ascend by path.
-fn record_of<'b>(build: &'b Build, path: &PkgPath) -> Option<&'b Record>
-    ensures { option_copied result ≡ record_in path.now build.entry.now }
-{
-    let records = build.packages();
-    match records.binary_search_by(|record| record.path().cmp(path)) {
-        Ok(place) => Some(&records[place]),
-        Err(_) => None,
-    }
 }

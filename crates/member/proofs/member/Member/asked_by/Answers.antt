@@ -1,4 +1,4 @@
-use Rattle.std.proofs.Common.{◌∙◌, Some, ap, sym}
+use Rattle.std.proofs.Common.{◌≡◌, ◌∙◌, Some, ap, sym}
 use Rattle.ballots.specs.declared.message.Body.TheVariants.{Agreed}
 use Rattle.protocol.specs.Answers.{message_of}
 use Rattle.protocol.specs.Sends.{sent_to}
@@ -14,7 +14,8 @@ returns-in_ok-sends-in-Some c =
     let within = unit_within m s c.args.unit c.self.view_is c.self.invariant.member c.requires in
     let known = facts_known m s c.args.unit k c.self.view_is within c.index.ensures in
     let b = c.in_ok-build-in-Some.build in
-    let is = c.in-Some.is ∙ ap (λ v. Some v) (sym c.in_ok-build-in-Some.ensures) in
+    let build : c.in-Some.held ≡ b = sym c.build.ensures ∙ sym c.in_ok-build-in-Some.ensures in
+    let is : k.held ≡ Some b = c.in-Some.is ∙ ap (λ v. Some v) build in
     let sends = c.in_ok-sends-in-Some.ensures
     ∙ ap (sent_to (Some (message_of s c.args.unit (Agreed b)))) c.one.ensures in
     question_makes s c.args.unit c.args.sender b c.saying.result

@@ -1,6 +1,5 @@
 use Rattle.std.proofs.Common.{◌∙◌, Option, None, Some, ap, append-nil, arith, map, sym}
 use Rattle.std.proofs.Common.{option_map}
-use Rattle.std.specs.Option.{option_copied}
 use Rattle.std.proofs.lemmas.List.{take_all}
 use Rattle.std.specs.Prelude.{filter_map}
 use Rattle.faults.specs.Bytes.{Text}
@@ -18,17 +17,17 @@ loop-path-preserved c =
     let items = c.args.paths.now in
     let k = c.loop-path.path-index in
     let before = c.loop-path.deps.items in
-    let after = c.match-held.deps.items in
-    elim c.match-held.branch [
+    let after = c.match-held_record.deps.items in
+    elim c.match-held_record.branch [
       | in-Some+in_ok-add w ↦
           given_more (λ path. path.now) sign items k c.path-item.result
-          (Some (signature w.in-Some.record.now)) before after c.loop-path-test.true c.path-item.is
-          (ap (option_map signature) (sym c.held.ensures ∙ ap option_copied w.in-Some.is))
+          (Some (signature w.in-Some.held)) before after c.loop-path-test.true c.path-item.is
+          (ap (option_map signature) (sym c.held_record.ensures ∙ w.in-Some.is))
           c.loop-path.invariant (ap (λ v. v.items) w.deps-is ∙ w.in_ok-add.ensures)
       | in_default w ↦
           given_more (λ path. path.now) sign items k c.path-item.result None before after
           c.loop-path-test.true c.path-item.is
-          (ap (option_map signature) (sym c.held.ensures ∙ ap option_copied w.in_default.is))
+          (ap (option_map signature) (sym c.held_record.ensures ∙ w.in_default.is))
           c.loop-path.invariant (ap (λ v. v.items) w.deps-is ∙ sym (append-nil before))
     ]
 

@@ -1,6 +1,6 @@
 use Rattle.std.proofs.Common.{arith}
 use Rattle.std.proofs.lemmas.Grind.{common_steps}
-use Rattle.member.proofs.member.Member.held.Goals as goal
+use Rattle.member.proofs.member.Member.held_record.Goals as goal
 
 pub returns : goal.returns
 returns c = grind (arith, common_steps)
