@@ -17,7 +17,7 @@ number_bytes zero n i = omega arith
 number_bytes (suc k) n zero = byte_below k n
 number_bytes (suc k) n (suc i) = number_bytes k n i
 
-bytes-append : (xs ys : List ℕ) → IsBytes xs → IsBytes ys → IsBytes (xs ++ ys)
+pub bytes-append : (xs ys : List ℕ) → IsBytes xs → IsBytes ys → IsBytes (xs ++ ys)
 bytes-append xs ys front behind i = elim (cases_lt i (length xs)) [
   | inl within ↦ rw (get_or-append xs ys 0 i within) (front i)
   | inr past ↦ rw (get_or-append_right xs ys (length xs) i 0 refl past) (behind (i - length xs))

@@ -14,6 +14,7 @@ pub mod Hashing
 pub mod Following
 pub mod Lacking
 pub mod Lists
+pub mod LowerDigits
 pub mod Many
 pub mod NextRecords
 pub mod Numbers

@@ -1,6 +1,18 @@
 //! Digests, and the digits that write them.
-ghost use Rattle.std.specs.Prelude.{◌≡◌, ◌≢◌, ℕ, IfNone, IfSome, List, Ok, length};
-ghost use Rattle.hex.specs.Hex.{IsBytes, decode_sized, encode_lower};
+ghost use Rattle.std.specs.Prelude.{◌≡◌, ◌≢◌, ◌<◌, ℕ, IfNone, IfSome, List, Ok, length, slice_index};
+ghost use Rattle.hex.specs.Hex.{IsBytes, decode_sized, encode_lower, lower_digits};
+
+/// The value of a lower-case hexadecimal digit, or 16 for any other byte.
+fn digit_value(digit: u8) -> u8
+    ensures reads { result < 16 → slice_index lower_digits result ≡ digit }
+    ensures finds { (value : ℕ) → value < 16 → slice_index lower_digits value ≡ digit → result ≡ value }
+{
+    match digit {
+        b'0'..=b'9' => digit - b'0',
+        b'a'..=b'f' => digit - b'a' + 10,
+        _ => 16,
+    }
+}
 
 /// The digest that the text writes in 64 lower-case hexadecimal digits, if it does.
 pub fn digest_of(text: &[u8]) -> Option<[u8; 32]>
@@ -9,11 +21,18 @@ pub fn digest_of(text: &[u8]) -> Option<[u8; 32]>
     ensures none { IfNone result ((digest : List ℕ) → decode_sized text.now 32 ≡ Ok digest
         → encode_lower digest ≢ text.now) }
 {
-    let mut digest = [0; 32];
-    match hex::decode_to_slice(text, &mut digest) {
-        Ok(()) if digest_text(&digest).as_slice() == text => Some(digest),
-        _ => None,
+    if text.len() != 64 {
+        return None;
     }
+    let mut digest = [0; 32];
+    let mut greatest: u8 = 0;
+    for i in 0..32 {
+        let high = digit_value(text[2 * i]);
+        let low = digit_value(text[2 * i + 1]);
+        greatest = greatest.max(high).max(low);
+        digest[i] = high.wrapping_mul(16).wrapping_add(low);
+    }
+    if greatest < 16 { Some(digest) } else { None }
 }
 
 /// The 64 lower-case hexadecimal digits of the digest.
