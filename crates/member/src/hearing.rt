@@ -55,8 +55,7 @@ impl<'a> Member<'a> {
         }
     }
 
-    /// The message about the unit is answered. Of what it says to be built or agreed the tree's
-    /// texts are kept.
+    /// The message about the unit is answered. Of a build that may be kept the tree's texts are.
     fn read(&self, unit: u32, message: Message) -> Result<Step, Memory>
         requires unit { unit < length self.now.division.units }
         requires sender { message.sender < length self.now.weights }
@@ -69,8 +68,29 @@ impl<'a> Member<'a> {
             ..
         } = message;
         drop(path);
-        let body = Listed { tree: self.tree }.body(body)?;
+        let body = if self.may_keep(unit, &body) {
+            Listed { tree: self.tree }.body(body)?
+        } else {
+            body
+        };
         self.answered(unit, sender, body)
+    }
+
+    /// Whether the body carries a build that may be kept. What comes again, behind a vote for it or
+    /// once the unit is held, is not.
+    fn may_keep(&self, unit: u32, body: &Body) -> bool
+        requires { unit < length self.now.division.units }
+    {
+        let known = &self.known[unit as usize];
+        match body {
+            Body::Agreed(_) => known.held.is_none(),
+            Body::Propose(claim, _) => match &known.voter.voted {
+                Some((voted, _)) => voted != claim,
+                None => true,
+            },
+            Body::Promise(_, report) => report.is_some(),
+            Body::Offer(_) | Body::Vote(_) | Body::Ask | Body::Nay(_, _) => false,
+        }
     }
 
     /// The message about the unit is answered.
