@@ -28,7 +28,7 @@ pub fn text(alloc: Global, records: &[Record]) -> Result<Vec<u8>, Memory>
     let mut text = Vec::new(alloc);
     put_lines(&mut text, records.len())?;
     for record in records {
-        record.write_to(&mut text)?;
+        record.put_text(&mut text)?;
     }
     Ok(text)
 }

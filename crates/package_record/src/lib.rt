@@ -28,6 +28,7 @@ mod number;
 mod package;
 mod parsing;
 mod reading;
+mod room;
 mod same;
 mod several;
 mod writing;

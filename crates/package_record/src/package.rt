@@ -152,6 +152,13 @@ impl Record {
         Ok((Record::of(alloc, fields)?, length))
     }
 
+    /// Appends the text; where memory ends, a part of it.
+    pub(crate) fn put_text(&self, out: &mut Vec<u8>) -> Result<(), Memory>
+        ensures { OnOk result (out.new.items ≡ out.old.items ++ record_text self.now) }
+    {
+        writing::put_text(out, &self.fields)
+    }
+
     /// Appends the text, or nothing.
     pub fn write_to(&self, out: &mut Vec<u8>) -> Result<(), Memory>
         ensures ok { OnOk result (out.new.items ≡ out.old.items ++ record_text self.now) }

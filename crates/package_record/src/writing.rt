@@ -12,6 +12,7 @@ use crate::File;
 use crate::digest::digest_text;
 use crate::fields::Fields;
 use crate::hashed_files::HashedFiles;
+use crate::room::{header_room, text_room};
 use claims::{Claim, Dep};
 use faults::Memory;
 use itoa::Buffer;
@@ -158,18 +159,28 @@ fn put_files(out: &mut Vec<u8>, files: &HashedFiles) -> Result<(), Memory>
     Ok(())
 }
 
+/// Appends the header with the empty line at its end.
+fn put_header(out: &mut Vec<u8>, fields: &Fields) -> Result<(), Memory>
+    ensures text { OnOk result
+        (out.new.items ≡ out.old.items ++ header_text (content_of fields.now)) }
+    ensures names { OnOk result (HasNames (content_of fields.now)) }
+{
+    put_front(out, fields)?;
+    put_dependencies(out, fields.built.as_slice())?;
+    put_run(out, fields.run.as_slice())?;
+    put_files(out, &fields.files)?;
+    out.push(b'\n')?;
+    Ok(())
+}
+
 /// The header with the empty line at its end.
 pub fn header(alloc: Global, fields: &Fields) -> Result<Vec<u8>, Memory>
     ensures text { IfOk result (λ text.
         text.items ≡ header_text (content_of fields.now)) }
     ensures names { OnOk result (HasNames (content_of fields.now)) }
 {
-    let mut text = Vec::new(alloc);
-    put_front(&mut text, fields)?;
-    put_dependencies(&mut text, fields.built.as_slice())?;
-    put_run(&mut text, fields.run.as_slice())?;
-    put_files(&mut text, &fields.files)?;
-    text.push(b'\n')?;
+    let mut text = Vec::with_capacity(alloc, header_room(fields))?;
+    put_header(&mut text, fields)?;
     Ok(text)
 }
 
@@ -184,11 +195,21 @@ fn put_bodies(out: &mut Vec<u8>, files: &[File]) -> Result<(), Memory>
     Ok(())
 }
 
+/// Appends the whole text.
+pub fn put_text(out: &mut Vec<u8>, fields: &Fields) -> Result<(), Memory>
+    ensures { OnOk result (out.new.items ≡ out.old.items ++ record_text (content_of fields.now)) }
+{
+    out.reserve(text_room(fields))?;
+    put_header(out, fields)?;
+    put_bodies(out, fields.files.as_slice())?;
+    Ok(())
+}
+
 /// The whole text.
 pub fn text(alloc: Global, fields: &Fields) -> Result<Vec<u8>, Memory>
     ensures { IfOk result (λ text. text.items ≡ record_text (content_of fields.now)) }
 {
-    let mut text = header(alloc, fields)?;
-    put_bodies(&mut text, fields.files.as_slice())?;
+    let mut text = Vec::new(alloc);
+    put_text(&mut text, fields)?;
     Ok(text)
 }

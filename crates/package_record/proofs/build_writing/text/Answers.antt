@@ -8,7 +8,7 @@ use Rattle.package_record.proofs.build_writing.text.Goals as goal
 pub loop-record-preserved : goal.loop-record-preserved
 loop-record-preserved c =
     let cs = c.args.records.now in
-    text_next (lines_before (length cs)) _ _ cs c.loop-record.record-index c.record-item.result c.loop-record-test.true c.record-item.is c.loop-record.invariant c.in_ok-write_to.ensures.ok
+    text_next (lines_before (length cs)) _ _ cs c.loop-record.record-index c.record-item.result c.loop-record-test.true c.record-item.is c.loop-record.invariant c.in_ok-put_text.ensures
 
 pub returns : goal.returns
 returns c =

@@ -1,0 +1,70 @@
+//! How much room the text of a record takes, so that it is had at once and not piece by piece.
+
+use crate::File;
+use crate::fields::Fields;
+use claims::Dep;
+use pkgpath::PkgPath;
+
+/// The most bytes that the first five lines and the empty one have besides the name and the path.
+const FRONT: usize = 77;
+
+/// The bytes of a dependency's line besides its path and its name.
+const BUILT: usize = 74;
+
+/// The bytes of the line of a path to run besides the path.
+const RUN: usize = 6;
+
+/// The most bytes that the three lines of a file have besides its name.
+const FILE: usize = 98;
+
+fn built_room(deps: &[Dep]) -> usize {
+    let mut room: usize = 0;
+    for dep in deps {
+        room = room
+            .saturating_add(BUILT)
+            .saturating_add(dep.path.as_bytes().len())
+            .saturating_add(dep.name.as_bytes().len());
+    }
+    room
+}
+
+fn run_room(paths: &[PkgPath]) -> usize {
+    let mut room: usize = 0;
+    for path in paths {
+        room = room
+            .saturating_add(RUN)
+            .saturating_add(path.as_bytes().len());
+    }
+    room
+}
+
+fn lines_room(files: &[File]) -> usize {
+    let mut room: usize = 0;
+    for file in files {
+        room = room.saturating_add(FILE).saturating_add(file.name.len());
+    }
+    room
+}
+
+fn bodies_room(files: &[File]) -> usize {
+    let mut room: usize = 0;
+    for file in files {
+        room = room.saturating_add(file.bytes.len());
+    }
+    room
+}
+
+/// Room for the header: as much as it takes, or a few bytes more.
+pub fn header_room(fields: &Fields) -> usize {
+    FRONT
+        .saturating_add(fields.name.as_bytes().len())
+        .saturating_add(fields.path.as_bytes().len())
+        .saturating_add(built_room(fields.built.as_slice()))
+        .saturating_add(run_room(fields.run.as_slice()))
+        .saturating_add(lines_room(fields.files.as_slice()))
+}
+
+/// Room for the whole text: as much as it takes, or a few bytes more.
+pub fn text_room(fields: &Fields) -> usize {
+    header_room(fields).saturating_add(bodies_room(fields.files.as_slice()))
+}
