@@ -9,7 +9,7 @@ ghost use Rattle.faults.specs.Answers.{map_ok};
 ghost use Rattle.agreement.specs.Votes.{report_of};
 ghost use Rattle.engine.specs.State as engines;
 ghost use Rattle.units.specs.Division.{IsDivision};
-ghost use Rattle.protocol.specs.Answers.{after};
+ghost use Rattle.protocol.specs.Answers.{after, tree_digest};
 ghost use Rattle.protocol.specs.Member.{IsMember};
 ghost use Rattle.protocol.specs.Restoring.{AreOnUnits, restored};
 ghost use Rattle.protocol.specs.State.{engine_of, fresh, held_record};
@@ -222,6 +222,13 @@ impl<'a> Member<'a> {
         ensures { result.now ≡ self.now.division.tree }
     {
         self.tree
+    }
+
+    /// The digest of its tree, by which messages of other trees are told.
+    pub fn tree_digest(&self) -> &[u8; 32]
+        ensures { result.now ≡ tree_digest self.now.division.tree }
+    {
+        &self.digest
     }
 
     /// The units of the tree, which facts are kept by.

@@ -26,7 +26,7 @@ use Rattle.node.specs.Laws.{OnlyRunningNodesTake, StepsAreTheMembers}
 use Rattle.node.specs.OnLog.{HasRoomForNote, IsLogged, IsOnLog, LacksRoom, LeavesOneMoreAtMost, identity_of, texts_of}
 use Rattle.stable_record.specs.OpenLog.{Holds}
 use Rattle.node.specs.State.{IsNode, LoggedNode, NodeState, restored_member, with_note}
-use Rattle.node.specs.Step.{Asked, IsReadyFor, ReadyStep, Taken, Takes, after, answer_then, changed, note_in, running_step, sends_in, taken_by}
+use Rattle.node.specs.Step.{IsReadyFor, ReadyStep, after, answer_then, changed, note_in, running_step, sends_in, taken_by}
 use Rattle.node.specs.Parcels.{datagrams_to}
 use Rattle.node.specs.declared.fault.NodeFault.{NodeFault}
 use Rattle.node.specs.declared.ready.Out.{Out}

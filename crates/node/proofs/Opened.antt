@@ -56,6 +56,12 @@ module _ (s : State) (new : IsNew s) (texts : List Text) (notes : List (Note Val
   pub opened_invariant : (n : NodeState) → n ≡ opened_node s.division s.weights s.me notes → IsNode n
   opened_invariant n is = subst IsNode (sym is) opened_is_node
 
+-- the log of a member that knows nothing yet is that of its tree, of members that weigh so
+pub owner_of_new : (s : State) (tree : Tree) (weights : List ℕ) (me : ℕ) → s ≡ fresh s.division weights me → s.division.tree ≡ tree
+    → identity_of s ≡ identity tree weights me
+owner_of_new s tree weights me new of_tree =
+    λ j. identity (of_tree j) (ap (λ (t : State). t.weights) new j) (ap (λ (t : State). t.me) new j)
+
 -- ---- what both answers of a call say
 
 pub both_ok : {T E : Type 0} (r : Result T E) (P Q R : T → Type 0) → ((x : T) → P x → Q x → R x) → IfOk r P → IfOk r Q → IfOk r R

@@ -78,10 +78,10 @@ impl<'a, D: Disk> Node<'a, D> {
         ensures later { MatchResult result (λ n. D.failures_of disk ≤ D.failures_of n.log.disk)
             (λ e. D.failures_of disk ≤ D.failures_of e.1) }
     {
-        let owner = owner(tree, weights, me);
         let Ok(member) = Member::new(alloc, tree, weights, me) else {
             return Err((NodeFault::Memory, disk));
         };
+        let owner = owner(&member);
         match Log::open(alloc, disk, &owner) {
             Ok((log, texts)) => over(alloc, member, log, texts.as_slice()),
             Err((fault, disk)) => {
@@ -128,17 +128,19 @@ fn over<'a, D: Disk>(
     }
 }
 
-/// Whose log it is: that of this member, of members that weigh so, over the tree.
-fn owner(tree: &Tree, weights: &Weights, me: u8) -> Identity
-    ensures identity { result ≡ identity tree.now weights.now me }
-    ensures weights { AreWeights weights.now }
+/// Whose log it is: that of this member.
+fn owner(member: &Member<'_>) -> Identity
+    ensures identity { result ≡ identity_of member.now }
+    ensures weights { AreWeights member.now.weights }
 {
     let mut table = ArrayVec::new();
-    table.try_extend_from_slice(weights.as_slice()).unwrap();
+    table
+        .try_extend_from_slice(member.weights().as_slice())
+        .unwrap();
     Identity {
-        tree: tree.digest(),
+        tree: *member.tree_digest(),
         weights: table,
-        me,
+        me: member.me(),
     }
 }
 
