@@ -1,5 +1,5 @@
-//! Traces of three nodes that build packages, each of which is claimed, promised, built, voted for and
-//! held by all, one after the other.
+//! Traces of three nodes that build packages, each of which is claimed, promised, built, voted for
+//! and held by all, one after the other.
 use crate::numbers::Numbers;
 use crate::tree::Package;
 use std::alloc::Global;
@@ -60,8 +60,8 @@ impl Trace {
         Ok(text)
     }
 
-    /// So many times a datagram comes once more to a node to which it came, or node 0 says again what
-    /// its open claim waits for.
+    /// So many times a datagram comes once more to a node to which it came, or node 0 says again
+    /// what its open claim waits for.
     pub fn again(&mut self, numbers: &mut Numbers, times: u64) -> io::Result<()> {
         for _turn in 0..times {
             let count = self.delivered.len();

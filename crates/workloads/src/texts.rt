@@ -19,8 +19,8 @@ pub enum Ending {
     Unlisted,
 }
 
-/// Some of the paths, a line each: of each eight in a row so many, and none of the last tenth, which
-/// may be ignored.
+/// Some of the paths, a line each: of each eight in a row so many, and none of the last tenth,
+/// which may be ignored.
 pub fn held_text(
     alloc: Global,
     numbers: &mut Numbers,

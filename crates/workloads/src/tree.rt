@@ -1,8 +1,9 @@
 //! Listings that are made up.
 //!
-//! They have layers, as a ports tree has: a path depends on paths of lower layers, often on few hubs
-//! (a compiler, a make, a library of everything) and seldom far down; most paths have few
-//! dependencies, a few have sixty; some have flavors or stand for subpackages, and some are ignored.
+//! They have layers, as a ports tree has: a path depends on paths of lower layers, often on few
+//! hubs (a compiler, a make, a library of everything) and seldom far down; most paths have few
+//! dependencies, a few have sixty; some have flavors or stand for subpackages, and some are
+//! ignored.
 ghost use Rattle.std.specs.Prelude.{◌≤◌};
 
 use crate::numbers::Numbers;
@@ -222,7 +223,8 @@ fn put_dependency(numbers: &mut Numbers, out: &mut Vec<u8>, path: &str) -> io::R
     Ok(())
 }
 
-/// A listing in which each path needs one other to run, all in one chain, whose places are shuffled.
+/// A listing in which each path needs one other to run, all in one chain, whose places are
+/// shuffled.
 pub fn in_chain(alloc: Global, numbers: &mut Numbers, paths: u32) -> io::Result<Made> {
     let mut made = Made {
         listing: Vec::new(alloc),
