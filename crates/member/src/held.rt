@@ -140,7 +140,8 @@ fn digests_of(alloc: Global, records: &[Record]) -> Result<Vec<[u8; 32]>, Memory
 fn place_of(build: &Build, path: &PkgPath) -> Option<usize>
     ensures { MatchOption result (record_in path.now build.now ≡ None)
         (λ place. (place < length build.now)
-        × ((r : Content) → record_in path.now build.now ≡ Some (slice_index_or build.now place r))) }
+        × ((r : Content) → record_in path.now build.now
+        ≡ Some (slice_index_or build.now place r))) }
 {
     let records = build.packages();
     match records.binary_search_by(|record| record.path().cmp(path)) {

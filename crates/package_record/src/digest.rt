@@ -5,7 +5,8 @@ ghost use Rattle.hex.specs.Hex.{IsBytes, decode_sized, encode_lower, lower_digit
 /// The value of a lower-case hexadecimal digit, or 16 for any other byte.
 fn digit_value(digit: u8) -> u8
     ensures reads { result < 16 → slice_index lower_digits result ≡ digit }
-    ensures finds { (value : ℕ) → value < 16 → slice_index lower_digits value ≡ digit → result ≡ value }
+    ensures finds { (value : ℕ) → value < 16 → slice_index lower_digits value ≡ digit
+        → result ≡ value }
 {
     match digit {
         b'0'..=b'9' => digit - b'0',

@@ -211,7 +211,8 @@ fn number(value: &Value<'_>, most: u64) -> Result<u64, ReadError>
 
 /// A whole number of 64 bits that is written in digits alone.
 fn small(value: &Value<'_>) -> Option<u64>
-    ensures { IfSome result (λ n. (most : ℕ) → n ≤ most → Reads (number_of most) (value_view value.now) n) }
+    ensures { IfSome result (λ n. (most : ℕ) → n ≤ most
+        → Reads (number_of most) (value_view value.now) n) }
 {
     let text = value.as_number()?;
     let bytes = text.as_bytes();

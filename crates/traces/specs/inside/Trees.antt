@@ -25,14 +25,21 @@ path_in d = as_str d >>= (λ text. answer_in (path_of text))
 abbrev pub Entry : Type 0
 Entry = Bor (List ℕ) × Value Global
 
+-- a member and those behind it
+abbrev pub with_entry : Entry → json.Members → json.Members
+with_entry a ms = json.member a.0.now (value_view a.1) ms
+
 abbrev pub two : Entry → Entry → json.Json
-two a b = json.object (json.member a.0.now (value_view a.1) (json.member b.0.now (value_view b.1) json.no_members))
+two a b = json.object (with_entry a (with_entry b json.no_members))
 
 abbrev pub three : Entry → Entry → Entry → json.Json
-three a b c = json.object (json.member a.0.now (value_view a.1) (json.member b.0.now (value_view b.1) (json.member c.0.now (value_view c.1) json.no_members)))
+three a b c = json.object (with_entry a (with_entry b (with_entry c json.no_members)))
 
 abbrev pub four : Entry → Entry → Entry → Entry → json.Json
-four a b c d = json.object (json.member a.0.now (value_view a.1) (json.member b.0.now (value_view b.1) (json.member c.0.now (value_view c.1) (json.member d.0.now (value_view d.1) json.no_members))))
+four a b c d =
+    json.object (with_entry a (with_entry b (with_entry c (with_entry d json.no_members))))
 
 abbrev pub five : Entry → Entry → Entry → Entry → Entry → json.Json
-five a b c d e = json.object (json.member a.0.now (value_view a.1) (json.member b.0.now (value_view b.1) (json.member c.0.now (value_view c.1) (json.member d.0.now (value_view d.1) (json.member e.0.now (value_view e.1) json.no_members)))))
+five a b c d e =
+    json.object
+    (with_entry a (with_entry b (with_entry c (with_entry d (with_entry e json.no_members)))))
