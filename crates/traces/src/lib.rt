@@ -17,7 +17,6 @@ use std::alloc::Global;
 use thiserror::Error;
 
 mod builds;
-mod digits;
 mod event;
 mod fields;
 mod files;
