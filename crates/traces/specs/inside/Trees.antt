@@ -22,6 +22,7 @@ path_in d = as_str d >>= (λ text. answer_in (path_of text))
 
 -- ---- objects of so many members, each a key and a value
 
+-- a key and its value
 abbrev pub Entry : Type 0
 Entry = Bor (List ℕ) × Value Global
 
@@ -29,16 +30,20 @@ Entry = Bor (List ℕ) × Value Global
 abbrev pub with_entry : Entry → json.Members → json.Members
 with_entry a ms = json.member a.0.now (value_view a.1) ms
 
+-- an object of these two members
 abbrev pub two : Entry → Entry → json.Json
 two a b = json.object (with_entry a (with_entry b json.no_members))
 
+-- an object of these three members
 abbrev pub three : Entry → Entry → Entry → json.Json
 three a b c = json.object (with_entry a (with_entry b (with_entry c json.no_members)))
 
+-- an object of these four members
 abbrev pub four : Entry → Entry → Entry → Entry → json.Json
 four a b c d =
     json.object (with_entry a (with_entry b (with_entry c (with_entry d json.no_members))))
 
+-- an object of these five members
 abbrev pub five : Entry → Entry → Entry → Entry → Entry → json.Json
 five a b c d e =
     json.object
