@@ -1,5 +1,5 @@
 -- What changes where one more package is held.
-use Rattle.std.proofs.Common.{◌≡◌, ◌≢◌, ◌+◌, ◌<◌, ◌≤◌, ◌⊎◌, ℕ, true, false, List, All, Some, get_or, length, set, refl, sym, ap, ◌∙◌, subst, inl, inr, arith}
+use Rattle.std.proofs.Common.{◌≡◌, ◌≢◌, ◌+◌, ◌<◌, ◌≤◌, ◌⊎◌, ℕ, true, false, List, All, Contains, Some, get_or, length, set, refl, sym, ap, ◌∙◌, subst, inl, inr, arith}
 use Rattle.std.proofs.lemmas.Bool.{cases_eq, cases_lt}
 use Rattle.std.proofs.lemmas.List.{get_or-set_other, get_or-set_same, get_or_past, length-map, length-set}
 use Rattle.std.proofs.lemmas.List.Elements.{All-contains}
@@ -12,21 +12,15 @@ use Rattle.engine.specs.declared.Letter.TheVariants.{T, Q, B, I, Ignored}
 use Rattle.graph.specs.Walked.{Walked}
 use Rattle.engine.specs.inside.Agreed.{held_marks}
 use Rattle.engine.specs.inside.Keeping.{AreKept, holds}
-use Rattle.engine.specs.inside.Lacking.{IsLacking}
-use Rattle.graph.specs.Lists.{list_at, times}
-use Rattle.graph.specs.Reach.{AreReached, IsReached}
+use Rattle.engine.specs.inside.Searching.{IsSettled}
 use Rattle.engine.specs.inside.Queueing.{AreQueueing, FitsUnit, needs_of}
 use Rattle.engine.specs.inside.Shown.{is_held, is_installed, letter_at}
 use Rattle.graph.specs.Marks.{has_mark}
 use Rattle.engine.proofs.Beginning.{not_held_installed}
-use Rattle.graph.proofs.Lists.{contained-times}
 use Rattle.engine.proofs.Marked.{marked_set-like, marked_set-more, marked_set-same}
 use Rattle.graph.proofs.Marked.{has_mark-other, has_mark-same}
 use Rattle.engine.proofs.Reading.{held_mark, state_of}
-use Rattle.engine.proofs.SoMany.{AreLacks-held, so_many-some}
-use Rattle.graph.proofs.Turned.{AreTurned, reached-back, reached-itself}
-use Rattle.units.proofs.Dependents.{run_listed}
-use Rattle.graph.proofs.Turned.{turned, turned_back}
+use Rattle.engine.proofs.Settled.{are_lacks_now, installed_lacks, no_more}
 use Rattle.engine.proofs.Waiting.{waited_for-same}
 
 -- a package that is not ignored has a unit
@@ -64,28 +58,10 @@ module _ (d : Division) (letters now : List Letter) (p : ℕ) (s : State) (is : 
 
 -- ---- what is kept
 
-module _ {d : Division} {letters : List Letter} {lacks waits : List ℕ} {runs needs : List (List ℕ)} {walk : Walked} (kept : AreKept d letters lacks waits runs needs walk)
+module _ {d : Division} {letters : List Letter} {lacks waits : List ℕ} {runs needs : List (List ℕ)} {search : Walked} (kept : AreKept d letters lacks waits runs needs search)
     (p : ℕ) (within : p < length d.tree) (not_held : holds letters p ≡ false) where
   inside : p < length letters
   inside = omega (arith, within, kept.queueing.are_fitting.each_letter)
-
-  there : AreTurned (run_at d.tree) (list_at runs)
-  there = turned kept.runs_turned (run_listed d.tree kept.queueing.are_fitting.division.tree)
-
-  back : AreTurned (list_at runs) (run_at d.tree)
-  back = turned_back kept.runs_turned
-
-  -- each that is reached lacks the package
-  pub some_lacking : (found : List ℕ) → AreReached (list_at runs) p found → (q : ℕ) → q < length lacks → times q found ≤ get_or lacks q 0
-  some_lacking found reached q listed = elim (reached q) [
-    | inl (leads, one) ↦ omega (
-      arith,
-      one,
-      so_many-some (IsLacking (run_at d.tree) (holds letters) q) (length d.tree) (get_or lacks q 0) p (kept.are_lacks q listed) within
-          (reached-back (list_at runs) (run_at d.tree) p q back leads, not_held),
-    )
-    | inr (leads_not, none) ↦ omega (arith, none)
-  ]
 
   -- the units wait for as many as before
   pub AreQueueing-built : letter_at letters p ≢ Ignored → AreQueueing d (set letters p B) waits
@@ -109,50 +85,23 @@ module _ {d : Division} {letters : List Letter} {lacks waits : List ℕ} {runs n
     ]));
   }
 
-  -- all that lead to the package lack one less, and those that lack nothing are installed
-  module _ (now : List Letter) (less fewer found : List ℕ) (after : Walked)
-      (reached : AreReached (list_at runs) p found) (each : length less ≡ length lacks)
-      (lowered : (q : ℕ) → q < length lacks → get_or less q 0 + times q found ≡ get_or lacks q 0)
-      (held : (q : ℕ) → is_held (letter_at now q) ≡ is_held (letter_at (set letters p B) q)) where
-    -- the letter of another is as it was
-    as_it_was : (q : ℕ) (l : Letter) → q ≢ p → letter_at (set letters p B) q ≡ l → letter_at letters q ≡ l
-    as_it_was q l other is = sym (get_or-set_other letters p q B Ignored other) ∙ is
-
-    installed_lacks : (q : ℕ) → (letter_at (set letters p B) q ≡ I) ⊎ (get_or less q 0 ≡ 0) → get_or less q 0 ≡ 0
-    installed_lacks q (inr none) = none
-    installed_lacks q (inl was) = elim (cases_eq q p) [
-      | inl same ↦ absurd (let e : B ≡ I = sym (ap (letter_at (set letters p B)) same ∙ get_or-set_same letters p B Ignored inside) ∙ was in cc)
-      | inr other ↦ elim (cases_lt q (length lacks)) [
-        | inl listed ↦ omega (arith, kept.installed q (as_it_was q I other was), lowered q listed)
-        | inr past ↦ get_or_past less q 0 (omega (arith, past, each))
-      ]
-    ]
-
-    built_lacks : (q : ℕ) → letter_at (set letters p B) q ≡ B → times q found ≡ 0 → q ≢ p → 0 < get_or less q 0
-    built_lacks q was none other = elim (cases_lt q (length lacks)) [
-      | inl listed ↦ omega (arith, none, kept.built q (as_it_was q B other was), lowered q listed)
-      | inr past ↦ absurd (omega (arith, get_or_past lacks q 0 past, kept.built q (as_it_was q B other was)))
-    ]
-
-    pub AreKept-agreed : AreQueueing d now fewer
-        → ((q : ℕ) → letter_at now q ≡ B → letter_at (set letters p B) q ≡ B)
-        → ((q : ℕ) → letter_at now q ≡ I → (letter_at (set letters p B) q ≡ I) ⊎ (get_or less q 0 ≡ 0))
-        → All (λ q. letter_at now q ≡ B → 0 < get_or less q 0) found
-        → after.len ≡ length d.tree → AreKept d now less fewer runs needs after
-    AreKept-agreed queueing built installed all over_all = record {
-      queueing = queueing;
-      each = each ∙ kept.each;
-      are_lacks = AreLacks-held (run_at d.tree) (list_at runs) there back (holds letters) (holds now) (length d.tree) lacks less found p within not_held
-          (held p ∙ ap is_held (get_or-set_same letters p B Ignored inside))
-          (λ q other. held q ∙ ap is_held (get_or-set_other letters p q B Ignored other))
-          reached each lowered kept.are_lacks;
-      installed = λ q is. installed_lacks q (installed q is);
-      built = λ q is. elim (reached q) [
-        | inl (leads, one) ↦ All-contains (λ x. letter_at now x ≡ B → 0 < get_or less x 0) found q all (contained-times q found (omega (arith, one))) is
-        | inr (leads_not, none) ↦ built_lacks q (built q is) none
-            (λ same. leads_not (subst (IsReached (list_at runs) p) (sym same) (reached-itself (list_at runs) p)))
-      ];
-      runs_turned = kept.runs_turned;
-      needs_turned = kept.needs_turned;
-      over_all = over_all;
-    }
+  -- those that become installable with the package are known, and have the letter I
+  pub AreKept-agreed : (now : List Letter) (less fewer found : List ℕ) (after : Walked)
+      → IsSettled (set letters p B) lacks less runs p found → length less ≡ length lacks
+      → ((q : ℕ) → is_held (letter_at now q) ≡ is_held (letter_at (set letters p B) q))
+      → AreQueueing d now fewer
+      → ((q : ℕ) → letter_at now q ≡ B → letter_at (set letters p B) q ≡ B)
+      → ((q : ℕ) → letter_at now q ≡ I → (letter_at (set letters p B) q ≡ I) ⊎ (Contains found q × (get_or less q 0 ≡ 0)))
+      → All (λ q. letter_at now q ≡ B → 0 < get_or less q 0) found
+      → after.len ≡ length d.tree → AreKept d now less fewer runs needs after
+  AreKept-agreed now less fewer found after settled each held queueing built installed all over_all = record {
+    queueing = queueing;
+    each = each ∙ kept.each;
+    are_lacks = are_lacks_now kept p within not_held settled now held built installed all;
+    few = kept.few;
+    installed = installed_lacks kept p within not_held settled now held built installed all;
+    built = λ q is i. no_more kept p within not_held settled now held built installed all q i is;
+    runs_turned = kept.runs_turned;
+    needs_turned = kept.needs_turned;
+    over_all = over_all;
+  }

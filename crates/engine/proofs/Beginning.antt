@@ -1,5 +1,5 @@
 -- What is kept where nothing is held.
-use Rattle.std.proofs.Common.{◌≡◌, ◌+◌, ◌<◌, ℕ, Bool, false, not, cond, List, [], ◌∷◌, get_or, length, set, refl, sym, ap, ◌∙◌, subst, inl, inr, arith}
+use Rattle.std.proofs.Common.{◌≡◌, ◌+◌, ◌<◌, ◌^◌, ℕ, Bool, false, not, cond, List, [], ◌∷◌, get_or, length, set, refl, sym, ap, ◌∙◌, subst, inl, inr, arith}
 use borrow.Author.Count.{below_more}
 use Rattle.std.proofs.lemmas.Bool.{cases_eq, true≢false}
 use Rattle.std.proofs.lemmas.List.{get_or-set_other, get_or-set_same}
@@ -10,7 +10,6 @@ use Rattle.engine.specs.declared.Letter.{Letter}
 use Rattle.engine.specs.declared.Letter.TheVariants.{T, Q, B, I, Ignored}
 use Rattle.graph.specs.Walked.{Walked}
 use Rattle.engine.specs.inside.Keeping.{AreKept, holds}
-use Rattle.engine.specs.inside.Lacking.{AreLacks}
 use Rattle.graph.specs.Lists.{AreReversed}
 use Rattle.engine.specs.inside.Queueing.{AreFitting, FitsUnit, needs_of, waited_for}
 use Rattle.engine.specs.inside.Shown.{is_held, is_installed, letter_at}
@@ -30,22 +29,21 @@ all_waited letters (p ∷ ps) none =
     let one : test p ≡ 1 = ap (λ b. cond (not b) 1 0) (not_held_installed (letter_at letters p) (none p)) in
     omega (arith, one, sum_by-cons test p ps, all_waited letters ps none)
 
-pub AreKept-first : (d : Division) (letters : List Letter) (lacks waits : List ℕ) (runs needs : List (List ℕ)) (walk : Walked) → AreFitting d letters waits
+pub AreKept-first : (d : Division) (letters : List Letter) (lacks waits : List ℕ) (runs needs : List (List ℕ)) (search : Walked) → AreFitting d letters waits
     → ((p : ℕ) → holds letters p ≡ false)
     → ((u : ℕ) → u < length d.units → get_or waits u 0 ≡ length (needs_of d u))
-    → length lacks ≡ length d.tree → AreLacks (run_at d.tree) (λ p. false) (length d.tree) lacks
+    → length lacks ≡ length d.tree → ((p : ℕ) → p < length d.tree → (get_or lacks p 0 ≡ length (run_at d.tree p)) × (length (run_at d.tree p) < 2 ^ 64))
     → AreReversed (length d.tree) (length d.tree) (run_at d.tree) runs
     → AreReversed (length d.tree) (length d.units) (needs_of d) needs
-    → walk.len ≡ length d.tree → AreKept d letters lacks waits runs needs walk
-AreKept-first d letters lacks waits runs needs walk fitting none counted each are_lacks runs_turned needs_turned over_all = record {
+    → search.len ≡ length d.tree → AreKept d letters lacks waits runs needs search
+AreKept-first d letters lacks waits runs needs search fitting none counted each are_lacks runs_turned needs_turned over_all = record {
   queueing = record {
     are_fitting = fitting;
     waited = λ u listed. counted u listed ∙ sym (all_waited letters (needs_of d u) none);
   };
   each = each;
-  are_lacks =
-      let same : (λ (p : ℕ). false) ≡ holds letters = λ i p. sym (none p) i in
-      subst (λ (held : ℕ → Bool). AreLacks (run_at d.tree) held (length d.tree) lacks) same are_lacks;
+  few = λ p listed. (are_lacks p listed).1;
+  are_lacks = λ p listed. (are_lacks p listed).0 ∙ sym (all_waited letters (run_at d.tree p) none);
   installed = λ p is. absurd (true≢false (sym (ap is_held is) ∙ none p));
   built = λ p is. absurd (true≢false (sym (ap is_held is) ∙ none p));
   runs_turned = runs_turned;

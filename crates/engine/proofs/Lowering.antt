@@ -40,12 +40,12 @@ here_one positions i = ap one_if (eq-eqb (get_or positions i 0) (get_or position
 
 -- the next sum fits
 pub fits_more : (lacks now positions : List ℕ) (i : ℕ) → i < length positions → All (λ p. p < length lacks) positions
-    → ((p : ℕ) → get_or lacks p 0 + times p positions < 2 ^ 32)
+    → ((p : ℕ) → p < length lacks → get_or lacks p 0 + times p positions < 2 ^ 64)
     → ((p : ℕ) → p < length lacks → get_or now p 0 ≡ get_or lacks p 0 + times p (take i positions))
-    → get_or now (get_or positions i 0) 0 + 1 < 2 ^ 32
+    → get_or now (get_or positions i 0) 0 + 1 < 2 ^ 64
 fits_more lacks now positions i listed within few raised =
     let x = get_or positions i 0 in
-    omega (arith, few x, raised x (within i 0 listed), times-take x positions i listed, here_one positions i)
+    omega (arith, few x (within i 0 listed), raised x (within i 0 listed), times-take x positions i listed, here_one positions i)
 
 -- the next count is not 0
 pub some_left : (lacks now positions : List ℕ) (i : ℕ) → i < length positions → All (λ p. p < length lacks) positions

@@ -17,14 +17,12 @@ use Rattle.engine.specs.declared.Letter.TheVariants.{T, Q, B, I, Ignored}
 use Rattle.graph.specs.Walked.{Walked}
 use Rattle.engine.specs.inside.Agreed.{held_marks, marked_set}
 use Rattle.engine.specs.inside.Keeping.{AreKept, holds}
-use Rattle.engine.specs.inside.Lacking.{IsLacking}
 use Rattle.engine.specs.inside.Queueing.{FitsUnit, needs_of, waited_for}
 use Rattle.engine.specs.inside.Shown.{is_held, is_installed, letter_at}
 use Rattle.graph.proofs.Lists.{get_or-same}
 use Rattle.engine.proofs.Marked.{contains-marked_set}
 use Rattle.engine.proofs.Numbered.{numbered_unit, unnumbered_ignored}
 use Rattle.engine.proofs.OneLetter.{only_one_letter}
-use Rattle.engine.proofs.SoMany.{nothing_lacks-held, nothing_lacks-needed, so_many-none}
 use Rattle.engine.proofs.Together.{not_ignored}
 
 -- what contracts see of the letters
@@ -52,7 +50,7 @@ installed_is I e = refl
 installed_is Ignored e = absurd (true≢false (sym e))
 
 -- where none is waited for, all are installed
-none_waited : (letters : List Letter) (ps : List ℕ) (q : ℕ) → waited_for letters ps ≡ 0 → Contains ps q → letter_at letters q ≡ I
+pub none_waited : (letters : List Letter) (ps : List ℕ) (q : ℕ) → waited_for letters ps ≡ 0 → Contains ps q → letter_at letters q ≡ I
 none_waited letters ps q none (k, within, is) = installed_is (letter_at letters q) (go (is_installed (letter_at letters q)) refl)
   where
     go : (b : Bool) → is_installed (letter_at letters q) ≡ b → is_installed (letter_at letters q) ≡ true
@@ -84,37 +82,22 @@ zip_from R a (l ∷ ls) each = (
   zip_from R (a + 1) ls (λ k within. let e : a + suc k ≡ a + 1 + k = omega arith in subst (λ (x : ℕ). R x (get_or ls k Ignored)) e (each (suc k) (omega arith))),
 )
 
-module _ {d : Division} {letters : List Letter} {lacks waiting : List ℕ} {runs needs : List (List ℕ)} {walk : Walked} (kept : AreKept d letters lacks waiting runs needs walk) where
+module _ {d : Division} {letters : List Letter} {lacks waiting : List ℕ} {runs needs : List (List ℕ)} {search : Walked} (kept : AreKept d letters lacks waiting runs needs search) where
   is_division : IsDivision d
   is_division = kept.queueing.are_fitting.division
 
-  some_lacking : (q : ℕ) → nat_eq (get_or lacks q 1) 0 ≡ true → (q < length lacks) × (get_or lacks q 0 ≡ 0)
-  some_lacking q e = elim (cases_lt q (length lacks)) [
-    | inl within ↦ (within, get_or-same lacks q 0 1 within ∙ eqb-true (get_or lacks q 1) 0 e)
-    | inr past ↦ absurd (omega (arith, get_or_past lacks q 1 past, eqb-true (get_or lacks q 1) 0 e))
-  ]
-
-  run_within : (q x : ℕ) → q < length d.tree → Contains (run_at d.tree q) x → x < length d.tree
-  run_within q x within needed = All-contains (λ p. p < length d.tree) (run_at d.tree q) x (is_division.tree.run q no_package within).within needed
-
-  -- what lacks nothing is installable
-  installable_from : (p : ℕ) → p < length d.tree → get_or lacks p 0 ≡ 0 → IsInstallable d.tree (has_agreed (state_of d.tree letters)) p
-  installable_from p within none = record {
-    among = λ q. nat_eq (get_or lacks q 1) 0;
-    member = eq-eqb (get_or lacks p 1) 0 (get_or-same lacks p 1 0 (omega (arith, within, kept.each)) ∙ none);
-    all_held = λ q e. let at = some_lacking q e in
-        agreed_is_held d.tree letters q ∙ nothing_lacks-held (run_at d.tree) (holds letters) (length d.tree) lacks q kept.are_lacks at.0 (omega (arith, at.0, kept.each)) at.1;
+  -- a package with the letter I is installable
+  installable_from : (p : ℕ) → letter_at letters p ≡ I → IsInstallable d.tree (has_agreed (state_of d.tree letters)) p
+  installable_from p is = record {
+    among = λ q. is_installed (letter_at letters q);
+    member = ap is_installed is;
+    all_held = λ q e. agreed_is_held d.tree letters q ∙ ap is_held (installed_is (letter_at letters q) e);
     closed = λ q x e needed.
-        let at = some_lacking q e in
-        let inside = run_within q x (omega (arith, at.0, kept.each)) needed in
-        let inside' : x < length lacks = omega (arith, inside, kept.each) in
-        eq-eqb (get_or lacks x 1) 0 (get_or-same lacks x 1 0 inside' ∙ nothing_lacks-needed (run_at d.tree) (holds letters) (length d.tree) lacks q x kept.are_lacks at.0 inside' at.1 needed);
+        let at = installed_is (letter_at letters q) e in
+        let within = letter_within letters q (λ ignored. let f : I ≡ Ignored = sym at ∙ ignored in cc) in
+        let inside : q < length d.tree = omega (arith, within, kept.queueing.are_fitting.each_letter) in
+        ap is_installed (none_waited letters (run_at d.tree q) x (sym (kept.are_lacks q inside) ∙ kept.installed q at) needed);
   }
-
-  -- what is installable lacks nothing
-  lacks_none : (p : ℕ) → p < length d.tree → IsInstallable d.tree (has_agreed (state_of d.tree letters)) p → get_or lacks p 0 ≡ 0
-  lacks_none p within i = so_many-none (IsLacking (run_at d.tree) (holds letters) p) (length d.tree) (get_or lacks p 0) (kept.are_lacks p (omega (arith, within, kept.each)))
-      (λ q below lacking. true≢false (sym (i.all_held q (lacking.0 i.among i.member i.closed)) ∙ agreed_is_held d.tree letters q ∙ lacking.1))
 
   not_installed : (q : ℕ) (l : Letter) → letter_at letters q ≡ l → is_installed l ≡ false → IsInstallable d.tree (has_agreed (state_of d.tree letters)) q → ⊥
   not_installed q T is e i = true≢false (sym (i.all_held q i.member) ∙ agreed_is_held d.tree letters q ∙ ap is_held is)
@@ -122,11 +105,11 @@ module _ {d : Division} {letters : List Letter} {lacks waiting : List ℕ} {runs
   not_installed q Ignored is e i = true≢false (sym (i.all_held q i.member) ∙ agreed_is_held d.tree letters q ∙ ap is_held is)
   not_installed q I is e i = true≢false e
   not_installed q B is e i =
-      let within = letter_within letters q (λ ignored. let x : B ≡ Ignored = sym is ∙ ignored in cc) in
-      absurd (omega (arith, kept.built q is, lacks_none q (omega (arith, within, kept.queueing.are_fitting.each_letter)) i))
+      let same : has_agreed (state_of d.tree letters) ≡ holds letters = λ k x. agreed_is_held d.tree letters x k in
+      kept.built q is (subst (λ (test : ℕ → Bool). IsInstallable d.tree test q) same i)
 
   has_letter_of : (p : ℕ) → p < length d.tree → (l : Letter) → letter_at letters p ≡ l → FitsUnit d waiting p l → HasLetter (state_of d.tree letters) p l
-  has_letter_of p within I is fits = (agreed_is_held d.tree letters p ∙ ap is_held is, installable_from p within (kept.installed p is))
+  has_letter_of p within I is fits = (agreed_is_held d.tree letters p ∙ ap is_held is, installable_from p is)
   has_letter_of p within B is fits = (agreed_is_held d.tree letters p ∙ ap is_held is, not_installed p B is refl)
   has_letter_of p within Ignored is fits = (agreed_is_held d.tree letters p ∙ ap is_held is, unnumbered_ignored d p is_division within fits)
   has_letter_of p within Q is (u, number, none) =
@@ -139,8 +122,7 @@ module _ {d : Division} {letters : List Letter} {lacks waiting : List ℕ} {runs
           installable = λ k x inside.
               let q = get_or (needs_of d u) k x in
               let letter = none_waited letters (needs_of d u) q (sym (kept.queueing.waited u unit.0) ∙ none) (Contains-get_or (needs_of d u) k x inside) in
-              let within_q = letter_within letters q (λ ignored. let e : I ≡ Ignored = sym letter ∙ ignored in cc) in
-              installable_from q (omega (arith, within_q, kept.queueing.are_fitting.each_letter)) (kept.installed q letter);
+              installable_from q letter;
         },
       )
   has_letter_of p within T is (u, number, some) =

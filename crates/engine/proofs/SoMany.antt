@@ -1,10 +1,7 @@
 -- How many positions meet a condition.
 use Rattle.std.proofs.Common.{◌≡◌, ◌≢◌, ◌+◌, ◌<◌, ◌≤◌, ◌⊎◌, ℕ, zero, suc, Bool, true, false, List, get_or, length, Contains, sym, ap, ◌∙◌, subst, inl, inr, arith}
 use Rattle.std.proofs.lemmas.Bool.{cases_Bool, cases_eq, true≢false}
-use Rattle.graph.specs.Lists.{times}
-use Rattle.graph.specs.Reach.{AreReached, IsReached}
-use Rattle.graph.proofs.Turned.{AreTurned, reached-back, reached-itself, reached-through}
-use Rattle.engine.specs.inside.Lacking.{AreLacks, AreSoMany, IsLacking}
+use Rattle.engine.specs.inside.Lacking.{AreSoMany}
 
 pub so_many-few : (P : ℕ → Type 0) (n m : ℕ) → AreSoMany P n m → m ≤ n
 so_many-few P zero m are = omega arith
@@ -55,46 +52,4 @@ so_many-less P Q (suc n) m p within met no_more there back (inr (not_here, are))
     λ h. not_here (back n (omega arith) h),
     so_many-less P Q n m p (omega (arith, other)) met no_more (λ q under. there q (omega arith)) (λ q under. back q (omega arith)) are,
   )
-]
-
--- ---- lacks
-
-module _ (next before : ℕ → List ℕ) (there : AreTurned next before) (back : AreTurned before next) where
-  -- one more is held: each that leads to it lacks one less
-  pub AreLacks-held : (held now : ℕ → Bool) (n : ℕ) (lacks less reached : List ℕ) (p : ℕ) → p < n → held p ≡ false → now p ≡ true
-      → ((q : ℕ) → q ≢ p → now q ≡ held q) → AreReached before p reached → length less ≡ length lacks
-      → ((q : ℕ) → q < length lacks → get_or less q 0 + times q reached ≡ get_or lacks q 0)
-      → AreLacks next held n lacks → AreLacks next now n less
-  AreLacks-held held now n lacks less reached p within not_held now_held others are_reached each lowered are q inside = elim (are_reached q) [
-    | inl (leads, one) ↦ so_many-less (IsLacking next held q) (IsLacking next now q) n (get_or less q 0) p within
-        (reached-back before next p q back leads, not_held)
-        (λ lacking. true≢false (sym now_held ∙ lacking.1))
-        (λ x below other lacking. (lacking.0, others x other ∙ lacking.1))
-        (λ x below lacking. (lacking.0, still x lacking.1 (cases_eq x p)))
-        (let e : get_or lacks q 0 ≡ suc (get_or less q 0) = omega (arith, lowered q inside', one) in subst (AreSoMany (IsLacking next held q) n) e (are q inside'))
-    | inr (leads_not, none) ↦ so_many-same (IsLacking next held q) (IsLacking next now q) n (get_or less q 0)
-        (λ x below lacking. (lacking.0, others x (λ same. leads_not (reached-back next before q p there (subst (IsReached next q) same lacking.0))) ∙ lacking.1))
-        (λ x below lacking. (lacking.0, still x lacking.1 (cases_eq x p)))
-        (let e : get_or lacks q 0 ≡ get_or less q 0 = omega (arith, lowered q inside', none) in subst (AreSoMany (IsLacking next held q) n) e (are q inside'))
-  ]
-    where
-      inside' : q < length lacks
-      inside' = omega (arith, inside, each)
-
-      still : (x : ℕ) → now x ≡ false → (x ≡ p) ⊎ (x ≢ p) → held x ≡ false
-      still x out (inl same) = absurd (true≢false (sym now_held ∙ ap now (sym same) ∙ out))
-      still x out (inr other) = sym (others x other) ∙ out
-
--- where nothing is lacking, nothing is for what is needed
-pub nothing_lacks-needed : (next : ℕ → List ℕ) (held : ℕ → Bool) (n : ℕ) (lacks : List ℕ) (p d : ℕ) → AreLacks next held n lacks → p < length lacks → d < length lacks
-    → get_or lacks p 0 ≡ 0 → Contains (next p) d → get_or lacks d 0 ≡ 0
-nothing_lacks-needed next held n lacks p d are within within_d none listed =
-    so_many-none (IsLacking next held d) n (get_or lacks d 0) (are d within_d)
-    (λ q below lacking. absurd (omega (arith, none, so_many-some (IsLacking next held p) n (get_or lacks p 0) q (are p within) below (reached-through next p d q listed lacking.0, lacking.1))))
-
-pub nothing_lacks-held : (next : ℕ → List ℕ) (held : ℕ → Bool) (n : ℕ) (lacks : List ℕ) (p : ℕ) → AreLacks next held n lacks → p < length lacks → p < n
-    → get_or lacks p 0 ≡ 0 → held p ≡ true
-nothing_lacks-held next held n lacks p are within below none = elim (cases_Bool (held p)) [
-  | inl is ↦ is
-  | inr is_not ↦ absurd (omega (arith, none, so_many-some (IsLacking next held p) n (get_or lacks p 0) p (are p within) below (reached-itself next p, is_not)))
 ]

@@ -3,7 +3,7 @@ use Rattle.std.proofs.Common.{◌≡◌, ◌≢◌, ◌+◌, ◌-◌, ◌<◌, �
 use borrow.Author.Count.{below_more}
 use Rattle.std.proofs.lemmas.Bool.{cases_eq, eq-eqb, ne_eqb}
 use Rattle.std.proofs.lemmas.List.{get_or-set_other, get_or-set_same, length-set}
-use Rattle.std.proofs.lemmas.List.Elements.{All-contains}
+use Rattle.std.proofs.lemmas.List.Elements.{All-contains, Contains-get_or}
 use Rattle.std.proofs.lemmas.List.Sums.{sum_by-cons, sum_by-drop_more}
 use Rattle.std.proofs.lemmas.List.Quantifiers.{position-Some}
 use Rattle.units.specs.Division.{Division, no_unit, number_of, unit_at}
@@ -241,7 +241,7 @@ pub record IsInstallingAll (d : Division) (before letters : List Letter) (waits 
   pub each : length letters ≡ length before
   pub held : (p : ℕ) → is_held (letter_at letters p) ≡ is_held (letter_at before p)
   pub built : (p : ℕ) → letter_at letters p ≡ B → letter_at before p ≡ B
-  pub installed : (p : ℕ) → letter_at letters p ≡ I → (letter_at before p ≡ I) ⊎ (get_or lacks p 0 ≡ 0)
+  pub installed : (p : ℕ) → letter_at letters p ≡ I → (letter_at before p ≡ I) ⊎ (Contains found p × (get_or lacks p 0 ≡ 0))
   pub all : (k : ℕ) → k < n → letter_at letters (get_or found k 0) ≡ B → 0 < get_or lacks (get_or found k 0) 0
 
 module _ {d : Division} {before letters : List Letter} {waits lacks found : List ℕ} {n : ℕ} (now : IsInstallingAll d before letters waits lacks found n) where
@@ -255,9 +255,9 @@ module _ {d : Division} {before letters : List Letter} {waits lacks found : List
     all = below_more (λ k. letter_at letters (get_or found k 0) ≡ B → 0 < get_or lacks (get_or found k 0) 0) n now.all here;
   }
 
-  pub IsInstallingAll-more : (more : List Letter) (less : List ℕ) → get_or found n 0 < length letters → letter_at letters (get_or found n 0) ≡ B → get_or lacks (get_or found n 0) 0 ≡ 0
+  pub IsInstallingAll-more : (more : List Letter) (less : List ℕ) → n < length found → get_or found n 0 < length letters → letter_at letters (get_or found n 0) ≡ B → get_or lacks (get_or found n 0) 0 ≡ 0
       → AreQueueing d more less → AreQueued (set letters (get_or found n 0) I) more → IsInstallingAll d before more less lacks found (n + 1)
-  IsInstallingAll-more more less within was nothing queueing queued = record {
+  IsInstallingAll-more more less listed within was nothing queueing queued = record {
     queueing = queueing;
     each = queued.each ∙ length-set letters (get_or found n 0) I ∙ now.each;
     held = λ p. elim (after p) [
@@ -271,7 +271,7 @@ module _ {d : Division} {before letters : List Letter} {waits lacks found : List
       | inr (other, inr (t, q)) ↦ absurd (let e : Q ≡ B = sym q ∙ is in cc)
     ];
     installed = λ p is. elim (after p) [
-      | inl (same, i, b) ↦ inr (ap (λ x. get_or lacks x 0) same ∙ nothing)
+      | inl (same, i, b) ↦ inr (subst (Contains found) (sym same) (Contains-get_or found n 0 listed), ap (λ x. get_or lacks x 0) same ∙ nothing)
       | inr (other, inl e) ↦ now.installed p (sym e ∙ is)
       | inr (other, inr (t, q)) ↦ absurd (let e : Q ≡ I = sym q ∙ is in cc)
     ];

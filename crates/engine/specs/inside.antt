@@ -3,4 +3,5 @@ pub mod Keeping
 pub mod Lacking
 pub mod Queueing
 pub mod Row
+pub mod Searching
 pub mod Shown

@@ -4,12 +4,12 @@ ghost use Rattle.std.specs.FinSet as set;
 ghost use Rattle.engine.specs.State.{AreCounts, HasLetter, IsEngine, IsNextQueued, IsQueuedFrom};
 
 use crate::first::first_parts;
-use crate::lacks::lower;
 use crate::letters::Letters;
 use crate::queueing::install_all;
+use crate::search::Search;
 use crate::{Counts, Letter};
 use faults::Memory;
-use graph::{Reversed, Walk};
+use graph::Reversed;
 use listing::Tree;
 use std::alloc::Global;
 use std::marker::Model;
@@ -20,16 +20,15 @@ use units::Units;
 pub struct Engine<'a> {
     units: Units<'a>,
     letters: Letters,
-    /// For each package how many of those that it needs to run, through others too, are not held,
-    /// itself included.
-    lacks: Vec<u32>,
+    /// For each package how many of those that its own lines need to run are not installable.
+    lacks: Vec<usize>,
     /// For each unit how many packages that its build needs are not installable.
     waits: Vec<usize>,
     /// At each package those that need it to run.
     runs: Reversed,
     /// At each package the units whose build needs it.
     needs: Reversed,
-    walk: Walk,
+    search: Search,
 }
 
 impl<'a> Model for Engine<'a> {
@@ -47,7 +46,7 @@ impl<'a> Model for Engine<'a> {
     } };
 
     ghost invariant = { λ e.
-        AreKept e.units e.letters e.lacks.items e.waits.items e.runs e.needs e.walk };
+        AreKept e.units e.letters e.lacks.items e.waits.items e.runs e.needs e.search };
 }
 
 impl<'a> Engine<'a> {
@@ -59,7 +58,7 @@ impl<'a> Engine<'a> {
     {
         let units = Units::new(alloc, tree)?;
         let parts = first_parts(alloc, tree, &units)?;
-        let ((waits, letters), (needs, runs), (lacks, walk)) = parts;
+        let ((waits, letters), (needs, runs), (lacks, search)) = parts;
         Ok(Engine {
             units,
             letters,
@@ -67,7 +66,7 @@ impl<'a> Engine<'a> {
             waits,
             runs,
             needs,
-            walk,
+            search,
         })
     }
 
@@ -82,15 +81,19 @@ impl<'a> Engine<'a> {
             return;
         }
         self.letters.set(position, Letter::B);
-        self.walk.reach(&self.runs, position);
-        lower(self.lacks.as_mut_slice(), self.walk.found());
+        self.search.settle(
+            &self.letters,
+            self.lacks.as_mut_slice(),
+            &self.runs,
+            position,
+        );
         install_all(
             &mut self.letters,
             self.waits.as_mut_slice(),
             &self.units,
             &self.needs,
             self.lacks.as_slice(),
-            self.walk.found(),
+            self.search.found(),
         );
     }
 

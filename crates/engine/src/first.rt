@@ -1,24 +1,23 @@
 //! What an engine keeps where nothing is held.
-ghost use Rattle.std.specs.Prelude.{◌≡◌, ◌<◌, ℕ, IfOk, OnOk, false, length, slice_index};
+ghost use Rattle.std.specs.Prelude.{◌≡◌, ◌<◌, ◌^◌, ℕ, IfOk, OnOk, false, length, slice_index};
 ghost use Rattle.listing.specs.Tree.{run_at};
 ghost use Rattle.units.specs.Division.{IsDivision};
-ghost use Rattle.engine.specs.inside.Lacking.{AreLacks};
-ghost use Rattle.graph.specs.Lists.{AreReversed};
 ghost use Rattle.engine.specs.inside.Queueing.{AreFitting, FitsUnit, needs_of};
 ghost use Rattle.engine.specs.inside.Shown.{is_held};
 ghost use Rattle.engine.specs.inside.Keeping.{AreKept, holds};
 
 use crate::Letter;
 use crate::letters::Letters;
-use crate::turned::{needed_lists, turned_lists};
+use crate::search::Search;
+use crate::turned::turned_lists;
 use faults::Memory;
-use graph::{Reversed, Walk};
+use graph::Reversed;
 use listing::Tree;
 use std::alloc::Global;
 use units::Units;
 
 /// What an engine keeps beside the units where nothing is held: their waits and the letters, the
-/// turned lists of what builds and packages need, and the lacks with the walk that counted them.
+/// turned lists of what builds and packages need, and the lacks with the room to search.
 pub(crate) fn first_parts(
     alloc: Global,
     tree: &Tree,
@@ -27,7 +26,7 @@ pub(crate) fn first_parts(
     (
         (Vec<usize>, Letters),
         (Reversed, Reversed),
-        (Vec<u32>, Walk),
+        (Vec<usize>, Search),
     ),
     Memory,
 >
@@ -39,43 +38,33 @@ pub(crate) fn first_parts(
 {
     let first = waits_and_letters(alloc, tree, units)?;
     let turned = turned_lists(alloc, tree, units)?;
-    let counted = walked_lacks(alloc, tree, &turned.1)?;
+    let counted = lacks_and_search(alloc, tree)?;
     Ok((first, turned, counted))
 }
 
-/// For each package how many it needs to run, through others too, itself included, and the walk
-/// that counted them.
-fn walked_lacks(alloc: Global, tree: &Tree, runs: &Reversed) -> Result<(Vec<u32>, Walk), Memory>
-    requires { AreReversed (length tree.now) (length tree.now) (run_at tree.now)
-        runs.now }
+/// For each package how many its own lines need to run, and the room to search.
+fn lacks_and_search(alloc: Global, tree: &Tree) -> Result<(Vec<usize>, Search), Memory>
     ensures lacks { IfOk result (λ counted. (length counted.0.items ≡ length tree.now)
-        × AreLacks (run_at tree.now) (λ p. false) (length tree.now) counted.0.items) }
+        × ((p : ℕ) → p < length tree.now
+        → (slice_index counted.0.items p ≡ length (run_at tree.now p))
+        × (length (run_at tree.now p) < 2 ^ 64))) }
     ensures over_all { IfOk result (λ counted. counted.1.len ≡ length tree.now) }
 {
-    let mut walk = Walk::new(alloc, tree.len())?;
-    let lacks = first_lacks(alloc, tree, runs, &mut walk)?;
-    Ok((lacks, walk))
+    let lacks = first_lacks(alloc, tree)?;
+    let search = Search::new(alloc, tree.len())?;
+    Ok((lacks, search))
 }
 
-/// For each package how many it needs to run, through others too, itself included.
-fn first_lacks(
-    alloc: Global,
-    tree: &Tree,
-    runs: &Reversed,
-    walk: &mut Walk,
-) -> Result<Vec<u32>, Memory>
-    requires runs { AreReversed (length tree.now) (length tree.now) (run_at tree.now)
-        runs.now }
-    requires over_all { walk.old.len ≡ length tree.now }
-    ensures lacks { IfOk result (λ lacks. (length lacks.items ≡ length tree.now)
-        × AreLacks (run_at tree.now) (λ p. false) (length tree.now) lacks.items) }
-    ensures over_all { walk.new.len ≡ length tree.now }
+/// For each package how many its own lines need to run.
+fn first_lacks(alloc: Global, tree: &Tree) -> Result<Vec<usize>, Memory>
+    ensures { IfOk result (λ lacks. (length lacks.items ≡ length tree.now)
+        × ((p : ℕ) → p < length tree.now
+        → (slice_index lacks.items p ≡ length (run_at tree.now p))
+        × (length (run_at tree.now p) < 2 ^ 64))) }
 {
-    let needed = needed_lists(alloc, tree, runs)?;
     let mut lacks = Vec::with_capacity(alloc, tree.len() as usize)?;
     for position in 0..tree.len() {
-        walk.reach(&needed, position);
-        lacks.push(walk.found().len() as u32)?;
+        lacks.push(tree.run_deps(position).len())?;
     }
     Ok(lacks)
 }

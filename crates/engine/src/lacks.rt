@@ -3,7 +3,7 @@ ghost use Rattle.std.specs.Prelude.{◌≡◌, ◌<◌, ◌≤◌, ◌+◌, ◌^
 ghost use Rattle.graph.specs.Lists.{times};
 
 /// Each of the positions lacks one less.
-pub(crate) fn lower(lacks: &mut [u32], positions: &[u32])
+pub(crate) fn lower(lacks: &mut [usize], positions: &[u32])
     requires within { All (λ p. p < length lacks.old) positions.now }
     requires some { (p : ℕ) → p < length lacks.old
         → times p positions.now ≤ slice_index lacks.old p }
@@ -12,5 +12,18 @@ pub(crate) fn lower(lacks: &mut [u32], positions: &[u32])
 {
     for position in positions {
         lacks[*position as usize] -= 1;
+    }
+}
+
+/// Each of the positions lacks one more.
+pub(crate) fn raise(lacks: &mut [usize], positions: &[u32])
+    requires within { All (λ p. p < length lacks.old) positions.now }
+    requires few { (p : ℕ) → p < length lacks.old
+        → slice_index lacks.old p + times p positions.now < 2 ^ 64 }
+    ensures { (p : ℕ) → p < length lacks.old
+        → slice_index lacks.new p ≡ slice_index lacks.old p + times p positions.now }
+{
+    for position in positions {
+        lacks[*position as usize] += 1;
     }
 }

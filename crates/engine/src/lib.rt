@@ -9,6 +9,7 @@ mod laws;
 mod letters;
 mod queueing;
 mod row;
+mod search;
 mod turned;
 
 pub use crate::engine::Engine;

@@ -70,7 +70,7 @@ pub(crate) fn install_all(
     waits: &mut [usize],
     units: &Units<'_>,
     needs: &Reversed,
-    lacks: &[u32],
+    lacks: &[usize],
     found: &[u32],
 )
     requires queueing { AreQueueing units.now letters.old waits.old }
@@ -82,7 +82,7 @@ pub(crate) fn install_all(
     ensures held { (p : ℕ) → is_held (letter_at letters.new p) ≡ is_held (letter_at letters.old p) }
     ensures built { (p : ℕ) → letter_at letters.new p ≡ B → letter_at letters.old p ≡ B }
     ensures installed { (p : ℕ) → letter_at letters.new p ≡ I
-        → (letter_at letters.old p ≡ I) ⊎ (slice_index lacks.now p ≡ 0) }
+        → (letter_at letters.old p ≡ I) ⊎ (Contains found.now p × (slice_index lacks.now p ≡ 0)) }
     ensures all { All (λ p. letter_at letters.new p ≡ B → 0 < slice_index lacks.now p) found.now }
 {
     for position in found {

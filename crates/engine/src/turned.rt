@@ -1,6 +1,6 @@
 //! At each package what needs it: the lists of a tree and its units, turned around.
 ghost use Rattle.std.specs.Prelude.{◌≡◌, IfOk, length};
-ghost use Rattle.graph.specs.Lists.{AreReversed, list_at};
+ghost use Rattle.graph.specs.Lists.{AreReversed};
 ghost use Rattle.listing.specs.Tree.{run_at};
 ghost use Rattle.engine.specs.inside.Queueing.{needs_of};
 
@@ -37,19 +37,6 @@ fn turned_runs(alloc: Global, tree: &Tree) -> Result<Reversed, Memory>
         runs.add(position, tree.run_deps(position))?;
     }
     runs.turned(alloc)
-}
-
-/// At each package those that it needs to run, by those that need it.
-pub(crate) fn needed_lists(alloc: Global, tree: &Tree, runs: &Reversed) -> Result<Reversed, Memory>
-    requires { AreReversed (length tree.now) (length tree.now) (run_at tree.now) runs.now }
-    ensures { IfOk result (λ needed.
-        AreReversed (length tree.now) (length tree.now) (list_at runs.now) needed) }
-{
-    let mut needed = Naming::new(alloc, tree.len())?;
-    for position in 0..tree.len() {
-        needed.add(position, runs.at(position))?;
-    }
-    needed.turned(alloc)
 }
 
 /// At each package the units whose build needs it.

@@ -1,11 +1,9 @@
-use Rattle.std.proofs.Common.{◌≡◌, false, length}
+use Rattle.std.proofs.Common.{◌≡◌, ◌<◌, ◌^◌, ℕ, get_or, length}
 use Rattle.listing.specs.Tree.{run_at}
-use Rattle.engine.specs.inside.Lacking.{AreLacks}
 use Rattle.engine.proofs.first.first_lacks.Given as goal
 
 abbrev pub invariant-loop-position : goal.invariant-loop-position
 invariant-loop-position l = record {
   each : length l.lacks.items ≡ l.position;
-  are_lacks : AreLacks (run_at l.tree) (λ p. false) (length l.tree) l.lacks.items;
-  over_all : l.walk.len ≡ length l.tree;
+  counted : (p : ℕ) → p < l.position → (get_or l.lacks.items p 0 ≡ length (run_at l.tree p)) × (length (run_at l.tree p) < 2 ^ 64);
 }

@@ -1,30 +1,59 @@
 use Rattle.std.proofs.Common.{◌≡◌, ◌++◌, ◌<◌, ◌∙◌, ap, arith, drop, false, length, subst, sym, take}
-use Rattle.std.proofs.lemmas.List.{take_at}
+use Rattle.std.proofs.lemmas.List.{length-set, take_at}
 use Rattle.listing.specs.Tree.{run_at}
+use Rattle.graph.specs.Lists.{AreReversed}
 use Rattle.engine.specs.State.{HasLetter, State}
-use Rattle.engine.specs.declared.Letter.TheVariants.{Ignored}
+use Rattle.engine.specs.declared.Letter.TheVariants.{B, Ignored}
 use Rattle.engine.specs.inside.Keeping.{holds}
 use Rattle.engine.specs.inside.Shown.{is_held}
-use Rattle.engine.proofs.Agreeing.{AreKept-agreed, AreQueueing-built, agreed_again, agreed_more, some_lacking}
+use Rattle.engine.proofs.Agreeing.{AreKept-agreed, AreQueueing-built, agreed_again, agreed_more}
 use Rattle.engine.proofs.Reading.{other_than_ignored}
-use Rattle.graph.proofs.Turned.{named_within}
+use Rattle.engine.proofs.Settled.{built_here, lacks_few, some_told}
 use Rattle.engine.proofs.engine.Engine.agree.Goals as goal
 
 pub returns-then-is_held : goal.returns-then-is_held
 returns-then-is_held c =
     agreed_again c.self.inside.units c.self.inside.letters c.args.position c.args.self.now c.self.view_is (ap is_held (sym c.at.ensures) ∙ sym c.is_held.ensures ∙ c.if-is_held.true)
 
-pub reach-requires-clause-listed : goal.reach-requires-clause-listed
-reach-requires-clause-listed c =
+pub settle-requires-clause-each : goal.settle-requires-clause-each
+settle-requires-clause-each c = c.self.invariant.over_all ∙ sym c.self.invariant.runs_turned.each
+
+pub settle-requires-clause-letters : goal.settle-requires-clause-letters
+settle-requires-clause-letters c =
+    ap length c.set.ensures ∙ length-set c.self.inside.letters c.args.position B ∙ c.self.invariant.queueing.are_fitting.each_letter ∙ sym c.self.invariant.runs_turned.each
+
+pub settle-requires-clause-lacks : goal.settle-requires-clause-lacks
+settle-requires-clause-lacks c = ap length c.as_mut_slice.ensures.value ∙ c.self.invariant.each ∙ sym c.self.invariant.runs_turned.each
+
+pub settle-requires-clause-turned : goal.settle-requires-clause-turned
+settle-requires-clause-turned c =
     let tree = c.self.inside.units.tree in
     let turned = c.self.invariant.runs_turned in
-    λ p k d inside. omega (arith, turned.each, named_within (length tree) (length tree) (run_at tree) c.self.inside.runs p turned k d inside)
+    (run_at tree, subst (λ n. AreReversed n n (run_at tree) c.self.inside.runs) (sym turned.each) turned)
 
-pub lower-requires-clause-some : goal.lower-requires-clause-some
-lower-requires-clause-some c =
+pub settle-requires-clause-position : goal.settle-requires-clause-position
+settle-requires-clause-position c =
+    let within = subst (λ (s : State). c.args.position < length s.tree) (sym c.self.view_is) c.requires.listed in
+    omega (arith, within, c.self.invariant.runs_turned.each)
+
+pub settle-requires-clause-built : goal.settle-requires-clause-built
+settle-requires-clause-built c =
     let within = subst (λ (s : State). c.args.position < length s.tree) (sym c.self.view_is) c.requires.listed in
     let not_held : holds c.self.inside.letters c.args.position ≡ false = ap is_held (sym c.at.ensures) ∙ sym c.is_held.ensures ∙ c.if-is_held.false in
-    rw (c.as_mut_slice.ensures.value, c.found.ensures) (some_lacking c.self.invariant c.args.position within not_held c.reach.new.self.found c.reach.ensures.reached)
+    rw c.set.ensures (built_here c.self.invariant c.args.position within not_held)
+
+pub settle-requires-clause-some : goal.settle-requires-clause-some
+settle-requires-clause-some c =
+    let within = subst (λ (s : State). c.args.position < length s.tree) (sym c.self.view_is) c.requires.listed in
+    let not_held : holds c.self.inside.letters c.args.position ≡ false = ap is_held (sym c.at.ensures) ∙ sym c.is_held.ensures ∙ c.if-is_held.false in
+    rw (c.set.ensures, c.as_mut_slice.ensures.value) (λ p xs listed once built.
+    some_told c.self.invariant c.args.position within not_held p xs (omega (arith, listed, c.self.invariant.runs_turned.each)) once built)
+
+pub settle-requires-clause-few : goal.settle-requires-clause-few
+settle-requires-clause-few c =
+    let within = subst (λ (s : State). c.args.position < length s.tree) (sym c.self.view_is) c.requires.listed in
+    let not_held : holds c.self.inside.letters c.args.position ≡ false = ap is_held (sym c.at.ensures) ∙ sym c.is_held.ensures ∙ c.if-is_held.false in
+    rw c.as_mut_slice.ensures.value (λ p listed. lacks_few c.self.invariant c.args.position within not_held p listed)
 
 pub install_all-requires-clause-queueing : goal.install_all-requires-clause-queueing
 install_all-requires-clause-queueing c =
@@ -38,18 +67,18 @@ invariant_of-self c =
     let within = subst (λ (s : State). c.args.position < length s.tree) (sym c.self.view_is) c.requires.listed in
     let not_held : holds c.self.inside.letters c.args.position ≡ false = ap is_held (sym c.at.ensures) ∙ sym c.is_held.ensures ∙ c.if-is_held.false in
     let lacks = c.self.inside.lacks in
-    let less = c.lower.new.lacks in
-    let each : length less ≡ length lacks.items = c.lower.auto.lacks ∙ ap length c.as_mut_slice.ensures.value in
+    let less = c.settle.new.lacks in
+    let each : length less ≡ length lacks.items = c.settle.auto.lacks ∙ ap length c.as_mut_slice.ensures.value in
     let lacks_now : take lacks.len (less ++ drop (length less) lacks.items) ≡ less = take_at less (drop (length less) lacks.items) lacks.len (omega (arith, each, lacks.ok)) in
     let waits = c.self.inside.waits in
     let fewer = c.install_all.new.waits in
     let waits_now : take waits.len (fewer ++ drop (length fewer) waits.items) ≡ fewer =
     take_at fewer (drop (length fewer) waits.items) waits.len (omega (arith, c.install_all.auto.waits, ap length c.as_mut_slice-2.ensures.value, waits.ok)) in
-    let lowered = rw (c.as_mut_slice.ensures.value, c.found.ensures) at c.lower.ensures in
-    let installed = rw (c.set.ensures, c.as_slice.ensures.value ∙ lacks_now, c.found-2.ensures) at c.install_all.ensures in
-    rw (lacks_now, waits_now) (AreKept-agreed c.self.invariant c.args.position within not_held c.install_all.new.letters less fewer c.reach.new.self.found c.reach.new.self
-    c.reach.ensures.reached each lowered installed.held installed.queueing installed.built installed.installed installed.all
-    (c.reach.ensures.each ∙ c.self.invariant.over_all))
+    let settled = rw (c.set.ensures, c.as_mut_slice.ensures.value) at c.settle.ensures.settled in
+    let installed = rw (c.set.ensures, c.as_slice.ensures.value ∙ lacks_now, c.found.ensures) at c.install_all.ensures in
+    rw (lacks_now, waits_now) (AreKept-agreed c.self.invariant c.args.position within not_held c.install_all.new.letters less fewer c.settle.new.self.found c.settle.new.self
+    settled each installed.held installed.queueing installed.built installed.installed installed.all
+    (c.settle.ensures.each ∙ c.self.invariant.over_all))
 
 pub returns : goal.returns
 returns c =
