@@ -17,6 +17,7 @@ use std::alloc::Global;
 use thiserror::Error;
 
 mod builds;
+mod digits;
 mod event;
 mod fields;
 mod files;

@@ -1,0 +1,55 @@
+//! Hexadecimal digits.
+ghost use Rattle.std.specs.Prelude.{◌≡◌, ◌<◌, ◌≤◌, ◌*◌, IfOk, IfSome, Ok, Some, length};
+ghost use Rattle.hex.specs.Hex.{decode_of, hex_digit_value};
+
+use faults::Memory;
+use std::alloc::Global;
+
+/// What is no digit.
+const NO_DIGIT: u8 = 16;
+
+/// The bytes that the digits spell, if each is one and they are pairs. All are read in one pass
+/// with no early end, and what is none is told by the greatest value, so that many are read at a
+/// time.
+pub fn decoded(alloc: Global, text: &[u8]) -> Result<Option<Vec<u8>>, Memory>
+    ensures { IfOk result
+        (λ found. IfSome found (λ bytes. decode_of text.now ≡ Ok bytes.items)) }
+{
+    if text.len() % 2 != 0 {
+        return Ok(None);
+    }
+    let mut bytes = vec![in alloc; 0u8; text.len() / 2]?;
+    let greatest = read_pairs(bytes.as_mut_slice(), text);
+    if greatest < NO_DIGIT {
+        return Ok(Some(bytes));
+    }
+    Ok(None)
+}
+
+/// Reads the pairs of digits into the bytes, and tells the greatest value among the digits. Where
+/// that is `NO_DIGIT`, the bytes say nothing.
+fn read_pairs(bytes: &mut [u8], text: &[u8]) -> u8
+    requires { length text.now ≡ 2 * length bytes.old }
+    ensures { result < 16 → decode_of text.now ≡ Ok bytes.new }
+{
+    let mut greatest: u8 = 0;
+    'pairs: for place in 0..bytes.len() {
+        let high = digit(text[2 * place]);
+        let low = digit(text[2 * place + 1]);
+        greatest = greatest.max(high).max(low);
+        bytes[place] = high.wrapping_mul(16).wrapping_add(low);
+    }
+    greatest
+}
+
+/// The value of a digit, or `NO_DIGIT`.
+fn digit(byte: u8) -> u8
+    ensures { result ≤ 15 → hex_digit_value byte ≡ Some result }
+{
+    match byte {
+        b'0'..=b'9' => byte - b'0',
+        b'a'..=b'f' => byte - b'a' + 10,
+        b'A'..=b'F' => byte - b'A' + 10,
+        _ => NO_DIGIT,
+    }
+}
