@@ -1,8 +1,7 @@
 -- What changes where one more package is held.
-use Rattle.std.proofs.Common.{◌≡◌, ◌≢◌, ◌+◌, ◌<◌, ◌≤◌, ◌⊎◌, ℕ, true, false, List, All, Contains, Some, get_or, length, set, refl, sym, ap, ◌∙◌, subst, inl, inr, arith}
-use Rattle.std.proofs.lemmas.Bool.{cases_eq, cases_lt}
-use Rattle.std.proofs.lemmas.List.{get_or-set_other, get_or-set_same, get_or_past, length-map, length-set}
-use Rattle.std.proofs.lemmas.List.Elements.{All-contains}
+use Rattle.std.proofs.Common.{◌≡◌, ◌≢◌, ◌<◌, ◌⊎◌, ℕ, Bool, true, false, List, All, Contains, Some, get_or, length, set, refl, sym, ap, ◌∙◌, subst, inl, inr, arith}
+use Rattle.std.proofs.lemmas.Bool.{both_ways, cases_Bool, cases_eq}
+use Rattle.std.proofs.lemmas.List.{get_or-set_other, get_or-set_same, length-map, length-set}
 use Rattle.std.specs.FinSet as finset
 use Rattle.listing.specs.Tree.{run_at}
 use Rattle.units.specs.Division.{Division, number_of}
@@ -20,7 +19,7 @@ use Rattle.engine.proofs.Beginning.{not_held_installed}
 use Rattle.engine.proofs.Marked.{marked_set-like, marked_set-more, marked_set-same}
 use Rattle.graph.proofs.Marked.{has_mark-other, has_mark-same}
 use Rattle.engine.proofs.Reading.{held_mark, state_of}
-use Rattle.engine.proofs.Settled.{are_lacks_now, installed_lacks, no_more}
+use Rattle.engine.proofs.Settled.{are_lacks_now, as_before, installed_lacks, no_more, waited_same}
 use Rattle.engine.proofs.Waiting.{waited_for-same}
 
 -- a package that is not ignored has a unit
@@ -105,3 +104,30 @@ module _ {d : Division} {letters : List Letter} {lacks waits : List ℕ} {runs n
     needs_turned = kept.needs_turned;
     over_all = over_all;
   }
+
+  -- a package that needs one that is not held becomes not installable, and no other does
+  pub AreKept-waiting : letter_at letters p ≢ Ignored → (e : ℕ) → Contains (run_at d.tree p) e → is_held (letter_at (set letters p B) e) ≡ false
+      → AreKept d (set letters p B) lacks waits runs needs search
+  AreKept-waiting not_ignored e needed lacking = record {
+    queueing = AreQueueing-built not_ignored;
+    each = kept.each;
+    are_lacks = λ q listed. kept.are_lacks q listed ∙ sym (waited_same kept p within not_held (run_at d.tree q));
+    few = kept.few;
+    installed = λ q is. kept.installed q (sym (as_before kept p within not_held q (λ same.
+        let f : B ≡ I = sym (ap (letter_at (set letters p B)) same ∙ get_or-set_same letters p B Ignored inside) ∙ is in cc)) ∙ is);
+    built = λ q is i. elim (cases_Bool (i.among p)) [
+      | inl member ↦ both_ways (is_held (letter_at (set letters p B) e)) lacking (i.all_held e (i.closed p e member needed))
+      | inr out ↦ kept.built q (sym (as_before kept p within not_held q (other i.among out q i.member)) ∙ is) (record {
+        among = i.among;
+        member = i.member;
+        all_held = λ x m. sym (ap is_held (as_before kept p within not_held x (other i.among out x m))) ∙ i.all_held x m;
+        closed = i.closed;
+      })
+    ];
+    runs_turned = kept.runs_turned;
+    needs_turned = kept.needs_turned;
+    over_all = kept.over_all;
+  }
+    where
+      other : (S : ℕ → Bool) → S p ≡ false → (x : ℕ) → S x ≡ true → x ≢ p
+      other S out x member same = both_ways (S p) out (ap S (sym same) ∙ member)

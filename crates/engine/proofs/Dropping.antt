@@ -1,13 +1,13 @@
 -- How marked ones are dropped.
-use Rattle.std.proofs.Common.{◌≡◌, ◌+◌, ◌<◌, ◌≤◌, ◌⊎◌, ℕ, zero, suc, Bool, true, false, cond, nat_eq, List, [], ◌∷◌, ◌++◌, All, Contains, count_by, get_or, length, set, take, refl, sym, ap, ◌∙◌, subst, inl, inr, ⊎_elim, arith}
+use Rattle.std.proofs.Common.{◌≡◌, ◌+◌, ◌<◌, ◌≤◌, ℕ, zero, suc, Bool, true, false, cond, nat_eq, List, [], ◌∷◌, ◌++◌, All, Contains, get_or, length, set, refl, sym, ap, ◌∙◌, subst, inl, inr, arith}
 use borrow.Author.Count.{below_more}
-use Rattle.std.proofs.lemmas.Bool.{both_ways, cases_eq, eq-eqb, ne_eqb, true≢false}
-use Rattle.std.proofs.lemmas.List.{append_assoc, append-nil, get_or-set_same, get_or-set_other, length-set, length_push}
+use Rattle.std.proofs.lemmas.Bool.{cases_eq, eq-eqb, ne_eqb, true≢false}
+use Rattle.std.proofs.lemmas.List.{append_assoc, append-nil, length-set, length_push}
 use Rattle.std.proofs.lemmas.List.Elements.{All-append, All-nil, All-push, Contains-get_or}
-use Rattle.std.proofs.lemmas.List.Sums.{count_by-le-length, sum_by-set}
-use Rattle.graph.specs.Lists.{one_if, times}
+use Rattle.std.proofs.lemmas.List.Sums.{sum_by-set}
+use Rattle.graph.specs.Lists.{one_if}
 use Rattle.graph.specs.Marks.{has_mark}
-use Rattle.graph.proofs.Lists.{get_or-same, times-push}
+use Rattle.graph.proofs.Lists.{times-push}
 use Rattle.graph.proofs.Marked.{has_mark-other, has_mark-same}
 use Rattle.engine.specs.inside.Searching.{Adds, AreParted, marked_many}
 

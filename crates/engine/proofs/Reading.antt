@@ -1,12 +1,12 @@
 -- What the parts of an engine tell of its state.
-use Rattle.std.proofs.Common.{◌≡◌, ◌≢◌, ◌+◌, ◌<◌, ◌≤◌, ℕ, suc, Bool, true, false, not, cond, nat_eq, List, [], ◌∷◌, Option, MatchOption, Some, None, All, Contains, get_or, length, refl, sym, ap, ◌∙◌, subst, inl, inr, arith}
+use Rattle.std.proofs.Common.{◌≡◌, ◌≢◌, ◌+◌, ◌<◌, ◌≤◌, ℕ, suc, Bool, true, false, not, cond, List, [], ◌∷◌, Option, MatchOption, Some, None, All, Contains, get_or, length, refl, sym, ap, ◌∙◌, subst, inl, inr, arith}
 use Rattle.std.proofs.Math.ListN.{get_or-map}
-use Rattle.std.proofs.lemmas.Bool.{cases_lt, eq-eqb, eqb-true, true≢false}
+use Rattle.std.proofs.lemmas.Bool.{cases_lt, true≢false}
 use Rattle.std.proofs.lemmas.List.{get_or_past}
 use Rattle.std.proofs.lemmas.List.Elements.{All-contains, Contains-get_or}
 use Rattle.std.proofs.lemmas.List.Sums.{get_or-le-sum_by, sum_by-cons}
 use Rattle.std.specs.List.{AllZip, range_with_len}
-use Rattle.listing.specs.Tree.{Tree, no_package, run_at}
+use Rattle.listing.specs.Tree.{Tree, run_at}
 use Rattle.units.specs.Division.{Division, IsDivision, number_of, unit_at}
 use Rattle.units.specs.Units.{Unit}
 use Rattle.units.proofs.Once.{one_unit}
@@ -19,7 +19,6 @@ use Rattle.engine.specs.inside.Agreed.{held_marks, marked_set}
 use Rattle.engine.specs.inside.Keeping.{AreKept, holds}
 use Rattle.engine.specs.inside.Queueing.{FitsUnit, needs_of, waited_for}
 use Rattle.engine.specs.inside.Shown.{is_held, is_installed, letter_at}
-use Rattle.graph.proofs.Lists.{get_or-same}
 use Rattle.engine.proofs.Marked.{contains-marked_set}
 use Rattle.engine.proofs.Numbered.{numbered_unit, unnumbered_ignored}
 use Rattle.engine.proofs.OneLetter.{only_one_letter}

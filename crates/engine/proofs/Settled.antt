@@ -1,5 +1,5 @@
 -- What holds when those that become installable with one more package are known.
-use Rattle.std.proofs.Common.{◌≡◌, ◌≢◌, ◌+◌, ◌<◌, ◌≤◌, ◌⊎◌, ◌^◌, ℕ, suc, Bool, true, false, not, cond, List, [], ◌∷◌, All, Contains, get_or, length, set, sum_by, refl, sym, ap, ◌∙◌, subst, inl, inr, arith}
+use Rattle.std.proofs.Common.{◌≡◌, ◌≢◌, ◌+◌, ◌<◌, ◌≤◌, ◌⊎◌, ◌^◌, ℕ, suc, Bool, true, false, not, cond, List, [], ◌∷◌, All, Contains, get_or, length, set, sum_by, refl, sym, ap, ◌∙◌, inl, inr, arith}
 use Rattle.std.proofs.lemmas.Bool.{both_ways, cases_Bool, cases_eq, cases_lt, true≢false}
 use Rattle.std.proofs.lemmas.List.{get_or-set_other, get_or-set_same}
 use Rattle.std.proofs.lemmas.List.Elements.{All-contains}
@@ -67,7 +67,7 @@ module _ {d : Division} {letters : List Letter} {lacks waits : List ℕ} {runs n
   pub built_here : letter_at with_built p ≡ B
   built_here = get_or-set_same letters p B Ignored inside
 
-  as_before : (q : ℕ) → q ≢ p → letter_at with_built q ≡ letter_at letters q
+  pub as_before : (q : ℕ) → q ≢ p → letter_at with_built q ≡ letter_at letters q
   as_before q other = get_or-set_other letters p q B Ignored other
 
   there : AreTurned (run_at d.tree) (list_at runs)
@@ -82,7 +82,7 @@ module _ {d : Division} {letters : List Letter} {lacks waits : List ℕ} {runs n
     | inr other ↦ ap is_installed (sym (as_before q other) ∙ built)
   ]
 
-  waited_same : (ps : List ℕ) → waited_for with_built ps ≡ waited_for letters ps
+  pub waited_same : (ps : List ℕ) → waited_for with_built ps ≡ waited_for letters ps
   waited_same ps = waited_for-same letters with_built ps (λ q. elim (cases_eq q p) [
     | inl same ↦ ap (λ x. is_installed (letter_at with_built x)) same ∙ ap is_installed built_here
         ∙ sym (ap (λ x. is_installed (letter_at letters x)) same ∙ not_held_installed (letter_at letters p) not_held)

@@ -1,15 +1,15 @@
 -- How those that lack more than found ones are dropped, with those that need them.
-use Rattle.std.proofs.Common.{◌≡◌, ◌+◌, ◌<◌, ◌≤◌, ◌⊎◌, ◌++◌, ◌^◌, ℕ, zero, suc, Bool, true, false, List, [], ◌∷◌, All, Contains, get_or, length, sum_by, take, refl, sym, ap, ◌∙◌, subst, inl, inr, arith}
-use Rattle.std.proofs.lemmas.Bool.{both_ways, cases_Bool, cases_lt}
+use Rattle.std.proofs.Common.{◌≡◌, ◌+◌, ◌<◌, ◌≤◌, ◌^◌, ℕ, zero, suc, Bool, true, false, List, [], ◌∷◌, All, Contains, get_or, length, take, refl, sym, ap, ◌∙◌, subst, inl, inr, arith}
+use Rattle.std.proofs.lemmas.Bool.{both_ways, cases_lt}
 use Rattle.std.proofs.lemmas.List.{get_or_append_left, length-append, take-append-le}
-use Rattle.std.proofs.lemmas.List.Elements.{All-append, All-contains, All-from_get_or, Contains-get_or}
+use Rattle.std.proofs.lemmas.List.Elements.{All-append, All-contains, Contains-get_or}
 use Rattle.graph.specs.Lists.{AreReversed, list_at, one_if, times}
 use Rattle.graph.specs.Marks.{has_mark}
 use Rattle.graph.specs.inside.Walks.{AreFound}
-use Rattle.graph.proofs.Lists.{contained-times, get_or-same, times-contained}
+use Rattle.graph.proofs.Lists.{contained-times, times-contained}
 use Rattle.graph.proofs.Marked.{marked_within}
-use Rattle.graph.proofs.Walks.{found-marked, marked-found}
-use Rattle.engine.specs.inside.Searching.{Adds, AreParted, IsCaused, IsClosedIn, IsSifted, told}
+use Rattle.graph.proofs.Walks.{found-marked}
+use Rattle.engine.specs.inside.Searching.{Adds, AreParted, IsCaused, IsSifted, told}
 use Rattle.engine.proofs.Dropping.{AreParted-itself, AreParted-through}
 use Rattle.engine.proofs.Told.{told-le, told-more, told-take-le}
 

@@ -6,7 +6,7 @@ ghost use Rattle.engine.specs.State.{AreCounts, HasLetter, IsEngine, IsNextQueue
 use crate::first::first_parts;
 use crate::letters::Letters;
 use crate::queueing::install_all;
-use crate::search::Search;
+use crate::search::{Search, all_held};
 use crate::{Counts, Letter};
 use faults::Memory;
 use graph::Reversed;
@@ -18,6 +18,7 @@ use units::Units;
 /// Which packages of a tree are agreed, and what follows for the letters of all.
 #[derive(Drop)]
 pub struct Engine<'a> {
+    tree: &'a Tree,
     units: Units<'a>,
     letters: Letters,
     /// For each package how many of those that its own lines need to run are not installable.
@@ -32,6 +33,7 @@ pub struct Engine<'a> {
 }
 
 impl<'a> Model for Engine<'a> {
+    ghost use Rattle.std.specs.Prelude.{◌≡◌};
     ghost use Rattle.engine.specs.State.{State, state_code};
     ghost use Rattle.engine.specs.inside.Agreed.{held_marks, marked_set};
     ghost use Rattle.engine.specs.inside.Keeping.{AreKept};
@@ -45,8 +47,8 @@ impl<'a> Model for Engine<'a> {
       agreed = marked_set (held_marks e.letters);
     } };
 
-    ghost invariant = { λ e.
-        AreKept e.units e.letters e.lacks.items e.waits.items e.runs e.needs e.search };
+    ghost invariant = { λ e. (e.tree.now ≡ e.units.tree)
+        × AreKept e.units e.letters e.lacks.items e.waits.items e.runs e.needs e.search };
 }
 
 impl<'a> Engine<'a> {
@@ -60,6 +62,7 @@ impl<'a> Engine<'a> {
         let parts = first_parts(alloc, tree, &units)?;
         let ((waits, letters), (needs, runs), (lacks, search)) = parts;
         Ok(Engine {
+            tree,
             units,
             letters,
             lacks,
@@ -81,6 +84,9 @@ impl<'a> Engine<'a> {
             return;
         }
         self.letters.set(position, Letter::B);
+        if !all_held(&self.letters, self.tree.run_deps(position)) {
+            return;
+        }
         self.search.settle(
             &self.letters,
             self.lacks.as_mut_slice(),

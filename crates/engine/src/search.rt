@@ -1,10 +1,10 @@
 //! Which packages become installable with one that is built, where they may need each other.
-ghost use Rattle.std.specs.Prelude.{◌≡◌, ◌<◌, ◌≤◌, ◌⊎◌, ◌+◌, ◌^◌, ℕ, true, false, All, Contains, IfOk, length, slice_index, vec_capacity, [], List};
+ghost use Rattle.std.specs.Prelude.{◌≡◌, ◌<◌, ◌≤◌, ◌⊎◌, ◌+◌, ◌^◌, ℕ, false, true, All, Contains, IfOk, length, slice_index, vec_capacity, [], List};
 ghost use Rattle.graph.specs.Lists.{AreReversed, list_at, one_if, times};
 ghost use Rattle.graph.specs.Marks.{has_mark};
 ghost use Rattle.graph.specs.inside.Walks.{AreFound};
 ghost use Rattle.engine.specs.inside.Searching.{Adds, AreParted, IsCaused, IsGathered, IsSettled, IsSifted, marked_many, told};
-ghost use Rattle.engine.specs.inside.Shown.{letter_at};
+ghost use Rattle.engine.specs.inside.Shown.{is_held, letter_at};
 ghost use Rattle.engine.specs.declared.Letter.TheVariants.{B};
 
 use crate::Letter;
@@ -92,6 +92,20 @@ impl Search {
     {
         self.found.as_slice()
     }
+}
+
+/// Whether all of the positions are held.
+pub(crate) fn all_held(letters: &Letters, positions: &[u32]) -> bool
+    requires within { All (λ p. p < length letters.now) positions.now }
+    ensures lacking { result ≡ false → (q : ℕ) × Contains positions.now q
+        × (is_held (letter_at letters.now q) ≡ false) }
+{
+    for position in positions {
+        if !letters.at(*position).is_held() {
+            return false;
+        }
+    }
+    true
 }
 
 /// Marks the position, which is built, and each built one that the lists lead to from there through

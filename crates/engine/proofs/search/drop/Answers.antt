@@ -1,4 +1,4 @@
-use Rattle.std.proofs.Common.{◌≡◌, ◌∙◌, ap, arith, length, refl}
+use Rattle.std.proofs.Common.{◌∙◌, ap, arith, refl}
 use Rattle.graph.specs.Marks.{has_mark}
 use Rattle.graph.proofs.Lists.{get_or-same}
 use Rattle.engine.proofs.Dropping.{IsDropping-drops, IsDropping-keeps, room-left}

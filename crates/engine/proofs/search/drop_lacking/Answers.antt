@@ -1,4 +1,4 @@
-use Rattle.std.proofs.Common.{◌≡◌, ◌<◌, ◌∙◌, ℕ, All, ap, arith, get_or, length, subst, sym, true, false}
+use Rattle.std.proofs.Common.{◌≡◌, ◌∙◌, ap, arith, get_or, sym, true}
 use borrow.Author.Count.{below_more}
 use Rattle.std.proofs.lemmas.Bool.{both_ways}
 use Rattle.graph.specs.Marks.{has_mark}

@@ -1,4 +1,4 @@
-use Rattle.std.proofs.Common.{◌≡◌, ◌<◌, ℕ, All, [], get_or, length, true, vec_capacity}
+use Rattle.std.proofs.Common.{◌≡◌, ◌<◌, ℕ, All, [], get_or, true, vec_capacity}
 use Rattle.graph.specs.Marks.{has_mark}
 use Rattle.engine.specs.inside.Searching.{AreParted}
 use Rattle.engine.proofs.search.drop_lacking.Given as goal

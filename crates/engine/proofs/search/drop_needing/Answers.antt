@@ -1,9 +1,9 @@
-use Rattle.std.proofs.Common.{◌≡◌, ◌+◌, ◌<◌, ◌∙◌, ℕ, List, All, ap, arith, false, get_or, length, subst, sym}
+use Rattle.std.proofs.Common.{◌≡◌, ◌+◌, ◌<◌, ◌∙◌, ℕ, List, All, ap, arith, false, get_or, length, subst}
 use Rattle.graph.specs.Lists.{list_at, times}
 use Rattle.graph.specs.Marks.{has_mark}
 use Rattle.graph.proofs.Lists.{get_or-same}
 use Rattle.engine.specs.inside.Searching.{Adds}
-use Rattle.engine.proofs.Sifting.{IsSifting-more, IsSifting-start, next_fits, raised-all}
+use Rattle.engine.proofs.Sifting.{IsSifting-more, next_fits}
 use Rattle.engine.proofs.search.drop_needing.Goals as goal
 
 pub raise-requires-clause-few : goal.raise-requires-clause-few

@@ -1,5 +1,5 @@
 use Rattle.std.proofs.Common.{◌+◌, ap, arith}
-use Rattle.graph.specs.Lists.{list_at, times}
+use Rattle.graph.specs.Lists.{times}
 use Rattle.engine.proofs.Told.{told-more, told-take-le}
 use Rattle.engine.proofs.search.lower_all.Goals as goal
 

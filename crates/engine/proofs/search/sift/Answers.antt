@@ -1,6 +1,6 @@
-use Rattle.std.proofs.Common.{◌≡◌, ◌∙◌, ap, arith, length, sym}
+use Rattle.std.proofs.Common.{length}
 use Rattle.graph.proofs.Turned.{named_within}
-use Rattle.engine.proofs.Sifting.{IsSifted-all, first_within, found_within, sums_fit}
+use Rattle.engine.proofs.Sifting.{IsSifted-all, found_within, sums_fit}
 use Rattle.engine.proofs.search.sift.Goals as goal
 
 pub lower_all-requires-clause-within : goal.lower_all-requires-clause-within
