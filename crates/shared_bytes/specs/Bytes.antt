@@ -5,5 +5,5 @@ use Rattle.shared_bytes.specs.declared.Bytes.TheVariants.{Short, Long}
 
 -- the bytes, wherever they stand
 abbrev pub items_of : Bytes → List ℕ
-items_of (Short bytes) = bytes.items
+items_of (Short bytes) = bytes
 items_of (Long bytes) = bytes.items

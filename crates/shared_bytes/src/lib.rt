@@ -2,9 +2,8 @@
 //! paths and names.
 #![tactic(auto)]
 
-ghost use Rattle.std.specs.Prelude.{◌≡◌, IfOk};
+ghost use Rattle.std.specs.Prelude.{◌≡◌, ◌≤◌, IfOk, length};
 
-use arrayvec::ArrayVec;
 use faults::Memory;
 use std::alloc::Global;
 use std::marker::Model;
@@ -13,10 +12,50 @@ use std::rc::Rc;
 /// How many bytes stand beside the count of owners, with no memory of their own.
 const SHORT: usize = 39;
 
+/// Few bytes: the first ones of a table, which contracts see as their list.
+#[derive(Drop)]
+struct ShortBytes {
+    table: [u8; SHORT],
+    count: u8,
+}
+
+impl Model for ShortBytes {
+    ghost use Rattle.std.specs.Prelude.{ℕ, List};
+    ghost use Rattle.shared_bytes.specs.Short.{AreInTable, in_table};
+
+    ghost Value = { List ℕ };
+
+    ghost view = { in_table };
+
+    ghost invariant = { AreInTable };
+}
+
+impl ShortBytes {
+    /// Equal bytes.
+    fn of(bytes: &[u8]) -> ShortBytes
+        requires few { length bytes.now ≤ 39 }
+        ensures { result ≡ bytes.now }
+    {
+        let mut table = [0; SHORT];
+        table[..bytes.len()].copy_from_slice(bytes);
+        ShortBytes {
+            table,
+            count: bytes.len() as u8,
+        }
+    }
+
+    /// The bytes.
+    fn as_slice(&self) -> &[u8]
+        ensures { result.now ≡ self.now }
+    {
+        &self.table[..self.count as usize]
+    }
+}
+
 /// Bytes, beside which nothing else stands where they are few.
 #[derive(Drop)]
 enum Bytes {
-    Short(ArrayVec<u8, SHORT>),
+    Short(ShortBytes),
     Long(Vec<u8>),
 }
 
@@ -27,9 +66,10 @@ impl Bytes {
     fn of(alloc: Global, bytes: &[u8]) -> Result<Bytes, Memory>
         ensures { IfOk result (λ b. items_of b ≡ bytes.now) }
     {
-        match ArrayVec::try_from(bytes) {
-            Ok(short) => Ok(Bytes::Short(short)),
-            Err(_) => Ok(Bytes::Long(bytes.to_vec(alloc)?)),
+        if bytes.len() <= SHORT {
+            Ok(Bytes::Short(ShortBytes::of(bytes)))
+        } else {
+            Ok(Bytes::Long(bytes.to_vec(alloc)?))
         }
     }
 
