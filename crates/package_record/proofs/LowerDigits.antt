@@ -1,6 +1,6 @@
 -- Pairs of lower-case hexadecimal digits.
 use Rattle.std.proofs.Common.{◌≡◌, ℕ, zero, suc, ◌+◌, ◌*◌, ◌/◌, ◌%◌, ◌<◌, ◌≤◌, List, [], ◌∷◌, ◌++◌, length, take, slice_index, slice_set, Ok, refl, sym, ap, ◌∙◌, arith}
-use Rattle.std.proofs.lemmas.List.{append_assoc, take_all, take_more, take_more_set}
+use Rattle.std.proofs.lemmas.List.{append_assoc, take_all, take_more, take_more_set, length-set}
 use Rattle.hex.specs.Hex.{IsBytes, decode_of, decode_sized, encode_lower, encode_with, lower_digits}
 use Rattle.hex.proofs.HexLemmas.{decode_of-encode_lower, decode_of-ok, decode_sized-ok, decode_sized-twice, length-encode_with}
 use Rattle.package_record.proofs.Digests.{bytes-append}
@@ -35,6 +35,23 @@ pub one_more_read : (text bytes : List ℕ) (i high low : ℕ) → 2 * i + 1 < l
 one_more_read text bytes i high low within room fits front behind before =
     let two : 2 * (i + 1) ≡ 2 * i + 2 = omega arith in
     rw (two, take-two text (2 * i) within, take_more_set bytes i (high * 16 + low) room, encode_with-append lower_digits (take i bytes) ((high * 16 + low) ∷ []), encode_with-one lower_digits high low fits, before, front, behind) refl
+
+-- one byte more is written
+pub one_more_written : (bytes text : List ℕ) (i high low : ℕ) → i < length bytes → 2 * i + 1 < length text
+    → high ≡ slice_index lower_digits (slice_index bytes i / 16) → low ≡ slice_index lower_digits (slice_index bytes i % 16)
+    → encode_lower (take i bytes) ≡ take (2 * i) text
+    → encode_lower (take (i + 1) bytes) ≡ take (2 * (i + 1)) (slice_set (slice_set text (2 * i) high) (2 * i + 1) low)
+unfolding encode_with
+one_more_written bytes text i high low within room front behind before =
+    let two : 2 * (i + 1) ≡ 2 * i + 1 + 1 = omega arith in
+    let set : length (slice_set text (2 * i) high) ≡ length text = length-set text (2 * i) high in
+    rw (two, take_more_set (slice_set text (2 * i) high) (2 * i + 1) low (omega arith), take_more_set text (2 * i) high (omega arith), take_more bytes i 0 within, encode_with-append lower_digits (take i bytes) (slice_index bytes i ∷ []), before, front, behind) (sym (append_assoc (take (2 * i) text) _ _))
+
+-- every byte is written
+pub whole_written : (bytes text : List ℕ) (i : ℕ) → length bytes ≡ 32 → length text ≡ 64 → 32 ≤ i
+    → encode_lower (take i bytes) ≡ take (2 * i) text → text ≡ encode_lower bytes
+whole_written bytes text i size long done written =
+    sym (rw (take_all i bytes (omega arith), take_all (2 * i) text (omega arith)) at written)
 
 -- the digits of a byte stand at its place
 digits_at : (t bytes : List ℕ) (i : ℕ) → i < length bytes

@@ -36,6 +36,18 @@ pub fn digest_of(text: &[u8]) -> Option<[u8; 32]>
     if greatest < 16 { Some(digest) } else { None }
 }
 
+/// The lower-case hexadecimal digit of the value.
+fn lower_digit(value: u8) -> u8
+    requires { value < 16 }
+    ensures { result ≡ slice_index lower_digits value }
+{
+    if value < 10 {
+        b'0' + value
+    } else {
+        b'a' + (value - 10)
+    }
+}
+
 /// The 64 lower-case hexadecimal digits of the digest.
 pub fn digest_text(digest: &[u8; 32]) -> [u8; 64]
     ensures text { result ≡ encode_lower digest.now }
@@ -43,6 +55,10 @@ pub fn digest_text(digest: &[u8; 32]) -> [u8; 64]
     ensures bytes { IsBytes digest.now }
 {
     let mut text = [0; 64];
-    hex::encode_to_slice(digest, &mut text).unwrap();
+    for i in 0..32 {
+        let byte = digest[i];
+        text[2 * i] = lower_digit(byte / 16);
+        text[2 * i + 1] = lower_digit(byte % 16);
+    }
     text
 }
