@@ -2,7 +2,6 @@
 #![tactic(auto)]
 
 mod asked;
-mod digested;
 mod handed;
 mod opening;
 mod placed;
