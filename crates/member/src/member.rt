@@ -79,12 +79,29 @@ impl<'a> Member<'a> {
         ensures tree { IfOk result (λ m. m.division.tree ≡ tree.entry.now) }
         ensures division { IfOk result (λ m. IsDivision m.division) }
     {
+        Member::with_digest(alloc, tree, &tree.digest(), weights, me)
+    }
+
+    /// The same, of a tree whose digest is known.
+    pub fn with_digest(
+        alloc: Global,
+        tree: &'a Tree,
+        digest: &[u8; 32],
+        weights: &Weights,
+        me: u8,
+    ) -> Result<Member<'a>, Memory>
+        requires member { me < length weights.now }
+        requires digest { digest.now ≡ tree_digest tree.now }
+        ensures fresh { IfOk result (λ m. m ≡ fresh m.division weights.now me) }
+        ensures tree { IfOk result (λ m. m.division.tree ≡ tree.entry.now) }
+        ensures division { IfOk result (λ m. IsDivision m.division) }
+    {
         prove!(usize::from(me) < weights.as_slice().len());
         let engine = Engine::new(alloc, tree)?;
         match unknown_units(alloc, engine.units()) {
             Ok((units, known)) => Ok(Member {
                 tree,
-                digest: tree.digest(),
+                digest: *digest,
                 units,
                 weights: weights.copy(),
                 me,
