@@ -12,7 +12,7 @@ ghost use Rattle.units.specs.Division.{IsDivision};
 ghost use Rattle.protocol.specs.Answers.{after, tree_digest};
 ghost use Rattle.protocol.specs.Member.{IsMember};
 ghost use Rattle.protocol.specs.Restoring.{AreOnUnits, restored};
-ghost use Rattle.protocol.specs.State.{engine_of, fresh, held_record};
+ghost use Rattle.protocol.specs.State.{Value, engine_of, fresh, held_record};
 ghost use Rattle.protocol.specs.Step.{HasAnswered, HasHandled, facts_named, header_refusal};
 ghost use Rattle.member.specs.OpenClaims.{open_of};
 ghost use Rattle.member.specs.Outcomes.{told};
@@ -26,7 +26,7 @@ use crate::held::HeldRecord;
 use crate::known::Known;
 use crate::naming::unit_named;
 use crate::{OpenClaim, Step};
-use ballots::{Note, Weights};
+use ballots::{Claimer, Note, Voter, Weights};
 use claims::{Claim, Job};
 use engine::{Counts, Engine, Letter};
 use faults::Memory;
@@ -79,12 +79,29 @@ impl<'a> Member<'a> {
         ensures tree { IfOk result (λ m. m.division.tree ≡ tree.entry.now) }
         ensures division { IfOk result (λ m. IsDivision m.division) }
     {
+        Member::with_digest(alloc, tree, &tree.digest(), weights, me)
+    }
+
+    /// The same, of a tree whose digest is known.
+    pub fn with_digest(
+        alloc: Global,
+        tree: &'a Tree,
+        digest: &[u8; 32],
+        weights: &Weights,
+        me: u8,
+    ) -> Result<Member<'a>, Memory>
+        requires member { me < length weights.now }
+        requires digest { digest.now ≡ tree_digest tree.now }
+        ensures fresh { IfOk result (λ m. m ≡ fresh m.division weights.now me) }
+        ensures tree { IfOk result (λ m. m.division.tree ≡ tree.entry.now) }
+        ensures division { IfOk result (λ m. IsDivision m.division) }
+    {
         prove!(usize::from(me) < weights.as_slice().len());
         let engine = Engine::new(alloc, tree)?;
         match unknown_units(alloc, engine.units()) {
             Ok((units, known)) => Ok(Member {
                 tree,
-                digest: tree.digest(),
+                digest: *digest,
                 units,
                 weights: weights.copy(),
                 me,
@@ -332,9 +349,40 @@ impl<'a> Member<'a> {
         self.known[unit as usize].voter.voted.as_ref()
     }
 
+    /// A build of the unit that the path names, if one is known: the one that is held, else the
+    /// proposal of the open claim, else what was voted for. One that comes again is most often this.
+    pub fn known_build(&self, path: &PkgPath) -> Option<&Build>
+        ensures { (build : Value) → (facts_named self.now path.now).held ≡ Some build
+            → option_copied result ≡ Some build }
+    {
+        let unit = self.units.find(path)?;
+        let known = &self.known[unit as usize];
+        match &known.held {
+            Some(held) => Some(held.build()),
+            None => proposed(self.claim.as_ref(), unit).or(last_vote(&known.voter)),
+        }
+    }
+
     /// What its collections are kept by.
     pub fn allocator(&self) -> Global {
         *self.known.allocator()
+    }
+}
+
+/// What the claim proposes, if it is for the unit and waits for votes.
+fn proposed(claim: Option<&OpenClaim>, unit: u32) -> Option<&Build> {
+    let claim = claim?;
+    match &claim.claimer {
+        Claimer::Voting { value, .. } if claim.unit == unit => Some(value),
+        _ => None,
+    }
+}
+
+/// What was voted for last.
+fn last_vote(voter: &Voter) -> Option<&Build> {
+    match &voter.voted {
+        Some((_, build)) => Some(build),
+        None => None,
     }
 }
 

@@ -12,6 +12,7 @@ use crate::Change;
 use ballots::Message;
 use faults::Memory;
 use member::Member;
+use package_record::Build;
 use protocol::Refusal;
 use std::alloc::Global;
 use wire::{Carrier, Header, Piece, WireFault};
@@ -67,8 +68,13 @@ fn has_with(pieces: &[Piece], piece: &Piece, number: u16) -> bool
     number == piece.number || has_number(pieces, &piece.header, number)
 }
 
-/// The message that these pieces make with this one, which is not kept.
-pub(crate) fn joined(pieces: &mut Vec<Piece>, piece: Piece) -> Result<Message, WireFault>
+/// The message that these pieces make with this one, which is not kept. A build that is known may
+/// be the one that it carries.
+pub(crate) fn joined(
+    pieces: &mut Vec<Piece>,
+    piece: Piece,
+    known: Option<&Build>,
+) -> Result<Message, WireFault>
     ensures same { pieces.new.items ≡ pieces.old.items }
     ensures joined { IsRightUnless WireFault.Memory result
         (joined piece.header (bytes_of piece.header (with_piece pieces.old.items piece))) }
@@ -80,7 +86,7 @@ pub(crate) fn joined(pieces: &mut Vec<Piece>, piece: Piece) -> Result<Message, W
     let Ok(()) = pieces.push(piece) else {
         return Err(WireFault::Memory);
     };
-    let message = wire::join(alloc, header, pieces.as_slice());
+    let message = wire::join_known(alloc, header, pieces.as_slice(), known);
     pieces.pop();
     message
 }

@@ -1,6 +1,7 @@
 //! A node of what a file holds.
 ghost use Rattle.std.specs.Prelude.{◌≡◌, ◌≢◌, ◌<◌, ◌≤◌, IfErr, IfOk, MatchResult, Ok, OnOk, false, is_some, length, map};
 ghost use Rattle.ballots.specs.Weights.{AreWeights};
+ghost use Rattle.protocol.specs.Answers.{tree_digest};
 ghost use Rattle.stable_record.specs.Crash.{AllAlong};
 ghost use Rattle.stable_record.specs.Faults.{HasRisen};
 ghost use Rattle.stable_record.specs.History.{seen};
@@ -78,7 +79,64 @@ impl<'a, D: Disk> Node<'a, D> {
         ensures later { MatchResult result (λ n. D.failures_of disk ≤ D.failures_of n.log.disk)
             (λ e. D.failures_of disk ≤ D.failures_of e.1) }
     {
-        let Ok(member) = Member::new(alloc, tree, weights, me) else {
+        Node::open_with_digest(alloc, disk, tree, &tree.digest(), weights, me)
+    }
+
+    /// The same, of a tree whose digest is known.
+    ///
+    /// # Errors
+    ///
+    /// As `open`.
+    pub fn open_with_digest(
+        alloc: Global,
+        disk: D,
+        tree: &'a Tree,
+        digest: &[u8; 32],
+        weights: &Weights,
+        me: u8,
+    ) -> Result<Node<'a, D>, (NodeFault, D)>
+        requires member { me < length weights.now }
+        requires digest { digest.now ≡ tree_digest tree.now }
+        // It is the node that the file's notes restore.
+        ensures node { IfOk result (λ n. IsOpened tree.entry.now weights.now me n.node) }
+        ensures notes { IfOk result (λ n. D.is_kept n.log.disk
+            → Opens (identity_of n.node.member) (seen (D.history disk))
+            (Ok (texts_of n.node.notes))) }
+        ensures on_log { IfOk result (λ n. D.is_kept n.log.disk → IsOnLog D.history n) }
+
+        // A file of bytes has one answer, so these notes are all that it opens as.
+        ensures one_answer { OnOk result (HasOneAnswer (identity tree.entry.now weights.now me)) }
+
+        // Nor is there a second one for a node: a file that is no log, or another's, opens as no
+        // node, and is refused in one way.
+        ensures one_node { MatchResult result
+            (λ _. OpensAsOne tree.entry.now weights.now me)
+            (λ e. e.0 ≢ NodeFault.Memory → OpensAsOne tree.entry.now weights.now me) }
+
+        // A crash at any moment leaves notes that a crash at the start could leave, whatever the
+        // call answers.
+        ensures any_moment { IfOk result (λ n. D.is_kept n.log.disk
+            → AllAlong (OpensAsLeft (identity_of n.node.member) (D.history disk))
+            (D.history disk) (D.history n.log.disk)) }
+        ensures any_moment_err { IfErr result (λ e. D.is_kept e.1
+            → AllAlong (OpensAsLeft (identity tree.entry.now weights.now me) (D.history disk))
+            (D.history disk) (D.history e.1)) }
+
+        // Each refusal has its cause, and what is no log of this member stays as it is.
+        ensures refused { IfErr result (λ e. D.is_kept e.1
+            → IsOpenFault tree.entry.now weights.now me (seen (D.history disk)) e.0) }
+        ensures untouched { IfErr result (λ e. D.is_kept e.1
+            → IsUntouched tree.entry.now weights.now me e.0 (D.history disk) (D.history e.1)) }
+        ensures device { IfErr result (λ e. e.0 ≡ NodeFault.Log LogFault.Device
+            → HasRisen (D.failures_of disk) (D.failures_of e.1)) }
+
+        // What was said of the disk before still stands.
+        ensures kept { MatchResult result (λ n. D.is_kept n.log.disk → D.is_kept disk)
+            (λ e. D.is_kept e.1 → D.is_kept disk) }
+        ensures later { MatchResult result (λ n. D.failures_of disk ≤ D.failures_of n.log.disk)
+            (λ e. D.failures_of disk ≤ D.failures_of e.1) }
+    {
+        let Ok(member) = Member::with_digest(alloc, tree, digest, weights, me) else {
             return Err((NodeFault::Memory, disk));
         };
         let owner = owner(&member);

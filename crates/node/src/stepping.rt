@@ -196,7 +196,8 @@ impl<'a, D: Disk> Node<'a, D> {
         ensures log { self.new.log ≡ self.old.log }
     {
         let header = piece.header.copy()?;
-        match joined(&mut self.pieces, piece) {
+        let known = self.member.known_build(&header.path);
+        match joined(&mut self.pieces, piece, known) {
             Ok(message) => self.prepare_message(message, Change::Drops(header)),
             Err(fault) => Err(self.drop_strange(&header, fault)),
         }

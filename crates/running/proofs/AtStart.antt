@@ -129,7 +129,7 @@ module _ (s : Scene) (tree : Tree) (weights : List ℕ) (of_tree : s.units.tree 
     agreed = el i;
   }
 
-  pub scene_stands : s.tree.now ≡ tree → AreListed s.posted → IsStanding s
+  pub scene_stands : s.tree ≡ tree → AreListed s.posted → IsStanding s
   scene_stands own listed = record {
     tree = of_tree ∙ sym own;
     disks = λ k x at. fresh_stands tree weights s.units of_tree divided (world_of s) refl weigh k x

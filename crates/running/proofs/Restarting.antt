@@ -109,15 +109,15 @@ module _ (s : Scene) (me : ℕ) (standing : IsStanding s) (reached : IsReached (
   are_notes = All-weaker (IsOfUnit w) IsNote (λ n is. is.note) (rest_view r).notes of_units
 
   -- so its file has a node
-  has_node : HasNode s.tree.now s.weights me (file_of r.disk)
+  has_node : HasNode s.tree s.weights me (file_of r.disk)
   has_node = subst (λ (t : Tree). HasNode t s.weights me (file_of r.disk)) standing.tree
       (notes_have_node w.division reached.made.divided s.weights me (file_of r.disk)
       (rest_view r).notes left.notes are_notes
       (All-weaker (IsOfUnit w) (λ n. (u : ℕ) × (number_named w.division n.path ≡ Some u))
       (λ n is. (is.unit, is.of_unit)) (rest_view r).notes of_units))
 
-  module _ (n : LoggedNode MemDisk) (h : IsNodeOf s.tree.now s.weights me (file_of r.disk) n) where
-    owner : identity_of n.node.member ≡ identity s.tree.now s.weights me
+  module _ (n : LoggedNode MemDisk) (h : IsNodeOf s.tree s.weights me (file_of r.disk) n) where
+    owner : identity_of n.node.member ≡ identity s.tree s.weights me
     owner = ap (λ (x : NodeState). identity_of x.member) h.opened.node
         ∙ ap (λ t. identity t s.weights me) h.opened.of_tree
 
@@ -169,13 +169,13 @@ module _ (s : Scene) (me : ℕ) (standing : IsStanding s) (reached : IsReached (
     old_is : old ≡ Down r
     old_is = at_place old (stands_at nodes me old read place_within)
 
-    pub has_node_there : HasNode s.tree.now s.weights me (file_of (disk_of old))
+    pub has_node_there : HasNode s.tree s.weights me (file_of (disk_of old))
     has_node_there =
-        subst (λ x. HasNode s.tree.now s.weights me (file_of (disk_of x))) (sym old_is) has_node
+        subst (λ x. HasNode s.tree s.weights me (file_of (disk_of x))) (sym old_is) has_node
 
     pub restarts_there : (n : LoggedNode MemDisk)
-        → IsNodeOf s.tree.now s.weights me (file_of (disk_of old)) n
+        → IsNodeOf s.tree s.weights me (file_of (disk_of old)) n
         → (t : Scene) → IsBut s t → t.nodes.items ≡ slice_set nodes me (Up n)
         → Restarts w me (world_of t) × IsStanding t
     restarts_there n h t but put = restarts n
-        (subst (λ x. IsNodeOf s.tree.now s.weights me (file_of (disk_of x)) n) old_is h) t but put
+        (subst (λ x. IsNodeOf s.tree s.weights me (file_of (disk_of x)) n) old_is h) t but put

@@ -18,7 +18,7 @@ use Rattle.running.specs.inside.Posting.{AreListed, list_in}
 
 -- The scenes differ in their nodes alone.
 pub record IsBut (s t : Scene) : Type 0 where
-  pub tree : t.tree.now ≡ s.tree.now
+  pub tree : t.tree ≡ s.tree
   pub units : t.units ≡ s.units
   pub weights : t.weights ≡ s.weights
   pub posted : t.posted ≡ s.posted

@@ -70,7 +70,7 @@ leaves_its_note (events.Restart n) is = absurd (true≢false (sym is))
 -- ---- a scene with another node at a place, and other tables
 
 pub record IsWith (s t : Scene) (k : ℕ) (x : Placed) : Type 0 where
-  pub tree : t.tree.now ≡ s.tree.now
+  pub tree : t.tree ≡ s.tree
   pub units : t.units ≡ s.units
   pub weights : t.weights ≡ s.weights
   pub nodes : t.nodes.items ≡ slice_set s.nodes.items k x

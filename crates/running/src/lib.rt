@@ -2,6 +2,7 @@
 #![tactic(auto)]
 
 mod asked;
+mod digested;
 mod handed;
 mod opening;
 mod placed;

@@ -3,9 +3,9 @@ ghost use Rattle.std.specs.Prelude.{◌≡◌, ◌<◌, IfOk, length};
 ghost use Rattle.running.specs.inside.Opening.{HasNode, IsNodeOf};
 ghost use Rattle.running.specs.inside.Placing.{file_of};
 
+use crate::digested::Digested;
 use ballots::Weights;
 use faults::Memory;
-use listing::Tree;
 use node::{Node, NodeFault};
 use stable_record::MemDisk;
 use std::alloc::Global;
@@ -15,15 +15,16 @@ use std::alloc::Global;
 pub(crate) fn opened<'a>(
     alloc: Global,
     disk: MemDisk,
-    tree: &'a Tree,
+    tree: &Digested<'a>,
     weights: &Weights,
     me: u8,
 ) -> Result<Node<'a, MemDisk>, Memory>
     requires member { me < length weights.now }
     requires node { HasNode tree.now weights.now me (file_of disk) }
-    ensures { IfOk result (IsNodeOf tree.entry.now weights.now me (file_of disk)) }
+    ensures { IfOk result (IsNodeOf tree.now weights.now me (file_of disk)) }
 {
-    match Node::open(alloc, disk, tree, weights, me) {
+    let own = tree.tree();
+    match Node::open_with_digest(alloc, disk, own, tree.digest(), weights, me) {
         Ok(node) => Ok(node),
         Err((fault, _)) => match fault {
             NodeFault::Memory => Err(Memory),

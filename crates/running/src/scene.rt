@@ -8,6 +8,7 @@ ghost use Rattle.running.specs.inside.Placing.{IsStanding, world_of};
 ghost use Rattle.running.specs.inside.Starting.{AreFresh, IsFresh};
 
 use crate::asked::{is_bad_stop, is_restart, lacks_datagram, node_of};
+use crate::digested::Digested;
 use crate::opening::opened;
 use crate::placed::Placed;
 use crate::posted::Posted;
@@ -24,7 +25,7 @@ use world::WorldFault;
 /// What stands of a world: its tree, what members weigh, their nodes, and what was sent and agreed.
 #[derive(Drop)]
 pub(crate) struct Scene<'a> {
-    pub(crate) tree: &'a Tree,
+    pub(crate) tree: Digested<'a>,
     /// The tree's units.
     pub(crate) units: Units<'a>,
     /// What each member weighs.
@@ -46,11 +47,13 @@ impl<'a> Scene<'a> {
         // These say that the units divide the tree, and what weights may be.
         let _count = units.len();
         let _weights = weights.as_slice();
+        let digested = Digested::new(tree);
+        let nodes = fresh_nodes(alloc, &digested, weights)?;
         Ok(Scene {
-            tree,
+            tree: digested,
             units,
             weights: weights.copy(),
-            nodes: fresh_nodes(alloc, tree, weights)?,
+            nodes,
             posted: Posted::new(alloc),
         })
     }
@@ -102,11 +105,11 @@ impl<'a> Scene<'a> {
 /// The nodes of the members at the start, by number.
 fn fresh_nodes<'a>(
     alloc: Global,
-    tree: &'a Tree,
+    tree: &Digested<'a>,
     weights: &Weights,
 ) -> Result<Vec<Placed<'a>>, Memory>
     requires { HasUnits tree.now }
-    ensures { IfOk result (λ nodes. AreFresh tree.entry.now weights.now nodes.items) }
+    ensures { IfOk result (λ nodes. AreFresh tree.now weights.now nodes.items) }
 {
     let mut nodes = Vec::with_capacity(alloc, weights.len())?;
     for me in 0..weights.len() as u8 {
@@ -118,13 +121,13 @@ fn fresh_nodes<'a>(
 /// The node with this number at the start, over an empty disk.
 fn fresh<'a>(
     alloc: Global,
-    tree: &'a Tree,
+    tree: &Digested<'a>,
     weights: &Weights,
     me: u8,
 ) -> Result<Node<'a, MemDisk>, Memory>
     requires member { me < length weights.now }
     requires units { HasUnits tree.now }
-    ensures { IfOk result (IsFresh tree.entry.now weights.now me) }
+    ensures { IfOk result (IsFresh tree.now weights.now me) }
 {
     let disk = MemDisk::new(alloc, &[])?;
     opened(alloc, disk, tree, weights, me)

@@ -44,6 +44,7 @@ ghost use Rattle.running.specs.inside.Stopping.{
 };
 
 use crate::asked::{finished, node_of, ready};
+use crate::digested::Digested;
 use crate::opening::opened;
 use crate::placed::{Placed, Rest};
 use crate::scene::Scene;
@@ -51,7 +52,6 @@ use ballots::Weights;
 use datagrams::Datagrams;
 use events::{Event, Left};
 use faults::Memory;
-use listing::Tree;
 use node::{Node, NodeFault, Ready};
 use stable_record::MemDisk;
 use std::alloc::Global;
@@ -173,13 +173,13 @@ fn put<'a>(nodes: &mut Vec<Placed<'a>>, place: usize, placed: Placed<'a>)
 fn restarted<'a>(
     alloc: Global,
     placed: &Placed<'_>,
-    tree: &'a Tree,
+    tree: &Digested<'a>,
     weights: &Weights,
     me: u8,
 ) -> Result<Node<'a, MemDisk>, Memory>
     requires member { me < length weights.now }
     requires node { HasNode tree.now weights.now me (file_of (disk_of placed.now)) }
-    ensures { IfOk result (IsNodeOf tree.entry.now weights.now me
+    ensures { IfOk result (IsNodeOf tree.now weights.now me
         (file_of (disk_of placed.now))) }
 {
     let disk = placed.disk_with(alloc, &[])?;
@@ -223,7 +223,7 @@ impl<'a> Scene<'a> {
         match restarted(
             alloc,
             &self.nodes[me as usize],
-            self.tree,
+            &self.tree,
             &self.weights,
             me,
         ) {

@@ -14,6 +14,7 @@ ghost use Rattle.wire.specs.Spelling.{datagram_text, note_text};
 use crate::cuts::Cuts;
 use ballots::{Message, Note};
 use faults::{Fault, Memory, WantOfMemory};
+use package_record::Build;
 use std::alloc::Global;
 use thiserror::Error;
 
@@ -22,6 +23,7 @@ mod datagram;
 mod datagrams;
 mod fault;
 mod fields;
+mod known;
 mod laws;
 mod notes;
 mod pieces;
@@ -134,6 +136,21 @@ pub fn join(alloc: Global, header: Header, pieces: &[Piece]) -> Result<Message, 
 {
     let text = pieces::in_order(alloc, &header, pieces)?;
     let message = pieces::message(alloc, header, text.as_slice())?;
+    Ok(message)
+}
+
+/// The same, where a build is known that may be the one which comes: then it is shared, and not read
+/// again.
+pub fn join_known(
+    alloc: Global,
+    header: Header,
+    pieces: &[Piece],
+    known: Option<&Build>,
+) -> Result<Message, WireFault>
+    ensures { IsRightUnless WireFault.Memory result (joined header (bytes_of header pieces.now)) }
+{
+    let text = pieces::in_order(alloc, &header, pieces)?;
+    let message = pieces::known_message(alloc, header, text.as_slice(), known)?;
     Ok(message)
 }
 

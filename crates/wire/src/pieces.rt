@@ -4,12 +4,13 @@ ghost use Rattle.wire.specs.inside.Cuts.{AreCuts};
 ghost use Rattle.wire.specs.inside.Given.{Gives};
 ghost use Rattle.wire.specs.inside.Parts.{TakenApart};
 ghost use Rattle.wire.specs.Joining.{bytes_numbered, bytes_of};
-ghost use Rattle.wire.specs.Pieces.{body_with, pieces_of};
+ghost use Rattle.wire.specs.Pieces.{body_with, message_with, pieces_of};
 ghost use Rattle.wire.specs.Reading.{joined};
 
 use crate::datagram::{Bytes, Carrier, Datagram, Header, MOST_PIECES, PIECE_SIZE, Piece};
 use crate::fault::ReadError;
 use crate::fields::whole_build;
+use crate::known::same_build;
 use ballots::{Body, Message};
 use faults::Memory;
 use package_record::Build;
@@ -42,11 +43,10 @@ pub fn body_with(carrier: Carrier, build: Build) -> Body
     }
 }
 
-/// The message with the header whose build's text this is.
-pub fn message(alloc: Global, header: Header, text: &[u8]) -> Result<Message, ReadError>
-    ensures { Gives (λ message. message) result (joined header text.now) }
+/// The message with the header that carries the build.
+fn message_with(header: Header, build: Build) -> Message
+    ensures { result ≡ message_with header build }
 {
-    let build = whole_build(alloc, &header.path, text)?;
     let Header {
         sender,
         tree,
@@ -55,12 +55,39 @@ pub fn message(alloc: Global, header: Header, text: &[u8]) -> Result<Message, Re
         length: _,
     } = header;
     let body = body_with(carrier, build);
-    Ok(Message {
+    Message {
         sender,
         tree,
         path,
         body,
-    })
+    }
+}
+
+/// The message with the header whose build's text this is.
+pub fn message(alloc: Global, header: Header, text: &[u8]) -> Result<Message, ReadError>
+    ensures { Gives (λ message. message) result (joined header text.now) }
+{
+    let build = whole_build(alloc, &header.path, text)?;
+    Ok(message_with(header, build))
+}
+
+/// The same, where a build is known that may be the one: then it is shared, and not read again.
+pub fn known_message(
+    alloc: Global,
+    header: Header,
+    text: &[u8],
+    known: Option<&Build>,
+) -> Result<Message, ReadError>
+    ensures { Gives (λ message. message) result (joined header text.now) }
+{
+    let build = match known {
+        Some(known) => same_build(known, &header.path, text),
+        None => None,
+    };
+    match build {
+        Some(build) => Ok(message_with(header, build)),
+        None => message(alloc, header, text),
+    }
 }
 
 /// The piece of this number, with these bytes.

@@ -69,7 +69,7 @@ world_of s = record {
 
 -- Each node stands on its disk, and the paths of the list are kept beside it.
 pub record IsStanding (s : Scene) : Type 0 where
-  pub tree : s.units.tree ≡ s.tree.now
+  pub tree : s.units.tree ≡ s.tree
   pub disks : (k : ℕ) (x : Placed) → slice_get s.nodes.items k ≡ Some x
       → StandsOn (world_of s) k x
   pub listed : AreListed s.posted

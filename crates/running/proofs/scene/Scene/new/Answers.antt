@@ -1,4 +1,4 @@
-use Rattle.std.proofs.Common.{refl}
+use Rattle.std.proofs.Common.{◌∙◌, refl, sym}
 use Rattle.running.proofs.AtStart.{scene_stands, world_starts}
 use Rattle.running.specs.declared.scene.Scene.{Scene}
 use Rattle.running.proofs.scene.Scene.new.Goals as goal
@@ -6,34 +6,36 @@ use Rattle.running.proofs.scene.Scene.new.Goals as goal
 pub fresh_nodes-requires : goal.fresh_nodes-requires
 fresh_nodes-requires c = (
   c.in_ok-units.units,
-  c.in_ok-units.ensures,
+  c.in_ok-units.ensures ∙ sym c.new-digested.ensures,
   c.len-count.ensures.division,
 )
 
 pub returns-clause-world : goal.returns-clause-world
 returns-clause-world c =
     let s : Scene = record {
-      tree = c.args.tree;
+      tree = c.new-digested.result;
       units = c.in_ok-units.units;
       weights =
           c.copy.result;
-      nodes = c.in_ok-fresh_nodes.field-0;
+      nodes = c.in_ok-nodes.nodes;
       posted = c.new-2.result;
     } in
-    world_starts s c.args.tree.now c.args.weights.now c.in_ok-units.ensures
-    c.len-count.ensures.division c.copy.ensures c.in_ok-fresh_nodes.ensures
+    world_starts s c.new-digested.result c.args.weights.now
+    (c.in_ok-units.ensures ∙ sym c.new-digested.ensures)
+    c.len-count.ensures.division c.copy.ensures c.in_ok-nodes.ensures
     c.new-2.ensures.sent c.new-2.ensures.list
 
 pub returns-clause-standing : goal.returns-clause-standing
 returns-clause-standing c =
     let s : Scene = record {
-      tree = c.args.tree;
+      tree = c.new-digested.result;
       units = c.in_ok-units.units;
       weights =
           c.copy.result;
-      nodes = c.in_ok-fresh_nodes.field-0;
+      nodes = c.in_ok-nodes.nodes;
       posted = c.new-2.result;
     } in
-    scene_stands s c.args.tree.now c.args.weights.now c.in_ok-units.ensures
-    c.len-count.ensures.division c.copy.ensures c.in_ok-fresh_nodes.ensures
+    scene_stands s c.new-digested.result c.args.weights.now
+    (c.in_ok-units.ensures ∙ sym c.new-digested.ensures)
+    c.len-count.ensures.division c.copy.ensures c.in_ok-nodes.ensures
     refl c.new-2.ensures.listed

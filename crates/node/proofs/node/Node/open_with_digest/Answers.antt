@@ -6,7 +6,7 @@ use Rattle.node.proofs.AtFirst.{not_begun}
 use Rattle.node.proofs.OneNode.{opens_as_one, whichever}
 use Rattle.node.proofs.Opened.{both_err, both_ok, log_refused, log_untouched, notes_refused, notes_untouched, opens_as, owner_of_new, told_device}
 use Rattle.node.specs.OnLog.{identity}
-use Rattle.node.proofs.node.Node.open.Goals as goal
+use Rattle.node.proofs.node.Node.open_with_digest.Goals as goal
 
 pub returns-in_default-clause-any_moment_err : goal.returns-in_default-clause-any_moment_err
 returns-in_default-clause-any_moment_err g c = λ kept. not_begun (identity c.args.tree.now c.args.weights.now c.args.me) (g.D.Disk.history c.args.disk)

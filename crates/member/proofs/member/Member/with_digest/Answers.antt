@@ -6,7 +6,7 @@ use Rattle.protocol.specs.Member.{IsMember}
 use Rattle.protocol.specs.State.{fresh}
 use Rattle.member.specs.inside.Fields.{engine_with, facts_of_known}
 use Rattle.member.proofs.Fresh.{each_alike, fresh_engine, fresh_member}
-use Rattle.member.proofs.member.Member.new.Goals as goal
+use Rattle.member.proofs.member.Member.with_digest.Goals as goal
 
 pub invariant_of-result : goal.invariant_of-result
 invariant_of-result c =
@@ -30,9 +30,9 @@ invariant_of-result c =
     } in
     record {
       member = subst IsMember state (fresh_member d c.args.weights.now c.args.me
-          c.in-Ok.ensures.division c.as_slice.ensures.are_weights c.requires);
+          c.in-Ok.ensures.division c.as_slice.ensures.are_weights c.requires.member);
       tree = sym tree;
-      digest = c.digest.ensures ∙ ap tree_digest (sym tree);
+      digest = c.requires.digest ∙ ap tree_digest (sym tree);
       engine = c.in_ok-engine.ensures
           ∙ (ap (λ t. record { tree = t; agreed = set.empty }) (sym tree)
           ∙ (sym (fresh_engine d) ∙ ap (engine_with d) (sym facts)));
