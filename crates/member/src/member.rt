@@ -350,7 +350,7 @@ impl<'a> Member<'a> {
     }
 
     /// A build of the unit that the path names, if one is known: the one that is held, else the
-    /// proposal of the open claim, else what was voted for. One that comes again is most often this.
+    /// proposal of the open claim, else what was voted for. One that comes again is mostly this.
     pub fn known_build(&self, path: &PkgPath) -> Option<&Build>
         ensures { (build : Value) → (facts_named self.now path.now).held ≡ Some build
             → option_copied result ≡ Some build }

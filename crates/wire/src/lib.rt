@@ -139,8 +139,8 @@ pub fn join(alloc: Global, header: Header, pieces: &[Piece]) -> Result<Message, 
     Ok(message)
 }
 
-/// The same, where a build is known that may be the one which comes: then it is shared, and not read
-/// again.
+/// The same, where a build is known that may be the one which comes: then it is shared, and not
+/// read again.
 pub fn join_known(
     alloc: Global,
     header: Header,

@@ -15,8 +15,8 @@ abbrev pub holds : List Letter → ℕ → Bool
 holds letters p = is_held (letter_at letters p)
 
 -- The letters are those of the packages. Of each is counted how many it needs to run that have
--- another letter than I, and of each unit what it waits for. Where a package has the letter B, there
--- is no set of held ones that has it and, with each member, all that this needs to run.
+-- another letter than I, and of each unit what it waits for. Where a package has the letter B,
+-- there is no set of held ones that has it and, with each member, all that this needs to run.
 pub record AreKept
     (d : Division) (letters : List Letter) (lacks waits : List ℕ) (runs needs : List (List ℕ))
     (search : Walked) : Type 0 where

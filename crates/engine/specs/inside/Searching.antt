@@ -33,7 +33,8 @@ pub record IsGathered
       → letter_at letters y ≡ B → has_mark marks y ≡ true
 
 -- those that lost their marks were dropped, each once
-pub record AreParted (marks_before marks : List Bool) (dropped_before dropped : List ℕ) : Type 0 where
+pub record AreParted
+    (marks_before marks : List Bool) (dropped_before dropped : List ℕ) : Type 0 where
   pub once : (p : ℕ) → one_if (has_mark marks p) + times p dropped
       ≡ one_if (has_mark marks_before p) + times p dropped_before
   pub as_many : marked_many marks + length dropped
