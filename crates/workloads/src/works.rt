@@ -115,8 +115,8 @@ pub fn large(
 ) -> io::Result<()> {
     let made = alone(alloc, size.times)?;
     let mut trace = Trace::new(alloc)?;
-    for package in &made.packages {
-        let pieces = 48 + numbers.below(80);
+    for (place, package) in made.packages.iter().enumerate() {
+        let pieces = 48 + 20 * (place % 5);
         let file = file_of(alloc, numbers, pieces * PIECE - PIECE / 2)?;
         let roles = Roles::next(numbers);
         trace.life(roles, package, file.as_slice(), pieces as u64)?;
