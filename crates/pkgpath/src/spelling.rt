@@ -171,7 +171,7 @@ pub(crate) fn canonical_text(alloc: Global, text: &[u8]) -> Result<SharedBytes, 
         None => read_directory(alloc, text),
         Some((directory, parts)) => {
             let canonical = read_parts(alloc, text, directory, parts)?;
-            Ok(SharedBytes::of(alloc, canonical.as_slice())?)
+            Ok(SharedBytes::of_vec(alloc, canonical)?)
         }
     }
 }

@@ -69,7 +69,18 @@ impl Bytes {
         if bytes.len() <= SHORT {
             Ok(Bytes::Short(ShortBytes::of(bytes)))
         } else {
-            Ok(Bytes::Long(bytes.to_vec(alloc)?))
+            Ok(Bytes::Long(Vec::from_slice(alloc, bytes)?))
+        }
+    }
+
+    /// These bytes.
+    fn of_vec(bytes: Vec<u8>) -> Bytes
+        ensures { items_of result ≡ bytes.items }
+    {
+        if bytes.len() <= SHORT {
+            Bytes::Short(ShortBytes::of(bytes.as_slice()))
+        } else {
+            Bytes::Long(bytes)
         }
     }
 
@@ -105,6 +116,14 @@ impl SharedBytes {
         ensures { IfOk result (λ shared. shared ≡ bytes.now) }
     {
         let bytes = Rc::new(alloc, Bytes::of(alloc, bytes)?)?;
+        Ok(SharedBytes { bytes, alloc })
+    }
+
+    /// These bytes, which nobody shares yet. Many are not copied.
+    pub fn of_vec(alloc: Global, bytes: Vec<u8>) -> Result<SharedBytes, Memory>
+        ensures { IfOk result (λ shared. shared ≡ bytes.items) }
+    {
+        let bytes = Rc::new(alloc, Bytes::of_vec(bytes))?;
         Ok(SharedBytes { bytes, alloc })
     }
 
