@@ -6,7 +6,7 @@ ghost use Rattle.engine.specs.State.{AreCounts, HasLetter, IsEngine, IsNextQueue
 use crate::first::first_parts;
 use crate::letters::Letters;
 use crate::queueing::install_all;
-use crate::search::{Search, all_held};
+use crate::search::{Search, may_all_be_held};
 use crate::{Counts, Letter};
 use faults::Memory;
 use graph::Reversed;
@@ -84,7 +84,10 @@ impl<'a> Engine<'a> {
             return;
         }
         self.letters.set(position, Letter::B);
-        if !all_held(&self.letters, self.tree.run_deps(position)) {
+        let own = self.tree.run_deps(position);
+        // (else the search looks at all that need it, so that this costs no more)
+        let most = self.runs.at(position).len();
+        if !may_all_be_held(&self.letters, own, most) {
             return;
         }
         self.search.settle(

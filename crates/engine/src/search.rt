@@ -94,12 +94,15 @@ impl Search {
     }
 }
 
-/// Whether all of the positions are held.
-pub(crate) fn all_held(letters: &Letters, positions: &[u32]) -> bool
+/// Whether all of the positions are held, or they are more than so many, which are not looked at.
+pub(crate) fn may_all_be_held(letters: &Letters, positions: &[u32], most: usize) -> bool
     requires within { All (λ p. p < length letters.now) positions.now }
     ensures lacking { result ≡ false → (q : ℕ) × Contains positions.now q
         × (is_held (letter_at letters.now q) ≡ false) }
 {
+    if positions.len() > most {
+        return true;
+    }
     for position in positions {
         if !letters.at(*position).is_held() {
             return false;

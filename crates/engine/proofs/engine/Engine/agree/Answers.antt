@@ -67,15 +67,15 @@ invariant_of-self c =
     let within = subst (λ (s : State). c.args.position < length s.tree) (sym c.self.view_is) c.requires.listed in
     let not_held : holds c.self.inside.letters c.args.position ≡ false = ap is_held (sym c.at.ensures) ∙ sym c.is_held.ensures ∙ c.if-is_held.false in
     let not_ignored = subst (λ (s : State). ¬ HasLetter s c.args.position Ignored) (sym c.self.view_is) c.requires.not_ignored in
-    let one = c.all_held.ensures.lacking c.if-not-all_held.true in
-    let needed = subst (λ (ds : List ℕ). Contains ds one.0) (c.run_deps.ensures.value ∙ ap (λ t. run_at t c.args.position) c.self.invariant.0) one.1 in (
+    let one = c.may_all_be_held.ensures.lacking c.if-not-may_all_be_held.true in
+    let needed = subst (λ (ds : List ℕ). Contains ds one.0) (c.run_deps-own.ensures.value ∙ ap (λ t. run_at t c.args.position) c.self.invariant.0) one.1 in (
       c.self.invariant.0,
       rw c.set.ensures (AreKept-waiting c.self.invariant.1 c.args.position within not_held
           (other_than_ignored c.self.invariant.1 c.args.position within not_ignored) one.0 needed (rw c.set.ensures at one.2)),
     )
 
-pub returns-then-not-all_held : goal.returns-then-not-all_held
-returns-then-not-all_held c =
+pub returns-then-not-may_all_be_held : goal.returns-then-not-may_all_be_held
+returns-then-not-may_all_be_held c =
     let within = subst (λ (s : State). c.args.position < length s.tree) (sym c.self.view_is) c.requires.listed in
     agreed_more c.self.inside.units c.self.inside.letters c.set.new.self c.args.position c.args.self.now c.self.view_is
     (omega (arith, within, c.self.invariant.1.queueing.are_fitting.each_letter)) (rw c.set.ensures (λ q. refl))
