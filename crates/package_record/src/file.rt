@@ -21,4 +21,18 @@ impl File {
         let bytes = self.bytes.clone()?;
         Ok(File { name, bytes })
     }
+
+    /// The same file, with no room to spare.
+    pub(crate) fn tight(self) -> File
+        ensures name { result.name.items ≡ self.name.items }
+        ensures bytes { result.bytes.items ≡ self.bytes.items }
+    {
+        let File {
+            mut name,
+            mut bytes,
+        } = self;
+        name.shrink_to_fit();
+        bytes.shrink_to_fit();
+        File { name, bytes }
+    }
 }

@@ -2,7 +2,7 @@
 ghost use Rattle.std.specs.Prelude.{◌≡◌, ◌<◌, ◌++◌, [], ◌∷◌, IfOk, OnOk, length, map};
 ghost use Rattle.sha2.specs.Sha256.{sha256};
 ghost use Rattle.package_record.specs.FileView.{file_view};
-ghost use Rattle.package_record.specs.inside.Hashed.{digest_at, digests_of};
+ghost use Rattle.package_record.specs.inside.Hashed.{digest_at};
 
 use crate::File;
 use faults::Memory;
@@ -41,12 +41,16 @@ impl HashedFiles {
         Ok(HashedFiles { files, digests })
     }
 
-    /// These files.
+    /// These files. They are kept with no room to spare, however much they came with.
     pub fn of(alloc: Global, files: Vec<File>) -> Result<HashedFiles, Memory>
         ensures { IfOk result (λ hashed. hashed ≡ map file_view files.items) }
     {
-        let digests = all_digests(alloc, files.as_slice())?;
-        Ok(HashedFiles { files, digests })
+        let mut hashed = HashedFiles::with_capacity(alloc, files.len())?;
+        for file in files {
+            let digest: [u8; 32] = Sha256::digest(file.bytes.as_slice());
+            hashed.push(file.tight(), digest)?;
+        }
+        Ok(hashed)
     }
 
     /// One more file, whose bytes have this digest.
@@ -80,16 +84,4 @@ impl HashedFiles {
     pub fn allocator(&self) -> Global {
         *self.files.allocator()
     }
-}
-
-/// The digest of each file's bytes.
-fn all_digests(alloc: Global, files: &[File]) -> Result<Vec<[u8; 32]>, Memory>
-    ensures { IfOk result (λ digests. digests.items ≡ digests_of files.now) }
-{
-    let mut digests = Vec::with_capacity(alloc, files.len())?;
-    for file in files {
-        let digest: [u8; 32] = Sha256::digest(file.bytes.as_slice());
-        digests.push(digest)?;
-    }
-    Ok(digests)
 }
