@@ -15,15 +15,29 @@ fn behind<'a>(front: &[u8], text: &'a [u8]) -> Option<&'a [u8]>
     text.strip_prefix(front)
 }
 
+/// Whether the text has no fewer bytes than the record's header has lines at least, so that what is
+/// spelled for a text that comes is no longer than some times that text.
+fn has_room(own: &Record, text: &[u8]) -> bool {
+    let lines = own
+        .built()
+        .len()
+        .saturating_add(own.run().len())
+        .saturating_add(own.files().len());
+    lines <= text.len()
+}
+
 /// What is behind the record's text, where the text begins with that. Without memory it says no.
-fn behind_record<'a>(record: &Record, text: &'a [u8]) -> Option<&'a [u8]>
-    ensures { IfSome result (λ rest. text.entry.now ≡ record_text record.now ++ rest.now) }
+fn behind_record<'a>(own: &Record, text: &'a [u8]) -> Option<&'a [u8]>
+    ensures { IfSome result (λ rest. text.entry.now ≡ record_text own.now ++ rest.now) }
 {
-    let Ok(header) = record.header() else {
+    if !has_room(own, text) {
+        return None;
+    }
+    let Ok(header) = own.header() else {
         return None;
     };
     let mut rest = behind(header.as_slice(), text)?;
-    for file in record.files() {
+    for file in own.files() {
         rest = behind(file.bytes.as_slice(), rest)?;
     }
     Some(rest)

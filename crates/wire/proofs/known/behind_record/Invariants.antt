@@ -5,4 +5,4 @@ use Rattle.wire.proofs.known.behind_record.Given as goal
 
 abbrev pub invariant-loop-file : goal.invariant-loop-file
 invariant-loop-file l =
-    l.text ≡ (header_text l.record ++ flat_map (λ f. f.bytes) (map file_view (take l.file-index l.file-items))) ++ l.rest
+    l.text ≡ (header_text l.own ++ flat_map (λ f. f.bytes) (map file_view (take l.file-index l.file-items))) ++ l.rest
