@@ -7,6 +7,7 @@ pub mod GivenFiles
 pub mod Handling
 pub mod Heard
 pub mod HeldUnits
+pub mod KeptDigests
 pub mod KeptFacts
 pub mod KeptNumbers
 pub mod KnownUnits

@@ -1,3 +1,4 @@
+pub mod KnownBuilds
 pub mod OpenClaims
 pub mod Outcomes
 pub mod Prepared

@@ -15,6 +15,7 @@ ghost use Rattle.member.specs.inside.Waiting.{waiting_for};
 
 use crate::packages::{by_path, made};
 use crate::receivers::everyone;
+use crate::texts::Listed;
 use crate::{ClaimChange, Member, OpenClaim, Step};
 use arrayvec::ArrayVec;
 use ballots::{Body, Claimer, Tally};
@@ -49,12 +50,14 @@ impl<'a> Member<'a> {
         self.build_of(unit, &job, packages)
     }
 
-    /// The claim's host built the unit, which goes to all as the claim's proposal.
+    /// The claim's host built the unit, which goes to all as the claim's proposal. It is kept with
+    /// the tree's texts, since it may be held as it is.
     pub(crate) fn built(&self, path: &PkgPath, packages: Packages) -> Result<Step, Refusal>
         ensures { IsPrepared self.now (Input.Built path.now packages) result }
     {
         let (unit, job) = self.building(path)?;
-        let build = self.build_of(unit, job, packages)?;
+        let made = self.build_of(unit, job, packages)?;
+        let build = made.with_texts(&Listed { tree: self.tree })?;
         let sends = self.proposed(unit, job.claim, &build, everyone(&self.weights))?;
         let claimer = Claimer::Voting {
             claim: job.claim,

@@ -18,7 +18,7 @@ use crate::receivers::{everyone, one, others};
 use crate::texts::Listed;
 use crate::{ClaimChange, Member, OpenClaim, Step};
 use arrayvec::ArrayVec;
-use ballots::{Body, ClaimerStep, Fact, Message, Next, Note, VoterStep};
+use ballots::{Body, Claimer, ClaimerStep, Fact, Message, Next, Note, VoterStep};
 use claims::{Claim, Job};
 use faults::Memory;
 use package_record::Build;
@@ -39,7 +39,7 @@ impl<'a> Member<'a> {
     }
 
     /// The unit that the message is about; else, why it is refused.
-    fn unit_heard(&self, message: &Message) -> Result<u32, Refusal>
+    pub(crate) fn unit_heard(&self, message: &Message) -> Result<u32, Refusal>
         ensures ok { IfOk result (λ unit. (unit < length self.now.division.units)
             × (message.now.sender < length self.now.weights)) }
         ensures heard { MatchResult result
@@ -88,8 +88,22 @@ impl<'a> Member<'a> {
                 Some((voted, _)) => voted != claim,
                 None => true,
             },
-            Body::Promise(_, report) => report.is_some(),
-            Body::Offer(_) | Body::Vote(_) | Body::Ask | Body::Nay(_, _) => false,
+            Body::Promise(claim, Some(_)) => self.gathers(unit, *claim),
+            Body::Promise(_, None) | Body::Offer(_) | Body::Vote(_) | Body::Ask | Body::Nay(_, _) =>
+                false,
+        }
+    }
+
+    /// Whether the open claim is this one, for the unit, and waits for promises.
+    fn gathers(&self, unit: u32, claim: Claim) -> bool
+        requires { unit < length self.now.division.units }
+    {
+        match self.claim_for(unit) {
+            Some(open) => match &open.claimer {
+                Claimer::Gathering { claim: offered, .. } => *offered == claim,
+                _ => false,
+            },
+            None => false,
         }
     }
 
@@ -177,7 +191,7 @@ impl<'a> Member<'a> {
     }
 
     /// The open claim, if it is for the unit.
-    fn claim_for(&self, unit: u32) -> Option<&OpenClaim>
+    pub(crate) fn claim_for(&self, unit: u32) -> Option<&OpenClaim>
         ensures claim { MatchOption result (is_for self.now.claim unit ≡ false)
             (λ o. (self.now.claim ≡ Some (open_of o.now)) × (o.now.unit ≡ unit)
             × IsWeighedBy self.now.weights o.now.claimer) }

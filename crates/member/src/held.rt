@@ -1,9 +1,9 @@
 //! A build that is held, which contracts see as what its records say.
-ghost use Rattle.std.specs.Prelude.{◌≡◌, ◌<◌, IfOk, IfSome, MatchOption, None, Some, length, map};
+ghost use Rattle.std.specs.Prelude.{◌≡◌, ◌<◌, IfOk, IfSome, MatchOption, None, Some, length};
 ghost use Rattle.std.specs.List.{slice_index_or};
 ghost use Rattle.package_record.specs.Content.{Content};
 ghost use Rattle.protocol.specs.State.{record_in};
-ghost use Rattle.member.specs.inside.Digests.{digest_of};
+ghost use Rattle.member.specs.inside.Digests.{AreDigests, digest_of};
 
 use faults::Memory;
 use package_record::{Build, Record};
@@ -11,26 +11,29 @@ use pkgpath::PkgPath;
 use std::alloc::Global;
 use std::marker::Model;
 
-/// A build that is held, and the digests of its records once they were computed. They are kept,
-/// since a record is signed for each build that is made on it.
+/// The most records of a build whose digests are kept, so that what is kept of one record is small.
+const MOST_SIGNED: usize = 64;
+
+/// A build that is held, and the digests of its records that were computed. They are kept, since a
+/// record is signed for each build that is made on it.
 #[derive(Drop)]
 pub(crate) struct Held {
     build: Build,
-    /// Those of the records' texts, in the order of the records.
-    digests: Option<Vec<[u8; 32]>>,
+    /// By record that of its text, once it was computed.
+    digests: Option<Vec<Option<[u8; 32]>>>,
 }
 
 impl Model for Held {
-    ghost use Rattle.std.specs.Prelude.{◌≡◌, List, map};
+    ghost use Rattle.std.specs.Prelude.{List};
     ghost use Rattle.std.specs.Option.{ForSome};
     ghost use Rattle.package_record.specs.Content.{Content};
-    ghost use Rattle.member.specs.inside.Digests.{digest_of};
+    ghost use Rattle.member.specs.inside.Digests.{AreDigests};
 
     ghost Value = { List Content };
 
     ghost view = { λ h. h.build };
 
-    ghost invariant = { λ h. ForSome h.digests (λ ds. ds.items ≡ map digest_of h.build) };
+    ghost invariant = { λ h. ForSome h.digests (λ ds. AreDigests ds.items h.build) };
 }
 
 impl Held {
@@ -51,14 +54,47 @@ impl Held {
         &self.build
     }
 
-    /// Computes the digests of the records, if that was not done before.
-    pub(crate) fn sign(&mut self, alloc: Global) -> Result<(), Memory>
+    /// Computes the digest of the path's record and keeps it, if there is such a record and that
+    /// was not done before. Of a build of very many records none is kept.
+    pub(crate) fn sign(&mut self, alloc: Global, path: &PkgPath) -> Result<(), Memory>
         ensures { self.new ≡ self.old }
     {
-        if self.digests.is_none() {
-            self.digests = Some(digests_of(alloc, self.build.packages())?);
+        let Some(place) = place_of(&self.build, path) else {
+            return Ok(());
+        };
+        let records = self.build.packages();
+        if records.len() > MOST_SIGNED || self.digest(place).is_some() {
+            return Ok(());
         }
+        let digest = records[place].digest()?;
+        self.keep(alloc, place, digest)
+    }
+
+    /// Keeps the digest of the record at the place.
+    fn keep(&mut self, alloc: Global, place: usize, digest: [u8; 32]) -> Result<(), Memory>
+        requires place { place < length self.old }
+        requires digest { (r : Content) → digest ≡ digest_of (slice_index_or self.old place r) }
+        ensures { self.new ≡ self.old }
+    {
+        let mut digests = self.taken(alloc)?;
+        digests[place] = Some(digest);
+        self.digests = Some(digests);
         Ok(())
+    }
+
+    /// The digests that are kept, which are to be put back. Where none are, there is none of each
+    /// record.
+    fn taken(&mut self, alloc: Global) -> Result<Vec<Option<[u8; 32]>>, Memory>
+        ensures same { self.new ≡ self.old }
+        ensures digests { IfOk result (λ digests. AreDigests digests.items self.old) }
+    {
+        match self.digests.take() {
+            Some(digests) => Ok(digests),
+            None => {
+                let none = vec![in alloc; None; self.build.packages().len()]?;
+                Ok(none)
+            }
+        }
     }
 
     /// The record of the path, with its digest if that is kept.
@@ -80,7 +116,10 @@ impl Held {
             (λ digest. (r : Content) → digest.now ≡ digest_of (slice_index_or self.now place r)) }
     {
         match &self.digests {
-            Some(digests) => Some(&digests[place]),
+            Some(digests) => match &digests[place] {
+                Some(digest) => Some(digest),
+                None => None,
+            },
             None => None,
         }
     }
@@ -123,17 +162,6 @@ impl<'a> HeldRecord<'a> {
             None => self.record.digest(),
         }
     }
-}
-
-/// The digests of the records' texts, in their order.
-fn digests_of(alloc: Global, records: &[Record]) -> Result<Vec<[u8; 32]>, Memory>
-    ensures { IfOk result (λ digests. digests.items ≡ map digest_of records.now) }
-{
-    let mut digests = Vec::with_capacity(alloc, records.len())?;
-    for record in records {
-        digests.push(record.digest()?)?;
-    }
-    Ok(digests)
 }
 
 /// The place of the path's record in the build, whose records ascend by path.

@@ -1,6 +1,7 @@
 //! What is to be built.
 ghost use Rattle.std.specs.Prelude.{◌≡◌, ◌<◌, ◌++◌, ◌∷◌, [], IfOk, IfSome, OnOk, filter_map, length};
 ghost use Rattle.std.specs.Prelude.{map, option_map};
+ghost use Rattle.ballots.specs.Support.{IsMember};
 ghost use Rattle.protocol.specs.Jobs.{deps_of, job_of, signature};
 ghost use Rattle.protocol.specs.State.{held_record};
 
@@ -8,9 +9,10 @@ use crate::Member;
 use crate::held::HeldRecord;
 use crate::known::Known;
 use crate::packages::{in_order, paths_of};
-use ballots::{Body, Claimer};
+use ballots::{Body, Claimer, Next};
 use claims::{Claim, Dep, Deps, Job};
 use faults::Memory;
+use listing::Tree;
 use pkgpath::PkgPath;
 use protocol::Input;
 use std::alloc::Global;
@@ -18,31 +20,36 @@ use units::Units;
 
 impl<'a> Member<'a> {
     /// Computes the digests that the job of the open claim needs and that are not kept yet, if the
-    /// input may ask for that job. What is built on the same records later finds them kept. Where
-    /// memory runs out, the job computes what it misses.
+    /// input is what that job is given for. What is built on the same records later finds them
+    /// kept. Where memory runs out, the job computes what it misses.
     pub(crate) fn sign_before(&mut self, input: &Input)
         ensures { self.new ≡ self.old }
     {
         if let Some(unit) = self.unit_to_build(input) {
             let alloc = self.allocator();
-            let _ = sign_needed(alloc, &self.units, self.known.as_mut_slice(), unit);
+            let known = self.known.as_mut_slice();
+            let _ = sign_needed(alloc, self.tree, &self.units, known, unit);
         }
     }
 
-    /// The unit of the open claim, if the input may be the promise after which it is built.
+    /// The unit of the open claim, if the input is the promise after which it is built.
     fn unit_to_build(&self, input: &Input) -> Option<u32>
         ensures { IfSome result (λ unit. unit < length self.now.division.units) }
     {
         let Input::Message(message) = input else {
             return None;
         };
-        let Body::Promise(_, _) = &message.body else {
+        let Body::Promise(claim, None) = &message.body else {
             return None;
         };
-        let open = self.claim.as_ref()?;
-        match &open.claimer {
-            Claimer::Gathering { .. } => Some(open.unit),
-            _ => None,
+        let Ok(unit) = self.unit_heard(message) else {
+            return None;
+        };
+        let open = self.claim_for(unit)?;
+        if is_built_after(&open.claimer, message.sender, *claim) {
+            Some(unit)
+        } else {
+            None
         }
     }
 
@@ -91,21 +98,33 @@ impl<'a> Member<'a> {
     }
 }
 
+/// Whether the claimer has a build made once this member promises the claim and reports nothing.
+fn is_built_after(claimer: &Claimer, from: u8, claim: Claim) -> bool
+    requires { IsMember from }
+{
+    match claimer.promise(from, claim, None) {
+        Ok(step) => matches!(step.next, Next::Build),
+        Err(_) => false,
+    }
+}
+
 /// Computes the digests of what is held of all that the unit's build needs, where they are not kept
 /// yet.
 fn sign_needed(
     alloc: Global,
+    tree: &Tree,
     units: &Units<'_>,
     known: &mut [Known],
     unit: u32,
 ) -> Result<(), Memory>
     requires unit { unit < length units.now.units }
+    requires tree { units.now.tree ≡ tree.now }
     requires each { length known.old ≡ length units.now.units }
     ensures { known.new ≡ known.old }
 {
     for position in units.build_deps(unit) {
         if let Some(owner) = units.unit_of(*position) {
-            known[owner as usize].sign(alloc)?;
+            known[owner as usize].sign(alloc, tree.path(*position))?;
         }
     }
     Ok(())

@@ -7,6 +7,7 @@ use crate::held::Held;
 use ballots::{Fact, Voter};
 use faults::Memory;
 use package_record::Build;
+use pkgpath::PkgPath;
 use std::alloc::Global;
 
 /// What a member knows of a unit, also after a stop.
@@ -52,12 +53,12 @@ impl Known {
         }
     }
 
-    /// Computes the digests of the records that are held, if that was not done before.
-    pub(crate) fn sign(&mut self, alloc: Global) -> Result<(), Memory>
+    /// Computes the digest of the path's record, if that is held and it was not done before.
+    pub(crate) fn sign(&mut self, alloc: Global, path: &PkgPath) -> Result<(), Memory>
         ensures { self.new ≡ self.old }
     {
         match &mut self.held {
-            Some(held) => held.sign(alloc),
+            Some(held) => held.sign(alloc, path),
             None => Ok(()),
         }
     }

@@ -14,6 +14,7 @@ ghost use Rattle.protocol.specs.Member.{IsMember};
 ghost use Rattle.protocol.specs.Restoring.{AreOnUnits, restored};
 ghost use Rattle.protocol.specs.State.{Value, engine_of, fresh, held_record};
 ghost use Rattle.protocol.specs.Step.{HasAnswered, HasHandled, facts_named, header_refusal};
+ghost use Rattle.member.specs.KnownBuilds.{known_build, proposal_in};
 ghost use Rattle.member.specs.OpenClaims.{open_of};
 ghost use Rattle.member.specs.Outcomes.{told};
 ghost use Rattle.member.specs.Prepared.{MayBeTaken, answer_by};
@@ -26,7 +27,7 @@ use crate::held::HeldRecord;
 use crate::known::Known;
 use crate::naming::unit_named;
 use crate::{OpenClaim, Step};
-use ballots::{Claimer, Note, Voter, Weights};
+use ballots::{Claimer, Note, Weights};
 use claims::{Claim, Job};
 use engine::{Counts, Engine, Letter};
 use faults::Memory;
@@ -349,17 +350,15 @@ impl<'a> Member<'a> {
         self.known[unit as usize].voter.voted.as_ref()
     }
 
-    /// A build of the unit that the path names, if one is known: the one that is held, else the
-    /// proposal of the open claim, else what was voted for. One that comes again is mostly this.
+    /// A build of the unit that the path names, if one is held or proposed: the one that is held,
+    /// else the proposal of the open claim. One that comes again is mostly this.
     pub fn known_build(&self, path: &PkgPath) -> Option<&Build>
-        ensures { (build : Value) → (facts_named self.now path.now).held ≡ Some build
-            → option_copied result ≡ Some build }
+        ensures { option_copied result ≡ known_build self.now path.now }
     {
         let unit = self.units.find(path)?;
-        let known = &self.known[unit as usize];
-        match &known.held {
+        match &self.known[unit as usize].held {
             Some(held) => Some(held.build()),
-            None => proposed(self.claim.as_ref(), unit).or(last_vote(&known.voter)),
+            None => proposed(self.claim.as_ref(), unit),
         }
     }
 
@@ -370,19 +369,14 @@ impl<'a> Member<'a> {
 }
 
 /// What the claim proposes, if it is for the unit and waits for votes.
-fn proposed(claim: Option<&OpenClaim>, unit: u32) -> Option<&Build> {
+fn proposed(claim: Option<&OpenClaim>, unit: u32) -> Option<&Build>
+    ensures { option_copied result
+        ≡ proposal_in (option_map open_of (option_copied claim.entry)) unit }
+{
     let claim = claim?;
     match &claim.claimer {
         Claimer::Voting { value, .. } if claim.unit == unit => Some(value),
         _ => None,
-    }
-}
-
-/// What was voted for last.
-fn last_vote(voter: &Voter) -> Option<&Build> {
-    match &voter.voted {
-        Some((_, build)) => Some(build),
-        None => None,
     }
 }
 

@@ -15,13 +15,17 @@ pub(crate) struct Listed<'a> {
 }
 
 impl<'a> Listed<'a> {
-    /// An equal body. What it says to be built or agreed names packages by the tree's texts.
+    /// An equal body. A build in it names packages by the tree's texts.
     pub(crate) fn body(&self, body: Body) -> Result<Body, Memory>
         ensures { IfOk result (λ same. same ≡ body) }
     {
         match body {
             Body::Propose(claim, build) => Ok(Body::Propose(claim, build.with_texts(self)?)),
             Body::Agreed(build) => Ok(Body::Agreed(build.with_texts(self)?)),
+            Body::Promise(claim, Some((voted, build))) => {
+                let build = build.with_texts(self)?;
+                Ok(Body::Promise(claim, Some((voted, build))))
+            }
             body => Ok(body),
         }
     }

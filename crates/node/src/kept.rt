@@ -68,6 +68,27 @@ fn has_with(pieces: &[Piece], piece: &Piece, number: u16) -> bool
     number == piece.number || has_number(pieces, &piece.header, number)
 }
 
+/// A build that is known, and may be the one that a message with this header carries. It is shared
+/// with what comes, so it is none that was read from the log, where what comes would be kept with
+/// the tree's texts in its place.
+pub(crate) fn known_build<'m>(member: &'m Member<'_>, header: &Header) -> Option<&'m Build> {
+    match member.known_build(&header.path) {
+        Some(build) => Some(build),
+        None => voted_build(member, header),
+    }
+}
+
+/// The build of the member's last vote, if that vote stays where a message with this header carries
+/// the build: it is agreed, or proposed under the claim of the vote.
+fn voted_build<'m>(member: &'m Member<'_>, header: &Header) -> Option<&'m Build> {
+    let (claim, build) = member.voted(&header.path)?;
+    match header.carrier {
+        Carrier::Agreed => Some(build),
+        Carrier::Propose(proposed) if proposed == *claim => Some(build),
+        _ => None,
+    }
+}
+
 /// The message that these pieces make with this one, which is not kept. A build that is known may
 /// be the one that it carries.
 pub(crate) fn joined(

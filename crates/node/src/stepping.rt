@@ -72,7 +72,9 @@ ghost use Rattle.node.specs.inside.Stepping.{
   with_text,
 };
 
-use crate::kept::{change_kept, drop_pieces, has_number, is_last, joined, make_room, test_header};
+use crate::kept::{
+    change_kept, drop_pieces, has_number, is_last, joined, known_build, make_room, test_header,
+};
 use crate::noted::Noted;
 use crate::opening::told;
 use crate::{Change, Foreign, Node, NodeFault, Out, Ready};
@@ -196,7 +198,7 @@ impl<'a, D: Disk> Node<'a, D> {
         ensures log { self.new.log ≡ self.old.log }
     {
         let header = piece.header.copy()?;
-        let known = self.member.known_build(&header.path);
+        let known = known_build(&self.member, &header);
         match joined(&mut self.pieces, piece, known) {
             Ok(message) => self.prepare_message(message, Change::Drops(header)),
             Err(fault) => Err(self.drop_strange(&header, fault)),
