@@ -1,29 +1,32 @@
 //! Hexadecimal digits.
-ghost use Rattle.std.specs.Prelude.{◌≡◌, ◌<◌, ◌≤◌, ◌*◌, IfOk, IfSome, Ok, Some, length};
+ghost use Rattle.std.specs.Prelude.{◌≡◌, ◌<◌, ◌≤◌, ◌*◌, Ok, Some, length};
 ghost use Rattle.hex.specs.Hex.{decode_of, hex_digit_value};
+ghost use Rattle.traces.specs.Fields.{answer_in};
+ghost use Rattle.traces.specs.inside.Given.{Gives};
 
-use faults::Memory;
+use crate::read_error::ReadError;
 use std::alloc::Global;
 
 /// What is no digit.
 const NO_DIGIT: u8 = 16;
 
-/// The bytes that the digits spell, if each is one and they are pairs. All are read in one pass
-/// with no early end, and what is none is told by the greatest value, so that many are read at a
-/// time.
-pub fn decoded(alloc: Global, text: &[u8]) -> Result<Option<Vec<u8>>, Memory>
-    ensures { IfOk result
-        (λ found. IfSome found (λ bytes. decode_of text.now ≡ Ok bytes.items)) }
+/// The bytes that the digits spell. All are read in one pass with no early end, and what is none is
+/// told by the greatest value, so that many are read at a time. Where one is none they are read
+/// once more into the same room, up to that one.
+pub fn decoded(alloc: Global, text: &[u8]) -> Result<Vec<u8>, ReadError>
+    ensures { Gives (λ v. v.items) result (answer_in (decode_of text.now)) }
 {
     if text.len() % 2 != 0 {
-        return Ok(None);
+        return Err(ReadError::Bad);
     }
     let mut bytes = vec![in alloc; 0u8; text.len() / 2]?;
-    let greatest = read_pairs(bytes.as_mut_slice(), text);
-    if greatest < NO_DIGIT {
-        return Ok(Some(bytes));
+    if read_pairs(bytes.as_mut_slice(), text) < NO_DIGIT {
+        return Ok(bytes);
     }
-    Ok(None)
+    match hex::decode_to_slice(text, bytes.as_mut_slice()) {
+        Ok(()) => Ok(bytes),
+        Err(_) => Err(ReadError::Bad),
+    }
 }
 
 /// Reads the pairs of digits into the bytes, and tells the greatest value among the digits. Where

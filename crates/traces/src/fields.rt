@@ -19,7 +19,6 @@ ghost use Rattle.traces.specs.inside.Given.{Gives};
 
 use crate::digits::decoded;
 use crate::read_error::ReadError;
-use hex::FromHexError;
 use pkgpath::{PathFault, PkgPath};
 use serde_json::Value;
 use std::alloc::Global;
@@ -115,21 +114,7 @@ pub fn path(alloc: Global, value: &Value) -> Result<PkgPath, ReadError>
 pub fn bytes_of(alloc: Global, text: &str) -> Result<Vec<u8>, ReadError>
     ensures { Gives (λ v. v.items) result (answer_in (decode_of text.now)) }
 {
-    match decoded(alloc, text.as_bytes())? {
-        Some(bytes) => Ok(bytes),
-        None => refused_bytes(alloc, text),
-    }
-}
-
-/// The bytes that the digits spell, read once more for the reason why they may not.
-fn refused_bytes(alloc: Global, text: &str) -> Result<Vec<u8>, ReadError>
-    ensures { Gives (λ v. v.items) result (answer_in (decode_of text.now)) }
-{
-    match hex::decode(alloc, text.as_bytes()) {
-        Ok(bytes) => Ok(bytes),
-        Err(FromHexError::OutOfMemory) => Err(ReadError::Memory),
-        Err(_) => Err(ReadError::Bad),
-    }
+    decoded(alloc, text.as_bytes())
 }
 
 /// The bytes that hexadecimal digits in either case spell.

@@ -13,6 +13,9 @@ ghost use Rattle.json.specs.Value.{value_view};
 ghost use Rattle.serde_json.specs.Read.{number_of, of_json, read as read_text};
 ghost use Rattle.serde_json.specs.View.{members_view, view};
 ghost use Rattle.traces.specs.Trace.{value_of};
+ghost use Rattle.events.specs.Events.{event_view};
+ghost use Rattle.traces.specs.Events.{event_in};
+ghost use Rattle.traces.specs.inside.Trees.{Reads};
 ghost use Rattle.traces.specs.inside.Given.{Fails, Gives};
 ghost use Rattle.traces.specs.inside.Kept.{Keeps, KeepsAll, KeepsEvents, KeepsWhole, ListsAll, ListsMore, ListsTree, PassesMembers, PassesNoArray, PassesValue, items_read, members_read, opens_object, outer_of, value_read, whole_read};
 
@@ -20,6 +23,7 @@ use crate::listed::Listed;
 use crate::read_error::ReadError;
 use crate::reading;
 use crate::tree_event::tree_event;
+use events::Event;
 use json::{Reader, Scratch, Token};
 use serde_json::{Map, Value, put};
 use std::alloc::Global;
@@ -59,21 +63,32 @@ fn refused(error: json::Error) -> ReadError
     }
 }
 
-/// The items so far, and one more, which is the value that the tree stands for.
-fn with_tree(alloc: Global, tree: &json::Value<'_>, listed: Listed) -> Result<Listed, ReadError>
-    requires numbers { HasNumbers (value_view tree.now) }
-    requires nests { nesting (value_view tree.now) ≤ 127 }
-    ensures ok { IfOk result (ListsTree (value_view tree.now) listed) }
-    ensures err { IfErr result (λ e. Fails e (of_json (value_view tree.now))) }
+/// The event that the tree is, if it has a form that is read at once, and an event is wanted.
+fn event_at_once(alloc: Global, tree: &json::Value<'_>, listed: &Listed) -> Result<Event, ReadError>
+    ensures { IfOk result (λ e. Reads event_in (value_view tree.now) (event_view e)) }
 {
-    match tree_event(alloc, tree) {
+    match listed {
+        Listed::Events(_) => tree_event(alloc, tree),
+        Listed::BadAt(_) => Err(ReadError::Bad),
+    }
+}
+
+/// The items so far, and one more, which is the value that the tree stands for.
+fn with_tree(alloc: Global, tree: json::Value<'_>, listed: Listed) -> Result<Listed, ReadError>
+    requires numbers { HasNumbers (value_view tree) }
+    requires nests { nesting (value_view tree) ≤ 127 }
+    ensures ok { IfOk result (ListsTree (value_view tree.entry) listed) }
+    ensures err { IfErr result (λ e. Fails e (of_json (value_view tree.entry))) }
+{
+    match event_at_once(alloc, &tree, &listed) {
         Ok(event) => listed.with(event),
         Err(ReadError::Memory) => {
             drop(listed);
             Err(ReadError::Memory)
         }
         Err(ReadError::Bad) => {
-            let item = untreed(alloc, tree)?;
+            let item = untreed(alloc, &tree)?;
+            drop(tree);
             listed.then(alloc, &item)
         }
     }
@@ -91,7 +106,7 @@ fn next_listed(
     ensures err { IfErr result (λ e. Fails e (value_read depth reader.old)) }
 {
     match json::Value::read(alloc, reader, depth) {
-        Ok(tree) => with_tree(alloc, &tree, listed),
+        Ok(tree) => with_tree(alloc, tree, listed),
         Err(error) => {
             drop(listed);
             Err(refused(error))

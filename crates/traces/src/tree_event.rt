@@ -127,11 +127,35 @@ fn read_files(alloc: Global, value: &Value<'_>) -> Result<Files, ReadError>
     let Value::Array(items) = value else {
         return Err(ReadError::Bad);
     };
+    if !have_files_form(items.as_slice()) {
+        return Err(ReadError::Bad);
+    }
     let mut files = Vec::with_capacity(alloc, items.len())?;
     for item in items {
         files.push(read_file(alloc, item)?)?;
     }
     Ok(Files::new(files))
+}
+
+/// Whether each is an object with the keys of a file in order. So none is read where a later one
+/// has another form.
+fn have_files_form(items: &[Value<'_>]) -> bool {
+    for item in items {
+        if !has_file_form(item) {
+            return false;
+        }
+    }
+    true
+}
+
+fn has_file_form(value: &Value<'_>) -> bool {
+    let Value::Object(members) = value else {
+        return false;
+    };
+    match members.as_slice() {
+        [hex, name] => hex.0 == "hex" && name.0 == "name",
+        _ => false,
+    }
 }
 
 /// A file.
