@@ -5,8 +5,8 @@ ghost use Rattle.ports.specs.Kept.{Arrived, GoesOnBy, Parcel, arrived, counted};
 use crate::PortFault;
 
 /// What gives datagrams to the nodes that run here, and takes what they send. It may give anything,
-/// lose, repeat and reorder what it takes, and fail at each call; it waits for nobody. It is seen
-/// by what it keeps of its calls, if it does.
+/// lose, repeat and reorder what it takes, and fail at each call. It is seen by what it keeps of
+/// its calls, if it does.
 pub trait Port: Drop {
     /// What each receive gave, in turn, where the port keeps it.
     ghost given: { Self → Option (List Arrived) };

@@ -1,13 +1,15 @@
-//! A port over UDP, between nodes of one machine.
-ghost use Rattle.std.specs.Prelude.{◌≡◌, ◌<◌, ◌≤◌, IfOk, None, vec_len};
+//! Nodes that hear each other over UDP.
+ghost use Rattle.std.specs.Prelude.{◌≡◌, ◌<◌, ◌≤◌, IfOk, None, length};
 ghost use Rattle.ports.specs.Kept.{one_more};
 
-use crate::{Port, PortFault};
+use crate::patience::Patience;
+use crate::sockets::{Come, Seat, address_of, is_whole, take_all, take_seat};
 use faults::Memory;
+use ports::{Port, PortFault};
 use std::alloc::Global;
 use std::collections::VecDeque;
-use std::io::ErrorKind;
-use std::net::{Ipv4Addr, Net, SocketAddr, SocketAddrV4, UdpSocket};
+use std::net::{Ipv4Addr, Net, SocketAddr, SocketAddrV4};
+use std::time::Clock;
 
 /// The bytes of the longest datagram that IPv4 takes, and one more.
 const ROOM: usize = 65_508;
@@ -15,32 +17,8 @@ const ROOM: usize = 65_508;
 /// How many datagrams may wait to leave.
 const MOST_LEAVING: usize = 2_048;
 
-/// How many datagrams may stand in line. What comes beyond is lost.
-const MOST_IN_LINE: usize = 65_536;
-
-/// How many are taken off a socket at each look.
-const TAKEN_AT_A_LOOK: u32 = 1_024;
-
 /// How many of them leave at each look at the sockets.
 const LEAVE_AT_A_LOOK: usize = 4;
-
-/// How often a receive looks at the socket of a node whose peers are other processes, before it
-/// says that nothing came.
-const LOOKS: u32 = 1_000;
-
-/// A node here, and its socket.
-#[derive(Drop)]
-struct Seat {
-    node: u8,
-    socket: UdpSocket,
-}
-
-/// A datagram that came for a node here.
-#[derive(Drop)]
-struct Come {
-    to: u8,
-    bytes: Vec<u8>,
-}
 
 /// A datagram that is to leave for a node of another process.
 #[derive(Drop)]
@@ -51,14 +29,15 @@ struct Leaving {
     bytes: Vec<u8>,
 }
 
-/// One socket on 127.0.0.1 for each node here. None of them blocks.
+/// One socket for each node here. None of them blocks.
 ///
 /// A socket keeps only few datagrams that nobody took. So what came is taken off the sockets before
 /// and behind each datagram that is sent here, and stands in line till it is asked for. What is for
 /// a node of another process leaves a few at a time, and out of order, so that pieces which are
 /// sent again don't get lost at the same place again.
 #[derive(Drop)]
-pub struct UdpPort {
+pub struct UdpPort<'c, C: Clock> {
+    clock: &'c C,
     alloc: Global,
     seats: Vec<Seat>,
     /// Where the members' nodes listen, by number.
@@ -68,43 +47,57 @@ pub struct UdpPort {
     leaving: Vec<Leaving>,
     /// Picks the next one to leave.
     pick: usize,
-    looks: u32,
+    patience: Patience,
     failures: u64,
 }
 
-impl UdpPort {
-    /// The port of all members' nodes, each with a free port of its own.
-    pub fn together<R: Net>(rt: &R, alloc: Global, members: u8) -> Result<UdpPort, PortFault> {
+impl<'c, C: Clock> UdpPort<'c, C> {
+    /// The port of all members' nodes, each at a free port of 127.0.0.1. It never naps.
+    ///
+    /// # Errors
+    ///
+    /// `Memory`; `NoSocket`.
+    pub fn together<R: Net>(
+        rt: &R,
+        clock: &'c C,
+        alloc: Global,
+        members: u8,
+    ) -> Result<UdpPort<'c, C>, PortFault> {
         let mut seats = Vec::with_capacity(alloc, members as usize)?;
         let mut addresses = Vec::with_capacity(alloc, members as usize)?;
         for node in 0..members {
-            let seat = take_seat(rt, node, 0)?;
+            let seat = take_seat(rt, node, local(0))?;
             addresses.push(address_of(&seat)?)?;
             seats.push(seat)?;
         }
-        port_of(alloc, seats, addresses, 1)
+        port_of(clock, alloc, seats, addresses, Patience::none())
     }
 
-    /// The port of one member's node, at `base + me`. The others are elsewhere, each at `base` and
-    /// its own number.
+    /// The port of one member's node, at its own one of these addresses, by member. The others are
+    /// elsewhere. A receive waits so many milliseconds for a datagram, and for each smaller number
+    /// half of that longer; that of a lone member waits for nobody.
+    ///
+    /// # Errors
+    ///
+    /// `Memory`; `NoSocket`, where this address can't be had.
     pub fn alone<R: Net>(
         rt: &R,
+        clock: &'c C,
         alloc: Global,
-        members: u8,
+        addresses: Vec<SocketAddr>,
         me: u8,
-        base: u16,
-    ) -> Result<UdpPort, PortFault>
-        requires base { base ≤ 65526 }
-        requires me { me < members }
-        requires members { members ≤ 9 }
+        patience: u16,
+    ) -> Result<UdpPort<'c, C>, PortFault>
+        requires me { me < length addresses.items }
     {
         let mut seats = Vec::with_capacity(alloc, 1)?;
-        seats.push(take_seat(rt, me, base + u16::from(me))?)?;
-        let mut addresses = Vec::with_capacity(alloc, members as usize)?;
-        for member in 0..members {
-            addresses.push(local(base + u16::from(member)))?;
-        }
-        port_of(alloc, seats, addresses, LOOKS)
+        seats.push(take_seat(rt, me, addresses[me as usize])?)?;
+        let patience = if addresses.len() == 1 {
+            Patience::none()
+        } else {
+            Patience::of_member(patience, me)
+        };
+        port_of(clock, alloc, seats, addresses, patience)
     }
 
     /// Sends what waits to leave.
@@ -146,14 +139,23 @@ impl UdpPort {
         ensures { self.new.failures ≡ self.old.failures }
     {
         let mut has_failed = false;
-        for _ in 0..self.looks {
-            has_failed = self.take_in() || has_failed;
-            for _ in 0..LEAVE_AT_A_LOOK {
-                self.let_one_leave();
-            }
+        for look in 0..self.patience.looks() {
+            has_failed = self.look_once() || has_failed;
             if !self.come.is_empty() {
                 break;
             }
+            self.patience.nap(self.clock, look);
+        }
+        has_failed
+    }
+
+    /// Looks at the sockets, and lets some leave.
+    fn look_once(&mut self) -> bool
+        ensures { self.new.failures ≡ self.old.failures }
+    {
+        let has_failed = self.take_in();
+        for _ in 0..LEAVE_AT_A_LOOK {
+            self.let_one_leave();
         }
         has_failed
     }
@@ -207,41 +209,37 @@ impl UdpPort {
     }
 }
 
-/// This port of this machine.
+/// This port of 127.0.0.1.
 fn local(port: u16) -> SocketAddr {
     SocketAddr::V4(SocketAddrV4::new(Ipv4Addr::LOCALHOST, port))
 }
 
-/// A seat for the node, at this port, or at a free one where that is 0.
-fn take_seat<R: Net>(rt: &R, node: u8, port: u16) -> Result<Seat, PortFault> {
-    let Ok(socket) = UdpSocket::bind(rt, local(port)) else {
-        return Err(PortFault::NoSocket);
-    };
-    if socket.set_nonblocking(true).is_err() {
-        return Err(PortFault::NoSocket);
+/// The addresses of so many members on 127.0.0.1: member K's port is `base + K`.
+pub fn loopback(alloc: Global, members: u8, base: u16) -> Result<Vec<SocketAddr>, Memory>
+    requires base { base ≤ 65526 }
+    requires members { members ≤ 9 }
+    ensures count { IfOk result (λ addresses. length addresses.items ≡ members) }
+{
+    let mut addresses = Vec::with_capacity(alloc, members as usize)?;
+    for member in 0..members {
+        addresses.push(local(base + u16::from(member)))?;
     }
-    Ok(Seat { node, socket })
-}
-
-/// Where the seat's node listens.
-fn address_of(seat: &Seat) -> Result<SocketAddr, PortFault> {
-    match seat.socket.local_addr() {
-        Ok(address) => Ok(address),
-        Err(_) => Err(PortFault::NoSocket),
-    }
+    Ok(addresses)
 }
 
 /// The port of these, with nothing on its way.
-fn port_of(
+fn port_of<'c, C: Clock>(
+    clock: &'c C,
     alloc: Global,
     seats: Vec<Seat>,
     addresses: Vec<SocketAddr>,
-    looks: u32,
-) -> Result<UdpPort, PortFault>
+    patience: Patience,
+) -> Result<UdpPort<'c, C>, PortFault>
     ensures { IfOk result (λ port. port.failures ≡ 0) }
 {
     let buffer = vec![in alloc; 0; ROOM]?;
     Ok(UdpPort {
+        clock,
         alloc,
         seats,
         addresses,
@@ -249,42 +247,12 @@ fn port_of(
         come: VecDeque::new(alloc),
         leaving: Vec::new(alloc),
         pick: 0,
-        looks,
+        patience,
         failures: 0,
     })
 }
 
-/// Takes some of what came off the seat's socket, and says whether the socket failed. That nothing
-/// more came is no failure.
-fn take_all(alloc: Global, seat: &Seat, buffer: &mut [u8], come: &mut VecDeque<Come>) -> bool {
-    for _ in 0..TAKEN_AT_A_LOOK {
-        match seat.socket.recv_from(buffer) {
-            Ok((count, _)) => keep(alloc, seat.node, &buffer[..count], come),
-            Err(error) => return error.kind() != ErrorKind::WouldBlock,
-        }
-    }
-    false
-}
-
-/// Puts the bytes behind those that came, unless the line is full or there is no memory for them.
-fn keep(alloc: Global, to: u8, bytes: &[u8], come: &mut VecDeque<Come>) {
-    if come.len() >= MOST_IN_LINE {
-        return;
-    }
-    if let Ok(bytes) = bytes.to_vec(alloc) {
-        let _ = come.push_back(Come { to, bytes });
-    }
-}
-
-/// Whether the system took the whole datagram.
-fn is_whole(socket: &UdpSocket, to: SocketAddr, bytes: &[u8]) -> bool {
-    match socket.send_to(bytes, to) {
-        Ok(count) => count == bytes.len(),
-        Err(_) => false,
-    }
-}
-
-impl Port for UdpPort {
+impl<'c, C: Clock> Port for UdpPort<'c, C> {
     ghost given = { λ _. None };
 
     ghost offered = { λ _. None };

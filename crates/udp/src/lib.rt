@@ -1,0 +1,8 @@
+//! A port over UDP.
+#![tactic(auto)]
+
+mod patience;
+mod sockets;
+mod udp_port;
+
+pub use crate::udp_port::{UdpPort, loopback};

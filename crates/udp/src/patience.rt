@@ -1,0 +1,59 @@
+//! How long a receive waits for a datagram.
+use std::thread;
+use std::time::{Clock, Duration};
+
+/// How often a receive naps briefly before it naps for longer: an answer of a peer that is awake
+/// comes within these.
+const SHORT_NAPS: u32 = 20;
+
+/// How long a short nap is, in microseconds.
+const SHORT_NAP: u64 = 100;
+
+/// How long another nap is, in microseconds.
+const LONG_NAP: u64 = 1_000;
+
+/// How often a receive looks whether something came, before it says that nothing did. Between two
+/// looks it naps, so that a node with nothing to do leaves the processor to others.
+#[derive(Clone, Copy)]
+pub struct Patience {
+    looks: u32,
+}
+
+impl Patience {
+    /// Looks once.
+    pub fn none() -> Patience {
+        Patience { looks: 1 }
+    }
+
+    /// Of the member's node, where nodes wait so many milliseconds: half of that longer for each
+    /// smaller number, so that nodes which claim the same unit don't overtake each other for ever.
+    pub fn of_member(milliseconds: u16, me: u8) -> Patience {
+        if milliseconds == 0 {
+            return Patience::none();
+        }
+        let own = u32::from(milliseconds) + u32::from(milliseconds) * u32::from(me) / 2;
+        Patience {
+            looks: 1 + SHORT_NAPS + own,
+        }
+    }
+
+    /// How often a receive looks.
+    pub fn looks(&self) -> u32 {
+        self.looks
+    }
+
+    /// Naps behind the look with this number, counted from 0, unless it is the last.
+    pub fn nap<C: Clock>(&self, clock: &C, look: u32) {
+        if look < SHORT_NAPS {
+            self.nap_for(clock, look, SHORT_NAP);
+        } else {
+            self.nap_for(clock, look, LONG_NAP);
+        }
+    }
+
+    fn nap_for<C: Clock>(&self, clock: &C, look: u32, microseconds: u64) {
+        if look < self.looks && self.looks - look > 1 {
+            thread::sleep(clock, Duration::from_micros(microseconds));
+        }
+    }
+}
