@@ -1,3 +1,6 @@
 pub mod Following
 pub mod Later
 pub mod Reopening
+pub mod Left
+pub mod Whole
+pub mod Offers

@@ -1,11 +1,14 @@
 //! Nodes that stop, and are opened again.
-ghost use Rattle.std.specs.Prelude.{◌≡◌, ◌<◌, ◌⊎◌, IfErr, IfOk, OnOk, length};
+ghost use Rattle.std.specs.Prelude.{◌≡◌, ◌<◌, ◌⊎◌, IfErr, IfOk, IfSome, Ok, OnOk, length};
 ghost use Rattle.node.specs.Calls.{HasHandled};
-ghost use Rattle.node.specs.OnLog.{IsOnLog};
+ghost use Rattle.node.specs.OnLog.{IsOnLog, identity, texts_of};
 ghost use Rattle.node.specs.Ranges.{IsGoodInput};
 ghost use Rattle.node.specs.Step.{Comes, Does};
+ghost use Rattle.stable_record.specs.Crash.{IsOnDisk};
 ghost use Rattle.stable_record.specs.Failing.{history_of};
-ghost use Rattle.node_rows.specs.Rows.{HasNotesBeforeOrAfter, IsOf, reopened};
+ghost use Rattle.stable_record.specs.History.{seen};
+ghost use Rattle.stable_record.specs.Opening.{Opens};
+ghost use Rattle.node_rows.specs.Rows.{HasNotesBeforeOrAfter, IsAsAfter, IsOf, reopened};
 
 use ballots::Weights;
 use listing::Tree;
@@ -85,5 +88,60 @@ pub fn crash_inside<'a>(
     let mut node = node;
     let _answer = node.handle(input);
     let disk = node.into_disk().into_inner().crash(left);
+    Node::open(alloc, disk, tree, weights, me)
+}
+
+/// Takes an input; where it was taken, a crash comes, and the node is opened again.
+pub fn crash_behind<'a>(
+    alloc: Global,
+    node: Node<'a, FaultDisk>,
+    input: Input,
+    left: Left,
+    tree: &'a Tree,
+    weights: &Weights,
+    me: u8,
+) -> Result<Option<Node<'a, MemDisk>>, (NodeFault, MemDisk)>
+    requires me { me < length weights.now }
+    requires message { IsGoodInput input }
+    ensures { IfOk result (λ o. IfSome o (λ n. IsOnLog history_of node.entry
+        → IsOf tree.entry.now weights.now me node.entry.node.member
+        → IsAsAfter node.entry.node (Does input) n.node)) }
+{
+    let mut node = node;
+    match node.handle(input) {
+        Ok(out) => {
+            drop(out);
+            let _len = node.log_len();
+            let disk = node.into_disk().into_inner().crash(left);
+            let again = Node::open(alloc, disk, tree, weights, me)?;
+            Ok(Some(again))
+        }
+        Err(_refused) => {
+            drop(node);
+            Ok(None)
+        }
+    }
+}
+
+/// Opens a node of a disk that may fail; whatever is answered, a crash comes, and it is opened
+/// again.
+pub fn crash_in_opening<'a>(
+    alloc: Global,
+    disk: FaultDisk,
+    left: Left,
+    tree: &'a Tree,
+    weights: &Weights,
+    me: u8,
+) -> Result<Node<'a, MemDisk>, (NodeFault, MemDisk)>
+    requires me { me < length weights.now }
+    ensures { IfOk result (λ n. IsOnDisk (history_of disk)
+        → Opens (identity tree.entry.now weights.now me) (seen (history_of disk))
+        (Ok (texts_of n.node.notes))) }
+{
+    let disk = match Node::open(alloc, disk, tree, weights, me) {
+        Ok(node) => node.into_disk(),
+        Err((_refused, disk)) => disk,
+    };
+    let disk = disk.into_inner().crash(left);
     Node::open(alloc, disk, tree, weights, me)
 }

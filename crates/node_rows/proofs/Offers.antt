@@ -1,0 +1,72 @@
+-- What an offer leaves.
+use Rattle.std.proofs.Common.{◌≡◌, ◌∙◌, ℕ, List, Bool, true, false, not, ◌&&◌, Option, Some, Result, Ok, Err, if◌then◌else◌, refl, sym, ap}
+use Rattle.agreement.proofs.Kept.{put_same}
+use Rattle.agreement.specs.Claims.{is_above, is_promised}
+use Rattle.agreement.specs.declared.claim.Claim.{Claim}
+use Rattle.agreement.specs.Member as members
+use Rattle.agreement.specs.Member.{Facts, greater}
+use Rattle.agreement.specs.Nodes as nodes
+use Rattle.agreement.specs.Step.{Outcome, on_offer}
+use Rattle.agreement.specs.Votes.{is_voted}
+use Rattle.ballots.specs.declared.message.Body.{Body}
+use Rattle.ballots.specs.declared.message.Body.TheVariants.{Offer}
+use Rattle.ballots.specs.declared.message.Message.{Message}
+use Rattle.node.proofs.Finishing.{members_step}
+use Rattle.node.specs.State.{IsNode, NodeState}
+use Rattle.node.specs.Step.{Taken, after, heard}
+use Rattle.node.specs.declared.ready.Out.{Out}
+use Rattle.node_rows.specs.Rows.{TookMessage}
+use Rattle.protocol.proofs.Answering.{message_is}
+use Rattle.protocol.specs.Answers.{Answer, after as member_after}
+use Rattle.protocol.specs.InTheAgreement.{view}
+use Rattle.protocol.specs.Laws.{AnswersMessage}
+use Rattle.protocol.specs.State.{State, Value, facts_at}
+use Rattle.protocol.specs.Step as protocol
+use Rattle.protocol.specs.Step.{facts_named, facts_of_unit, outcome_of, unit_in}
+use Rattle.protocol.specs.declared.refusal.Refusal.{Refusal}
+use Rattle.units.specs.Division.{number_found}
+use Rattle.wire.specs.declared.datagram.Piece.{Piece}
+
+-- an offer leaves the greater of what was promised and of what was offered
+pub offered : (i : ℕ) (x : members.Member Value) (c : Claim) → (on_offer i x c).member.promised ≡ greater x.promised c
+offered i x c = by (is_above c x.promised) (is_promised c x.promised && not (is_voted c x.voted)) _ _ _ refl refl refl
+  where
+    by : (a b : Bool) (A B C : Outcome Value) → A.member.promised ≡ Some c → B.member.promised ≡ x.promised → C.member.promised ≡ x.promised
+        → (if a then A else (if b then B else C)).member.promised ≡ (if a then Some c else x.promised)
+    by true b A B C e f h = e
+    by false true A B C e f h = f
+    by false false A B C e f h = h
+
+-- where a node heard something its member answered
+pub answer_of : (pieces : List Piece) (r : Result Answer Refusal) (step : Taken) → heard pieces r ≡ Ok step
+    → (a : Answer) × (r ≡ Ok a) × (step ≡ record { answer = a; pieces = pieces })
+answer_of pieces (Ok a) step e = (a, refl, (let two : Ok (record { answer = a; pieces = pieces }) ≡ Ok step = e in cc))
+answer_of pieces (Err r) step e = absurd (let no : heard pieces (Err r) ≡ Ok step = e in cc)
+
+module _ (old new : NodeState) (is : IsNode old) (m : Message Value) (c : Claim) (body : m.body ≡ Offer c) (out : Out) (took : TookMessage old new m out) where
+  abbrev s : State
+  s = old.member
+
+  promised_so : (a : Answer) → took.step ≡ record { answer = a; pieces = old.pieces } → AnswersMessage s m a
+      → (facts_named new.member m.path).promised ≡ greater (facts_named s m.path).promised c
+  promised_so a same answers =
+      let u = answers.unit in
+      let now : new ≡ after old (record { answer = a; pieces = old.pieces }) = took.taken.state ∙ ap (after old) same in
+      let found : number_found s.division m.path ≡ Some u = rw answers.named refl in
+      let stays : facts_at (after old (record { answer = a; pieces = old.pieces })).member u ≡ facts_at (member_after s a) u =
+      ap (λ (x : State). facts_at x u) (members_step old (record { answer = a; pieces = old.pieces }) is) in
+      let known : (facts_at (member_after s a) u).promised ≡ (outcome_of s u m.sender m.body).member.promised =
+      ap (λ (n : nodes.Node Value). (n.facts u).promised) answers.is.node
+      ∙ ap (λ (f : Facts Value). f.promised) (put_same (facts_at s) u _) in
+      let told : (outcome_of s u m.sender m.body).member.promised ≡ greater (facts_at s u).promised c =
+      ap (λ (b : Body Value). (outcome_of s u m.sender b).member.promised) body ∙ offered s.me (view s u) c in
+      let before : (facts_named s m.path).promised ≡ (facts_at s u).promised = ap (λ (v : Option ℕ). (facts_of_unit s v).promised) found in
+      let later : (facts_named new.member m.path).promised ≡ (facts_at (after old (record { answer = a; pieces = old.pieces })).member u).promised =
+      ap (λ (n : NodeState). (facts_named n.member m.path).promised) now
+      ∙ ap (λ (v : Option ℕ). (facts_of_unit (after old (record { answer = a; pieces = old.pieces })).member v).promised) found in
+      later ∙ ap (λ (f : Facts Value). f.promised) stays ∙ known ∙ told ∙ ap (λ (p : Option Claim). greater p c) (sym before)
+
+  pub promised_then : (facts_named new.member m.path).promised ≡ greater (facts_named s m.path).promised c
+  promised_then =
+      let given = answer_of old.pieces (protocol.heard s m) took.step took.is in
+      promised_so given.0 given.2 (message_is s m given.0 is.member given.1)

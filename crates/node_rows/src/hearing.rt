@@ -1,0 +1,49 @@
+//! A message that is handed to a node as bytes.
+ghost use Rattle.std.specs.Prelude.{◌≡◌, IfOk, None};
+ghost use Rattle.agreement.specs.Member.{greater};
+ghost use Rattle.protocol.specs.Step.{facts_named};
+ghost use Rattle.node_rows.specs.Rows.{TookMessage};
+ghost use Rattle.wire.specs.Messages.{IsMessage};
+ghost use Rattle.wire.specs.Pieces.{carried_in};
+
+use ballots::{Body, Message};
+use claims::Claim;
+use node::{Node, NodeFault, Out};
+use stable_record::Disk;
+use std::alloc::Global;
+use wire::{Datagram, encode};
+
+/// Writes a message down that carries no build, and hands it to a node.
+pub fn deliver<D: Disk>(
+    node: &mut Node<'_, D>,
+    alloc: Global,
+    message: &Message,
+) -> Result<Out, NodeFault>
+    requires message { IsMessage message.now }
+    requires whole { carried_in message.now.body ≡ None }
+    ensures { IfOk result (TookMessage node.old.node node.new.node message.now) }
+{
+    let datagram = Datagram::Whole(message.copy()?);
+    let mut text = Vec::new(alloc);
+    encode(&datagram, &mut text)?;
+    node.handle_datagram(text.as_slice())
+}
+
+/// Hands an offer to a node, and tells what the node has promised then for its unit.
+pub fn offer<D: Disk>(
+    node: &mut Node<'_, D>,
+    alloc: Global,
+    message: &Message,
+    claim: Claim,
+) -> Result<Option<Claim>, NodeFault>
+    requires message { IsMessage message.now }
+    requires offer { message.now.body ≡ Body.Offer claim }
+    // It is the greater of what was promised and of what was offered.
+    ensures { IfOk result (λ promised. promised
+        ≡ greater (facts_named node.old.node.member message.now.path).promised claim) }
+{
+    let _len = node.log_len();
+    let out = deliver(node, alloc, message)?;
+    drop(out);
+    Ok(node.promised(&message.path))
+}

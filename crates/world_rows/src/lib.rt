@@ -1,0 +1,12 @@
+//! A world's calls one after the other, and its laws together, over what they say and no more.
+#![tactic(auto)]
+
+mod audits;
+mod laws;
+mod nodes;
+mod steps;
+
+pub use crate::audits::audit_of_printed;
+pub use crate::laws::{installable_is_listed, never_differ};
+pub use crate::nodes::{both, in_closure};
+pub use crate::steps::{run_and_take, take_two, take_two_alike};
