@@ -1,5 +1,7 @@
--- How a refusal of hosts is told.
-use Rattle.std.specs.Prelude.{ℕ, Option, None, Some}
+-- Why there is no port, and how a refusal of hosts is told.
+use Rattle.std.specs.Prelude.{◌≡◌, ◌⊎◌, ℕ, Option, None, Some}
+use Rattle.ports.specs.declared.fault.PortFault.{PortFault}
+use Rattle.ports.specs.declared.fault.PortFault.TheVariants as ports
 use Rattle.udp.specs.declared.hosts.HostsFault.{HostsFault}
 use Rattle.udp.specs.declared.hosts.HostsFault.TheVariants.{BadHost, Memory}
 
@@ -12,3 +14,7 @@ number_of (BadHost n) = 1206
 abbrev pub place_of : HostsFault → Option ℕ
 place_of Memory = None
 place_of (BadHost n) = Some n
+
+-- memory was refused, or an address can't be had
+abbrev pub CannotStart : PortFault → Type 0
+CannotStart f = (f ≡ ports.Memory) ⊎ (f ≡ ports.NoSocket)

@@ -1,4 +1,7 @@
 //! The sockets of the nodes here.
+ghost use Rattle.std.specs.Prelude.{IfErr};
+ghost use Rattle.udp.specs.Refusals.{CannotStart};
+
 use ports::PortFault;
 use std::alloc::Global;
 use std::collections::VecDeque;
@@ -26,7 +29,9 @@ pub struct Come {
 }
 
 /// A seat for the node, at this address; at a free port where the port is 0.
-pub fn take_seat<R: Net>(rt: &R, node: u8, at: SocketAddr) -> Result<Seat, PortFault> {
+pub fn take_seat<R: Net>(rt: &R, node: u8, at: SocketAddr) -> Result<Seat, PortFault>
+    ensures { IfErr result CannotStart }
+{
     let Ok(socket) = UdpSocket::bind(rt, at) else {
         return Err(PortFault::NoSocket);
     };
@@ -37,7 +42,9 @@ pub fn take_seat<R: Net>(rt: &R, node: u8, at: SocketAddr) -> Result<Seat, PortF
 }
 
 /// Where the seat's node listens.
-pub fn address_of(seat: &Seat) -> Result<SocketAddr, PortFault> {
+pub fn address_of(seat: &Seat) -> Result<SocketAddr, PortFault>
+    ensures { IfErr result CannotStart }
+{
     match seat.socket.local_addr() {
         Ok(address) => Ok(address),
         Err(_) => Err(PortFault::NoSocket),

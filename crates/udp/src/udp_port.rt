@@ -1,6 +1,7 @@
 //! Nodes that hear each other over UDP.
-ghost use Rattle.std.specs.Prelude.{◌≡◌, ◌<◌, ◌≤◌, IfOk, None, length};
+ghost use Rattle.std.specs.Prelude.{◌≡◌, ◌<◌, ◌≤◌, IfErr, IfOk, None, length};
 ghost use Rattle.ports.specs.Kept.{one_more};
+ghost use Rattle.udp.specs.Refusals.{CannotStart};
 
 use crate::patience::Patience;
 use crate::sockets::{Come, Seat, address_of, is_whole, take_all, take_seat};
@@ -62,7 +63,9 @@ impl<'c, C: Clock> UdpPort<'c, C> {
         clock: &'c C,
         alloc: Global,
         members: u8,
-    ) -> Result<UdpPort<'c, C>, PortFault> {
+    ) -> Result<UdpPort<'c, C>, PortFault>
+        ensures { IfErr result CannotStart }
+    {
         let mut seats = Vec::with_capacity(alloc, members as usize)?;
         let mut addresses = Vec::with_capacity(alloc, members as usize)?;
         for node in 0..members {
@@ -89,6 +92,7 @@ impl<'c, C: Clock> UdpPort<'c, C> {
         patience: u16,
     ) -> Result<UdpPort<'c, C>, PortFault>
         requires me { me < length addresses.items }
+        ensures { IfErr result CannotStart }
     {
         let mut seats = Vec::with_capacity(alloc, 1)?;
         seats.push(take_seat(rt, me, addresses[me as usize])?)?;
@@ -235,7 +239,8 @@ fn port_of<'c, C: Clock>(
     addresses: Vec<SocketAddr>,
     patience: Patience,
 ) -> Result<UdpPort<'c, C>, PortFault>
-    ensures { IfOk result (λ port. port.failures ≡ 0) }
+    ensures fresh { IfOk result (λ port. port.failures ≡ 0) }
+    ensures refused { IfErr result CannotStart }
 {
     let buffer = vec![in alloc; 0; ROOM]?;
     Ok(UdpPort {
