@@ -1,10 +1,10 @@
 -- Words in which clap finds no fault name a subcommand, and not that of clap's own which asks for help.
-use Rattle.std.proofs.Common.{◌≡◌, ◌&&◌, ◌||◌, ℕ, Bool, true, false, not, List, [], ◌∷◌, Option, None, Some, IfSome, refl, sym, subst, true≢false, codes}
+use Rattle.std.proofs.Common.{◌≡◌, ◌&&◌, ℕ, Bool, true, false, not, List, [], ◌∷◌, Option, None, Some, IfSome, refl, sym, subst, true≢false, codes}
 use Rattle.std.specs.Prelude.{find, fold, if◌then◌else◌, is_some, option_map}
 use Rattle.std.specs.List.{list_any}
 use Rattle.std.specs.Option.{option_map_or}
 use Rattle.std.specs.Str.{bytes_eq}
-use Rattle.clap.specs.Faults.{built_fault, check_fault, default_fault, defaults_fault, entered_fault, level_fault, other_fault, settle_fault, step_fault, turn_fault, walk_fault, word_fault}
+use Rattle.clap.specs.Faults.{built_fault, defaults_fault, entered_fault, level_fault, other_fault, settle_fault, step_fault, turn_fault, walk_fault, word_fault}
 use Rattle.clap.specs.Kinds.{Kinds, check_kinds, or_else}
 use Rattle.clap.specs.Lexer.{long_of, short_of}
 use Rattle.clap.specs.Simple.{App, Shape, entered, label_of, names_of, rows_at}

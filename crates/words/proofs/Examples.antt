@@ -64,6 +64,39 @@ example_run_trace : value_at (codes "TRACE") run_words ≡ Some (codes "events")
 unfolding matched dpbr_app clap_on_literals
 example_run_trace = refl
 
+abbrev wayon_words : Text → Text → List Text
+wayon_words node host =
+    codes "dpbr" ∷ codes "wayon" ∷ codes "tree" ∷ codes "events" ∷ node ∷ codes "a/b" ∷ host ∷ codes "files" ∷ []
+
+example_wayon : AreTaken (wayon_words (codes "255") (codes "65535"))
+unfolding faults_of dpbr_app clap_on_literals
+example_wayon = refl
+
+example_wayon_name : name_at (wayon_words (codes "0") (codes "7")) ≡ Some (codes "wayon")
+unfolding matched dpbr_app clap_on_literals
+example_wayon_name = refl
+
+example_wayon_node : value_at (codes "NODE") (wayon_words (codes "+007") (codes "7")) ≡ Some (codes "+007")
+unfolding matched dpbr_app clap_on_literals
+example_wayon_node = refl
+
+example_wayon_builds : value_at (codes "BUILDS") (wayon_words (codes "0") (codes "7")) ≡ Some (codes "files")
+unfolding matched dpbr_app clap_on_literals
+example_wayon_builds = refl
+
+-- a number past its range, or none
+example_node_past : faults_of (wayon_words (codes "256") (codes "7")) ≡ kind.ValueValidation ∷ []
+unfolding faults_of dpbr_app clap_on_literals
+example_node_past = refl
+
+example_host_past : faults_of (wayon_words (codes "0") (codes "65536")) ≡ kind.ValueValidation ∷ []
+unfolding faults_of dpbr_app clap_on_literals
+example_host_past = refl
+
+example_no_host : faults_of (wayon_words (codes "0") (codes "h")) ≡ kind.ValueValidation ∷ []
+unfolding faults_of dpbr_app clap_on_literals
+example_no_host = refl
+
 -- `--single` stands anywhere behind the subcommand
 example_single : AreTaken (codes "dpbr" ∷ codes "status" ∷ codes "tree" ∷ codes "--single" ∷ codes "held" ∷ [])
 unfolding faults_of dpbr_app clap_on_literals

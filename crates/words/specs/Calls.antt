@@ -1,15 +1,21 @@
 -- The calls of `dpbr`, as clap matches their words.
-use Rattle.std.specs.Prelude.{◌≡◌, ◌↔◌, codes, fold, List, [], ◌∷◌, Bool, Option, None, Some, true}
-use Rattle.clap.specs.Words.{App, Kinds, Row, Rule, Shape, Text, fault_of, first_of, new_app, new_rule, subcommand_of, with_rule, with_subcommand}
+use Rattle.std.specs.Prelude.{◌≡◌, ◌↔◌, codes, fold, ℕ, pos, List, [], ◌∷◌, Bool, Option, None, Some, true}
+use Rattle.std.specs.Str.Parse.{digits_value, without_leading_plus}
+use Rattle.clap.specs.Words.{App, Kinds, Row, Rule, Shape, Text, fault_of, first_of, new_app, new_rule, one_of, subcommand_of, with_rule, with_subcommand}
 use Rattle.clap.specs.declared.builder.action.ArgAction.TheVariants.{SetTrue}
+use Rattle.clap.specs.declared.builder.value_parser.ValueParser.TheVariants.{Signed}
 use Rattle.words.specs.declared.Call.{Call}
-use Rattle.words.specs.declared.Call.TheVariants.{Audit, Run, Status}
+use Rattle.words.specs.declared.Call.TheVariants.{Audit, Run, Status, Wayon}
 
 -- ---- what clap is told
 
 -- a word that has to stand
 abbrev pub word : Text → Rule
 word id = record (new_rule id) { required = true }
+
+-- a number from 0 up to this that has to stand
+abbrev pub number : Text → ℕ → Rule
+number id most = record (word id) { parser = Some (Signed (pos 0) (pos most)) }
 
 -- a word that may stand, with two dashes before it
 abbrev pub flag : Text → Rule
@@ -36,6 +42,12 @@ audit_command = command (codes "audit") (word (codes "LISTING") ∷ word (codes 
 abbrev pub run_command : Shape
 run_command = command (codes "run") (word (codes "LISTING") ∷ word (codes "TRACE") ∷ single ∷ [])
 
+-- `dpbr wayon`, which takes a listing, a trace, a node, a package path, a host and files
+abbrev pub wayon_command : Shape
+wayon_command = command (codes "wayon")
+    (word (codes "LISTING") ∷ word (codes "TRACE") ∷ number (codes "NODE") 255
+    ∷ word (codes "PATH") ∷ number (codes "HOST") 65535 ∷ word (codes "BUILDS") ∷ single ∷ [])
+
 -- the program with its subcommand on letters alone; it has to be given a subcommand
 abbrev pub letters_app : App
 letters_app =
@@ -47,9 +59,13 @@ letters_app =
 abbrev pub list_app : App
 list_app = with_subcommand letters_app audit_command
 
+-- the program with its subcommands on lists and runs alone
+abbrev pub run_app : App
+run_app = with_subcommand list_app run_command
+
 -- the program
 unfoldable pub dpbr_app : App
-dpbr_app = with_subcommand list_app run_command
+dpbr_app = with_subcommand run_app wayon_command
 
 -- the kinds of fault of which clap names one, where it finds any in the words
 unfoldable pub faults_of : List Text → Kinds
@@ -69,6 +85,11 @@ matched words = subcommand_of dpbr_app words
 abbrev pub IsWord : List Row → Text → Text → Type 0
 IsWord rows id value = first_of id rows ≡ Some value
 
+-- what was matched under a name is read as the number
+abbrev pub IsNumber : List Row → Text → ℕ → Type 0
+IsNumber rows id n =
+    (t : Text) × (one_of id rows ≡ Some t) × (digits_value 10 (without_leading_plus t) ≡ n)
+
 -- the flag was given
 abbrev pub IsFlag : List Row → Text → Bool → Type 0
 IsFlag rows id given = (given ≡ true) ↔ (first_of id rows ≡ Some (codes "true"))
@@ -87,3 +108,8 @@ IsCallOf (Some (name, rows)) (Audit listing list is_single) = (name ≡ codes "a
     × AreValues rows (codes "LISTING", codes "LIST") listing.now list.now is_single
 IsCallOf (Some (name, rows)) (Run listing trace is_single) = (name ≡ codes "run")
     × AreValues rows (codes "LISTING", codes "TRACE") listing.now trace.now is_single
+IsCallOf (Some (name, rows)) (Wayon listing trace node path host builds is_single) =
+    (name ≡ codes "wayon")
+    × AreValues rows (codes "LISTING", codes "TRACE") listing.now trace.now is_single
+    × IsNumber rows (codes "NODE") node × IsWord rows (codes "PATH") path.now
+    × IsNumber rows (codes "HOST") host × IsWord rows (codes "BUILDS") builds.now

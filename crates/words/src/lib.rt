@@ -3,21 +3,22 @@
 
 ghost use Rattle.std.specs.Prelude.{◌≡◌, IfNone, IfOk, IfSome, map};
 ghost use Rattle.clap.specs.Words.{FailsBy, app_of, subcommand_rows_of};
-ghost use Rattle.words.specs.Calls.{IsCallOf, dpbr_app, faults_of, letters_app, list_app, matched};
+ghost use Rattle.words.specs.Calls.{IsCallOf, dpbr_app, faults_of, letters_app, list_app, matched, run_app};
 ghost use Rattle.words.specs.inside.Naming.{NamesCall};
 
 mod arguments;
 mod audit;
 mod run;
 mod status;
+mod wayon;
 
 use clap::error::ErrorKind;
 use clap::{ArgMatches, Command, Error};
 use std::alloc::{AllocError, Global};
 use std::convert::AsStr;
 
-/// A call of the program, with the names of its files, and whether each path of the listing is a
-/// group of its own.
+/// A call of the program, with its other words, such as the names of its files, and whether each
+/// path of the listing is a group of its own.
 #[derive(Debug, Drop)]
 pub enum Call<'a> {
     /// The letters of a listing's packages, where those named in a text of package paths are held.
@@ -36,6 +37,17 @@ pub enum Call<'a> {
     Run {
         listing: &'a str,
         trace: &'a str,
+        is_single: bool,
+    },
+    /// Events behind a trace by which a node comes to hold the packages of a path, which a host
+    /// builds of the files that are given.
+    Wayon {
+        listing: &'a str,
+        trace: &'a str,
+        node: u8,
+        path: &'a str,
+        host: u16,
+        builds: &'a str,
         is_single: bool,
     },
 }
@@ -74,6 +86,7 @@ fn call_of<'a>(matches: &ArgMatches<'a>) -> Option<Call<'a>>
         Some(("status", found)) => status::call_of(found),
         Some(("audit", found)) => audit::call_of(found),
         Some(("run", found)) => run::call_of(found),
+        Some(("wayon", found)) => wayon::call_of(found),
         _ => None,
     }
 }
@@ -87,6 +100,13 @@ fn no_call(alloc: Global) -> Result<Error, AllocError> {
 #[tactic(auto, unfolding(crate::specs::Calls::dpbr_app))]
 fn dpbr_command<'a>(alloc: Global) -> Result<Command<'a>, AllocError>
     ensures { IfOk result (λ command. app_of command ≡ dpbr_app) }
+{
+    with_runs(alloc)?.subcommand(wayon::command(alloc)?)
+}
+
+/// The same of its subcommands on lists and runs alone.
+fn with_runs<'a>(alloc: Global) -> Result<Command<'a>, AllocError>
+    ensures { IfOk result (λ command. app_of command ≡ run_app) }
 {
     with_lists(alloc)?.subcommand(run::command(alloc)?)
 }
@@ -104,7 +124,7 @@ fn with_letters<'a>(alloc: Global) -> Result<Command<'a>, AllocError>
 {
     let status = status::command(alloc)?;
     Command::new(alloc, "dpbr")
-        .about("Letters, audits and runs of a bulk build of ports.")
+        .about("Letters, audits and runs of a bulk build of ports, and ways on from a run.")
         .subcommand_required(true)
         .subcommand(status)
 }
