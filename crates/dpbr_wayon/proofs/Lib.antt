@@ -1,0 +1,2 @@
+mod GivenFiles
+pub mod Refusing

@@ -1,0 +1,112 @@
+-- What is told where `dpbr wayon` prints no trace.
+use Rattle.std.specs.Prelude.{◌≡◌, ◌⊎◌, ℕ, Bool, None, Some, Ok, Err}
+use Rattle.dpbr_run.specs.Run.{run_refusal}
+use Rattle.dpbr_run.specs.Traces.{RefusesText}
+use Rattle.dpbr_wayon.specs.WayOn.{handed_over}
+use Rattle.faults.specs.Bytes.{Text}
+use Rattle.listing.specs.Listing.{Rules}
+use Rattle.listing.specs.Tree.{Tree}
+use Rattle.pkgpath.specs.PkgPath.{path_of}
+use Rattle.pkgpath.specs.Refusals as paths
+use Rattle.pkgpath.specs.declared.PathFault.{PathFault}
+use Rattle.program.specs.Files.{RefusesTexts}
+use Rattle.program.specs.Listings.{rules_for}
+use Rattle.program.specs.Refusals.{IsSystemRefusal}
+use Rattle.program.specs.declared.refusal.Refusal.{Refusal}
+use Rattle.protocol.specs.Given.{Given}
+use Rattle.running.specs.History.{History, IsHistory, IsRunFault, taken}
+use Rattle.running.specs.declared.runs.RunFault.{RunFault}
+use Rattle.traces.specs.Builds.{builds_of}
+use Rattle.traces.specs.Trace.{Trace, trace_of}
+use Rattle.way.specs.Asked.{HasNoWay}
+use Rattle.way.specs.Refusals as ways
+use Rattle.way.specs.declared.fault.WayFault.{WayFault}
+use Rattle.world.specs.World.{World}
+
+-- ---- of texts
+
+-- how the fault of a path is told, which has no place
+abbrev pub path_refusal : PathFault → Refusal
+path_refusal f = record { number = paths.number_of f; place = None }
+
+-- what is told of a text that is no package path
+abbrev pub RefusesPath : Text → Refusal → Type 0
+RefusesPath path r = (f : PathFault) × (path_of path ≡ Err f) × (r ≡ path_refusal f)
+
+-- how a text is told that gives no files for paths: as a trace that is bad outside its events
+abbrev pub builds_refusal : Refusal
+builds_refusal = record { number = 1305; place = Some 0 }
+
+-- what is told of a text that gives no files for paths
+abbrev pub RefusesBuilds : Text → Refusal → Type 0
+RefusesBuilds builds r = (builds_of builds ≡ None) × (r ≡ builds_refusal)
+
+-- the file can't be read, or this is told of a text that gives no files for paths
+abbrev pub RefusesBuildsFile : Refusal → Type 0
+RefusesBuildsFile r = IsSystemRefusal r ⊎ ((builds : Text) × RefusesBuilds builds r)
+
+-- ---- of a trace that was read
+
+-- what is told of a world in which no way is told: the reason, which has no place
+pub record RefusesWay (w : World) (node : ℕ) (path : Text) (host : ℕ) (given : Given)
+    (r : Refusal) : Type 0 where
+  pub fault : WayFault
+  pub is_fault : HasNoWay w node path host given fault
+  pub told : r ≡ record { number = ways.number_of fault; place = None }
+
+-- what is told of the first event that is refused
+pub record RefusesEvents (tree : Tree) (trace : Trace) (r : Refusal) : Type 0 where
+  pub fault : RunFault
+  pub is_fault : IsRunFault tree trace.weights trace.events fault.event fault.fault
+  pub told : r ≡ run_refusal fault
+
+-- the events lead from the start over the tree to a world, and this is told of that
+pub record RefusesAfter (tree : Tree) (trace : Trace) (node : ℕ) (path : Text) (host : ℕ)
+    (builds : Given) (r : Refusal) : Type 0 where
+  pub history : History
+  pub of_tree : history.world.division.tree ≡ tree
+  pub weights : history.world.weights ≡ trace.weights
+  pub events : taken history ≡ trace.events
+  pub is_history : IsHistory history
+  pub refuses : RefusesWay history.world node path host
+      (handed_over history.world.division path builds) r
+
+-- what is told of the first event that is refused, or else of the world to which they lead
+abbrev pub RefusesTaken : Tree → Trace → ℕ → Text → ℕ → Given → Refusal → Type 0
+RefusesTaken tree trace node path host builds r =
+    RefusesEvents tree trace r ⊎ RefusesAfter tree trace node path host builds r
+
+-- ---- each behind what is read before it
+
+-- what is told of the files for paths, or else of the events
+abbrev pub RefusesGiven : Tree → Trace → ℕ → Text → ℕ → Text → Refusal → Type 0
+RefusesGiven tree trace node path host builds r =
+    RefusesBuilds builds r
+    ⊎ ((given : Given) × (builds_of builds ≡ Some given)
+    × RefusesTaken tree trace node path host given r)
+
+-- what is told of the path, or else of the files for paths
+abbrev pub RefusesNamed : Tree → Trace → ℕ → Text → ℕ → Text → Refusal → Type 0
+RefusesNamed tree trace node path host builds r =
+    RefusesPath path r
+    ⊎ ((named : Text) × (path_of path ≡ Ok named)
+    × RefusesGiven tree trace node named host builds r)
+
+-- what is told of the trace, or else of the path
+abbrev pub RefusesTrace : Tree → Text → ℕ → Text → ℕ → Text → Refusal → Type 0
+RefusesTrace tree trace node path host builds r =
+    RefusesText trace r
+    ⊎ ((read : Trace) × (trace_of trace ≡ Ok read)
+    × RefusesNamed tree read node path host builds r)
+
+-- what is told of the listing, or else of the trace
+abbrev pub RefusesWayOn : Rules → Text → Text → ℕ → Text → ℕ → Text → Refusal → Type 0
+RefusesWayOn rules listing trace node path host builds r =
+    RefusesTexts rules listing (λ tree. RefusesTrace tree trace node path host builds) r
+
+-- one of the files can't be read, or this is told of the path and of the texts in them
+abbrev pub RefusesWayOnFiles : Bool → ℕ → Text → ℕ → Refusal → Type 0
+RefusesWayOnFiles is_single node path host r =
+    IsSystemRefusal r
+    ⊎ ((listing : Text) × (trace : Text) × (builds : Text)
+    × RefusesWayOn (rules_for is_single) listing trace node path host builds r)

@@ -1,0 +1,85 @@
+-- What `dpbr wayon` prints.
+use Rattle.std.specs.Prelude.{◌≡◌, ◌++◌, ℕ, Bool, List, [], ◌∷◌, Option, None, Some, Ok, filter, map}
+use Rattle.events.specs.Events.{Event}
+use Rattle.faults.specs.Bytes.{Text, is_among, line_feed}
+use Rattle.listing.specs.Listing.{Rules, tree_of}
+use Rattle.listing.specs.Tree.{Tree, path_at}
+use Rattle.pkgpath.specs.PkgPath.{path_of}
+use Rattle.program.specs.Listings.{rules_for}
+use Rattle.protocol.specs.Given.{Given}
+use Rattle.protocol.specs.Jobs.{files_for}
+use Rattle.running.specs.History.{History, IsHistory, taken}
+use Rattle.traces.specs.Builds.{builds_of}
+use Rattle.traces.specs.Trace.{Trace, trace_of}
+use Rattle.traces.specs.Written.{trace_text}
+use Rattle.units.specs.Division.{Division, number_found, unit_at}
+use Rattle.way.specs.Asked.{IsGranted}
+use Rattle.way.specs.Laws.{HasWay}
+
+-- ---- what is handed over
+
+-- those of the paths for which files are given, with their files
+abbrev pub given_of : Given → List Text → Given
+given_of builds paths =
+    map (λ p. (p, files_for builds p)) (filter (is_among (map (λ g. g.0) builds)) paths)
+
+-- of the files that are given, those of the unit, if there is one
+abbrev pub given_at : Division → Given → Option ℕ → Given
+given_at d builds None = []
+given_at d builds (Some u) = given_of builds (map (path_at d.tree) (unit_at d u).packages)
+
+-- what is handed over for the unit that the path names
+abbrev pub handed_over : Division → Text → Given → Given
+handed_over d path builds = given_at d builds (number_found d path)
+
+-- ---- what is printed
+
+-- The text is the trace of the events that were taken and then those of a way, and a line feed.
+pub record IsWritten (h : History) (weights : List ℕ) (node : ℕ) (path : Text) (host : ℕ)
+    (given : Given) (text : Text) : Type 0 where
+  pub way : List Event
+  pub has_way : HasWay h.world node path host given way
+  pub granted : IsGranted h.world node path host given
+  pub written : text
+      ≡ trace_text (record { weights = weights; events = taken h ++ way }) ++ line_feed ∷ []
+
+-- The trace's events lead from the start over the tree to a world, and the text is written of that.
+pub record IsAfter (tree : Tree) (trace : Trace) (node : ℕ) (path : Text) (host : ℕ)
+    (builds : Given) (text : Text) : Type 0 where
+  pub history : History
+  pub of_tree : history.world.division.tree ≡ tree
+  pub weights : history.world.weights ≡ trace.weights
+  pub events : taken history ≡ trace.events
+  pub is_history : IsHistory history
+  pub is_written : IsWritten history trace.weights node path host
+      (handed_over history.world.division path builds) text
+
+-- The texts are a trace, a package path and files for paths, and this is printed of them.
+pub record IsWayOnOf (tree : Tree) (trace : Text) (node : ℕ) (path : Text) (host : ℕ)
+    (builds text : Text) : Type 0 where
+  pub read : Trace
+  pub is_trace : trace_of trace ≡ Ok read
+  pub named : Text
+  pub is_path : path_of path ≡ Ok named
+  pub given : Given
+  pub are_builds : builds_of builds ≡ Some given
+  pub after : IsAfter tree read node named host given text
+
+-- the same on the tree that a listing describes
+pub record IsWayOnOfListing (rules : Rules) (listing trace : Text) (node : ℕ) (path : Text)
+    (host : ℕ) (builds text : Text) : Type 0 where
+  pub tree : Tree
+  pub described : tree_of rules listing ≡ Ok tree
+  pub way_on : IsWayOnOf tree trace node path host builds text
+
+-- what is printed for this node, path and host, by a listing, a trace and files for paths
+pub record IsWayOn (is_single : Bool) (node : ℕ) (path : Text) (host : ℕ)
+    (text : Text) : Type 0 where
+  pub listing : Text
+  pub trace : Text
+  pub builds : Text
+  pub is_way_on : IsWayOnOfListing (rules_for is_single) listing trace node path host builds text
+
+-- a text gives these files for paths
+abbrev pub AreSpelled : Given → Type 0
+AreSpelled given = (builds : Text) × (builds_of builds ≡ Some given)

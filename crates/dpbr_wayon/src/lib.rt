@@ -1,0 +1,15 @@
+//! What `dpbr wayon` does: from a listing, a trace and files to a trace whose further events lead on
+//! to where a node holds the packages of a path.
+#![tactic(auto)]
+
+mod files;
+mod handed;
+mod reading;
+mod target;
+mod text;
+mod texts;
+
+pub use crate::files::wayon_of_files;
+pub use crate::target::Target;
+pub use crate::text::{way_of_events, way_of_trace};
+pub use crate::texts::wayon_of_texts;

@@ -1,0 +1,124 @@
+//! The text of `dpbr wayon`.
+ghost use Rattle.std.specs.Prelude.{◌≡◌, ◌⊎◌, ◌++◌, ◌∷◌, [], IfErr, IfOk, map};
+ghost use Rattle.dpbr_wayon.specs.Refusals.{RefusesTaken, RefusesTrace, RefusesWay};
+ghost use Rattle.dpbr_wayon.specs.WayOn.{IsAfter, IsWayOnOf, IsWritten};
+ghost use Rattle.events.specs.Events.{event_view};
+ghost use Rattle.faults.specs.Bytes.{line_feed};
+ghost use Rattle.program.specs.Refusals.{memory_refusal};
+ghost use Rattle.traces.specs.Faults.{trace_view};
+ghost use Rattle.traces.specs.Written.{trace_text};
+
+use crate::handed::handed_over;
+use crate::reading::{builds_of_text, path_of_text};
+use crate::target::Target;
+use ballots::Weights;
+use dpbr_run::trace_of_text;
+use events::Event;
+use faults::Memory;
+use listing::Tree;
+use pkgpath::PkgPath;
+use program::Refusal;
+use protocol::Packages;
+use running::{World, run};
+use std::alloc::Global;
+use traces::{Trace, write_trace};
+use way::way_on;
+
+/// What is printed of a way to the target, after the trace was run: the trace of its events and
+/// then the way's, and a line feed.
+///
+/// # Errors
+///
+/// Memory; else the trace's fault; else the path's; else that of the files; else that of the
+/// trace's first event that is refused; else why no way is told.
+pub fn way_of_trace(
+    alloc: Global,
+    tree: &Tree,
+    trace: &[u8],
+    target: &Target<'_>,
+    builds: &[u8],
+) -> Result<Vec<u8>, Refusal>
+    ensures ok { IfOk result (λ text. IsWayOnOf tree.now trace.now target.now.node
+        target.now.path.now target.now.host builds.now text.items) }
+    ensures refused { IfErr result (λ r. (r ≡ memory_refusal) ⊎ RefusesTrace tree.now trace.now
+        target.now.node target.now.path.now target.now.host builds.now r) }
+{
+    let trace = trace_of_text(alloc, trace)?;
+    let path = path_of_text(alloc, target.path)?;
+    let builds = builds_of_text(alloc, builds)?;
+    way_of_events(alloc, tree, trace, target.node, &path, target.host, &builds)
+}
+
+/// The same of a trace that was read, for the unit that the path names.
+///
+/// # Errors
+///
+/// Memory; else that of the trace's first event that is refused; else why no way is told.
+pub fn way_of_events(
+    alloc: Global,
+    tree: &Tree,
+    trace: Trace,
+    node: u8,
+    path: &PkgPath,
+    host: u16,
+    builds: &Packages,
+) -> Result<Vec<u8>, Refusal>
+    ensures ok { IfOk result (λ text.
+        IsAfter tree.now (trace_view trace) node path.now host builds.now text.items) }
+    ensures refused { IfErr result (λ r. (r ≡ memory_refusal)
+        ⊎ RefusesTaken tree.now (trace_view trace) node path.now host builds.now r) }
+{
+    let Trace { weights, events } = trace;
+    match run(alloc, tree, &weights, events) {
+        Ok(world) => {
+            let packages = handed_over(alloc, tree, world.units(), path, builds)?;
+            way_text(alloc, world, weights, node, path, host, packages)
+        }
+        Err(fault) => Err(Refusal::of(&fault)),
+    }
+}
+
+/// The same of the world that the trace led to. The way is told before the world goes for its
+/// events.
+fn way_text(
+    alloc: Global,
+    world: World<'_>,
+    weights: Weights,
+    node: u8,
+    path: &PkgPath,
+    host: u16,
+    packages: Packages,
+) -> Result<Vec<u8>, Refusal>
+    ensures ok { IfOk result (λ text.
+        IsWritten world.entry weights node path.now host packages text.items) }
+    ensures refused { IfErr result (λ r. (r ≡ memory_refusal)
+        ⊎ RefusesWay world.entry.world node path.now host packages r) }
+{
+    match way_on(alloc, &world, node, path, host, packages) {
+        Ok(way) => {
+            let text = written(alloc, weights, world.into_events(), way)?;
+            Ok(text)
+        }
+        Err(fault) => Err(Refusal::of(&fault)),
+    }
+}
+
+/// The trace of these events and then those of a way, and a line feed.
+fn written(
+    alloc: Global,
+    weights: Weights,
+    mut events: Vec<Event>,
+    mut way: Vec<Event>,
+) -> Result<Vec<u8>, Memory>
+    ensures { IfOk result (λ text. text.items ≡ trace_text (record {
+      weights = weights;
+      events = map event_view events.items ++ map event_view way.items;
+    }) ++ line_feed ∷ []) }
+{
+    events.append(&mut way)?;
+    let trace = Trace { weights, events };
+    let mut text = Vec::new(alloc);
+    write_trace(&trace, &mut text)?;
+    text.push(b'\n')?;
+    Ok(text)
+}
