@@ -5,17 +5,20 @@ use Rattle.clap.specs.Words.{Text as Word}
 use Rattle.dpbr_audit.specs.Audit.{IsAudit}
 use Rattle.dpbr_run.specs.Run.{IsRun}
 use Rattle.dpbr_status.specs.Status.{IsStatus}
+use Rattle.dpbr_wayon.specs.WayOn.{IsWayOn}
 use Rattle.faults.specs.Bytes.{Text}
 use Rattle.program.specs.Printing.{AppendsBeginning}
 use Rattle.words.specs.Calls.{AreTaken, IsCallOf, matched}
 use Rattle.words.specs.declared.Call.{Call}
-use Rattle.words.specs.declared.Call.TheVariants.{Audit, Run, Status}
+use Rattle.words.specs.declared.Call.TheVariants.{Audit, Run, Status, Wayon}
 
 -- what a call prints, and its status
 abbrev pub IsOutputOf : Call → ℕ → Text → Type 0
 IsOutputOf (Status listing held is_single) status text = (status ≡ 0) × IsStatus is_single text
 IsOutputOf (Audit listing list is_single) status text = IsAudit is_single status text
 IsOutputOf (Run listing trace is_single) status text = (status ≡ 0) × IsRun is_single text
+IsOutputOf (Wayon listing trace node path host builds is_single) status text =
+    (status ≡ 0) × IsWayOn is_single node path.now host text
 
 -- what was written since, where it is known, is one such text, and the status is the one that goes
 -- with it

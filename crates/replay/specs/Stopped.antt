@@ -5,6 +5,7 @@ use Rattle.clap.specs.Words.{IsAmong, Text as Word, kind_of}
 use Rattle.dpbr_audit.specs.Audit.{RefusesAuditFiles}
 use Rattle.dpbr_run.specs.Run.{RefusesRunFiles}
 use Rattle.dpbr_status.specs.Status.{RefusesStatusFiles}
+use Rattle.dpbr_wayon.specs.Refusals.{RefusesWayOnFiles}
 use Rattle.program.specs.Refusals.{device_refusal, memory_refusal}
 use Rattle.program.specs.Stops.{status_after}
 use Rattle.program.specs.declared.refusal.Refusal.{Refusal}
@@ -13,13 +14,15 @@ use Rattle.program.specs.declared.stop.Stop.TheVariants.{Refused, Unwritten, Wro
 use Rattle.replay.specs.Printed.{HasBegun}
 use Rattle.words.specs.Calls.{AreTaken, IsCallOf, faults_of, matched}
 use Rattle.words.specs.declared.Call.{Call}
-use Rattle.words.specs.declared.Call.TheVariants.{Audit, Run, Status}
+use Rattle.words.specs.declared.Call.TheVariants.{Audit, Run, Status, Wayon}
 
 -- what is told of the files of a call
 abbrev pub RefusesCall : Call → Refusal → Type 0
 RefusesCall (Status listing held is_single) r = RefusesStatusFiles is_single r
 RefusesCall (Audit listing list is_single) r = RefusesAuditFiles is_single r
 RefusesCall (Run listing trace is_single) r = RefusesRunFiles is_single r
+RefusesCall (Wayon listing trace node path host builds is_single) r =
+    RefusesWayOnFiles is_single node path.now host r
 
 -- A refusal comes before anything was written, but for one that is told as fault 2: then a
 -- beginning of the answer was written, maybe all of it.

@@ -9,6 +9,7 @@ ghost use Rattle.words.specs.Calls.{AreTaken};
 use dpbr_audit::audit_of_files;
 use dpbr_run::run_of_files;
 use dpbr_status::status_of_files;
+use dpbr_wayon::{Target, wayon_of_files};
 use program::{Answer, Refusal, Stop, print};
 use std::io::Write;
 use std::rt::Files;
@@ -46,8 +47,8 @@ pub fn dpbr_main<R: Files + AllocGlobal, O: Write, E: Write>(
 /// Carries out the call that the words make, the first of which is the program's name, and gives
 /// the status with which the program then ends: 0, or 3 after an audit that answers no.
 ///
-/// The listing is read before the other file of the call is opened, and all that is printed is made
-/// before it is written.
+/// The files are read in the order of the words, each before the next is opened, and all that is
+/// printed is made before it is written.
 ///
 /// # Errors
 ///
@@ -108,5 +109,21 @@ fn answer_of_files<R: Files + AllocGlobal>(rt: &R, call: &Call<'_>) -> Result<An
             trace,
             is_single,
         } => run_of_files(rt, listing, trace, *is_single),
+        Call::Wayon {
+            listing,
+            trace,
+            node,
+            path,
+            host,
+            builds,
+            is_single,
+        } => {
+            let target = Target {
+                node: *node,
+                path,
+                host: *host,
+            };
+            wayon_of_files(rt, listing, trace, &target, builds, *is_single)
+        }
     }
 }

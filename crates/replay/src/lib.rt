@@ -8,6 +8,7 @@ pub use auditing::{Entry, Reason, Verdict, audit};
 pub use dpbr_audit::{audit_list, audit_of_texts, verdict_text};
 pub use dpbr_run::{printed_lists_are_read, run_of_texts, run_of_trace, run_text};
 pub use dpbr_status::{HeldFault, held_letters, status, status_of_texts};
+pub use dpbr_wayon::{Target, way_of_trace, wayon_of_texts};
 pub use lists::{ListFault, list_text, lists_and_faults, read_list};
 pub use program::{Refusal, Stop, tree_of_text};
 pub use running::{RunFault, World, run};
