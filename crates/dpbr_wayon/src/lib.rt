@@ -1,5 +1,5 @@
-//! What `dpbr wayon` does: from a listing, a trace and files to a trace whose further events lead on
-//! to where a node holds the packages of a path.
+//! What `dpbr wayon` does: from a listing, a trace and files to a trace with further events, which
+//! lead to where a node holds the packages of a path.
 #![tactic(auto)]
 
 mod files;
