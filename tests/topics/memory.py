@@ -24,9 +24,9 @@ def long_listing(paths):
 
 
 def is_want_of_memory(words, got):
-    """Nothing is printed but fault 1, which a run tells of the event at which it came up, once there is one."""
+    """Nothing is printed but fault 1, which a run tells of the event at which it came up, once there is one; and so that before a way."""
     out, error, status = got
-    place = rb"( at [1-9][0-9]*)?" if words[0] == "run" else b""
+    place = rb"( at [1-9][0-9]*)?" if words[0] in ("run", "wayon") else b""
     return (out, status) == (b"", 1) and re.fullmatch(rb"dpbr: fault 1" + place + rb"\n", error)
 
 
@@ -56,7 +56,7 @@ def run(tally):
         for name, text in (("LONG", listing), ("HALF", held), ("BAD", "a/p\n")):
             with open(f"{folder}/{name}", "w") as file:
                 file.write(text)
-        for name in ("listing", "held", "list", "list.late", "trace"):
+        for name in ("listing", "held", "list", "list.late", "trace", "builds"):
             shutil.copy(f"{EXAMPLES}/{name}", folder)
         refusals(tally, folder, ["status", "listing", "held"], "memory for the example")
         refusals(tally, folder, ["audit", "listing", "list"], "memory for the example's list")
@@ -66,6 +66,8 @@ def run(tally):
         refusals(tally, folder, ["audit", "listing", "BAD"], "memory for a refused list")
         refusals(tally, folder, ["run", "listing", "trace"], "memory for a take-over")
         refusals(tally, folder, ["run", "listing", "BAD"], "memory for a refused trace")
+        refusals(tally, folder, ["wayon", "listing", "trace", "1", "devel/gettext", "4", "builds"], "memory for a way on")
+        refusals(tally, folder, ["wayon", "listing", "trace", "0", "converters/libiconv", "4", "builds"], "memory for files of another path")
         for case in ("a_build_in_pieces", "a_torn_vote_is_cast_again"):
             files = [f"{TESTS}/traces/{case}/{name}" for name in ("LISTING", "TRACE")]
             refusals(tally, folder, ["run", *files], f"memory for {case}")

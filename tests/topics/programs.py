@@ -39,14 +39,19 @@ def cut_short(text):
 
 
 def stored_for(line, folders, left):
-    """What is stored for a line of the page: a file of each case that has it, or what a case prints, and its status if asked."""
+    """What is stored for a line of the page: a file of each case that has it, or what a case prints, and its status if asked. What is
+    written to a file is that file of another case, and nothing is shown."""
     command, _, words = line.partition(" ")
     if command == "cat":
         return [contents(f"{folder}/{words}") for folder in folders if os.path.exists(f"{folder}/{words}")]
     words, _, asked = words.partition("; echo ")
+    words, _, written = words.partition(" > ")
     if words not in left:
         return []
     folder = left.pop(words)
+    if written:
+        others = [contents(f"{it}/{written}") for it in folders if os.path.exists(f"{it}/{written}")]
+        return [b"" if other == contents(f"{folder}/stdout") else other for other in others]
     return [contents(f"{folder}/stdout") + (contents(f"{folder}/status") if asked else b"")]
 
 
@@ -65,8 +70,10 @@ def examples(tally):
     letters = contents(f"{TESTS}/examples.stdout")
     late = b"no: package 5: dependency not earlier\n"
     ran = contents(f"{TESTS}/examples.run.stdout")
+    further = contents(f"{TESTS}/examples.wayon.stdout")
     for words, out, status in ((["status", "listing", "held"], letters, 0), (["audit", "listing", "list"], b"yes\n", 0),
-                               (["audit", "listing", "list.late"], late, 3), (["run", "listing", "trace"], ran, 0)):
+                               (["audit", "listing", "list.late"], late, 3), (["run", "listing", "trace"], ran, 0),
+                               (["wayon", "listing", "trace", "1", "devel/gettext", "4", "builds"], further, 0)):
         tally.add(f"the example {' '.join(words)}", difference(answer(words, EXAMPLES), (out, b"", status)))
     for command, text in (("status", b"I=0 B=0 Q=0 T=0 !=0\n"), ("audit", b"yes\n")):
         got = answer([command, "/dev/null", "/dev/null"], EXAMPLES)

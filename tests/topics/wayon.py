@@ -1,0 +1,136 @@
+"""`dpbr wayon`: stored cases, words and files that are refused, each in its turn, and the largest builds.
+
+Which list of events is printed is free. So of a way is tested what has to hold of any: the members, weights and events of the
+trace that was given stand first; a bounded number of events is behind them, each the node's own claim or build or a datagram, none
+at a node that is down; and `dpbr run` takes all of them, and then one that asks the node for the path is refused, as it is held.
+Of a named case what is printed is known, too, where it is not long.
+"""
+import json
+import os
+import subprocess
+import tempfile
+
+from topics.tally import EXAMPLES, PROGRAM, TESTS, answer, contents, difference
+
+
+def nodes_up(trace):
+    """Which nodes are up once the events of a trace happened."""
+    up = [True] * trace["members"]
+    for event in trace["events"]:
+        if event["event"] in ("stop", "restart"):
+            up[event["node"]] = event["event"] == "restart"
+        elif event["event"] == "stopin":
+            up[event["input"]["node"]] = False
+    return up
+
+
+def form_problem(given, printed, most):
+    """What is wrong with a trace that was printed behind the given one, which has at most so many events more."""
+    known = len(given["events"])
+    way = printed["events"][known:]
+    if printed["events"][:known] != given["events"] or any(printed.get(it) != given.get(it) for it in ("members", "weights")):
+        return "it does not begin with the trace that was given"
+    if len(way) > most:
+        return f"it has {len(way)} events more, and not {most} at most"
+    up = nodes_up(given)
+    wrong = [event for event in way if event["event"] not in ("claim", "built", "deliver") or not up[event["node"]]]
+    return f"{wrong[0]} is no event of a way, or at a node that is down" if wrong else ""
+
+
+def run_problem(printed, listing, node, path, flags):
+    """What is wrong with a trace as `dpbr run` has it: an event is refused, or the node doesn't hold the path in the end."""
+    asked = {**printed, "events": [*printed["events"], {"event": "ask", "node": node, "path": path}]}
+    held = f"dpbr: fault 904 at {len(asked['events'])}\n".encode()
+    with tempfile.TemporaryDirectory() as folder:
+        for name, trace in (("printed", printed), ("asked", asked)):
+            with open(f"{folder}/{name}", "w") as file:
+                json.dump(trace, file)
+        ran = answer(["run", *flags, listing, "printed"], folder)
+        return difference((b"", *ran[1:]), (b"", b"", 0)) or difference(answer(["run", *flags, listing, "asked"], folder), (b"", held, 1))
+
+
+def way_problem(got, folder, words, most):
+    """What is wrong with an answer to these words that should be a way."""
+    out, error, status = got
+    if (error, status) != (b"", 0) or out[-1:] != b"\n":
+        return difference(got, (out, b"", 0)) or "no line feed is at its end"
+    flags = [word for word in words if word.startswith("--")]
+    _, listing, trace, node, path, _, _ = [word for word in words if not word.startswith("--")]
+    given, printed = json.loads(contents(f"{folder}/{trace}")), json.loads(out)
+    return form_problem(given, printed, most) or run_problem(printed, f"{folder}/{listing}", int(node), path, flags)
+
+
+def case(tally, kind, name):
+    """A stored case: the words, the files, and what has to be told; of a way how long it is at most."""
+    folder = f"{TESTS}/{kind}/{name}"
+    words = contents(f"{folder}/words").decode().split()
+    got = answer(words, folder)
+    if contents(f"{folder}/status").strip() != b"0":
+        problem = difference(got, (b"", contents(f"{folder}/stderr"), int(contents(f"{folder}/status"))))
+    else:
+        known = difference(got, (contents(f"{folder}/stdout"), b"", 0)) if os.path.exists(f"{folder}/stdout") else ""
+        problem = known or way_problem(got, folder, words, int(contents(f"{folder}/most")))
+    tally.add(f"{kind}/{name}", problem)
+
+
+def no_calls(tally):
+    """Words that are no call: one too few or too many, and a number that is none or past its range; and numbers that are ones."""
+    words = ["wayon", "listing", "trace", "1", "devel/gettext", "4", "builds"]
+    wrong = [words[:count] for count in range(1, len(words))] + [[*words, "more"], [*words, "--help"], ["ways", *words[1:]], ["--single", *words]]
+    wrong += [[*words[:3], number, *words[4:]] for number in ("256", "-1", "", "1.0", "x", "99999999999999999999")]
+    wrong += [[*words[:5], number, words[6]] for number in ("65536", "-1", "", "7h", "99999999999999999999")]
+    wrong += [[*words, "--single", "--single"], [*words, "--single=yes"], [*words[:3], b"\xff", *words[4:]]]
+    for no_call in wrong:
+        out, error, code = answer(no_call, EXAMPLES)
+        tally.add(f"the words {no_call}", "" if (out, code) == (b"", 2) and error else f"{out!r:.200}, {error!r:.200}, status {code}")
+    plain = answer(words, EXAMPLES)
+    for node, host in (("+1", "4"), ("1", "004"), ("01", "+4")):
+        got = answer([*words[:3], node, words[4], host, words[6]], EXAMPLES)
+        tally.add(f"the numbers {node} and {host}", difference(got, plain))
+
+
+def refusals(tally):
+    """Which of several faults is told: files and the path in the order of the words, then the trace's events, then the way's."""
+    good, trace, builds, refused = f"{EXAMPLES}/listing", f"{EXAMPLES}/trace", f"{EXAMPLES}/builds", '{"events":[{"event":"nudge","node":0}],"members":3}'
+    long = "a/" + "x" * 254
+    with tempfile.TemporaryDirectory() as folder:
+        for name, text in (("bad", "a/p\n"), ("refused", refused), ("twice", '{"a/b,x,y":[],"a/b,y,x":[]}')):
+            with open(f"{folder}/{name}", "w") as file:
+                file.write(text)
+        rows = [(["none", "bad", "0", "c", "7", "bad"], "2"), (["bad", "none", "0", "c", "7", "none"], "401 at 1"),
+                ([good, "none", "0", "c", "7", "none"], "2"), ([good, "bad", "0", "c", "7", "none"], "1305 at 0"),
+                ([good, "refused", "9", "c", "7", "none"], "102"), ([good, "refused", "9", "a/b", "7", "none"], "2"),
+                ([good, "refused", "9", "a/b", "7", "bad"], "1305 at 0"), ([good, "refused", "9", "a/b", "7", "twice"], "1305 at 0"),
+                ([good, "refused", "9", "a/b", "7", builds], "905 at 1"), ([good, trace, "9", "a/b", "7", builds], "1301"),
+                ([good, trace, "0", "a/b", "7", builds], "901")]
+        rows += [([good, trace, "0", path, "7", "none"], number) for path, number in
+                 (("", "101"), (long, "105"), ("a", "102"), ("a//b", "103"), ("a/b,-x,-y", "104"), ("a/b,,,f", "106"))]
+        for words, fault in rows:
+            tally.add(f"wayon {words}", difference(answer(["wayon", *words], folder), (b"", f"dpbr: fault {fault}\n".encode(), 1)))
+    with open("/dev/full", "wb") as full:
+        done = subprocess.run([PROGRAM, "wayon", "listing", "trace", "1", "devel/gettext", "4", "builds"], cwd=EXAMPLES, stdout=full, stderr=subprocess.PIPE)
+    tally.add("wayon on a full device", difference((b"", done.stderr, done.returncode), (b"", b"dpbr: fault 2\n", 1)))
+
+
+def large_builds(tally):
+    """Files that just fit the limit of a build, and a byte more; the claim's round, the greatest and one more, stands in the build."""
+    claimed = '{"above":%d,"event":"claim","host":3,"node":0,"path":"a/b"}'
+    for name, event, size, fault in (("the largest build", "", 4194158, 0), ("a build a byte too large", "", 4194159, 907),
+                                     ("the largest build by its round", claimed % 7, 4194158, 0), ("a build too large by its round", claimed % 8, 4194158, 907)):
+        with tempfile.TemporaryDirectory() as folder:
+            for file_name, text in (("LISTING", "a/b.FULLPKGNAME=b-1.0\n"), ("TRACE", '{"events":[%s],"members":1}' % event),
+                                    ("BUILDS", '{"a/b":[{"hex":"%s","name":"x"}]}' % ("7a" * size))):
+                with open(f"{folder}/{file_name}", "w") as file:
+                    file.write(text)
+            words = ["wayon", "LISTING", "TRACE", "0", "a/b", "7", "BUILDS"]
+            got = answer(words, folder)
+            problem = difference(got, (b"", b"dpbr: fault %d\n" % fault, 1)) if fault else way_problem(got, folder, words, 2 + 2 + 2 * 128)
+        tally.add(f"wayon: {name}", problem)
+
+
+def run(tally):
+    for name in sorted(os.listdir(f"{TESTS}/wayon")):
+        case(tally, "wayon", name)
+    no_calls(tally)
+    refusals(tally)
+    large_builds(tally)
