@@ -144,8 +144,8 @@ def counted(tally):
 
     program = (len(below("dpbr", crates())),)
     for name, form, counts in (("README.md", r"its\s+(\d+)\s+crates", program), ("docs/TIMES.md", r"proves\s+(\d+)\s+crates", program),
-                               ("docs/TESTED.md", r"(\d+) stored cases of `dpbr status` and `dpbr audit` and (\d+) of `dpbr run`",
-                                (cases("status", "audit"), cases("traces", "pieces")))):
+                               ("docs/TESTED.md", r"(\d+) stored cases of `dpbr status` and `dpbr audit` and (\d+) of `dpbr run`, (\d+) of `dpbr wayon`",
+                                (cases("status", "audit"), cases("traces", "pieces"), cases("wayon")))):
         told = re.search(form, contents(f"{TOP}/{name}").decode())
         tally.add(f"{name}, what it counts", "" if told and tuple(map(int, told.groups())) == counts else f"{told and told[0]}, and there are {counts}")
     lines = len(lines_of(f"{TOP}/README.md")) - 1
