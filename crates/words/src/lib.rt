@@ -12,6 +12,7 @@ mod run;
 mod status;
 mod wayon;
 
+pub use arguments::{is_single, single, text_of};
 use clap::error::ErrorKind;
 use clap::{ArgMatches, Command, Error};
 use std::alloc::{AllocError, Global};
