@@ -1,0 +1,5 @@
+pub mod Digits
+pub mod Named
+pub mod Refused
+pub mod Taken
+pub mod Uses

@@ -1,0 +1,170 @@
+-- Words that clap takes name a call.
+use Rattle.std.proofs.Common.{arith, ◌≡◌, ◌⊎◌, ◌++◌, ◌&&◌, ◌||◌, inl, inr, ℕ, Bool, true, false, cond, drop, List, [], ◌∷◌, None, Some, refl, sym, subst, not, true≢false, codes}
+use Rattle.std.specs.Prelude.{find, if◌then◌else◌, pos}
+use Rattle.std.specs.List.{list_any, slice_index_or}
+use Rattle.std.specs.Str.{bytes_eq}
+use Rattle.std.proofs.lemmas.Slice.Eq.{bytes_eq-Decides}
+use Rattle.clap.specs.Facts.{parser_of_value}
+use Rattle.clap.specs.Faults.{level_fault}
+use Rattle.clap.specs.Kinds.{value_kinds}
+use Rattle.clap.specs.Simple.{Shape, argument_words, built, filled, filled_from, label_of, rows_at}
+use Rattle.clap.specs.Takes.{is_given}
+use Rattle.clap.specs.Walk.{Row, Rule, Text, answers_to, arg_by_id, nothing_held, rows_after}
+use Rattle.clap.specs.Words.{fault_of}
+use Rattle.clap.specs.declared.builder.value_parser.ValueParser.TheVariants.{Signed}
+use Rattle.clap.specs.declared.error.kind.ErrorKind.{ErrorKind}
+use Rattle.clap.proofs.ValueTestLemmas.{accepts-Accepts}
+use Rattle.words.proofs.Entering.{Enters, enters_one, none_lacks}
+use Rattle.dpbn_words.proofs.Uses.{AllFit, AreKnown, IsMatched, given_matched, none_or_matched, rows_fit}
+use Rattle.dpbn_words.specs.Calls.{cluster_command, dpbn_app, matched, needed, number, option, shared}
+use Rattle.dpbn_words.specs.inside.Naming.{HasFiles, HasNumber, HasText, MayHaveNumber, NamesCall}
+
+-- ---- values that were matched
+
+passed : (b : Bool) (k : ErrorKind) → (if b then [] else k ∷ []) ≡ [] → b ≡ true
+passed true k e = refl
+passed false k e = absurd (let no : k ∷ [] ≡ [] = e in cc)
+
+-- what does not lack is given
+is_there : (a b : Bool) → (not a || b) ≡ false → (a ≡ true) × (b ≡ false)
+is_there true b e = (refl, e)
+is_there false b e = absurd (true≢false e)
+
+module _ (c : List Rule) (rows : List Row) (fit : AllFit c rows) where
+  text_there : (id : Text) → arg_by_id c id ≡ Some (filled (needed (option id))) → is_given id rows ≡ true → HasText rows id
+  text_there id own given =
+      let there = given_matched c (filled (needed (option id))) own rows fit given in
+      (there.text, there.first)
+
+  number_there : (id : Text) (least most : ℕ) → arg_by_id c id ≡ Some (filled (needed (number id least most))) → is_given id rows ≡ true
+      → HasNumber rows id least most
+  number_there id least most own given =
+      let there = given_matched c (filled (needed (number id least most))) own rows fit given in
+      (there.text, accepts-Accepts false (Signed (pos least) (pos most)) there.text (passed _ _ there.passes), there.one)
+
+  number_if_there : (id : Text) (least most : ℕ) → arg_by_id c id ≡ Some (filled (number id least most)) → MayHaveNumber rows id least most
+  number_if_there id least most own = elim (none_or_matched c (filled (number id least most)) own rows fit) [
+    | inl none ↦ inl none
+    | inr there ↦ inr (there.text, accepts-Accepts false (Signed (pos least) (pos most)) there.text (passed _ _ there.passes), there.one)
+  ]
+
+-- one that has to be given lacks
+abbrev lacks : List Row → Rule → Bool
+lacks rows a = a.required && not (is_given a.id rows)
+
+-- the values that both subcommands take, where others follow
+files_there : (more : List Rule) (rows : List Row) → AllFit (filled_from 1 shared ++ more) rows → list_any (lacks rows) (filled_from 1 shared ++ more) ≡ false
+    → HasFiles rows × (list_any (lacks rows) more ≡ false)
+files_there more rows fit none =
+    let c : List Rule = filled_from 1 shared ++ more in
+    let listing = is_there (is_given (codes "listing") rows) _ none in
+    let builds = is_there (is_given (codes "builds") rows) _ listing.1 in
+    let dir = is_there (is_given (codes "dir") rows) _ builds.1 in
+    let members = is_there (is_given (codes "members") rows) _ dir.1 in
+    let turns = is_there (is_given (codes "turns") rows) _ members.1 in (
+      record {
+        paths = (text_there c rows fit _ refl listing.0, text_there c rows fit _ refl builds.0, text_there c rows fit _ refl dir.0);
+        members = number_there c rows fit _ _ _ refl members.0;
+        turns = number_there c rows fit _ _ _ refl turns.0;
+        progress = number_if_there c rows fit _ _ _ refl;
+      },
+      turns.1,
+    )
+
+-- ---- the subcommands as they are built: the program's two, and clap's own
+
+abbrev subcommand_at : ℕ → Shape
+subcommand_at k = slice_index_or (built dpbn_app).subs k cluster_command
+
+-- each argument is the one of its name, and each use of it has a value: an option its own, the flag the one that stands for it
+shared_known : (more : List Rule) → AreKnown (filled_from 1 shared ++ more) more → AreKnown (filled_from 1 shared ++ more) (filled_from 1 shared ++ more)
+shared_known more rest =
+    (record { own = refl; values = inl (omega arith) }, (record { own = refl; values = inl (omega arith) }, (record { own = refl; values = inl (omega arith) }, (record { own = refl; values = inl (omega arith) }, (record { own = refl; values = inl (omega arith) }, (record { own = refl; values = inl (omega arith) }, (record { own = refl; values = inl (omega arith) }, (record { own = refl; values = inr (omega arith) }, rest))))))))
+
+cluster_known : AreKnown (subcommand_at 0).rules (subcommand_at 0).rules
+unfolding dpbn_app
+cluster_known = shared_known (drop 8 (subcommand_at 0).rules) (record { own = refl; values = inl (omega arith) }, (record { own = refl; values = tt }, tt))
+
+node_known : AreKnown (subcommand_at 1).rules (subcommand_at 1).rules
+unfolding dpbn_app
+node_known =
+    shared_known (drop 8 (subcommand_at 1).rules)
+    (record { own = refl; values = inl (omega arith) }, (record { own = refl; values = inl (omega arith) }, (record { own = refl; values = inl (omega arith) }, (record { own = refl; values = inl (omega arith) }, (record { own = refl; values = tt }, tt)))))
+
+abbrev rows_at_sub : ℕ → List Text → List Row
+rows_at_sub k rest = rows_after (subcommand_at k).rules [] rest
+
+cluster_values : (rest : List Text) → level_fault (subcommand_at 0) [] nothing_held rest false [] ≡ []
+    → NamesCall (Some (rows_at (subcommand_at 0) rest))
+unfolding dpbn_app
+cluster_values rest none =
+    let fit = rows_fit (subcommand_at 0) rest cluster_known none in
+    inl (refl, (files_there (drop 8 (subcommand_at 0).rules) (rows_at_sub 0 rest) fit (none_lacks (subcommand_at 0) rest refl none)).0)
+
+node_values : (rest : List Text) → level_fault (subcommand_at 1) [] nothing_held rest false [] ≡ []
+    → NamesCall (Some (rows_at (subcommand_at 1) rest))
+unfolding dpbn_app
+node_values rest none =
+    let c : List Rule = (subcommand_at 1).rules in
+    let rows : List Row = rows_at_sub 1 rest in
+    let fit : AllFit c rows = rows_fit (subcommand_at 1) rest node_known none in
+    let files = files_there (drop 8 c) rows fit (none_lacks (subcommand_at 1) rest refl none) in
+    let me = is_there (is_given (codes "me") rows) _ files.1 in
+    inr (
+      refl,
+      record {
+        files = files.0;
+        me = number_there c rows fit _ _ _ refl me.0;
+        base = number_if_there c rows fit _ _ _ refl;
+        patience = number_if_there c rows fit _ _ _ refl;
+      },
+    )
+
+-- ---- which subcommand is entered
+
+-- which one of three is found: the last passes the test
+abbrev IsOneOf : {X : Type 0} → (X → Bool) → X → X → X → X → Type 0
+IsOneOf p a b c x = (a ≡ x) ⊎ ((b ≡ x) ⊎ ((c ≡ x) × (p c ≡ true)))
+
+found_among : {X : Type 0} (p : X → Bool) (a b c x : X) → find p (a ∷ b ∷ c ∷ []) ≡ Some x → IsOneOf p a b c x
+found_among {X} p a b c x = by (p a) (p b) (p c) refl
+  where
+    same : (u v : X) → Some u ≡ Some v → u ≡ v
+    same u v e = cc
+
+    by : (i j k : Bool) → p c ≡ k → cond i (Some a) (cond j (Some b) (cond k (Some c) None)) ≡ Some x → IsOneOf p a b c x
+    by true j k at e = inl (same a x e)
+    by false true k at e = inr (inl (same b x e))
+    by false false true at e = inr (inr (same c x e, at))
+    by false false false at e = absurd (let no : None ≡ Some x = e in cc)
+
+help_is_met : (name : Text) → answers_to name (label_of (subcommand_at 2)) ≡ true → name ≡ codes "help"
+unfolding dpbn_app
+help_is_met name met = sym ((bytes_eq-Decides (codes "help") name).0 (by (bytes_eq (codes "help") name) met))
+  where
+    by : (b : Bool) → (b || false) ≡ true → b ≡ true
+    by true e = refl
+    by false e = e
+
+never_help : (name : Text) → name ≡ codes "help" → (bytes_eq name (codes "help") && true) ≡ false → ⊥
+never_help name is no_help = true≢false (subst (λ (t : Text). (bytes_eq t (codes "help") && true) ≡ false) is no_help)
+
+abbrev NamedBy : Shape → List Text → Type 0
+NamedBy shape rest = NamesCall (Some (rows_at shape rest))
+
+shape_values : (words : List Text) (e : Enters (built dpbn_app) words) → NamedBy e.shape e.rest
+unfolding dpbn_app
+shape_values words e =
+    elim (found_among (λ s. answers_to e.name (label_of s)) (subcommand_at 0) (subcommand_at 1) (subcommand_at 2) e.shape e.found) [
+      | inl is ↦ subst (λ s. NamedBy s e.rest) is (cluster_values e.rest (subst (λ s. level_fault s [] nothing_held e.rest false [] ≡ []) (sym is) e.faultless))
+      | inr rest ↦ elim rest [
+        | inl is ↦ subst (λ s. NamedBy s e.rest) is (node_values e.rest (subst (λ s. level_fault s [] nothing_held e.rest false [] ≡ []) (sym is) e.faultless))
+        | inr own ↦ absurd (never_help e.name (help_is_met e.name own.1) e.no_help)
+      ]
+    ]
+
+pub taken_names_call : (words : List Text) → fault_of dpbn_app words ≡ [] → NamesCall (matched words)
+unfolding matched dpbn_app
+taken_names_call words none =
+    let e = enters_one (built dpbn_app) (argument_words dpbn_app words) refl none in
+    subst NamesCall (sym e.enters) (shape_values (argument_words dpbn_app words) e)

@@ -1,0 +1,17 @@
+use Rattle.std.proofs.Common.{◌≡◌, List, Some, codes, rules}
+use Rattle.clap.specs.Words.{Row, found_of, rows_of, subcommand_rows_of}
+use Rattle.dpbn_words.proofs.Named.{cluster_kind, node_kind}
+use Rattle.dpbn_words.proofs.call_of.Goals as goal
+
+pub returns-in-Some-cluster-default-clause-kind : goal.returns-in-Some-cluster-default-clause-kind
+returns-in-Some-cluster-default-clause-kind c =
+    let rows : List Row = rows_of (found_of c.in-Some-cluster-default.found.now) in
+    let is : subcommand_rows_of c.args.matches.now ≡ Some (codes "cluster", rows) = search rules in
+    cluster_kind c.ok_or.result (subcommand_rows_of c.args.matches.now) rows is (search rules)
+
+pub returns-in-Some-node-default-clause-kind : goal.returns-in-Some-node-default-clause-kind
+returns-in-Some-node-default-clause-kind c =
+    let rows : List Row = rows_of (found_of c.in-Some-node-default.found.now) in
+    let is : subcommand_rows_of c.args.matches.now ≡ Some (codes "node", rows) = search rules in
+    node_kind c.call_of-in-Some-node-default.result (subcommand_rows_of c.args.matches.now) rows is
+    c.call_of-in-Some-node-default.ensures.kind

@@ -1,0 +1,145 @@
+-- The calls of `dpbn`, as clap matches their words.
+use Rattle.std.specs.Prelude.{◌≡◌, ◌≤◌, ◌++◌, ℕ, codes, if◌then◌else◌, is_some, List, [], ◌∷◌, Bool, Option, None, Some, option_map, pos, true, false}
+use Rattle.std.specs.Str.{bytes_eq}
+use Rattle.std.specs.Str.Parse.{digits_value, without_leading_plus}
+use Rattle.clap.specs.Kinds.{or_else}
+use Rattle.clap.specs.Words.{App, Kinds, Row, Rule, Shape, Text, fault_of, first_of, new_app, new_rule, one_of, subcommand_of, with_subcommand}
+use Rattle.clap.specs.declared.builder.value_parser.ValueParser.TheVariants.{Signed}
+use Rattle.clap.specs.declared.error.kind.ErrorKind.TheVariants.{ArgumentConflict, MissingRequiredArgument}
+use Rattle.dpbn_words.specs.declared.Call.{Call}
+use Rattle.dpbn_words.specs.declared.Call.TheVariants.{Cluster, Node}
+use Rattle.dpbn_words.specs.declared.Files.{Files}
+use Rattle.dpbn_words.specs.declared.Peers.{Peers}
+use Rattle.dpbn_words.specs.declared.Peers.TheVariants.{Base, Hosts}
+use Rattle.words.specs.Calls.{IsFlag, command, single}
+
+-- ---- what clap is told
+
+-- an option that may be given, with a value behind it
+abbrev pub option : Text → Rule
+option id = record (new_rule id) { long = Some id; value_names = 1 }
+
+-- the same, where the value is a number from this one to that
+abbrev pub number : Text → ℕ → ℕ → Rule
+number id least most = record (option id) { parser = Some (Signed (pos least) (pos most)) }
+
+-- the same, where it has to be given
+abbrev pub needed : Rule → Rule
+needed rule = record rule { required = true }
+
+-- what both subcommands take
+abbrev pub shared : List Rule
+shared =
+    needed (option (codes "listing"))
+    ∷ needed (option (codes "builds"))
+    ∷ needed (option (codes "dir"))
+    ∷ needed (number (codes "members") 1 9)
+    ∷ needed (number (codes "turns") 0 1000000)
+    ∷ option (codes "weights")
+    ∷ number (codes "progress") 1 1000000
+    ∷ single
+    ∷ []
+
+-- `dpbn cluster`
+abbrev pub cluster_command : Shape
+cluster_command = command (codes "cluster") (shared ++ option (codes "trace") ∷ [])
+
+-- `dpbn node`
+abbrev pub node_command : Shape
+node_command = command (codes "node") (
+    shared
+    ++ needed (number (codes "me") 0 255)
+    ∷ number (codes "base") 1024 65526
+    ∷ option (codes "hosts")
+    ∷ number (codes "patience") 0 60000
+    ∷ [])
+
+-- the program with its subcommand on all nodes alone; it has to be given a subcommand
+abbrev pub cluster_app : App
+cluster_app =
+    let program = new_app (codes "dpbn") in
+    with_subcommand
+    (record program { top = record program.top { subcommand_required = true } }) cluster_command
+
+-- the program
+unfoldable pub dpbn_app : App
+dpbn_app = with_subcommand cluster_app node_command
+
+-- the subcommand that clap matches of the words, and what it matches under the names of that
+unfoldable pub matched : List Text → Option (Text × List Row)
+matched words = subcommand_of dpbn_app words
+
+-- ---- which words are refused
+
+-- something was matched under a name
+abbrev pub is_given : List Row → Text → Bool
+is_given rows id = is_some (first_of id rows)
+
+-- of two options of which one has to be given, both were, or none
+abbrev pub choice_fault : Bool → Bool → Kinds
+choice_fault true true = ArgumentConflict ∷ []
+choice_fault false false = MissingRequiredArgument ∷ []
+choice_fault _ _ = []
+
+-- a node has to be told either the first port of all members or their hosts
+abbrev pub peers_fault : Option (Text × List Row) → Kinds
+peers_fault None = []
+peers_fault (Some (name, rows)) =
+    if bytes_eq name (codes "node")
+    then choice_fault (is_given rows (codes "base")) (is_given rows (codes "hosts")) else []
+
+-- the kinds of fault that clap finds in the words, of which it names one, or else that of the peers
+unfoldable pub faults_of : List Text → Kinds
+faults_of words = or_else (fault_of dpbn_app words) (peers_fault (matched words))
+
+-- the words are taken: no fault is found in them
+abbrev pub AreTaken : List Text → Type 0
+AreTaken words = faults_of words ≡ []
+
+-- ---- what a call is
+
+-- the text that was matched under a name
+abbrev pub IsText : List Row → Text → Text → Type 0
+IsText rows id value = first_of id rows ≡ Some value
+
+-- the text that was matched, or none
+abbrev pub IsTextIf : List Row → Text → Option Text → Type 0
+IsTextIf rows id value = first_of id rows ≡ value
+
+-- the number that was matched under a name, which lies between these
+abbrev pub IsNumber : List Row → Text → ℕ → ℕ → ℕ → Type 0
+IsNumber rows id least most n =
+    ((t : Text) × (one_of id rows ≡ Some t) × (digits_value 10 (without_leading_plus t) ≡ n))
+    × (least ≤ n) × (n ≤ most)
+
+-- the number that was matched, or none
+abbrev pub IsNumberIf : List Row → Text → ℕ → ℕ → Option ℕ → Type 0
+IsNumberIf rows id least most None = first_of id rows ≡ None
+IsNumberIf rows id least most (Some n) = IsNumber rows id least most n
+
+-- what both subcommands take
+pub record AreFiles (rows : List Row) (f : Files) : Type 0 where
+  pub listing : IsText rows (codes "listing") f.listing.now
+  pub builds : IsText rows (codes "builds") f.builds.now
+  pub dir : IsText rows (codes "dir") f.dir.now
+  pub members : IsNumber rows (codes "members") 1 9 f.members
+  pub turns : IsNumber rows (codes "turns") 0 1000000 f.turns
+  pub weights : IsTextIf rows (codes "weights") (option_map (λ t. t.now) f.weights)
+  pub progress : IsNumberIf rows (codes "progress") 1 1000000 f.progress
+  pub single : IsFlag rows (codes "single") f.is_single
+
+-- where the members listen: what was given, and the other was not
+abbrev pub ArePeers : List Row → Peers → Type 0
+ArePeers rows (Base port) =
+    IsNumber rows (codes "base") 1024 65526 port × IsTextIf rows (codes "hosts") None
+ArePeers rows (Hosts text) =
+    IsText rows (codes "hosts") text.now × IsTextIf rows (codes "base") None
+
+-- clap matched the call's subcommand, and the call's values are those of its matches
+abbrev pub IsCallOf : Option (Text × List Row) → Call → Type 0
+IsCallOf None call = ⊥
+IsCallOf (Some (name, rows)) (Cluster files trace) = (name ≡ codes "cluster") × AreFiles rows files
+    × IsTextIf rows (codes "trace") (option_map (λ t. t.now) trace)
+IsCallOf (Some (name, rows)) (Node files me peers patience) = (name ≡ codes "node")
+    × AreFiles rows files × IsNumber rows (codes "me") 0 255 me × ArePeers rows peers
+    × IsNumberIf rows (codes "patience") 0 60000 patience

@@ -1,0 +1,136 @@
+//! The words of `dpbn`: which call of the program they make, as clap matches them.
+#![tactic(auto)]
+
+ghost use Rattle.std.specs.Prelude.{◌≡◌, IfErr, IfOk, [], map};
+ghost use Rattle.clap.specs.Words.{FailsBy, IsAmong, app_of, fault_of, kind_of, subcommand_rows_of};
+ghost use Rattle.dpbn_words.specs.Calls.{IsCallOf, cluster_app, dpbn_app, faults_of, matched, peers_fault};
+ghost use Rattle.dpbn_words.specs.inside.Naming.{NamesCall};
+
+mod arguments;
+mod cluster;
+mod node;
+mod numbers;
+mod shared;
+
+use clap::error::ErrorKind;
+use clap::{ArgMatches, Command, Error};
+use std::alloc::{AllocError, Global};
+use std::convert::AsStr;
+
+/// What both subcommands take.
+#[derive(Debug, Drop)]
+pub struct Files<'a> {
+    pub listing: &'a str,
+    pub builds: &'a str,
+    /// The folder of the logs.
+    pub dir: &'a str,
+    /// How many members there are: 1 to 9.
+    pub members: u8,
+    /// How many turns are taken: at most 1,000,000.
+    pub turns: u32,
+    /// What the members weigh, as it was written.
+    pub weights: Option<&'a str>,
+    /// After each how many turns the nodes' lines are told: 1 to 1,000,000.
+    pub progress: Option<u32>,
+    /// Whether each path of the listing is a group of its own.
+    pub is_single: bool,
+}
+
+/// Where the members of a cluster listen.
+#[derive(Debug, Drop)]
+pub enum Peers<'a> {
+    /// On 127.0.0.1, each at this port and its own number further: 1,024 to 65,526.
+    Base(u16),
+    /// On the hosts that are named here, as it was written.
+    Hosts(&'a str),
+}
+
+/// A call of the program.
+#[derive(Debug, Drop)]
+pub enum Call<'a> {
+    /// All members' nodes, in this process, and the file for the trace of the run.
+    Cluster {
+        files: Files<'a>,
+        trace: Option<&'a str>,
+    },
+    /// The node of member `me`, and for how many milliseconds a turn of it waits for a datagram:
+    /// at most 60,000.
+    Node {
+        files: Files<'a>,
+        me: u8,
+        peers: Peers<'a>,
+        patience: Option<u16>,
+    },
+}
+
+/// The call that the words make, the first of which is the program's name.
+///
+/// Words that make no call, and those that ask for help, are refused with clap's text; so are those
+/// of a node that name neither the first port nor the hosts of its peers, or both.
+pub fn dpbn_words<'a, S: AsStr>(alloc: Global, words: &'a [S]) -> Result<Call<'a>, Error>
+    ensures call { IfOk result (IsCallOf (matched (map S.text words.entry.now))) }
+    // Where there is a call no fault is found in the words, and a refusal is for want of memory
+    // or of a kind of their faults.
+    ensures faults { FailsBy (faults_of (map S.text words.entry.now)) result }
+{
+    let matches = matches_of(alloc, words)?;
+    match call_of(&matches) {
+        Ok(call) => Ok(call),
+        Err(kind) => Err(refusal(alloc, kind)?),
+    }
+}
+
+/// What clap matches of the words.
+fn matches_of<'a, S: AsStr>(alloc: Global, words: &'a [S]) -> Result<ArgMatches<'a>, Error>
+    ensures matched { IfOk result
+        (λ m. subcommand_rows_of m ≡ matched (map S.text words.entry.now)) }
+    ensures faults { FailsBy (fault_of dpbn_app (map S.text words.entry.now)) result }
+{
+    let command = dpbn_command(alloc)?;
+    command.try_get_matches_from(words)
+}
+
+/// The call with the values that were found, or the kind of fault in them.
+fn call_of<'a>(matches: &ArgMatches<'a>) -> Result<Call<'a>, ErrorKind>
+    ensures call { IfOk result (IsCallOf (subcommand_rows_of matches.now)) }
+    ensures sound { IfOk result (λ call. peers_fault (subcommand_rows_of matches.now) ≡ []) }
+    ensures kind { IfErr result (λ kind. NamesCall (subcommand_rows_of matches.now)
+        → IsAmong kind (peers_fault (subcommand_rows_of matches.now))) }
+{
+    match matches.subcommand() {
+        Some(("cluster", found)) => cluster::call_of(found).ok_or(ErrorKind::MissingSubcommand),
+        Some(("node", found)) => node::call_of(found),
+        _ => Err(ErrorKind::MissingSubcommand),
+    }
+}
+
+/// The refusal of words with a fault of this kind.
+fn refusal(alloc: Global, kind: ErrorKind) -> Result<Error, AllocError>
+    ensures { IfOk result (λ error. kind_of error ≡ kind) }
+{
+    let message = match kind {
+        ErrorKind::MissingRequiredArgument => "one of --base and --hosts has to be given",
+        ErrorKind::ArgumentConflict => "--base and --hosts cannot be given together",
+        _ => "the words name no call",
+    };
+    dpbn_command(alloc)?.error(kind, message)
+}
+
+/// What clap is told of the program.
+#[tactic(auto, unfolding(crate::specs::Calls::dpbn_app))]
+fn dpbn_command<'a>(alloc: Global) -> Result<Command<'a>, AllocError>
+    ensures { IfOk result (λ command. app_of command ≡ dpbn_app) }
+{
+    with_cluster(alloc)?.subcommand(node::command(alloc)?)
+}
+
+/// The same of its subcommand on all nodes alone.
+fn with_cluster<'a>(alloc: Global) -> Result<Command<'a>, AllocError>
+    ensures { IfOk result (λ command. app_of command ≡ cluster_app) }
+{
+    let cluster = cluster::command(alloc)?;
+    Command::new(alloc, "dpbn")
+        .about("Nodes that build a listing's packages together.")
+        .subcommand_required(true)
+        .subcommand(cluster)
+}

@@ -1,0 +1,92 @@
+//! `dpbn node`.
+ghost use Rattle.std.specs.Prelude.{◌≡◌, IfErr, IfNone, IfOk, IfSome, Some, [], codes, false};
+ghost use Rattle.clap.specs.Words.{IsAmong, found_of, rows_of, shape_of};
+ghost use Rattle.clap.specs.declared.builder.command.Command.TheViews.{out-Command as fields_of};
+ghost use Rattle.dpbn_words.specs.Calls.{ArePeers, IsCallOf, IsNumberIf, choice_fault, is_given, node_command, peers_fault};
+ghost use Rattle.dpbn_words.specs.inside.Naming.{HasNode, MayHaveNumber};
+
+use crate::arguments::{base, me, option, patience, with_options};
+use crate::numbers::{number_if, number_of};
+use crate::shared::{self, files_of};
+use crate::{Call, Peers};
+use clap::error::ErrorKind;
+use clap::{ArgMatches, Command};
+use std::alloc::{AllocError, Global};
+use words::text_of;
+
+/// What clap is told of the subcommand.
+pub fn command<'a>(alloc: Global) -> Result<Command<'a>, AllocError>
+    ensures shape { IfOk result (λ command. shape_of command ≡ node_command) }
+    ensures local { IfOk result (λ command. (fields_of command).has_globals ≡ false) }
+{
+    let about = "Runs the node of one member, and prints what it shows.";
+    let hosts = option(
+        alloc,
+        "hosts",
+        "A0:P0,A1:P1,..",
+        "where each member listens",
+    );
+    let command = shared::command(alloc, "node", about)?;
+    with_options(command, me(alloc), base(alloc), hosts)?.arg(patience(alloc))
+}
+
+/// The call with the values that were found, or the kind of fault in them.
+pub fn call_of<'a>(found: &ArgMatches<'a>) -> Result<Call<'a>, ErrorKind>
+    ensures call { IfOk result (IsCallOf (Some (codes "node", rows_of (found_of found.now)))) }
+    ensures sound { IfOk result
+        (λ call. peers_fault (Some (codes "node", rows_of (found_of found.now))) ≡ []) }
+    ensures kind { IfErr result (λ kind. HasNode (rows_of (found_of found.now))
+        → IsAmong kind (peers_fault (Some (codes "node", rows_of (found_of found.now))))) }
+{
+    let peers = peers_of(found)?;
+    with_peers(found, peers).ok_or(ErrorKind::MissingRequiredArgument)
+}
+
+/// The first port of all members, or their hosts: one of the two has to be given.
+fn peers_of<'a>(found: &ArgMatches<'a>) -> Result<Peers<'a>, ErrorKind>
+    ensures peers { IfOk result (ArePeers (rows_of (found_of found.now))) }
+    ensures kind { IfErr result (λ kind.
+        MayHaveNumber (rows_of (found_of found.now)) (codes "base") 1024 65526
+        → IsAmong kind (choice_fault (is_given (rows_of (found_of found.now)) (codes "base"))
+        (is_given (rows_of (found_of found.now)) (codes "hosts")))) }
+{
+    match (
+        number_if(found, "base", 1024, 65_526),
+        text_of(found, "hosts"),
+    ) {
+        (Some(Some(base)), None) => Ok(Peers::Base(base as u16)),
+        (Some(None), Some(hosts)) => Ok(Peers::Hosts(hosts)),
+        (Some(Some(_)), Some(_)) => Err(ErrorKind::ArgumentConflict),
+        _ => Err(ErrorKind::MissingRequiredArgument),
+    }
+}
+
+/// The call with these peers and the values that were found.
+fn with_peers<'a>(found: &ArgMatches<'a>, peers: Peers<'a>) -> Option<Call<'a>>
+    requires { ArePeers (rows_of (found_of found.now)) peers }
+    ensures some { IfSome result (IsCallOf (Some (codes "node", rows_of (found_of found.now)))) }
+    ensures none { IfNone result (¬ HasNode (rows_of (found_of found.now))) }
+{
+    let files = files_of(found)?;
+    let me = number_of(found, "me", 0, 255)? as u8;
+    let patience = patience_of(found)?;
+    Some(Call::Node {
+        files,
+        me,
+        peers,
+        patience,
+    })
+}
+
+/// For how many milliseconds a turn waits, if that was given.
+fn patience_of(found: &ArgMatches<'_>) -> Option<Option<u16>>
+    ensures some { IfSome result
+        (IsNumberIf (rows_of (found_of found.now)) (codes "patience") 0 60000) }
+    ensures none { IfNone result
+        (¬ MayHaveNumber (rows_of (found_of found.now)) (codes "patience") 0 60000) }
+{
+    match number_if(found, "patience", 0, 60_000)? {
+        Some(patience) => Some(Some(patience as u16)),
+        None => Some(None),
+    }
+}

@@ -1,0 +1,84 @@
+//! What both subcommands take.
+ghost use Rattle.std.specs.Prelude.{◌≡◌, IfNone, IfOk, IfSome, codes, false};
+ghost use Rattle.clap.specs.Words.{app_of, found_of, rows_of};
+ghost use Rattle.clap.specs.declared.builder.command.Command.TheViews.{out-Command as fields_of};
+ghost use Rattle.dpbn_words.specs.Calls.{AreFiles};
+ghost use Rattle.dpbn_words.specs.inside.Apps.{counts, paths, shared_app, with_rules};
+ghost use Rattle.dpbn_words.specs.inside.Naming.{ArePaths, HasFiles, HasPaths};
+
+use crate::Files;
+use crate::arguments::{members, needed, option, progress, turns, with_options};
+use crate::numbers::{number_if, number_of};
+use clap::{ArgMatches, Command};
+use std::alloc::{AllocError, Global};
+use words::{is_single, single, text_of};
+
+/// What clap is told of a subcommand that takes what both take.
+pub fn command<'a>(alloc: Global, name: &'a str, about: &'a str) -> Result<Command<'a>, AllocError>
+    ensures app { IfOk result (λ command. app_of command ≡ shared_app name.entry.now) }
+    ensures local { IfOk result (λ command. (fields_of command).has_globals ≡ false) }
+{
+    let command = Command::new(alloc, name).about(about);
+    with_counts(alloc, with_paths(alloc, command)?)
+}
+
+/// The command with the options that name files and folders.
+fn with_paths<'a>(alloc: Global, command: Command<'a>) -> Result<Command<'a>, AllocError>
+    requires local { (fields_of command).has_globals ≡ false }
+    ensures app { IfOk result (λ more. app_of more ≡ with_rules (app_of command.entry) paths) }
+    ensures local { IfOk result (λ more. (fields_of more).has_globals ≡ false) }
+{
+    let listing = needed(alloc, "listing", "FILE", "a listing of the ports tree");
+    let builds = needed(alloc, "builds", "FILE", "files for package paths, as JSON");
+    let dir = needed(alloc, "dir", "FOLDER", "the folder of the nodes' logs");
+    with_options(command, listing, builds, dir)
+}
+
+/// The command with the options on members and turns.
+fn with_counts<'a>(alloc: Global, command: Command<'a>) -> Result<Command<'a>, AllocError>
+    requires local { (fields_of command).has_globals ≡ false }
+    ensures app { IfOk result (λ more. app_of more ≡ with_rules (app_of command.entry) counts) }
+    ensures local { IfOk result (λ more. (fields_of more).has_globals ≡ false) }
+{
+    let weights = option(
+        alloc,
+        "weights",
+        "W0,W1,..",
+        "what each member weighs, 1 to 100",
+    );
+    with_options(command, members(alloc), turns(alloc), weights)?
+        .arg(progress(alloc))?
+        .arg(single(alloc))
+}
+
+/// The values that were found.
+pub fn files_of<'a>(found: &ArgMatches<'a>) -> Option<Files<'a>>
+    ensures some { IfSome result (AreFiles (rows_of (found_of found.now))) }
+    ensures none { IfNone result (¬ HasFiles (rows_of (found_of found.now))) }
+{
+    let (listing, builds, dir) = paths_of(found)?;
+    let members = number_of(found, "members", 1, 9)? as u8;
+    let turns = number_of(found, "turns", 0, 1_000_000)?;
+    let progress = number_if(found, "progress", 1, 1_000_000)?;
+    Some(Files {
+        listing,
+        builds,
+        dir,
+        members,
+        turns,
+        weights: text_of(found, "weights"),
+        progress,
+        is_single: is_single(found),
+    })
+}
+
+/// The names of files and folders that were found.
+fn paths_of<'a>(found: &ArgMatches<'a>) -> Option<(&'a str, &'a str, &'a str)>
+    ensures some { IfSome result (ArePaths (rows_of (found_of found.now))) }
+    ensures none { IfNone result (¬ HasPaths (rows_of (found_of found.now))) }
+{
+    let listing = text_of(found, "listing")?;
+    let builds = text_of(found, "builds")?;
+    let dir = text_of(found, "dir")?;
+    Some((listing, builds, dir))
+}
