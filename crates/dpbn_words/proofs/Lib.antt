@@ -1,5 +1,5 @@
-pub mod Digits
 pub mod Named
+pub mod Numbers
 pub mod Refused
 pub mod Taken
 pub mod Uses

@@ -1,12 +1,14 @@
-//! Arguments of calls, and what clap is told of them.
-ghost use Rattle.std.specs.Prelude.{◌≡◌, ◌∷◌, [], IfOk, codes, false};
-ghost use Rattle.clap.specs.Words.{app_of, rule_of};
+//! Arguments of calls: what clap is told of them, and what is read of their values.
+ghost use Rattle.std.specs.Prelude.{◌≡◌, ◌∷◌, [], IfNone, IfOk, IfSome, false};
+ghost use Rattle.clap.specs.Words.{app_of, found_of, rows_of, rule_of};
 ghost use Rattle.clap.specs.declared.builder.command.Command.TheViews.{out-Command as fields_of};
-ghost use Rattle.dpbn_words.specs.Calls.{needed as needed_rule, number, option as option_rule};
+ghost use Rattle.dpbn_words.specs.Calls.{IsNumber, IsNumberIf, needed as needed_rule, option as option_rule};
 ghost use Rattle.dpbn_words.specs.inside.Apps.{with_rules};
+ghost use Rattle.dpbn_words.specs.inside.Naming.{HasNumber, MayHaveNumber};
 
-use clap::{Arg, Command, value_parser};
+use clap::{Arg, ArgMatches, Command};
 use std::alloc::{AllocError, Global};
+use words::text_of;
 
 /// An option with a value.
 pub fn option<'a>(alloc: Global, id: &'a str, value: &'a str, help: &'a str) -> Arg<'a>
@@ -42,72 +44,28 @@ pub fn with_options<'a>(
     command.arg(first)?.arg(second)?.arg(third)
 }
 
-/// How many members there are.
-pub fn members<'a>(alloc: Global) -> Arg<'a>
-    ensures rule { rule_of result ≡ needed_rule (number (codes "members") 1 9) }
-    ensures local { result.global ≡ false }
+/// The number between these that was matched under a name.
+pub fn number_of(found: &ArgMatches<'_>, id: &str, least: u32, most: u32) -> Option<u32>
+    ensures some { IfSome result (IsNumber (rows_of (found_of found.now)) id.now least most) }
+    ensures none { IfNone result
+        (¬ HasNumber (rows_of (found_of found.now)) id.now least most) }
 {
-    needed(alloc, "members", "N", "how many members there are").value_parser(value_parser!(
-        u8
-    ).range(1..=9))
+    let number: u32 = found.get_one(id)?;
+    if least <= number && number <= most {
+        Some(number)
+    } else {
+        None
+    }
 }
 
-/// How many turns are taken.
-pub fn turns<'a>(alloc: Global) -> Arg<'a>
-    ensures rule { rule_of result ≡ needed_rule (number (codes "turns") 0 1000000) }
-    ensures local { result.global ≡ false }
+/// The same, or none where nothing was matched.
+pub fn number_if(found: &ArgMatches<'_>, id: &str, least: u32, most: u32) -> Option<Option<u32>>
+    ensures some { IfSome result (IsNumberIf (rows_of (found_of found.now)) id.now least most) }
+    ensures none { IfNone result
+        (¬ MayHaveNumber (rows_of (found_of found.now)) id.now least most) }
 {
-    needed(alloc, "turns", "T", "how many turns are taken").value_parser(value_parser!(u32).range(
-        0..=1_000_000,
-    ))
-}
-
-/// After each how many turns the nodes' lines are told.
-pub fn progress<'a>(alloc: Global) -> Arg<'a>
-    ensures rule { rule_of result ≡ number (codes "progress") 1 1000000 }
-    ensures local { result.global ≡ false }
-{
-    option(
-        alloc,
-        "progress",
-        "N",
-        "tell the nodes' lines after each N turns",
-    )
-    .value_parser(value_parser!(u32).range(1..=1_000_000))
-}
-
-/// The number of the node's own member.
-pub fn me<'a>(alloc: Global) -> Arg<'a>
-    ensures rule { rule_of result ≡ needed_rule (number (codes "me") 0 255) }
-    ensures local { result.global ≡ false }
-{
-    needed(alloc, "me", "K", "the number of this member, from 0 on").value_parser(value_parser!(u8))
-}
-
-/// The first port of all members.
-pub fn base<'a>(alloc: Global) -> Arg<'a>
-    ensures rule { rule_of result ≡ number (codes "base") 1024 65526 }
-    ensures local { result.global ≡ false }
-{
-    option(
-        alloc,
-        "base",
-        "PORT",
-        "member K listens on 127.0.0.1 at PORT + K",
-    )
-    .value_parser(value_parser!(u16).range(1024..=65_526))
-}
-
-/// How long a turn waits for a datagram.
-pub fn patience<'a>(alloc: Global) -> Arg<'a>
-    ensures rule { rule_of result ≡ number (codes "patience") 0 60000 }
-    ensures local { result.global ≡ false }
-{
-    option(
-        alloc,
-        "patience",
-        "MS",
-        "how many milliseconds a turn waits for a datagram",
-    )
-    .value_parser(value_parser!(u16).range(0..=60_000))
+    match text_of(found, id) {
+        Some(_) => Some(Some(number_of(found, id, least, most)?)),
+        None => Some(None),
+    }
 }

@@ -9,7 +9,6 @@ ghost use Rattle.dpbn_words.specs.inside.Naming.{NamesCall};
 mod arguments;
 mod cluster;
 mod node;
-mod numbers;
 mod shared;
 
 use clap::error::ErrorKind;

@@ -1,16 +1,15 @@
 //! `dpbn node`.
 ghost use Rattle.std.specs.Prelude.{◌≡◌, IfErr, IfNone, IfOk, IfSome, Some, [], codes, false};
-ghost use Rattle.clap.specs.Words.{IsAmong, found_of, rows_of, shape_of};
+ghost use Rattle.clap.specs.Words.{IsAmong, found_of, rows_of, rule_of, shape_of};
 ghost use Rattle.clap.specs.declared.builder.command.Command.TheViews.{out-Command as fields_of};
-ghost use Rattle.dpbn_words.specs.Calls.{ArePeers, IsCallOf, IsNumberIf, choice_fault, is_given, node_command, peers_fault};
+ghost use Rattle.dpbn_words.specs.Calls.{ArePeers, IsCallOf, IsNumberIf, choice_fault, is_given, needed as needed_rule, node_command, number, peers_fault};
 ghost use Rattle.dpbn_words.specs.inside.Naming.{HasNode, MayHaveNumber};
 
-use crate::arguments::{base, me, option, patience, with_options};
-use crate::numbers::{number_if, number_of};
+use crate::arguments::{needed, number_if, number_of, option, with_options};
 use crate::shared::{self, files_of};
 use crate::{Call, Peers};
 use clap::error::ErrorKind;
-use clap::{ArgMatches, Command};
+use clap::{Arg, ArgMatches, Command, value_parser};
 use std::alloc::{AllocError, Global};
 use words::text_of;
 
@@ -28,6 +27,45 @@ pub fn command<'a>(alloc: Global) -> Result<Command<'a>, AllocError>
     );
     let command = shared::command(alloc, "node", about)?;
     with_options(command, me(alloc), base(alloc), hosts)?.arg(patience(alloc))
+}
+
+/// The number of the node's own member.
+fn me<'a>(alloc: Global) -> Arg<'a>
+    ensures rule { rule_of result ≡ needed_rule (number (codes "me") 0 255) }
+    ensures local { result.global ≡ false }
+{
+    let range = value_parser!(u8);
+    needed(alloc, "me", "K", "the number of this member, from 0 on").value_parser(range)
+}
+
+/// The first port of all members.
+fn base<'a>(alloc: Global) -> Arg<'a>
+    ensures rule { rule_of result ≡ number (codes "base") 1024 65526 }
+    ensures local { result.global ≡ false }
+{
+    let range = value_parser!(u16).range(1024..=65_526);
+    option(
+        alloc,
+        "base",
+        "PORT",
+        "member K listens on 127.0.0.1 at PORT + K",
+    )
+    .value_parser(range)
+}
+
+/// For how many milliseconds a turn waits for a datagram.
+fn patience<'a>(alloc: Global) -> Arg<'a>
+    ensures rule { rule_of result ≡ number (codes "patience") 0 60000 }
+    ensures local { result.global ≡ false }
+{
+    let range = value_parser!(u16).range(0..=60_000);
+    option(
+        alloc,
+        "patience",
+        "MS",
+        "for how many milliseconds a turn waits for a datagram",
+    )
+    .value_parser(range)
 }
 
 /// The call with the values that were found, or the kind of fault in them.

@@ -1,15 +1,14 @@
 //! What both subcommands take.
 ghost use Rattle.std.specs.Prelude.{◌≡◌, IfNone, IfOk, IfSome, codes, false};
-ghost use Rattle.clap.specs.Words.{app_of, found_of, rows_of};
+ghost use Rattle.clap.specs.Words.{app_of, found_of, rows_of, rule_of};
 ghost use Rattle.clap.specs.declared.builder.command.Command.TheViews.{out-Command as fields_of};
-ghost use Rattle.dpbn_words.specs.Calls.{AreFiles};
+ghost use Rattle.dpbn_words.specs.Calls.{AreFiles, needed as needed_rule, number};
 ghost use Rattle.dpbn_words.specs.inside.Apps.{counts, paths, shared_app, with_rules};
 ghost use Rattle.dpbn_words.specs.inside.Naming.{ArePaths, HasFiles, HasPaths};
 
 use crate::Files;
-use crate::arguments::{members, needed, option, progress, turns, with_options};
-use crate::numbers::{number_if, number_of};
-use clap::{ArgMatches, Command};
+use crate::arguments::{needed, number_if, number_of, option, with_options};
+use clap::{Arg, ArgMatches, Command, value_parser};
 use std::alloc::{AllocError, Global};
 use words::{is_single, single, text_of};
 
@@ -49,6 +48,39 @@ fn with_counts<'a>(alloc: Global, command: Command<'a>) -> Result<Command<'a>, A
     with_options(command, members(alloc), turns(alloc), weights)?
         .arg(progress(alloc))?
         .arg(single(alloc))
+}
+
+/// How many members there are.
+fn members<'a>(alloc: Global) -> Arg<'a>
+    ensures rule { rule_of result ≡ needed_rule (number (codes "members") 1 9) }
+    ensures local { result.global ≡ false }
+{
+    let range = value_parser!(u8).range(1..=9);
+    needed(alloc, "members", "N", "how many members there are").value_parser(range)
+}
+
+/// How many turns are taken.
+fn turns<'a>(alloc: Global) -> Arg<'a>
+    ensures rule { rule_of result ≡ needed_rule (number (codes "turns") 0 1000000) }
+    ensures local { result.global ≡ false }
+{
+    let range = value_parser!(u32).range(0..=1_000_000);
+    needed(alloc, "turns", "T", "how many turns are taken").value_parser(range)
+}
+
+/// After each how many turns the nodes' lines are told.
+fn progress<'a>(alloc: Global) -> Arg<'a>
+    ensures rule { rule_of result ≡ number (codes "progress") 1 1000000 }
+    ensures local { result.global ≡ false }
+{
+    let range = value_parser!(u32).range(1..=1_000_000);
+    option(
+        alloc,
+        "progress",
+        "N",
+        "tell the nodes' lines after each N turns",
+    )
+    .value_parser(range)
 }
 
 /// The values that were found.

@@ -3,8 +3,8 @@ use Rattle.std.specs.Prelude.{IfNone}
 use Rattle.std.specs.Str.Parse.{ExplainsUnsignedError, HasUnsignedDigitsIfOk, ParsesUnsigned}
 use Rattle.clap.specs.Words.{found_of, rows_of}
 use Rattle.clap.proofs.WalkLemmas.{one_text-rows}
-use Rattle.dpbn_words.proofs.Digits.{number_read, number_written}
-use Rattle.dpbn_words.proofs.numbers.number_of.Goals as goal
+use Rattle.dpbn_words.proofs.Numbers.{number_read, number_written}
+use Rattle.dpbn_words.proofs.arguments.number_of.Goals as goal
 
 if_none : {X : Type 0} (o : Option X) (P : Type 0) → P → IfNone o P
 if_none None P p = p
