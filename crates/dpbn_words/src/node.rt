@@ -23,7 +23,7 @@ pub fn command<'a>(alloc: Global) -> Result<Command<'a>, AllocError>
         alloc,
         "hosts",
         "A0:P0,A1:P1,..",
-        "where each member listens",
+        "where each member listens, in place of --base",
     );
     let command = shared::command(alloc, "node", about)?;
     with_options(command, me(alloc), base(alloc), hosts)?.arg(patience(alloc))

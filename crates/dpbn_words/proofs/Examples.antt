@@ -1,0 +1,107 @@
+-- The calls of `dpbn` at words that are known.
+use Rattle.std.proofs.Common.{◌≡◌, ◌++◌, codes, refl, Option, Some, None, List, [], ◌∷◌, option_map, option_and_then}
+use Rattle.clap.specs.Words.{Row, Text, first_of}
+use Rattle.clap.proofs.OnLiterals.{clap_on_literals}
+use Rattle.clap.specs.declared.error.kind.ErrorKind.TheVariants as kind
+use Rattle.dpbn_words.specs.Calls.{AreTaken, dpbn_app, faults_of, matched}
+
+abbrev name_at : List Text → Option Text
+name_at words = option_map (λ (p : Text × List Row). p.0) (matched words)
+
+abbrev value_at : Text → List Text → Option Text
+value_at id words = option_and_then (λ (p : Text × List Row). first_of id p.1) (matched words)
+
+-- what both subcommands have to be told
+abbrev shared_words : List Text
+shared_words =
+    codes "--listing" ∷ codes "F" ∷ codes "--builds" ∷ codes "B" ∷ codes "--members" ∷ codes "3"
+    ∷ codes "--dir" ∷ codes "D" ∷ codes "--turns" ∷ codes "200" ∷ []
+
+abbrev cluster_words : List Text
+cluster_words = codes "dpbn" ∷ codes "cluster" ∷ (shared_words ++ codes "--trace" ∷ codes "T" ∷ [])
+
+example_cluster : AreTaken cluster_words
+unfolding faults_of matched dpbn_app clap_on_literals
+example_cluster = refl
+
+example_cluster_name : name_at cluster_words ≡ Some (codes "cluster")
+unfolding matched dpbn_app clap_on_literals
+example_cluster_name = refl
+
+example_cluster_members : value_at (codes "members") cluster_words ≡ Some (codes "3")
+unfolding matched dpbn_app clap_on_literals
+example_cluster_members = refl
+
+example_cluster_trace : value_at (codes "trace") cluster_words ≡ Some (codes "T")
+unfolding matched dpbn_app clap_on_literals
+example_cluster_trace = refl
+
+-- what is not given has no value, but for the flag
+example_no_weights : value_at (codes "weights") cluster_words ≡ None
+unfolding matched dpbn_app clap_on_literals
+example_no_weights = refl
+
+example_not_single : value_at (codes "single") cluster_words ≡ Some (codes "false")
+unfolding matched dpbn_app clap_on_literals
+example_not_single = refl
+
+abbrev node_words : List Text → List Text
+node_words more = codes "dpbn" ∷ codes "node" ∷ (shared_words ++ codes "--me" ∷ codes "1" ∷ more)
+
+example_base : AreTaken (node_words (codes "--base" ∷ codes "5000" ∷ []))
+unfolding faults_of matched dpbn_app clap_on_literals
+example_base = refl
+
+example_base_value : value_at (codes "base") (node_words (codes "--base" ∷ codes "5000" ∷ [])) ≡ Some (codes "5000")
+unfolding matched dpbn_app clap_on_literals
+example_base_value = refl
+
+example_hosts : AreTaken (node_words (codes "--hosts=h:1,i:2,j:3" ∷ codes "--single" ∷ []))
+unfolding faults_of matched dpbn_app clap_on_literals
+example_hosts = refl
+
+example_hosts_value : value_at (codes "hosts") (node_words (codes "--hosts=h:1,i:2,j:3" ∷ codes "--single" ∷ [])) ≡ Some (codes "h:1,i:2,j:3")
+unfolding matched dpbn_app clap_on_literals
+example_hosts_value = refl
+
+example_single : value_at (codes "single") (node_words (codes "--hosts=h:1,i:2,j:3" ∷ codes "--single" ∷ [])) ≡ Some (codes "true")
+unfolding matched dpbn_app clap_on_literals
+example_single = refl
+
+-- one of the two has to be given, and not both
+example_neither : faults_of (node_words []) ≡ kind.MissingRequiredArgument ∷ []
+unfolding faults_of matched dpbn_app clap_on_literals
+example_neither = refl
+
+example_both : faults_of (node_words (codes "--base" ∷ codes "5000" ∷ codes "--hosts" ∷ codes "h:1" ∷ [])) ≡ kind.ArgumentConflict ∷ []
+unfolding faults_of matched dpbn_app clap_on_literals
+example_both = refl
+
+-- numbers out of their ranges, an option of the other subcommand, one that lacks, one that is given twice, no value, help
+example_port : faults_of (node_words (codes "--base" ∷ codes "1023" ∷ [])) ≡ kind.ValueValidation ∷ []
+unfolding faults_of matched dpbn_app clap_on_literals
+example_port = refl
+
+example_patience : faults_of (node_words (codes "--base" ∷ codes "5000" ∷ codes "--patience" ∷ codes "60001" ∷ [])) ≡ kind.ValueValidation ∷ []
+unfolding faults_of matched dpbn_app clap_on_literals
+example_patience = refl
+
+example_trace : faults_of (node_words (codes "--base" ∷ codes "5000" ∷ codes "--trace" ∷ codes "T" ∷ [])) ≡ kind.UnknownArgument ∷ []
+unfolding faults_of matched dpbn_app clap_on_literals
+example_trace = refl
+
+example_lacks : faults_of (codes "dpbn" ∷ codes "cluster" ∷ codes "--listing" ∷ codes "F" ∷ []) ≡ kind.MissingRequiredArgument ∷ []
+unfolding faults_of matched dpbn_app clap_on_literals
+example_lacks = refl
+
+example_twice : faults_of (node_words (codes "--me" ∷ codes "2" ∷ codes "--base" ∷ codes "5000" ∷ [])) ≡ kind.ArgumentConflict ∷ []
+unfolding faults_of matched dpbn_app clap_on_literals
+example_twice = refl
+
+example_no_value : faults_of (node_words (codes "--base" ∷ [])) ≡ kind.InvalidValue ∷ []
+unfolding faults_of matched dpbn_app clap_on_literals
+example_no_value = refl
+
+example_help : faults_of (codes "dpbn" ∷ codes "node" ∷ codes "--help" ∷ []) ≡ kind.DisplayHelp ∷ []
+unfolding faults_of matched dpbn_app clap_on_literals
+example_help = refl
