@@ -1,5 +1,5 @@
 -- What matches of each subcommand name.
-use Rattle.std.proofs.Common.{◌≡◌, List, Option, None, Some, Result, Ok, Err, IfErr, IfNone, inl, inr, ap, codes, subst, true≢false, sym}
+use Rattle.std.proofs.Common.{◌≡◌, List, Option, Some, Result, Ok, Err, IfErr, inl, inr, ap, codes, subst, true≢false, sym}
 use Rattle.std.specs.Str.{bytes_eq}
 use Rattle.clap.specs.Words.{IsAmong, Row, Text}
 use Rattle.clap.specs.declared.error.kind.ErrorKind.{ErrorKind}

@@ -1,6 +1,6 @@
 -- Which faults words have that are refused.
-use Rattle.std.proofs.Common.{◌≡◌, ◌∙◌, List, [], Option, Result, map, subst, sym, inr, ⊎_elim}
-use Rattle.clap.specs.Kinds.{HasKind, Kinds, or_else}
+use Rattle.std.proofs.Common.{◌≡◌, ◌∙◌, List, [], Option, subst, sym, inr}
+use Rattle.clap.specs.Kinds.{HasKind}
 use Rattle.clap.specs.Words.{IsAmong, Row, Text, fault_of, kind_of}
 use Rattle.clap.specs.declared.error.Error.{Error}
 use Rattle.clap.specs.declared.error.kind.ErrorKind.{ErrorKind}

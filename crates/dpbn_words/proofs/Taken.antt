@@ -4,9 +4,7 @@ use Rattle.std.specs.Prelude.{find, if◌then◌else◌, pos}
 use Rattle.std.specs.List.{list_any, slice_index_or}
 use Rattle.std.specs.Str.{bytes_eq}
 use Rattle.std.proofs.lemmas.Slice.Eq.{bytes_eq-Decides}
-use Rattle.clap.specs.Facts.{parser_of_value}
 use Rattle.clap.specs.Faults.{level_fault}
-use Rattle.clap.specs.Kinds.{value_kinds}
 use Rattle.clap.specs.Simple.{Shape, argument_words, built, filled, filled_from, label_of, rows_at}
 use Rattle.clap.specs.Takes.{is_given}
 use Rattle.clap.specs.Walk.{Row, Rule, Text, answers_to, arg_by_id, nothing_held, rows_after}
@@ -15,7 +13,7 @@ use Rattle.clap.specs.declared.builder.value_parser.ValueParser.TheVariants.{Sig
 use Rattle.clap.specs.declared.error.kind.ErrorKind.{ErrorKind}
 use Rattle.clap.proofs.ValueTestLemmas.{accepts-Accepts}
 use Rattle.words.proofs.Entering.{Enters, enters_one, none_lacks}
-use Rattle.dpbn_words.proofs.Uses.{AllFit, AreKnown, IsMatched, given_matched, none_or_matched, rows_fit}
+use Rattle.dpbn_words.proofs.Uses.{AllFit, AreKnown, given_matched, none_or_matched, rows_fit}
 use Rattle.dpbn_words.specs.Calls.{cluster_command, dpbn_app, matched, needed, number, option, shared}
 use Rattle.dpbn_words.specs.inside.Naming.{HasFiles, HasNumber, HasText, MayHaveNumber, NamesCall}
 
