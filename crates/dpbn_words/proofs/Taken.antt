@@ -1,5 +1,5 @@
 -- Words that clap takes name a call.
-use Rattle.std.proofs.Common.{arith, ◌≡◌, ◌⊎◌, ◌++◌, ◌&&◌, ◌||◌, inl, inr, ℕ, Bool, true, false, cond, drop, List, [], ◌∷◌, None, Some, refl, sym, subst, not, true≢false, codes}
+use Rattle.std.proofs.Common.{◌≡◌, ◌⊎◌, ◌++◌, ◌&&◌, ◌||◌, inl, inr, ℕ, Bool, true, false, cond, drop, List, [], ◌∷◌, None, Some, refl, sym, subst, not, true≢false, codes}
 use Rattle.std.specs.Prelude.{find, if◌then◌else◌, pos}
 use Rattle.std.specs.List.{list_any, slice_index_or}
 use Rattle.std.specs.Str.{bytes_eq}
@@ -13,7 +13,7 @@ use Rattle.clap.specs.declared.builder.value_parser.ValueParser.TheVariants.{Sig
 use Rattle.clap.specs.declared.error.kind.ErrorKind.{ErrorKind}
 use Rattle.clap.proofs.ValueTestLemmas.{accepts-Accepts}
 use Rattle.words.proofs.Entering.{Enters, enters_one, none_lacks}
-use Rattle.dpbn_words.proofs.Uses.{AllFit, AreKnown, given_matched, none_or_matched, rows_fit}
+use Rattle.dpbn_words.proofs.Uses.{AllFit, AreKnown, given_matched, known, none_or_matched, rows_fit}
 use Rattle.dpbn_words.specs.Calls.{cluster_command, dpbn_app, matched, needed, number, option, shared}
 use Rattle.dpbn_words.specs.inside.Naming.{HasFiles, HasNumber, HasText, MayHaveNumber, NamesCall}
 
@@ -74,20 +74,13 @@ files_there more rows fit none =
 abbrev subcommand_at : ℕ → Shape
 subcommand_at k = slice_index_or (built dpbn_app).subs k cluster_command
 
--- each argument is the one of its name, and each use of it has a value: an option its own, the flag the one that stands for it
-shared_known : (more : List Rule) → AreKnown (filled_from 1 shared ++ more) more → AreKnown (filled_from 1 shared ++ more) (filled_from 1 shared ++ more)
-shared_known more rest =
-    (record { own = refl; values = inl (omega arith) }, (record { own = refl; values = inl (omega arith) }, (record { own = refl; values = inl (omega arith) }, (record { own = refl; values = inl (omega arith) }, (record { own = refl; values = inl (omega arith) }, (record { own = refl; values = inl (omega arith) }, (record { own = refl; values = inl (omega arith) }, (record { own = refl; values = inr (omega arith) }, rest))))))))
-
 cluster_known : AreKnown (subcommand_at 0).rules (subcommand_at 0).rules
 unfolding dpbn_app
-cluster_known = shared_known (drop 8 (subcommand_at 0).rules) (record { own = refl; values = inl (omega arith) }, (record { own = refl; values = tt }, tt))
+cluster_known = known (subcommand_at 0).rules refl
 
 node_known : AreKnown (subcommand_at 1).rules (subcommand_at 1).rules
 unfolding dpbn_app
-node_known =
-    shared_known (drop 8 (subcommand_at 1).rules)
-    (record { own = refl; values = inl (omega arith) }, (record { own = refl; values = inl (omega arith) }, (record { own = refl; values = inl (omega arith) }, (record { own = refl; values = inl (omega arith) }, (record { own = refl; values = tt }, tt)))))
+node_known = known (subcommand_at 1).rules refl
 
 abbrev rows_at_sub : ℕ → List Text → List Row
 rows_at_sub k rest = rows_after (subcommand_at k).rules [] rest

@@ -1,6 +1,7 @@
 -- Where clap finds no fault in words, what it matched under a name is what a use of that argument may have.
-use Rattle.std.proofs.Common.{◌≡◌, ◌<◌, ◌⊎◌, inl, inr, ◌++◌, ◌&&◌, ◌||◌, not, ℕ, zero, suc, Bool, true, false, cond, List, [], ◌∷◌, Option, None, Some, IfSome, arith, refl, sym, subst, ap, length, drop, lt-ltb, ne_eqb, true≢false}
-use Rattle.std.specs.Prelude.{encode_utf8, find, fold, if◌then◌else◌, is_some, option_and_then, option_map, slice_get}
+use Rattle.std.proofs.Common.{◌≡◌, ◌<◌, ◌⊎◌, inl, inr, ◌++◌, ◌&&◌, ◌||◌, not, ℕ, zero, suc, Bool, true, false, cond, List, [], ◌∷◌, Option, None, Some, IfSome, arith, refl, sym, subst, ap, append_assoc, length, drop, lt-ltb, ne_eqb, true≢false}
+use Rattle.std.specs.Prelude.{encode_utf8, find, fold, if◌then◌else◌, is_some, nat_lt, option_and_then, option_map, slice_get}
+use Rattle.std.specs.List.{list_any}
 use Rattle.std.specs.Option.{option_map_or}
 use Rattle.std.specs.Str.{bytes_eq, chars}
 use Rattle.std.proofs.lemmas.Slice.Eq.{bytes_eq-Decides}
@@ -25,13 +26,13 @@ use Rattle.clap.specs.declared.parser.matches.ValueSource.{ValueSource}
 use Rattle.words.proofs.Entering.{neither}
 
 -- each use of the argument has a value, its own or the one that stands for none
-abbrev pub HasValues : Rule → ArgAction → Type 0
-HasValues a Count = ⊥
-HasValues a Help = Unit {0}
-HasValues a HelpShort = Unit {0}
-HasValues a HelpLong = Unit {0}
-HasValues a Version = Unit {0}
-HasValues a _ = (0 < (unwrap_or_range a.range).start_inclusive) ⊎ (0 < length a.missing)
+abbrev pub has_values : Rule → ArgAction → Bool
+has_values a Count = false
+has_values a Help = true
+has_values a HelpShort = true
+has_values a HelpLong = true
+has_values a Version = true
+has_values a _ = nat_lt 0 (unwrap_or_range a.range).start_inclusive || not (is_empty a.missing)
 
 -- some values, which all pass the argument's parser, and are read as its are
 pub record AreValues (a : Rule) (vs : List Text) (how : Reading) : Type 0 where
@@ -53,22 +54,25 @@ pass_both a (v ∷ vs) ws p q =
     let parts = neither (value_kinds a.ignore_case (parser_of_value a.parser) v) (values_fault a vs) p in
     rw parts.0 (pass_both a vs ws parts.1 q)
 
+not_empty : (vs : List Text) → not (is_empty vs) ≡ true → 0 < length vs
+not_empty [] some = absurd (true≢false (sym some))
+not_empty (v ∷ vs) some = omega arith
+
 -- a use with no value has one that stands for it
-some_used : (a : Rule) (vs : List Text) → (0 < (unwrap_or_range a.range).start_inclusive) ⊎ (0 < length a.missing)
+some_used : (a : Rule) (vs : List Text) → (nat_lt 0 (unwrap_or_range a.range).start_inclusive || not (is_empty a.missing)) ≡ true
     → range_kinds (unwrap_or_range a.range).start_inclusive (most_values a) (length vs) ≡ [] → 0 < length (values_or_missing a vs)
 some_used a (v ∷ vs) has none = omega arith
-some_used a [] (inr some) none = some
-some_used a [] (inl least) none = by (unwrap_or_range a.range).start_inclusive least none
+some_used a [] has none = by (unwrap_or_range a.range).start_inclusive has none
   where
-    by : (k : ℕ) → 0 < k → range_kinds k (most_values a) 0 ≡ [] → 0 < length a.missing
-    by zero least none = absurd (omega (arith, least))
-    by (suc k) least none = absurd (let no : kind.InvalidValue ∷ [] ≡ [] = rw (lt-ltb 0 (suc k) least) at none in cc)
+    by : (k : ℕ) → (nat_lt 0 k || not (is_empty a.missing)) ≡ true → range_kinds k (most_values a) 0 ≡ [] → 0 < length a.missing
+    by zero has none = not_empty a.missing has
+    by (suc k) has none = absurd (let no : kind.InvalidValue ∷ [] ≡ [] = rw (lt-ltb 0 (suc k) (omega arith)) at none in cc)
 
 module _ (c : List Rule) where
   -- the argument is the one of its name, and each use of it has a value
   pub record IsKnown (a : Rule) : Type 0 where
     pub own : arg_by_id c a.id ≡ Some a
-    pub values : HasValues a (action_of a)
+    pub values : has_values a (action_of a) ≡ true
 
   -- so is each of these
   abbrev pub AreKnown : List Rule → Type 0
@@ -138,23 +142,23 @@ module _ (c : List Rule) where
           × (action_fault (action_of a) again a (values_or_missing a values) rows ≡ [])
       parts = neither (range_kinds (unwrap_or_range a.range).start_inclusive (most_values a) (length values)) _ none
 
-      fit : (0 < (unwrap_or_range a.range).start_inclusive) ⊎ (0 < length a.missing) → values_fault a (values_or_missing a values) ≡ []
+      fit : (nat_lt 0 (unwrap_or_range a.range).start_inclusive || not (is_empty a.missing)) ≡ true → values_fault a (values_or_missing a values) ≡ []
           → Fit a.id (values_or_missing a values) (reading_by a)
       fit has e = fit_own a _ known (some_used a values has parts.0) e
 
-      anew : (source : ValueSource) → (0 < (unwrap_or_range a.range).start_inclusive) ⊎ (0 < length a.missing)
+      anew : (source : ValueSource) → (nat_lt 0 (unwrap_or_range a.range).start_inclusive || not (is_empty a.missing)) ≡ true
           → or_else (repeat_fault again a.id rows) (values_fault a (values_or_missing a values)) ≡ []
           → AllFit (with_values a.id (reading_by a) source (values_or_missing a values) (without a.id rows))
       anew source has e =
           fit_with a.id (reading_by a) source _ (without a.id rows) (fit has (neither (repeat_fault again a.id rows) _ e).1) (fit_without a.id rows p)
 
-      by : (x : ArgAction) → HasValues a x → action_fault x again a (values_or_missing a values) rows ≡ []
+      by : (x : ArgAction) → has_values a x ≡ true → action_fault x again a (values_or_missing a values) rows ≡ []
           → AllFit (used_as x a.id (reading_by a) (values_or_missing a values) rows)
       by Set has e = anew _ has e
       by Append has e = fit_with a.id (reading_by a) _ _ rows (fit has e) p
       by SetTrue has e = anew _ has e
       by SetFalse has e = anew _ has e
-      by Count has e = absurd has
+      by Count has e = absurd (true≢false (sym has))
       by Help has e = p
       by HelpShort has e = p
       by HelpLong has e = p
@@ -277,6 +281,41 @@ module _ (c : List Rule) where
   fit_defaults (a ∷ rules) rows all none p =
       let parts = neither (default_fault rows a) _ none in
       fit_defaults rules (with_default rows a) all.1 parts.1 (fit_default rows a all.0 parts.0 p)
+
+-- ---- arguments with names of their own
+
+-- the names of these arguments differ from one another and from those before them, and each use of them has a value
+abbrev pub are_known : List Rule → List Rule → Bool
+are_known before [] = true
+are_known before (a ∷ rules) =
+    not (list_any (λ b. bytes_eq b.id a.id) before) && (has_values a (action_of a) && are_known (before ++ a ∷ []) rules)
+
+own_found : (before : List Rule) (a : Rule) (rules : List Rule) → list_any (λ b. bytes_eq b.id a.id) before ≡ false → arg_by_id (before ++ a ∷ rules) a.id ≡ Some a
+own_found [] a rules none = rw ((bytes_eq-Decides a.id a.id).1 refl) refl
+own_found (b ∷ before) a rules none = by (bytes_eq b.id a.id) none (own_found before a rules)
+  where
+    by : (same : Bool) → (same || list_any (λ b. bytes_eq b.id a.id) before) ≡ false
+        → (list_any (λ b. bytes_eq b.id a.id) before ≡ false → arg_by_id (before ++ a ∷ rules) a.id ≡ Some a)
+        → cond same (Some b) (arg_by_id (before ++ a ∷ rules) a.id) ≡ Some a
+    by true none rest = absurd (true≢false none)
+    by false none rest = rest none
+
+each_known : (before rules : List Rule) → are_known before rules ≡ true → AreKnown (before ++ rules) rules
+each_known before [] test = tt
+each_known before (a ∷ rules) test =
+    by (list_any (λ b. bytes_eq b.id a.id) before) refl (has_values a (action_of a)) refl test
+    (λ rest. subst (λ c. AreKnown c rules) (append_assoc before (a ∷ []) rules) (each_known (before ++ a ∷ []) rules rest))
+  where
+    by : (named : Bool) → list_any (λ b. bytes_eq b.id a.id) before ≡ named → (valued : Bool) → has_values a (action_of a) ≡ valued
+        → (not named && (valued && are_known (before ++ a ∷ []) rules)) ≡ true
+        → (are_known (before ++ a ∷ []) rules ≡ true → AreKnown (before ++ a ∷ rules) rules) → AreKnown (before ++ a ∷ rules) (a ∷ rules)
+    by true named valued has test rest = absurd (true≢false (sym test))
+    by false named false has test rest = absurd (true≢false (sym test))
+    by false named true has test rest = (record { own = own_found before a rules named; values = has }, rest test)
+
+-- so a list of arguments passes a test that computes
+pub known : (c : List Rule) → are_known [] c ≡ true → AreKnown c c
+known c test = each_known [] c test
 
 -- ---- words
 

@@ -18,12 +18,7 @@ pub fn command<'a>(alloc: Global) -> Result<Command<'a>, AllocError>
     ensures local { IfOk result (λ command. (fields_of command).has_globals ≡ false) }
 {
     let about = "Runs the nodes of all members in one process, and prints what each shows.";
-    let trace = option(
-        alloc,
-        "trace",
-        "FILE",
-        "where to write the events of the run, as JSON",
-    );
+    let trace = option(alloc, "trace", "FILE", "where to write the run's events");
     shared::command(alloc, "cluster", about)?.arg(trace)
 }
 

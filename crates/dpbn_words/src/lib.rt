@@ -38,9 +38,9 @@ pub struct Files<'a> {
 /// Where the members of a cluster listen.
 #[derive(Debug, Drop)]
 pub enum Peers<'a> {
-    /// On 127.0.0.1, each at this port and its own number further: 1,024 to 65,526.
+    /// On 127.0.0.1, each at this port plus its own number: 1,024 to 65,526.
     Base(u16),
-    /// On the hosts that are named here, as it was written.
+    /// At the addresses and ports of this text, as it was written.
     Hosts(&'a str),
 }
 

@@ -23,7 +23,7 @@ pub fn command<'a>(alloc: Global) -> Result<Command<'a>, AllocError>
         alloc,
         "hosts",
         "A0:P0,A1:P1,..",
-        "where each member listens, in place of --base",
+        "where each member listens, where --base is not given",
     );
     let command = shared::command(alloc, "node", about)?;
     with_options(command, me(alloc), base(alloc), hosts)?.arg(patience(alloc))
@@ -44,13 +44,7 @@ fn base<'a>(alloc: Global) -> Arg<'a>
     ensures local { result.global ≡ false }
 {
     let range = value_parser!(u16).range(1024..=65_526);
-    option(
-        alloc,
-        "base",
-        "PORT",
-        "member K listens on 127.0.0.1 at PORT + K",
-    )
-    .value_parser(range)
+    option(alloc, "base", "PORT", "member K listens at PORT + K").value_parser(range)
 }
 
 /// For how many milliseconds a turn waits for a datagram.
@@ -59,13 +53,7 @@ fn patience<'a>(alloc: Global) -> Arg<'a>
     ensures local { result.global ≡ false }
 {
     let range = value_parser!(u16).range(0..=60_000);
-    option(
-        alloc,
-        "patience",
-        "MS",
-        "for how many milliseconds a turn waits for a datagram",
-    )
-    .value_parser(range)
+    option(alloc, "patience", "MS", "how long a turn may wait").value_parser(range)
 }
 
 /// The call with the values that were found, or the kind of fault in them.

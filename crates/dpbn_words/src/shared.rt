@@ -39,12 +39,7 @@ fn with_counts<'a>(alloc: Global, command: Command<'a>) -> Result<Command<'a>, A
     ensures app { IfOk result (λ more. app_of more ≡ with_rules (app_of command.entry) counts) }
     ensures local { IfOk result (λ more. (fields_of more).has_globals ≡ false) }
 {
-    let weights = option(
-        alloc,
-        "weights",
-        "W0,W1,..",
-        "what each member weighs, 1 to 100",
-    );
+    let weights = option(alloc, "weights", "W0,W1,..", "what each weighs: 1 to 100");
     with_options(command, members(alloc), turns(alloc), weights)?
         .arg(progress(alloc))?
         .arg(single(alloc))
@@ -74,13 +69,7 @@ fn progress<'a>(alloc: Global) -> Arg<'a>
     ensures local { result.global ≡ false }
 {
     let range = value_parser!(u32).range(1..=1_000_000);
-    option(
-        alloc,
-        "progress",
-        "N",
-        "tell the nodes' lines after each N turns",
-    )
-    .value_parser(range)
+    option(alloc, "progress", "N", "tell lines after each N turns").value_parser(range)
 }
 
 /// The values that were found.
