@@ -19,6 +19,7 @@ use Rattle.dpbn_words.specs.inside.Naming.{HasFiles, HasNumber, HasText, MayHave
 
 -- ---- values that were matched
 
+-- no fault of a value: it passes
 passed : (b : Bool) (k : ErrorKind) → (if b then [] else k ∷ []) ≡ [] → b ≡ true
 passed true k e = refl
 passed false k e = absurd (let no : k ∷ [] ≡ [] = e in cc)
@@ -28,6 +29,7 @@ is_there : (a b : Bool) → (not a || b) ≡ false → (a ≡ true) × (b ≡ fa
 is_there true b e = (refl, e)
 is_there false b e = absurd (true≢false e)
 
+-- a text, or a number, under the name of an option that takes one
 module _ (c : List Rule) (rows : List Row) (fit : AllFit c rows) where
   text_there : (id : Text) → arg_by_id c id ≡ Some (filled (needed (option id))) → is_given id rows ≡ true → HasText rows id
   text_there id own given =

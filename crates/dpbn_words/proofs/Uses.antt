@@ -40,10 +40,7 @@ pub record AreValues (a : Rule) (vs : List Text) (how : Reading) : Type 0 where
   pub pass : values_fault a vs ≡ []
   pub read : how ≡ reading_by a
 
-some_more : (xs : List Text) (v : Text) (vs : List Text) → 0 < length (xs ++ v ∷ vs)
-some_more [] v vs = omega arith
-some_more (x ∷ xs) v vs = omega arith
-
+-- some values and others are some, and pass where each of them does
 longer : (vs ws : List Text) → 0 < length vs → 0 < length (vs ++ ws)
 longer [] ws some = absurd (omega (arith, some))
 longer (v ∷ vs) ws some = omega arith
@@ -54,6 +51,7 @@ pass_both a (v ∷ vs) ws p q =
     let parts = neither (value_kinds a.ignore_case (parser_of_value a.parser) v) (values_fault a vs) p in
     rw parts.0 (pass_both a vs ws parts.1 q)
 
+-- what is not empty has a value
 not_empty : (vs : List Text) → not (is_empty vs) ≡ true → 0 < length vs
 not_empty [] some = absurd (true≢false (sym some))
 not_empty (v ∷ vs) some = omega arith
@@ -104,6 +102,7 @@ module _ (c : List Rule) where
       by None p q = tt
       by (Some a) p q = record { some = longer vs ws p.some; pass = pass_both a vs ws p.pass q.pass; read = p.read }
 
+  -- such rows stay such, and where rows are put in they are
   fit_append : (xs ys : List Row) → AllFit xs → AllFit ys → AllFit (xs ++ ys)
   fit_append [] ys p q = q
   fit_append (x ∷ xs) ys p q = (p.0, fit_append xs ys p.1 q)
@@ -290,6 +289,7 @@ are_known before [] = true
 are_known before (a ∷ rules) =
     not (list_any (λ b. bytes_eq b.id a.id) before) && (has_values a (action_of a) && are_known (before ++ a ∷ []) rules)
 
+-- an argument of a new name is the one of its name
 own_found : (before : List Rule) (a : Rule) (rules : List Rule) → list_any (λ b. bytes_eq b.id a.id) before ≡ false → arg_by_id (before ++ a ∷ rules) a.id ≡ Some a
 own_found [] a rules none = rw ((bytes_eq-Decides a.id a.id).1 refl) refl
 own_found (b ∷ before) a rules none = by (bytes_eq b.id a.id) none (own_found before a rules)
@@ -300,6 +300,7 @@ own_found (b ∷ before) a rules none = by (bytes_eq b.id a.id) none (own_found 
     by true none rest = absurd (true≢false none)
     by false none rest = rest none
 
+-- those that pass the test are known, behind those before them
 each_known : (before rules : List Rule) → are_known before rules ≡ true → AreKnown (before ++ rules) rules
 each_known before [] test = tt
 each_known before (a ∷ rules) test =
