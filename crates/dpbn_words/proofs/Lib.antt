@@ -3,4 +3,3 @@ pub mod Named
 pub mod Numbers
 pub mod Refused
 pub mod Taken
-pub mod Uses

@@ -13,7 +13,7 @@ use Rattle.clap.specs.declared.builder.value_parser.ValueParser.TheVariants.{Sig
 use Rattle.clap.specs.declared.error.kind.ErrorKind.{ErrorKind}
 use Rattle.clap.proofs.ValueTestLemmas.{accepts-Accepts}
 use Rattle.words.proofs.Entering.{Enters, enters_one, none_lacks}
-use Rattle.dpbn_words.proofs.Uses.{AllFit, AreKnown, given_matched, known, none_or_matched, rows_fit}
+use Rattle.words.proofs.Uses.{AllFit, AreKnown, given_matched, known, none_or_matched, rows_fit}
 use Rattle.dpbn_words.specs.Calls.{cluster_command, dpbn_app, matched, needed, number, option, shared}
 use Rattle.dpbn_words.specs.inside.Naming.{HasFiles, HasNumber, HasText, MayHaveNumber, NamesCall}
 

@@ -1,17 +1,22 @@
 -- Words that clap takes name a call.
-use Rattle.std.proofs.Common.{arith, ◌≡◌, ◌⊎◌, ◌&&◌, ◌||◌, inl, inr, ℕ, Bool, true, false, cond, List, [], ◌∷◌, None, Some, refl, sym, subst, not, true≢false, codes}
-use Rattle.std.specs.Prelude.{find}
+use Rattle.std.proofs.Common.{◌≡◌, ◌⊎◌, ◌&&◌, ◌||◌, inl, inr, ℕ, Bool, true, false, cond, List, [], ◌∷◌, None, Some, refl, sym, subst, not, true≢false, codes}
+use Rattle.std.specs.Prelude.{find, if◌then◌else◌, pos}
 use Rattle.std.specs.List.{slice_index_or}
 use Rattle.std.specs.Str.{bytes_eq}
 use Rattle.std.proofs.lemmas.Slice.Eq.{bytes_eq-Decides}
+use Rattle.clap.specs.Facts.{parser_of_value}
 use Rattle.clap.specs.Faults.{level_fault}
+use Rattle.clap.specs.Kinds.{value_kinds}
 use Rattle.clap.specs.Simple.{Shape, argument_words, built, label_of, rows_at}
 use Rattle.clap.specs.Takes.{is_given}
-use Rattle.clap.specs.Walk.{Row, Text, answers_to, first_of, nothing_held, rows_after}
+use Rattle.clap.specs.Values.{read_as, reading_of}
+use Rattle.clap.specs.Walk.{Row, Rule, Text, answers_to, arg_by_id, nothing_held, one_of, rows_after}
+use Rattle.clap.specs.declared.builder.value_parser.ValueParser.TheVariants.{Signed}
+use Rattle.clap.specs.declared.error.kind.ErrorKind.{ErrorKind}
+use Rattle.clap.proofs.ValueTestLemmas.{accepts-Accepts}
 use Rattle.words.proofs.Entering.{Enters, enters_one, none_lacks}
-use Rattle.words.proofs.Numbers.{number_in_range, other_suits, own_suits}
-use Rattle.words.proofs.Rows.{AskForHelp, ask_for_help, given_value, rows_filled}
-use Rattle.words.specs.Calls.{AreTaken, dpbr_app, faults_of, matched, status_command}
+use Rattle.words.proofs.Uses.{AllFit, given_matched, known, rows_fit}
+use Rattle.words.specs.Calls.{AreTaken, IsWord, dpbr_app, faults_of, matched, status_command, word}
 use Rattle.words.specs.inside.Naming.{HasNumber, NamesCall}
 
 -- which one of five is found: the last passes the test
@@ -53,91 +58,85 @@ is_there : (a b : Bool) → (not a || b) ≡ false → (a ≡ true) × (b ≡ fa
 is_there true b e = (refl, e)
 is_there false b e = absurd (true≢false e)
 
-status_asks : AskForHelp (subcommand_at 0).rules
-unfolding dpbr_app
-status_asks = ask_for_help (subcommand_at 0).rules (inl refl, (inl refl, (inr (refl, inr (refl, omega arith)), (inr (refl, inl refl), tt))))
+-- no fault of a value: it passes
+passed : (b : Bool) (k : ErrorKind) → (if b then [] else k ∷ []) ≡ [] → b ≡ true
+passed true k e = refl
+passed false k e = absurd (let no : k ∷ [] ≡ [] = e in cc)
 
-audit_asks : AskForHelp (subcommand_at 1).rules
-unfolding dpbr_app
-audit_asks = ask_for_help (subcommand_at 1).rules (inl refl, (inl refl, (inr (refl, inr (refl, omega arith)), (inr (refl, inl refl), tt))))
+-- a word, or a number, under the name of an argument that is given
+module _ (c : List Rule) (rows : List Row) (fit : AllFit c rows) (a : Rule) (own : arg_by_id c a.id ≡ Some a) where
+  word_there : is_given a.id rows ≡ true → (t : Text) × IsWord rows a.id t
+  word_there given =
+      let there = given_matched c a own rows fit given in
+      (there.text, there.first)
 
-run_asks : AskForHelp (subcommand_at 2).rules
-unfolding dpbr_app
-run_asks = ask_for_help (subcommand_at 2).rules (inl refl, (inl refl, (inr (refl, inr (refl, omega arith)), (inr (refl, inl refl), tt))))
+  number_there : (most : ℕ) → a.parser ≡ Some (Signed (pos 0) (pos most)) → is_given a.id rows ≡ true → HasNumber rows a.id most
+  number_there most parser given =
+      let there = given_matched c a own rows fit given in
+      let passes = subst (λ p. value_kinds a.ignore_case (parser_of_value p) there.text ≡ []) parser there.passes in
+      let one = subst (λ p. one_of a.id rows ≡ Some (read_as (reading_of (parser_of_value p)) there.text)) parser there.one in
+      (there.text, accepts-Accepts a.ignore_case (Signed (pos 0) (pos most)) there.text (passed _ _ passes), one)
 
 abbrev rows_at_sub : ℕ → List Text → List Row
 rows_at_sub k rest = rows_after (subcommand_at k).rules [] rest
 
--- a number that was matched is in its range
-wayon_numbers : (rest : List Text) → level_fault (subcommand_at 3) [] nothing_held rest false [] ≡ []
-    → ((t : Text) → first_of (codes "NODE") (rows_at_sub 3 rest) ≡ Some t → HasNumber (rows_at_sub 3 rest) (codes "NODE") 255)
-    × ((t : Text) → first_of (codes "HOST") (rows_at_sub 3 rest) ≡ Some t → HasNumber (rows_at_sub 3 rest) (codes "HOST") 65535)
-unfolding dpbr_app
-wayon_numbers rest none =
-    let node = other_suits (codes "NODE") 255 in
-    let host = other_suits (codes "HOST") 65535 in (
-      number_in_range (codes "NODE") 255 (subcommand_at 3) rest
-          (node _ refl tt, (node _ refl tt, (own_suits (codes "NODE") 255 _ refl tt, (node _ refl tt, (node _ refl tt, (node _ refl tt, (node _ refl tt, (node _ refl tt, tt))))))))
-          none,
-      number_in_range (codes "HOST") 65535 (subcommand_at 3) rest
-          (host _ refl tt, (host _ refl tt, (host _ refl tt, (host _ refl tt, (own_suits (codes "HOST") 65535 _ refl tt, (host _ refl tt, (host _ refl tt, (host _ refl tt, tt))))))))
-          none,
-    )
+-- an argument of a subcommand, by its place
+abbrev rule_at : ℕ → ℕ → Rule
+rule_at k i = slice_index_or (subcommand_at k).rules i (word (codes "LISTING"))
 
 status_values : (rest : List Text) → level_fault (subcommand_at 0) [] nothing_held rest false [] ≡ []
     → NamesCall (Some (rows_at (subcommand_at 0) rest))
 unfolding dpbr_app
 status_values rest none =
-    let filled = rows_filled (subcommand_at 0).rules [] rest status_asks in
-    let first = is_there (is_given (codes "LISTING") (rows_at_sub 0 rest)) _ (none_lacks (subcommand_at 0) rest refl none) in
-    let second = is_there (is_given (codes "HELD") (rows_at_sub 0 rest)) _ first.1 in
-    inl (refl, (given_value (codes "LISTING") _ filled first.0, given_value (codes "HELD") _ filled second.0))
+    let c : List Rule = (subcommand_at 0).rules in
+    let rows : List Row = rows_at_sub 0 rest in
+    let fit : AllFit c rows = rows_fit (subcommand_at 0) rest (known c refl) none in
+    let first = is_there (is_given (codes "LISTING") rows) _ (none_lacks (subcommand_at 0) rest refl none) in
+    let second = is_there (is_given (codes "HELD") rows) _ first.1 in
+    inl (refl, (word_there c rows fit (rule_at 0 0) refl first.0, word_there c rows fit (rule_at 0 1) refl second.0))
 
 audit_values : (rest : List Text) → level_fault (subcommand_at 1) [] nothing_held rest false [] ≡ []
     → NamesCall (Some (rows_at (subcommand_at 1) rest))
 unfolding dpbr_app
 audit_values rest none =
-    let filled = rows_filled (subcommand_at 1).rules [] rest audit_asks in
-    let first = is_there (is_given (codes "LISTING") (rows_at_sub 1 rest)) _ (none_lacks (subcommand_at 1) rest refl none) in
-    let second = is_there (is_given (codes "LIST") (rows_at_sub 1 rest)) _ first.1 in
-    inr (inl (refl, (given_value (codes "LISTING") _ filled first.0, given_value (codes "LIST") _ filled second.0)))
-
-wayon_asks : AskForHelp (subcommand_at 3).rules
-unfolding dpbr_app
-wayon_asks =
-    ask_for_help (subcommand_at 3).rules
-    (inl refl, (inl refl, (inl refl, (inl refl, (inl refl, (inl refl, (inr (refl, inr (refl, omega arith)), (inr (refl, inl refl), tt))))))))
+    let c : List Rule = (subcommand_at 1).rules in
+    let rows : List Row = rows_at_sub 1 rest in
+    let fit : AllFit c rows = rows_fit (subcommand_at 1) rest (known c refl) none in
+    let first = is_there (is_given (codes "LISTING") rows) _ (none_lacks (subcommand_at 1) rest refl none) in
+    let second = is_there (is_given (codes "LIST") rows) _ first.1 in
+    inr (inl (refl, (word_there c rows fit (rule_at 1 0) refl first.0, word_there c rows fit (rule_at 1 1) refl second.0)))
 
 run_values : (rest : List Text) → level_fault (subcommand_at 2) [] nothing_held rest false [] ≡ []
     → NamesCall (Some (rows_at (subcommand_at 2) rest))
 unfolding dpbr_app
 run_values rest none =
-    let filled = rows_filled (subcommand_at 2).rules [] rest run_asks in
-    let first = is_there (is_given (codes "LISTING") (rows_at_sub 2 rest)) _ (none_lacks (subcommand_at 2) rest refl none) in
-    let second = is_there (is_given (codes "TRACE") (rows_at_sub 2 rest)) _ first.1 in
-    inr (inr (inl (refl, (given_value (codes "LISTING") _ filled first.0, given_value (codes "TRACE") _ filled second.0))))
+    let c : List Rule = (subcommand_at 2).rules in
+    let rows : List Row = rows_at_sub 2 rest in
+    let fit : AllFit c rows = rows_fit (subcommand_at 2) rest (known c refl) none in
+    let first = is_there (is_given (codes "LISTING") rows) _ (none_lacks (subcommand_at 2) rest refl none) in
+    let second = is_there (is_given (codes "TRACE") rows) _ first.1 in
+    inr (inr (inl (refl, (word_there c rows fit (rule_at 2 0) refl first.0, word_there c rows fit (rule_at 2 1) refl second.0))))
 
 wayon_values : (rest : List Text) → level_fault (subcommand_at 3) [] nothing_held rest false [] ≡ []
     → NamesCall (Some (rows_at (subcommand_at 3) rest))
 unfolding dpbr_app
 wayon_values rest none =
-    let filled = rows_filled (subcommand_at 3).rules [] rest wayon_asks in
-    let listing = is_there (is_given (codes "LISTING") (rows_at_sub 3 rest)) _ (none_lacks (subcommand_at 3) rest refl none) in
-    let trace = is_there (is_given (codes "TRACE") (rows_at_sub 3 rest)) _ listing.1 in
-    let node = is_there (is_given (codes "NODE") (rows_at_sub 3 rest)) _ trace.1 in
-    let path = is_there (is_given (codes "PATH") (rows_at_sub 3 rest)) _ node.1 in
-    let host = is_there (is_given (codes "HOST") (rows_at_sub 3 rest)) _ path.1 in
-    let builds = is_there (is_given (codes "BUILDS") (rows_at_sub 3 rest)) _ host.1 in
-    let nodes = given_value (codes "NODE") _ filled node.0 in
-    let hosts = given_value (codes "HOST") _ filled host.0 in
-    let ranges = wayon_numbers rest none in
+    let c : List Rule = (subcommand_at 3).rules in
+    let rows : List Row = rows_at_sub 3 rest in
+    let fit : AllFit c rows = rows_fit (subcommand_at 3) rest (known c refl) none in
+    let listing = is_there (is_given (codes "LISTING") rows) _ (none_lacks (subcommand_at 3) rest refl none) in
+    let trace = is_there (is_given (codes "TRACE") rows) _ listing.1 in
+    let node = is_there (is_given (codes "NODE") rows) _ trace.1 in
+    let path = is_there (is_given (codes "PATH") rows) _ node.1 in
+    let host = is_there (is_given (codes "HOST") rows) _ path.1 in
+    let builds = is_there (is_given (codes "BUILDS") rows) _ host.1 in
     inr (inr (inr (
       refl,
       record {
-        files = (given_value (codes "LISTING") _ filled listing.0, given_value (codes "TRACE") _ filled trace.0);
-        node = ranges.0 nodes.0 nodes.1;
-        rest = (given_value (codes "PATH") _ filled path.0, given_value (codes "BUILDS") _ filled builds.0);
-        host = ranges.1 hosts.0 hosts.1;
+        files = (word_there c rows fit (rule_at 3 0) refl listing.0, word_there c rows fit (rule_at 3 1) refl trace.0);
+        node = number_there c rows fit (rule_at 3 2) refl 255 refl node.0;
+        rest = (word_there c rows fit (rule_at 3 3) refl path.0, word_there c rows fit (rule_at 3 5) refl builds.0);
+        host = number_there c rows fit (rule_at 3 4) refl 65535 refl host.0;
       },
     )))
 
