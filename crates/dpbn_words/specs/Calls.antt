@@ -1,9 +1,8 @@
 -- The calls of `dpbn`, as clap matches their words.
 use Rattle.std.specs.Prelude.{◌≡◌, ◌≤◌, ◌++◌, ℕ, codes, if◌then◌else◌, is_some, List, [], ◌∷◌, Bool, Option, None, Some, option_map, pos, true, false}
 use Rattle.std.specs.Str.{bytes_eq}
-use Rattle.std.specs.Str.Parse.{digits_value, without_leading_plus}
 use Rattle.clap.specs.Kinds.{or_else}
-use Rattle.clap.specs.Words.{App, Kinds, Row, Rule, Shape, Text, fault_of, first_of, new_app, new_rule, one_of, subcommand_of, with_subcommand}
+use Rattle.clap.specs.Words.{App, Kinds, Row, Rule, Shape, Text, fault_of, first_of, new_app, new_rule, subcommand_of, with_subcommand}
 use Rattle.clap.specs.declared.builder.value_parser.ValueParser.TheVariants.{Signed}
 use Rattle.clap.specs.declared.error.kind.ErrorKind.TheVariants.{ArgumentConflict, MissingRequiredArgument}
 use Rattle.dpbn_words.specs.declared.Call.{Call}
@@ -11,7 +10,7 @@ use Rattle.dpbn_words.specs.declared.Call.TheVariants.{Cluster, Node}
 use Rattle.dpbn_words.specs.declared.Files.{Files}
 use Rattle.dpbn_words.specs.declared.Peers.{Peers}
 use Rattle.dpbn_words.specs.declared.Peers.TheVariants.{Base, Hosts}
-use Rattle.words.specs.Calls.{IsFlag, command, single}
+use Rattle.words.specs.Calls.{IsFlag, IsNumber, command, single}
 
 -- ---- what clap is told
 
@@ -107,23 +106,21 @@ abbrev pub IsTextIf : List Row → Text → Option Text → Type 0
 IsTextIf rows id value = first_of id rows ≡ value
 
 -- the number that was matched under a name, which lies between these
-abbrev pub IsNumber : List Row → Text → ℕ → ℕ → ℕ → Type 0
-IsNumber rows id least most n =
-    ((t : Text) × (one_of id rows ≡ Some t) × (digits_value 10 (without_leading_plus t) ≡ n))
-    × (least ≤ n) × (n ≤ most)
+abbrev pub IsNumberIn : List Row → Text → ℕ → ℕ → ℕ → Type 0
+IsNumberIn rows id least most n = IsNumber rows id n × (least ≤ n) × (n ≤ most)
 
 -- the number that was matched, or none
 abbrev pub IsNumberIf : List Row → Text → ℕ → ℕ → Option ℕ → Type 0
 IsNumberIf rows id least most None = first_of id rows ≡ None
-IsNumberIf rows id least most (Some n) = IsNumber rows id least most n
+IsNumberIf rows id least most (Some n) = IsNumberIn rows id least most n
 
 -- what both subcommands take
 pub record AreFiles (rows : List Row) (f : Files) : Type 0 where
   pub listing : IsText rows (codes "listing") f.listing.now
   pub builds : IsText rows (codes "builds") f.builds.now
   pub dir : IsText rows (codes "dir") f.dir.now
-  pub members : IsNumber rows (codes "members") 1 9 f.members
-  pub turns : IsNumber rows (codes "turns") 0 1000000 f.turns
+  pub members : IsNumberIn rows (codes "members") 1 9 f.members
+  pub turns : IsNumberIn rows (codes "turns") 0 1000000 f.turns
   pub weights : IsTextIf rows (codes "weights") (option_map (λ t. t.now) f.weights)
   pub progress : IsNumberIf rows (codes "progress") 1 1000000 f.progress
   pub single : IsFlag rows (codes "single") f.is_single
@@ -131,7 +128,7 @@ pub record AreFiles (rows : List Row) (f : Files) : Type 0 where
 -- where the members listen: what was given, and the other was not
 abbrev pub ArePeers : List Row → Peers → Type 0
 ArePeers rows (Base port) =
-    IsNumber rows (codes "base") 1024 65526 port × IsTextIf rows (codes "hosts") None
+    IsNumberIn rows (codes "base") 1024 65526 port × IsTextIf rows (codes "hosts") None
 ArePeers rows (Hosts text) =
     IsText rows (codes "hosts") text.now × IsTextIf rows (codes "base") None
 
@@ -141,5 +138,5 @@ IsCallOf None call = ⊥
 IsCallOf (Some (name, rows)) (Cluster files trace) = (name ≡ codes "cluster") × AreFiles rows files
     × IsTextIf rows (codes "trace") (option_map (λ t. t.now) trace)
 IsCallOf (Some (name, rows)) (Node files me peers patience) = (name ≡ codes "node")
-    × AreFiles rows files × IsNumber rows (codes "me") 0 255 me × ArePeers rows peers
+    × AreFiles rows files × IsNumberIn rows (codes "me") 0 255 me × ArePeers rows peers
     × IsNumberIf rows (codes "patience") 0 60000 patience

@@ -2,7 +2,7 @@
 ghost use Rattle.std.specs.Prelude.{◌≡◌, ◌∷◌, [], IfNone, IfOk, IfSome, false};
 ghost use Rattle.clap.specs.Words.{app_of, found_of, rows_of, rule_of};
 ghost use Rattle.clap.specs.declared.builder.command.Command.TheViews.{out-Command as fields_of};
-ghost use Rattle.dpbn_words.specs.Calls.{IsNumber, IsNumberIf, needed as needed_rule, option as option_rule};
+ghost use Rattle.dpbn_words.specs.Calls.{IsNumberIf, IsNumberIn, needed as needed_rule, option as option_rule};
 ghost use Rattle.dpbn_words.specs.inside.Apps.{with_rules};
 ghost use Rattle.dpbn_words.specs.inside.Naming.{HasNumber, MayHaveNumber};
 
@@ -46,7 +46,7 @@ pub fn with_options<'a>(
 
 /// The number between these that was matched under a name.
 pub fn number_of(found: &ArgMatches<'_>, id: &str, least: u32, most: u32) -> Option<u32>
-    ensures some { IfSome result (IsNumber (rows_of (found_of found.now)) id.now least most) }
+    ensures some { IfSome result (IsNumberIn (rows_of (found_of found.now)) id.now least most) }
     ensures none { IfNone result
         (¬ HasNumber (rows_of (found_of found.now)) id.now least most) }
 {
