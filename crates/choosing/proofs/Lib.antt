@@ -1,0 +1,10 @@
+pub mod Arrivals
+pub mod ByCase
+pub mod Choosings
+pub mod Elsewhere
+pub mod Eventful
+pub mod FirstOwn
+pub mod Jobs
+pub mod Owns
+pub mod Places
+pub mod Ranges

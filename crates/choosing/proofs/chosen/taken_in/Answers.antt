@@ -1,0 +1,61 @@
+use Rattle.std.proofs.Common.{◌∙◌, ap, inl, refl}
+use Rattle.choosing.proofs.Arrivals.{known_lent, sent_seen, stays_lent, taken_lent, wants_lent}
+use Rattle.choosing.proofs.Places.{up_seen}
+use Rattle.choosing.specs.Choosing.{told}
+use Rattle.choosing.specs.inside.Cases.{arrived}
+use Rattle.choosing.proofs.chosen.taken_in.Goals as goal
+
+pub returns-in-Ok-clause-chosen : goal.returns-in-Ok-clause-chosen
+returns-in-Ok-clause-chosen g c =
+    let nodes = c.args.nodes.now.items in
+    let to = c.in-Some.to in
+    let some = up_seen nodes c.as_slice.result.now to c.is_up.result c.as_slice.ensures.value
+    c.is_up.ensures c.if-not-is_up.false in
+    taken_lent nodes to c.in-Some.bytes.items (arrived c.args.came)
+    (ap arrived c.in-Some.is)
+    c.index_mut.result.now c.take_in.new.node c.index_mut.ensures.value some
+    c.in-Ok.ensures.readied.0 (record { node = to; readied = c.in-Ok.readied }) refl
+    c.in-Ok.ensures.readied.1
+
+pub returns-in-Ok-clause-sent : goal.returns-in-Ok-clause-sent
+returns-in-Ok-clause-sent g c =
+    let nodes = c.args.nodes.now.items in
+    let to = c.in-Some.to in
+    let some = up_seen nodes c.as_slice.result.now to c.is_up.result c.as_slice.ensures.value
+    c.is_up.ensures c.if-not-is_up.false in
+    let among = sent_seen c.args.sent.now c.in-Some.bytes.items c.as_slice-2.result.now
+    c.in_ok-is_sent.field-0 c.as_slice-2.ensures.value c.in_ok-is_sent.ensures
+    c.if-not-branch.false in
+    known_lent nodes to c.in-Some.bytes.items (arrived c.args.came)
+    (ap arrived c.in-Some.is)
+    c.index_mut.result.now c.take_in.new.node c.index_mut.ensures.value some c.args.sent.now among
+
+pub returns-in-Err-clause-same : goal.returns-in-Err-clause-same
+returns-in-Err-clause-same g c =
+    let nodes = c.args.nodes.now.items in
+    let to = c.in-Some.to in
+    let some = up_seen nodes c.as_slice.result.now to c.is_up.result c.as_slice.ensures.value
+    c.is_up.ensures c.if-not-is_up.false in
+    let among = sent_seen c.args.sent.now c.in-Some.bytes.items c.as_slice-2.result.now
+    c.in_ok-is_sent.field-0 c.as_slice-2.ensures.value c.in_ok-is_sent.ensures
+    c.if-not-branch.false in
+    stays_lent nodes to c.in-Some.bytes.items (arrived c.args.came)
+    (ap arrived c.in-Some.is)
+    c.index_mut.result.now c.take_in.new.node c.index_mut.ensures.value some c.args.sent.now among
+    c.requires.known c.in-Err.fault c.in-Err.ensures.refused c.in-Err.ensures.log
+    c.in-Err.ensures.left
+
+pub returns-in-Err-clause-refused : goal.returns-in-Err-clause-refused
+returns-in-Err-clause-refused g c =
+    let nodes = c.args.nodes.now.items in
+    let to = c.in-Some.to in
+    let some = up_seen nodes c.as_slice.result.now to c.is_up.result c.as_slice.ensures.value
+    c.is_up.ensures c.if-not-is_up.false in
+    let among = sent_seen c.args.sent.now c.in-Some.bytes.items c.as_slice-2.result.now
+    c.in_ok-is_sent.field-0 c.as_slice-2.ensures.value c.in_ok-is_sent.ensures
+    c.if-not-branch.false in
+    inl (c.told.ensures ∙ ap told (wants_lent nodes to c.in-Some.bytes.items
+    (arrived c.args.came)
+    (ap arrived c.in-Some.is)
+    c.index_mut.result.now c.take_in.new.node c.index_mut.ensures.value some c.args.sent.now among
+    c.requires.known c.in-Err.fault c.in-Err.ensures.refused))

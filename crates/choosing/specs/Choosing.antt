@@ -1,0 +1,107 @@
+-- What was chosen, with its step ready.
+use Rattle.std.specs.Prelude.{◌≡◌, ℕ, Bool, true, false, List, Option, None, Some, Err, [], ◌∷◌, if◌then◌else◌, is_some, length, slice_get}
+use Rattle.choice.specs.Choice.{Chosen, Here, IsChoice, has_job}
+use Rattle.choice.specs.Pending.{Pending}
+use Rattle.choice.specs.declared.fault.TurnFault.{TurnFault}
+use Rattle.choice.specs.declared.fault.TurnFault.TheVariants as refused
+use Rattle.faults.specs.Bytes.{Text, is_among}
+use Rattle.node.specs.State.{LoggedNode}
+use Rattle.node.specs.Step.{Asked, Comes, Does, Takes}
+use Rattle.node.specs.declared.fault.NodeFault.{NodeFault}
+use Rattle.node.specs.declared.fault.NodeFault.TheVariants as fault
+use Rattle.parts.specs.Readied.{IsReadied}
+use Rattle.parts.specs.declared.readied.Readied.{Readied}
+use Rattle.ports.specs.Kept.{Arrived, GoesOnBy}
+use Rattle.protocol.specs.Given.{Given}
+use Rattle.protocol.specs.Member.{IsMember}
+use Rattle.protocol.specs.State.{State}
+use Rattle.protocol.specs.declared.input.Input.{Input}
+use Rattle.choosing.specs.Here.{here_in}
+use Rattle.choosing.specs.Events.{event_of}
+use Rattle.choosing.specs.declared.chosen.Chosen.{Chosen as Ready}
+
+-- What receives gave in the turn: nothing was asked of the port where a job waited for its answer,
+-- and else it was asked once.
+abbrev pub looked_for : Bool → Arrived → List Arrived
+looked_for has_job came = if has_job then [] else came ∷ []
+
+-- Node k is up, and its step on this is ready.
+pub record IsReadiedAt {D : Type 0} (nodes : List (LoggedNode D)) (k : ℕ) (asked : Asked)
+    (r : Readied) : Type 0 where
+  pub node : LoggedNode D
+  pub stands : slice_get nodes k ≡ Some node
+  pub up : node.node.stopped ≡ false
+  pub readied : IsReadied node asked r
+
+-- Node k's part was made ready, if it has one; and else there is none.
+abbrev pub IsPartAt : {D : Type 0} → List (LoggedNode D) → ℕ → Option Input → Option Readied
+    → Type 0
+IsPartAt nodes k None None = Prim.Unit {0}
+IsPartAt nodes k None (Some r) = ⊥
+IsPartAt nodes k (Some input) None = ⊥
+IsPartAt nodes k (Some input) (Some r) = IsReadiedAt nodes k (Does input) r
+
+-- What was chosen was made ready, if anything was.
+abbrev pub IsChosenAs : {D : Type 0} → List (LoggedNode D) → Chosen → Option Ready → Type 0
+IsChosenAs nodes None None = Prim.Unit {0}
+IsChosenAs nodes None (Some r) = ⊥
+IsChosenAs nodes (Some x) None = ⊥
+IsChosenAs nodes (Some x) (Some r) = (r.node ≡ x.0) × IsReadiedAt nodes x.0 x.1 r.readied
+
+-- Node k is up, and takes no step on this.
+pub record RefusesAt {D : Type 0} (nodes : List (LoggedNode D)) (k : ℕ) (asked : Asked)
+    (f : NodeFault) : Type 0 where
+  pub node : LoggedNode D
+  pub stands : slice_get nodes k ≡ Some node
+  pub up : node.node.stopped ≡ false
+  pub refuses : Takes node.node asked (Err f)
+
+-- No node that is up refuses bytes that were sent.
+abbrev pub NoneIsForeign : {D : Type 0} → List (LoggedNode D) → List Text → Type 0
+NoneIsForeign nodes sent =
+    (k : ℕ) (text : Text) (f : NodeFault) → is_among sent text ≡ true
+    → RefusesAt nodes k (Comes text) f → ⊥
+
+-- the node's refusal, as one of a turn
+abbrev pub told : NodeFault → TurnFault
+told fault.Memory = refused.Memory
+told (fault.Refused r) = refused.Node (fault.Refused r)
+told (fault.Log f) = refused.Node (fault.Log f)
+told fault.Stopped = refused.Node fault.Stopped
+told (fault.Foreign f) = refused.Node (fault.Foreign f)
+
+-- Each of them is a member.
+abbrev pub AreMembers : Here → Type 0
+AreMembers here = (k : ℕ) (s : State) → here k ≡ Some s → IsMember s
+
+-- It is the turn's choice, by what the port gave from the old moment to the new one.
+pub record IsChosenBy (here : Here) (count : ℕ) (p : Pending) (builds : Given)
+    (old new : Option (List Arrived)) (chosen : Chosen) : Type 0 where
+  pub came : Arrived
+  pub looked : GoesOnBy (looked_for (has_job here count builds) came) old new
+  pub choice : IsChoice here count p builds came chosen
+
+-- What was chosen is the turn's choice, its step is ready, and it is an event.
+pub record HasChosen {D : Type 0} (nodes : List (LoggedNode D)) (sent : List Text) (p : Pending)
+    (builds : Given) (old new : Option (List Arrived)) (r : Option Ready) : Type 0 where
+  pub chosen : Chosen
+  pub is_chosen : IsChosenBy (here_in nodes) (length nodes) p builds old new chosen
+  pub readied : IsChosenAs nodes chosen r
+  pub event : (x : _) → chosen ≡ Some x → is_some (event_of sent x) ≡ true
+
+-- Why nothing was made ready: memory was wanting; the chosen node takes no step on what it would do
+-- of itself; bytes came, for a node that is up, that none of the nodes sent.
+abbrev pub IsChoosingFault : {D : Type 0} → List (LoggedNode D) → List Text → Pending → Given
+    → Option (List Arrived) → Option (List Arrived) → TurnFault → Type 0
+IsChoosingFault nodes sent p builds old new refused.Memory =
+    (chosen : Chosen) × IsChosenBy (here_in nodes) (length nodes) p builds old new chosen
+IsChoosingFault nodes sent p builds old new (refused.Node f) =
+    (k : ℕ) × (input : Input)
+    × IsChosenBy (here_in nodes) (length nodes) p builds old new (Some (k, Does input))
+    × (is_some (event_of sent (k, Does input)) ≡ true) × RefusesAt nodes k (Does input) f
+IsChoosingFault nodes sent p builds old new (refused.Down k) = ⊥
+IsChoosingFault nodes sent p builds old new refused.NotSent =
+    (k : ℕ) × (text : Text)
+    × IsChosenBy (here_in nodes) (length nodes) p builds old new (Some (k, Comes text))
+    × (is_among sent text ≡ false)
+IsChoosingFault nodes sent p builds old new refused.NotFresh = ⊥

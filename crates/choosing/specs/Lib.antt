@@ -1,0 +1,5 @@
+pub mod Events
+pub mod Here
+pub mod Choosing
+pub mod Recording
+pub mod inside

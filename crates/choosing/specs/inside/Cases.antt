@@ -1,0 +1,79 @@
+-- What is made ready in each case of the choice, and why nothing is.
+use Rattle.std.specs.Prelude.{◌≡◌, ◌⊎◌, ℕ, Vec, true, false, List, Option, Some, is_some, length, option_and_then, option_map}
+use Rattle.std.specs.declared.alloc.Global.{Global}
+use Rattle.choice.specs.Answering.{answer_of}
+use Rattle.choice.specs.Choice.{Chosen, IsFirstOwn, IsOwnIf, comes_to}
+use Rattle.choice.specs.Pending.{Pending}
+use Rattle.choice.specs.declared.fault.TurnFault.{TurnFault}
+use Rattle.choice.specs.declared.fault.TurnFault.TheVariants.{Memory, Node, NotSent}
+use Rattle.faults.specs.Bytes.{Text, is_among}
+use Rattle.node.specs.State.{LoggedNode}
+use Rattle.node.specs.Step.{Comes, Does}
+use Rattle.node.specs.declared.fault.NodeFault.{NodeFault}
+use Rattle.parts.specs.declared.readied.Readied.{Readied}
+use Rattle.ports.specs.Kept.{Arrived}
+use Rattle.protocol.specs.Given.{Given}
+use Rattle.protocol.specs.declared.input.Input.{Input}
+use Rattle.choosing.specs.Choosing.{IsChosenAs, IsPartAt, RefusesAt}
+use Rattle.choosing.specs.Here.{here_in}
+use Rattle.choosing.specs.declared.chosen.Chosen.{Chosen as Ready}
+
+-- ---- (1) a job
+
+-- node k's answer to its job, if it is up and has one
+abbrev pub answer_here : {D : Type 0} → List (LoggedNode D) → Given → ℕ → Option Input
+answer_here nodes builds k = option_and_then (λ s. answer_of s builds) (here_in nodes k)
+
+-- Memory was wanting for what there is to do.
+abbrev pub IsWantFor : {X : Type 0} → Option X → TurnFault → Type 0
+IsWantFor x f = (f ≡ Memory) × (is_some x ≡ true)
+
+-- ---- (2) what came
+
+-- what came, as a list of bytes
+abbrev pub arrived : Option (ℕ × Vec ℕ Global) → Arrived
+arrived = option_map (λ d. (d.0, d.1.items))
+
+-- What a node takes was sent.
+abbrev pub WasSent : {D : Type 0} → List (LoggedNode D) → List Text → Arrived → Type 0
+WasSent nodes sent came =
+    (k : ℕ) (text : Text) → comes_to (here_in nodes) came ≡ Some (k, Comes text)
+    → is_among sent text ≡ true
+
+-- Memory was wanting, or it came for a node that is up and was not sent.
+abbrev pub IsNotTaken : {D : Type 0} → List (LoggedNode D) → List Text → Arrived → TurnFault
+    → Type 0
+IsNotTaken nodes sent came f =
+    (f ≡ Memory) ⊎ ((f ≡ NotSent)
+    × ((k : ℕ) × (text : Text) × (comes_to (here_in nodes) came ≡ Some (k, Comes text))
+    × (is_among sent text ≡ false)))
+
+-- ---- (3) what nodes do of themselves
+
+-- What node k does of itself was made ready, if it does anything.
+abbrev pub IsOwnPart : {D : Type 0} → List (LoggedNode D) → Pending → ℕ → Option Readied → Type 0
+IsOwnPart nodes p k r =
+    (own : Option Input) × IsOwnIf (here_in nodes) (length nodes) p k (here_in nodes k) own
+    × IsPartAt nodes k own r
+
+-- Memory was wanting, or node k takes no step on what it would do of itself.
+abbrev pub IsOwnFault : {D : Type 0} → List (LoggedNode D) → Pending → ℕ → TurnFault → Type 0
+IsOwnFault nodes p k f =
+    (f ≡ Memory) ⊎ ((input : Input) × (g : NodeFault) × (f ≡ Node g)
+    × IsOwnIf (here_in nodes) (length nodes) p k (here_in nodes k) (Some input)
+    × RefusesAt nodes k (Does input) g)
+
+-- What the first of these nodes does of itself was made ready, if any does anything.
+abbrev pub IsFirstPart : {D : Type 0} → List (LoggedNode D) → Pending → List ℕ → Option Ready
+    → Type 0
+IsFirstPart nodes p ks r =
+    (chosen : Chosen) × IsFirstOwn (here_in nodes) (length nodes) p ks chosen
+    × IsChosenAs nodes chosen r
+
+-- Memory was wanting, or the first of these nodes that would do anything takes no step on it.
+abbrev pub IsFirstFault : {D : Type 0} → List (LoggedNode D) → Pending → List ℕ → TurnFault
+    → Type 0
+IsFirstFault nodes p ks f =
+    (f ≡ Memory) ⊎ ((k : ℕ) × (input : Input) × (g : NodeFault) × (f ≡ Node g)
+    × IsFirstOwn (here_in nodes) (length nodes) p ks (Some (k, Does input))
+    × RefusesAt nodes k (Does input) g)

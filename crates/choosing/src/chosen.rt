@@ -1,0 +1,306 @@
+//! What a turn does.
+ghost use Rattle.std.specs.List.{list_any, range_with_len};
+ghost use Rattle.std.specs.Prelude.{
+  ◌≡◌,
+  ◌≤◌,
+  ◌<◌,
+  ◌-◌,
+  ◌==◌,
+  [],
+  ◌∷◌,
+  IfErr,
+  IfOk,
+  OnOk,
+  is_some,
+  length,
+  option_and_then,
+  option_map,
+};
+ghost use Rattle.choice.specs.Choice.{comes_to, first_job, in_turn, is_elsewhere};
+ghost use Rattle.faults.specs.Bytes.{is_among};
+ghost use Rattle.ports.specs.Kept.{GoesOnBy};
+ghost use Rattle.choosing.specs.Choosing.{
+  AreMembers,
+  HasChosen,
+  IsChoosingFault,
+  IsChosenAs,
+  IsPartAt,
+  NoneIsForeign,
+  told,
+};
+ghost use Rattle.choosing.specs.Here.{here_in};
+ghost use Rattle.choosing.specs.inside.Cases.{
+  IsFirstFault,
+  IsFirstPart,
+  IsNotTaken,
+  IsOwnFault,
+  IsOwnPart,
+  IsWantFor,
+  WasSent,
+  answer_here,
+  arrived,
+};
+
+use arrayvec::ArrayVec;
+use choice::{Pending, TurnFault};
+use datagrams::{DatagramBytes, Datagrams};
+use faults::Memory;
+use node::{Node, NodeFault};
+use parts::{Readied, answer, own, take_in};
+use ports::Port;
+use protocol::Packages;
+use stable_record::Disk;
+use std::alloc::Global;
+
+/// What was chosen: a node, by its number, and what it does, with its step ready.
+#[derive(Drop)]
+pub struct Chosen {
+    pub node: usize,
+    pub readied: Readied,
+}
+
+/// What the turn does, if anything: a node, and its part, with its step ready. The first of these
+/// that applies: the least node that has a job answers it; a node takes what came, for which the
+/// port is asked once; the first of the nodes that does anything of itself does so, beginning
+/// behind the one that last did. `nodes` are by number; no node changes.
+///
+/// # Errors
+///
+/// `Memory`; `NotSent`, where bytes came, for a node that is up, that none of the nodes sent;
+/// `Node`, why the chosen node takes no step on what it would do of itself.
+pub fn choose<D: Disk, P: Port>(
+    alloc: Global,
+    nodes: &mut Vec<Node<'_, D>>,
+    port: &mut P,
+    sent: &Datagrams,
+    pending: &Pending,
+    builds: &Packages,
+) -> Result<Option<Chosen>, TurnFault>
+    requires few { length nodes.old.items ≤ 9 }
+    requires next { pending.now.next ≤ length nodes.old.items }
+    requires known { NoneIsForeign nodes.old.items sent.now }
+    requires members { AreMembers (here_in nodes.old.items) }
+    ensures same { nodes.new.items ≡ nodes.old.items }
+    ensures offered { GoesOnBy [] (P.offered port.old) (P.offered port.new) }
+    ensures chosen { IfOk result (HasChosen nodes.new.items sent.now pending.now builds.now
+        (P.given port.old) (P.given port.new)) }
+    ensures refused { IfErr result (IsChoosingFault nodes.old.items sent.now pending.now builds.now
+        (P.given port.old) (P.given port.new)) }
+{
+    if let Some(chosen) = answered(alloc, nodes, builds)? {
+        return Ok(Some(chosen));
+    }
+    let came = received(port);
+    if let Some(chosen) = taken_in(alloc, nodes, sent, came)? {
+        return Ok(Some(chosen));
+    }
+    own_in_turn(nodes, pending)
+}
+
+/// The answer of the least node that has a job.
+fn answered<D: Disk>(
+    alloc: Global,
+    nodes: &mut Vec<Node<'_, D>>,
+    builds: &Packages,
+) -> Result<Option<Chosen>, TurnFault>
+    ensures same { nodes.new.items ≡ nodes.old.items }
+    ensures chosen { IfOk result (IsChosenAs nodes.old.items
+        (first_job (here_in nodes.old.items) (length nodes.old.items) builds.now)) }
+    ensures refused { IfErr result (IsWantFor
+        (first_job (here_in nodes.old.items) (length nodes.old.items) builds.now)) }
+{
+    for node in 0..nodes.len() {
+        if let Some(readied) = answer_at(alloc, nodes, node, builds)? {
+            return Ok(Some(Chosen { node, readied }));
+        }
+    }
+    Ok(None)
+}
+
+/// The answer of this node, if it is up and has a job.
+fn answer_at<D: Disk>(
+    alloc: Global,
+    nodes: &mut Vec<Node<'_, D>>,
+    at: usize,
+    builds: &Packages,
+) -> Result<Option<Readied>, TurnFault>
+    requires { at < length nodes.old.items }
+    ensures same { nodes.new.items ≡ nodes.old.items }
+    ensures part { IfOk result
+        (IsPartAt nodes.old.items at (answer_here nodes.old.items builds.now at)) }
+    ensures refused { IfErr result (IsWantFor (answer_here nodes.old.items builds.now at)) }
+{
+    let node = &mut nodes[at];
+    if node.is_stopped() {
+        return Ok(None);
+    }
+    match answer(alloc, node, builds) {
+        Ok(readied) => Ok(readied),
+        Err(fault) => Err(told(fault)),
+    }
+}
+
+/// What came. A receive that fails gave nothing.
+fn received<P: Port>(port: &mut P) -> Option<(u8, Vec<u8>)>
+    ensures given { GoesOnBy (arrived result ∷ []) (P.given port.old) (P.given port.new) }
+    ensures offered { GoesOnBy [] (P.offered port.old) (P.offered port.new) }
+{
+    match port.receive() {
+        Ok(came) => came,
+        Err(_) => None,
+    }
+}
+
+/// That the node takes what came for it, if it is up. It was sent by one of the nodes.
+fn taken_in<D: Disk>(
+    alloc: Global,
+    nodes: &mut Vec<Node<'_, D>>,
+    sent: &Datagrams,
+    came: Option<(u8, Vec<u8>)>,
+) -> Result<Option<Chosen>, TurnFault>
+    requires known { NoneIsForeign nodes.old.items sent.now }
+    ensures same { nodes.new.items ≡ nodes.old.items }
+    ensures chosen { IfOk result (IsChosenAs nodes.old.items
+        (comes_to (here_in nodes.old.items) (arrived came))) }
+    ensures sent { OnOk result (WasSent nodes.old.items sent.now (arrived came)) }
+    ensures refused { IfErr result (IsNotTaken nodes.old.items sent.now (arrived came)) }
+{
+    let Some((to, bytes)) = came else {
+        return Ok(None);
+    };
+    let at = to as usize;
+    if !is_up(nodes.as_slice(), at) {
+        return Ok(None);
+    }
+    if !is_sent(alloc, sent, bytes.as_slice())? {
+        return Err(TurnFault::NotSent);
+    }
+    match take_in(&mut nodes[at], bytes) {
+        Ok(readied) => Ok(Some(Chosen { node: at, readied })),
+        Err(fault) => Err(told(fault)),
+    }
+}
+
+/// Whether one of the nodes sent these bytes.
+fn is_sent(alloc: Global, sent: &Datagrams, bytes: &[u8]) -> Result<bool, Memory>
+    ensures { IfOk result (λ is. is ≡ is_among sent.now bytes.now) }
+{
+    let bytes = DatagramBytes::new(bytes.to_vec(alloc)?);
+    Ok(sent.contains(&bytes))
+}
+
+/// Whether there is such a node, and it is up.
+fn is_up<D: Disk>(nodes: &[Node<'_, D>], at: usize) -> bool
+    ensures { result ≡ is_some (here_in nodes.now at) }
+{
+    match nodes.get(at) {
+        Some(node) => !node.is_stopped(),
+        None => false,
+    }
+}
+
+/// What the first of the nodes does of itself that does anything.
+fn own_in_turn<D: Disk>(
+    nodes: &mut Vec<Node<'_, D>>,
+    pending: &Pending,
+) -> Result<Option<Chosen>, TurnFault>
+    requires few { length nodes.old.items ≤ 9 }
+    requires next { pending.now.next ≤ length nodes.old.items }
+    ensures same { nodes.new.items ≡ nodes.old.items }
+    ensures chosen { IfOk result (IsFirstPart nodes.old.items pending.now
+        (in_turn pending.now.next (length nodes.old.items))) }
+    ensures refused { IfErr result (IsFirstFault nodes.old.items pending.now
+        (in_turn pending.now.next (length nodes.old.items))) }
+{
+    let next = pending.next() as usize;
+    if let Some(chosen) = own_among(nodes, pending, next, nodes.len())? {
+        return Ok(Some(chosen));
+    }
+    own_among(nodes, pending, 0, next)
+}
+
+/// The same of the nodes from the first number on, below the second.
+fn own_among<D: Disk>(
+    nodes: &mut Vec<Node<'_, D>>,
+    pending: &Pending,
+    from: usize,
+    below: usize,
+) -> Result<Option<Chosen>, TurnFault>
+    requires few { length nodes.old.items ≤ 9 }
+    requires there { below ≤ length nodes.old.items }
+    ensures same { nodes.new.items ≡ nodes.old.items }
+    ensures chosen { IfOk result (IsFirstPart nodes.old.items pending.now
+        (range_with_len from (below - from))) }
+    ensures refused { IfErr result (IsFirstFault nodes.old.items pending.now
+        (range_with_len from (below - from))) }
+{
+    for node in from..below {
+        if let Some(readied) = own_at(nodes, pending, node)? {
+            return Ok(Some(Chosen { node, readied }));
+        }
+    }
+    Ok(None)
+}
+
+/// What this node does of itself, if it is up and does anything.
+fn own_at<D: Disk>(
+    nodes: &mut Vec<Node<'_, D>>,
+    pending: &Pending,
+    at: usize,
+) -> Result<Option<Readied>, TurnFault>
+    requires few { length nodes.old.items ≤ 9 }
+    requires there { at < length nodes.old.items }
+    ensures same { nodes.new.items ≡ nodes.old.items }
+    ensures part { IfOk result (IsOwnPart nodes.old.items pending.now at) }
+    ensures refused { IfErr result (IsOwnFault nodes.old.items pending.now at) }
+{
+    if !is_up(nodes.as_slice(), at) {
+        return Ok(None);
+    }
+    let elsewhere = open_elsewhere(nodes.as_slice(), at);
+    let above = pending.above(at as u8);
+    match own(&mut nodes[at], above, pending, elsewhere.as_slice()) {
+        Ok(readied) => Ok(readied),
+        Err(fault) => Err(told(fault)),
+    }
+}
+
+/// The units for which other nodes that are up have open claims.
+fn open_elsewhere<D: Disk>(nodes: &[Node<'_, D>], at: usize) -> ArrayVec<u32, 9>
+    requires { length nodes.now ≤ 9 }
+    ensures { (u : _) → list_any (λ v. v == u) result.items
+        ≡ is_elsewhere (here_in nodes.now) (length nodes.now) at u }
+{
+    let mut units = ArrayVec::new();
+    for other in 0..nodes.len() {
+        if other != at {
+            if let Some(unit) = open_unit(nodes, other) {
+                units.push(unit);
+            }
+        }
+    }
+    units
+}
+
+/// The unit of the node's open claim, if it is up and has one.
+fn open_unit<D: Disk>(nodes: &[Node<'_, D>], at: usize) -> Option<u32>
+    ensures { result ≡ option_map (λ o. o.unit)
+        (option_and_then (λ s. s.claim) (here_in nodes.now at)) }
+{
+    let node = nodes.get(at)?;
+    if node.is_stopped() {
+        return None;
+    }
+    let open = node.open_claim()?;
+    Some(open.unit)
+}
+
+/// The node's refusal, as one of a turn.
+pub fn told(fault: NodeFault) -> TurnFault
+    ensures { result ≡ told fault }
+{
+    match fault {
+        NodeFault::Memory => TurnFault::Memory,
+        other => TurnFault::Node(other),
+    }
+}

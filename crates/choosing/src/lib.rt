@@ -1,0 +1,8 @@
+//! What a turn of a cluster is: which node does what, with its step ready, and the event that it is.
+#![tactic(auto)]
+
+mod chosen;
+mod recording;
+
+pub use crate::chosen::{Chosen, choose, told};
+pub use crate::recording::{Recorded, events_of};

@@ -1,0 +1,157 @@
+//! The events of a turn.
+ghost use Rattle.std.specs.Prelude.{◌≡◌, IfOk, Some, is_some, option_map, position, true};
+ghost use Rattle.std.specs.Str.{bytes_eq};
+ghost use Rattle.choice.specs.Acts.{asked_by};
+ghost use Rattle.events.specs.Events.{Built, Claim, Deliver, Failed, Ask, event_view};
+ghost use Rattle.node.specs.Step.{note_in};
+ghost use Rattle.choosing.specs.Events.{event_of, event_of_input};
+ghost use Rattle.choosing.specs.Recording.{IsRecorded, IsStopOf};
+
+use choice::Act;
+use datagrams::{DatagramBytes, Datagrams};
+use events::{Event, Left};
+use faults::Memory;
+use member::Input;
+use node::Ready;
+use pkgpath::PkgPath;
+use protocol::Packages;
+use std::alloc::Global;
+
+/// The event of a step: to be kept, and to be answered; and where the step has a note, that of a
+/// stop inside it.
+#[derive(Drop)]
+pub struct Recorded {
+    pub kept: Event,
+    pub answered: Event,
+    pub stop: Option<Event>,
+}
+
+/// The events of the node's step.
+pub fn events_of(
+    alloc: Global,
+    sent: &Datagrams,
+    node: u8,
+    act: &Act,
+    ready: &Ready,
+) -> Result<Recorded, Memory>
+    requires event { is_some (event_of sent.now (node, asked_by act.now)) ≡ true }
+    ensures { IfOk result (IsRecorded sent.now (node, asked_by act.now) ready.now) }
+{
+    let kept = event_of(alloc, sent, node, act)?;
+    let answered = kept.copy(alloc)?;
+    let stop = stop_of(alloc, &kept, ready)?;
+    Ok(Recorded {
+        kept,
+        answered,
+        stop,
+    })
+}
+
+/// The event of a stop inside the step, if it has a note. (A step without one asks nothing of the
+/// device.)
+fn stop_of(alloc: Global, event: &Event, ready: &Ready) -> Result<Option<Event>, Memory>
+    ensures { IfOk result (IsStopOf (note_in ready.now.step) (event_view event.now)) }
+{
+    if !has_note(ready) {
+        return Ok(None);
+    }
+    let input = event.copy(alloc)?;
+    let stop = Event::stop_in(alloc, input, Left::None)?;
+    Ok(Some(stop))
+}
+
+/// Whether the step notes something.
+fn has_note(ready: &Ready) -> bool
+    ensures { result ≡ is_some (note_in ready.now.step) }
+{
+    match ready.step() {
+        Some(step) => step.note().is_some(),
+        None => false,
+    }
+}
+
+/// The event that the node does so.
+fn event_of(alloc: Global, sent: &Datagrams, node: u8, act: &Act) -> Result<Event, Memory>
+    requires { is_some (event_of sent.now (node, asked_by act.now)) ≡ true }
+    ensures { IfOk result (λ event.
+        event_of sent.now (node, asked_by act.now) ≡ Some (event_view event)) }
+{
+    match act {
+        Act::Own(input) => event_of_input(node, input),
+        Act::Datagram(bytes) => delivery(alloc, sent, node, bytes.as_slice()),
+    }
+}
+
+/// The event that the datagram comes to the node.
+fn delivery(alloc: Global, sent: &Datagrams, node: u8, bytes: &[u8]) -> Result<Event, Memory>
+    requires { is_some (option_map (λ d. Deliver d node)
+        (position (bytes_eq bytes.now) sent.now)) ≡ true }
+    ensures { IfOk result (λ event. option_map (λ d. Deliver d node)
+        (position (bytes_eq bytes.now) sent.now) ≡ Some (event_view event)) }
+{
+    let bytes = DatagramBytes::new(bytes.to_vec(alloc)?);
+    match sent.number_of(&bytes) {
+        Some(number) => Ok(Event::Deliver {
+            datagram: number as u64,
+            node,
+        }),
+        None => unreachable!(),
+    }
+}
+
+/// The event of an input of the node's own.
+fn event_of_input(node: u8, input: &Input) -> Result<Event, Memory>
+    requires { is_some (event_of_input node input.now) ≡ true }
+    ensures { IfOk result (λ event. event_of_input node input.now ≡ Some (event_view event)) }
+{
+    match input {
+        Input::Claim { path, host, above } => claim(node, path, *host, *above),
+        Input::Built { path, packages } => built(node, path, packages),
+        Input::Failed { path } => failed(node, path),
+        Input::Nudge => Ok(Event::Nudge { node }),
+        Input::Ask { path } => question(node, path),
+        Input::Message(_) => unreachable!(),
+    }
+}
+
+/// A claim for an equal path.
+fn claim(node: u8, path: &PkgPath, host: u16, above: u64) -> Result<Event, Memory>
+    ensures { IfOk result (λ event. event_view event ≡ Claim node path.now host above) }
+{
+    let path = path.copy()?;
+    Ok(Event::Claim {
+        node,
+        path,
+        host,
+        above,
+    })
+}
+
+/// An equal build of an equal path.
+fn built(node: u8, path: &PkgPath, packages: &Packages) -> Result<Event, Memory>
+    ensures { IfOk result (λ event. event_view event ≡ Built node path.now packages.now) }
+{
+    let path = path.copy()?;
+    let packages = packages.copy()?;
+    Ok(Event::Built {
+        node,
+        path,
+        packages,
+    })
+}
+
+/// A failed build of an equal path.
+fn failed(node: u8, path: &PkgPath) -> Result<Event, Memory>
+    ensures { IfOk result (λ event. event_view event ≡ Failed node path.now) }
+{
+    let path = path.copy()?;
+    Ok(Event::Failed { node, path })
+}
+
+/// A question for an equal path.
+fn question(node: u8, path: &PkgPath) -> Result<Event, Memory>
+    ensures { IfOk result (λ event. event_view event ≡ Ask node path.now) }
+{
+    let path = path.copy()?;
+    Ok(Event::Ask { node, path })
+}

@@ -1,0 +1,6 @@
+pub mod ByCase
+pub mod Chosen
+pub mod Done
+pub mod Only
+pub mod Refused
+pub mod Turned

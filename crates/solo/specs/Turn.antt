@@ -1,0 +1,59 @@
+-- One turn of a node whose peers are elsewhere.
+use Rattle.std.specs.Prelude.{◌≡◌, Bool, List, [], ◌∷◌, Option, Ok, if◌then◌else◌, length}
+use Rattle.choice.specs.Choice.{Chosen, IsChoice, has_job}
+use Rattle.choice.specs.Pending.{kept_after}
+use Rattle.node.specs.Calls.{LeavesItsNoteAtMost}
+use Rattle.node.specs.OnLog.{IsOnLog}
+use Rattle.node.specs.Parcels.{datagrams_to}
+use Rattle.node.specs.Step.{Asked, Taken, Takes, after}
+use Rattle.parts.specs.Offered.{parcels_from}
+use Rattle.ports.specs.Kept.{Arrived, GoesOnBy, Parcel}
+use Rattle.protocol.specs.Given.{Given}
+use Rattle.stable_record.specs.History.{History}
+use Rattle.solo.specs.State.{SoloState, me_of, only}
+
+-- What receives gave in the turn: nothing was asked of the port where a job waited for its answer,
+-- and else it was asked once.
+abbrev pub looked_for : Bool → Arrived → List Arrived
+looked_for has_job came = if has_job then [] else came ∷ []
+
+-- It is the turn's choice, by what the port gave in the turn.
+pub record IsChosen {D P : Type 0} (given : P → Option (List Arrived)) (old new : SoloState D P)
+    (builds : Given) (chosen : Chosen) : Type 0 where
+  pub came : Arrived
+  pub looked : GoesOnBy
+      (looked_for (has_job (only old.node.node) (length old.node.node.member.weights) builds) came)
+      (given old.port) (given new.port)
+  pub choice : IsChoice (only old.node.node) (length old.node.node.member.weights) old.pending
+      builds came chosen
+
+-- The node took its step on what it was asked, what follows is kept, and just the step's sends were
+-- offered.
+pub record HasTaken {D P : Type 0} (offered : P → Option (List Parcel)) (old new : SoloState D P)
+    (asked : Asked) : Type 0 where
+  pub taken : Taken
+  pub takes : Takes old.node.node asked (Ok taken)
+  pub node : new.node.node ≡ after old.node.node taken
+  pub pending : new.pending ≡ kept_after old.pending (me_of old) old.node.node.member asked
+  pub offers : GoesOnBy (parcels_from (me_of old) (datagrams_to taken.answer.sends))
+      (offered old.port) (offered new.port)
+
+-- Nothing was offered.
+abbrev pub OffersNothing : {D P : Type 0} → (P → Option (List Parcel)) → SoloState D P
+    → SoloState D P → Type 0
+OffersNothing offered old new = GoesOnBy [] (offered old.port) (offered new.port)
+
+-- A crash at any moment of it leaves the notes, with that of the step on what was asked or without.
+abbrev pub LeavesAtMost : {D P : Type 0} → (D → Type 0) → (D → History) → SoloState D P
+    → SoloState D P → Asked → Type 0
+LeavesAtMost is_kept history old new asked =
+    is_kept new.node.log.disk → IsOnLog history old.node
+    → LeavesItsNoteAtMost old.node.node asked (history old.node.log.disk)
+    (history new.node.log.disk)
+
+-- No call came to the disk.
+abbrev pub IsUntouched : {D P : Type 0} → (D → Type 0) → (D → History) → SoloState D P
+    → SoloState D P → Type 0
+IsUntouched is_kept history old new =
+    is_kept new.node.log.disk → IsOnLog history old.node
+    → history new.node.log.disk ≡ history old.node.log.disk

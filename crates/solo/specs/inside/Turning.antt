@@ -1,0 +1,72 @@
+-- A turn by its parts: what is chosen is made ready, and then taken.
+use Rattle.std.specs.Prelude.{◌≡◌, ◌⊎◌, true, List, Option, None, Some, Err}
+use Rattle.ballots.specs.declared.message.Note.{Note}
+use Rattle.choice.specs.Choice.{Chosen}
+use Rattle.choice.specs.Pending.{Pending}
+use Rattle.choice.specs.declared.fault.TurnFault.{TurnFault}
+use Rattle.choice.specs.declared.fault.TurnFault.TheVariants.{Memory, Node, Down, NotSent, NotFresh}
+use Rattle.faults.specs.Bytes.{Text}
+use Rattle.node.specs.Calls.{left_by}
+use Rattle.node.specs.OnLog.{HasRoomForNote, LacksRoom}
+use Rattle.node.specs.State.{LoggedNode}
+use Rattle.node.specs.Step.{Comes, Takes}
+use Rattle.node.specs.declared.fault.NodeFault.{NodeFault}
+use Rattle.node.specs.declared.fault.NodeFault.TheVariants as fault
+use Rattle.parts.specs.Readied.{IsReadied}
+use Rattle.parts.specs.declared.readied.Readied.{Readied}
+use Rattle.ports.specs.Kept.{Arrived}
+use Rattle.protocol.specs.Given.{Given}
+use Rattle.protocol.specs.State.{Value}
+use Rattle.stable_record.specs.declared.log_fault.LogFault.TheVariants as log
+use Rattle.solo.specs.State.{SoloState}
+use Rattle.solo.specs.Turn.{IsChosen}
+
+-- these, as one
+abbrev pub solo_of : {D P : Type 0} → LoggedNode D → Pending → P → SoloState D P
+solo_of node pending port = record { node = node; pending = pending; port = port }
+
+-- What the node is chosen to do was made ready, if anything is chosen; and else nothing was.
+abbrev pub IsMade : {D : Type 0} → LoggedNode D → Chosen → Option Readied → Type 0
+IsMade n None None = Prim.Unit {0}
+IsMade n None (Some r) = ⊥
+IsMade n (Some x) None = ⊥
+IsMade n (Some x) (Some r) = (x.0 ≡ n.node.member.me) × IsReadied n x.1 r
+
+-- What was made ready is the turn's choice, and the node stays.
+pub record HasChosen {D P : Type 0} (given : P → Option (List Arrived)) (old new : SoloState D P)
+    (builds : Given) (r : Option Readied) : Type 0 where
+  pub chosen : Chosen
+  pub is_chosen : IsChosen given old new builds chosen
+  pub made : IsMade old.node chosen r
+  pub same : new.node ≡ old.node
+
+-- the node's refusal, as one of a turn
+abbrev pub told : NodeFault → TurnFault
+told fault.Memory = Memory
+told (fault.Refused r) = Node (fault.Refused r)
+told (fault.Log f) = Node (fault.Log f)
+told fault.Stopped = Node fault.Stopped
+told (fault.Foreign f) = Node (fault.Foreign f)
+
+-- It is chosen that the node takes bytes that came, and memory was wanting, or the node takes no
+-- step on them; and it is left as that refusal leaves it.
+pub record IsNotTaken {D : Type 0} (old new : LoggedNode D) (chosen : Chosen) (f : TurnFault)
+    : Type 0 where
+  pub text : Text
+  pub refusal : NodeFault
+  pub comes : chosen ≡ Some (old.node.member.me, Comes text)
+  pub tells : f ≡ told refusal
+  pub cause : (refusal ≡ fault.Memory) ⊎ Takes old.node (Comes text) (Err refusal)
+  pub leaves : new.node ≡ left_by old.node (Comes text) refusal
+
+-- Why a step with this note, which is ready, was not taken, and what that leaves of the node.
+abbrev pub IsTakingFault : {D : Type 0} → LoggedNode D → LoggedNode D → Option (Note Value)
+    → TurnFault → Type 0
+IsTakingFault old new noted Memory = new.node ≡ old.node
+IsTakingFault old new noted (Node f) =
+    (f ≡ fault.Log log.Full) × LacksRoom old.log noted × (new.node ≡ old.node)
+IsTakingFault old new noted (Down k) =
+    (k ≡ old.node.member.me) × HasRoomForNote old.log noted
+    × (new.node ≡ record old.node { stopped = true })
+IsTakingFault old new noted NotSent = ⊥
+IsTakingFault old new noted NotFresh = ⊥

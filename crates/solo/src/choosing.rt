@@ -1,0 +1,160 @@
+//! What a node does in a turn.
+ghost use Rattle.std.specs.Prelude.{
+  ◌≡◌,
+  ◌≢◌,
+  ◌<◌,
+  ◌⊎◌,
+  [],
+  ◌∷◌,
+  IfErr,
+  IfOk,
+  None,
+  Option,
+  false,
+  length,
+  option_and_then,
+  option_map,
+};
+ghost use Rattle.choice.specs.Answering.{answer_of};
+ghost use Rattle.choice.specs.Choice.{IsOwnIf, comes_to};
+ghost use Rattle.choice.specs.declared.fault.TurnFault.TheVariants as refused;
+ghost use Rattle.node.specs.declared.fault.NodeFault.{NodeFault as Fault};
+ghost use Rattle.node.specs.Calls.{left_by};
+ghost use Rattle.node.specs.Step.{Comes, Does};
+ghost use Rattle.ports.specs.Kept.{GoesOnBy};
+ghost use Rattle.protocol.specs.declared.input.Input.{Input as Asks};
+ghost use Rattle.parts.specs.Readied.{IsNoPart, IsPart};
+ghost use Rattle.solo.specs.Faults.{IsTurnFault};
+ghost use Rattle.solo.specs.State.{member_up, only};
+ghost use Rattle.solo.specs.inside.Turning.{HasChosen, IsMade, IsNotTaken, solo_of, told};
+
+use choice::{Pending, TurnFault};
+use node::{Node, NodeFault};
+use parts::{Readied, answer, own, take_in};
+use ports::Port;
+use protocol::Packages;
+use stable_record::Disk;
+
+/// What the node does in the turn, if anything, with its step ready. The first of these that
+/// applies: it answers its job; it takes what came for it, for which the port is asked once; it
+/// does something of itself.
+///
+/// # Errors
+///
+/// `Memory`; `Node`, why the node takes no step on that: of bytes that mean nothing to it the
+/// pieces that join to no message are dropped.
+pub(crate) fn choose<D: Disk, P: Port>(
+    node: &mut Node<'_, D>,
+    port: &mut P,
+    pending: &Pending,
+    builds: &Packages,
+) -> Result<Option<Readied>, TurnFault>
+    ensures log { node.new.log ≡ node.old.log }
+    ensures offered { GoesOnBy [] (P.offered port.old) (P.offered port.new) }
+    ensures chosen { IfOk result (HasChosen P.given (solo_of node.old pending.now port.old)
+        (solo_of node.new pending.now port.new) builds.now) }
+    ensures refused { IfErr result (IsTurnFault P.given (solo_of node.old pending.now port.old)
+        (solo_of node.new pending.now port.new) builds.now (λ asked. ⊥)) }
+{
+    let me = node.member().me();
+    if let Some(readied) = answered(node, builds)? {
+        return Ok(Some(readied));
+    }
+    let came = received(port);
+    if let Some(readied) = taken_in(node, me, came)? {
+        return Ok(Some(readied));
+    }
+    done(node, me, pending)
+}
+
+/// The node's answer to its job, if it is up and has one.
+fn answered<D: Disk>(
+    node: &mut Node<'_, D>,
+    builds: &Packages,
+) -> Result<Option<Readied>, TurnFault>
+    ensures same { node.new ≡ node.old }
+    ensures part { IfOk result (IsPart node.old
+        (option_and_then (λ s. answer_of s builds.now) (member_up node.old.node))) }
+    ensures refused { IfErr result (λ f. (f ≡ refused.Memory)
+        × (option_and_then (λ s. answer_of s builds.now) (member_up node.old.node) ≢ None)) }
+{
+    if node.is_stopped() {
+        return Ok(None);
+    }
+    match answer(node.allocator(), node, builds) {
+        Ok(readied) => Ok(readied),
+        Err(fault) => Err(told(fault)),
+    }
+}
+
+/// What came. A receive that fails gave nothing.
+fn received<P: Port>(port: &mut P) -> Option<(u8, Vec<u8>)>
+    ensures given { GoesOnBy (option_map (λ d. (d.0, d.1.items)) result ∷ []) (P.given port.old)
+        (P.given port.new) }
+    ensures offered { GoesOnBy [] (P.offered port.old) (P.offered port.new) }
+{
+    match port.receive() {
+        Ok(came) => came,
+        Err(_) => None,
+    }
+}
+
+/// That the node, which has this number, takes what came, if that came for it and it is up.
+fn taken_in<D: Disk>(
+    node: &mut Node<'_, D>,
+    me: u8,
+    came: Option<(u8, Vec<u8>)>,
+) -> Result<Option<Readied>, TurnFault>
+    requires { me ≡ node.old.node.member.me }
+    ensures log { node.new.log ≡ node.old.log }
+    ensures made { IfOk result (λ r. (node.new ≡ node.old) × IsMade node.old
+        (comes_to (only node.old.node) (option_map (λ d. (d.0, d.1.items)) came)) r) }
+    ensures refused { IfErr result (IsNotTaken node.old node.new
+        (comes_to (only node.old.node) (option_map (λ d. (d.0, d.1.items)) came))) }
+{
+    match came {
+        Some((to, bytes)) if to == me && !node.is_stopped() => match take_in(node, bytes) {
+            Ok(readied) => Ok(Some(readied)),
+            Err(fault) => Err(told(fault)),
+        },
+        _ => Ok(None),
+    }
+}
+
+/// What the node, which has this number, does of itself, if it is up and does anything. No unit is
+/// claimed elsewhere as far as it knows.
+fn done<D: Disk>(
+    node: &mut Node<'_, D>,
+    me: u8,
+    pending: &Pending,
+) -> Result<Option<Readied>, TurnFault>
+    requires me { me ≡ node.old.node.member.me }
+    requires few { me < 9 }
+    ensures same { node.new ≡ node.old }
+    ensures part { IfOk result (λ r. (own : Option Asks)
+        × IsOwnIf (only node.old.node) (length node.old.node.member.weights) pending.now me
+        (member_up node.old.node) own
+        × IsPart node.old own r) }
+    ensures refused { IfErr result (λ f. (own : Option Asks) × (g : Fault)
+        × IsOwnIf (only node.old.node) (length node.old.node.member.weights) pending.now me
+        (member_up node.old.node) own
+        × (f ≡ told g) × IsNoPart node.old own g) }
+{
+    if node.is_stopped() {
+        return Ok(None);
+    }
+    match own(node, pending.above(me), pending, &[]) {
+        Ok(readied) => Ok(readied),
+        Err(fault) => Err(told(fault)),
+    }
+}
+
+/// The node's refusal, as one of a turn.
+pub(crate) fn told(fault: NodeFault) -> TurnFault
+    ensures { result ≡ told fault }
+{
+    match fault {
+        NodeFault::Memory => TurnFault::Memory,
+        other => TurnFault::Node(other),
+    }
+}

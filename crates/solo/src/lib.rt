@@ -1,0 +1,9 @@
+//! One node of a cluster whose other nodes are elsewhere, turn by turn.
+#![tactic(auto)]
+
+mod choosing;
+mod solo;
+mod taking;
+
+pub use crate::solo::Solo;
+pub use choice::{Act, TurnFault};

@@ -1,0 +1,152 @@
+//! One node, its port, and what it keeps between turns.
+ghost use Rattle.std.specs.Prelude.{
+  ◌≡◌,
+  ◌⊎◌,
+  [],
+  IfErr,
+  IfNone,
+  IfOk,
+  IfSome,
+  MatchOption,
+  MatchResult,
+  None,
+  Some,
+  false,
+  true,
+};
+ghost use Rattle.choice.specs.Acts.{asked_by};
+ghost use Rattle.choice.specs.Pending.{nothing_kept};
+ghost use Rattle.choice.specs.declared.fault.TurnFault.TheVariants as refused;
+ghost use Rattle.engine.specs.State as engines;
+ghost use Rattle.node.specs.OnLog.{IsOnLog};
+ghost use Rattle.protocol.specs.State.{engine_of};
+ghost use Rattle.stable_record.specs.Faults.{HasRisen};
+ghost use Rattle.solo.specs.Faults.{IsTurnFault};
+ghost use Rattle.solo.specs.State.{me_of};
+ghost use Rattle.solo.specs.Turn.{HasTaken, IsChosen, IsUntouched, LeavesAtMost, OffersNothing};
+
+use crate::choosing::choose;
+use crate::taking::take;
+use choice::{Act, Pending, TurnFault};
+use engine::Counts;
+use node::Node;
+use ports::Port;
+use protocol::Packages;
+use stable_record::Disk;
+use std::marker::Model;
+
+/// One node, whose peers are elsewhere, and the port by which they hear each other.
+#[derive(Drop)]
+pub struct Solo<'a, D: Disk, P: Port> {
+    node: Node<'a, D>,
+    pending: Pending,
+    port: P,
+}
+
+impl<'a, D: Disk, P: Port> Model for Solo<'a, D, P> {
+    ghost use Rattle.solo.specs.State.{SoloState};
+
+    ghost Value = { SoloState D P };
+
+    ghost view = { λ s. record { node = s.node; pending = s.pending; port = s.port } };
+}
+
+impl<'a, D: Disk, P: Port> Solo<'a, D, P> {
+    ghost use Rattle.std.specs.Borrow.{follows, sem};
+    ghost use Rattle.solo.specs.contracts.solo.Solo.{the_row};
+    ghost use mir.Syntax.{named};
+
+    /// The node and the port as they are handed in; nothing is kept yet.
+    pub fn new(node: Node<'a, D>, port: P) -> Solo<'a, D, P>
+        requires no_claim { node.node.member.claim ≡ None }
+        requires runs { node.node.stopped ≡ false }
+        ensures node { result.node ≡ node.entry }
+        ensures pending { result.pending ≡ nothing_kept }
+        ensures port { result.port ≡ port }
+    {
+        let pending = Pending::new(node.allocator());
+        Solo {
+            node,
+            pending,
+            port,
+        }
+    }
+
+    /// Takes one turn, and answers what the node did, if there was anything to do. What a send
+    /// refuses is lost, and a receive that fails gave nothing.
+    ///
+    /// # Errors
+    ///
+    /// `Memory`; `Down`, where the node's device failed; else what the node refuses.
+    pub fn turn(&mut self, builds: &Packages) -> Result<Option<Act>, TurnFault>
+        // The choice, and the port: it was asked once, unless a job waited for its answer.
+        ensures chosen { IfOk result (λ o. IfSome o (λ act.
+            IsChosen P.given self.old self.new builds.now (Some (me_of self.old, asked_by act)))) }
+        ensures nothing { IfOk result (λ o. IfNone o
+            (IsChosen P.given self.old self.new builds.now None)) }
+
+        // The node took the step, and just its sends were offered.
+        ensures taken { IfOk result (λ o. IfSome o
+            (λ act. HasTaken P.offered self.old self.new (asked_by act))) }
+        ensures same { IfOk result (λ o. IfNone o
+            ((self.new.node ≡ self.old.node) × (self.new.pending ≡ self.old.pending)
+            × OffersNothing P.offered self.old self.new)) }
+
+        // Refusals, and what they leave.
+        ensures refused { IfErr result (IsTurnFault P.given self.old self.new builds.now
+            (LeavesAtMost D.is_kept D.history self.old self.new)) }
+        ensures left { IfErr result (λ f. (self.new.pending ≡ self.old.pending)
+            × OffersNothing P.offered self.old self.new) }
+        ensures device { IfErr result (λ f. (k : _) → f ≡ refused.Down k
+            → HasRisen (D.failures_of self.old.node.log.disk)
+            (D.failures_of self.new.node.log.disk)) }
+
+        // The log: after each turn, and at each moment of one.
+        ensures on_log { D.is_kept self.new.node.log.disk → IsOnLog D.history self.old.node
+            → self.new.node.node.stopped ≡ false → IsOnLog D.history self.new.node }
+        ensures any_moment { IfOk result (λ o. IfSome o
+            (λ act. LeavesAtMost D.is_kept D.history self.old self.new (asked_by act))) }
+        ensures untouched { MatchResult result
+            (λ o. IfNone o (IsUntouched D.is_kept D.history self.old self.new))
+            (λ f. ((k : _) × (f ≡ refused.Down k))
+            ⊎ IsUntouched D.is_kept D.history self.old self.new) }
+        ensures kept { D.is_kept self.new.node.log.disk → D.is_kept self.old.node.log.disk }
+    {
+        match choose(&mut self.node, &mut self.port, &self.pending, builds)? {
+            Some(readied) => {
+                let act = take(&mut self.node, &mut self.pending, &mut self.port, readied)?;
+                Ok(Some(act))
+            }
+            None => Ok(None),
+        }
+    }
+
+    /// How many packages have each letter at the node, as long as it is up.
+    pub fn counts(&self) -> Option<Counts>
+        ensures { MatchOption result (self.now.node.node.stopped ≡ true)
+            (λ counts. (self.now.node.node.stopped ≡ false)
+            × engines.AreCounts (engine_of self.now.node.node.member) counts) }
+    {
+        if self.node.is_stopped() {
+            return None;
+        }
+        Some(self.node.counts())
+    }
+
+    /// The node, to be read.
+    pub fn node(&self) -> &Node<'a, D>
+        ensures { result.now ≡ self.now.node }
+    {
+        &self.node
+    }
+
+    /// The port, lent.
+    pub fn port(&mut self) -> &mut P
+        ensures value { result.now ≡ self.old.port }
+        ensures* lends { sem 𝓛 (follows
+            (the_row (record { mir = named 1; lft = [] }) D.row P.row D.Disk P.Port) P.row
+            self.entry.ghost_name result.ghost_name (λ p. record self.old { port = p })) }
+    {
+        &mut self.port
+    }
+}

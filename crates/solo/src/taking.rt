@@ -1,0 +1,111 @@
+//! What was chosen is done.
+ghost use Rattle.std.specs.Prelude.{◌≡◌, ◌⊎◌, [], IfErr, IfOk, OnOk, OnErr, false};
+ghost use Rattle.choice.specs.Acts.{asked_by};
+ghost use Rattle.choice.specs.declared.fault.TurnFault.TheVariants as refused;
+ghost use Rattle.node.specs.OnLog.{IsOnLog, LeavesOneMoreAtMost};
+ghost use Rattle.node.specs.Parcels.{datagrams_to};
+ghost use Rattle.node.specs.Step.{IsReadyFor, after, note_in, taken_by};
+ghost use Rattle.parts.specs.Offered.{parcels_from};
+ghost use Rattle.parts.specs.Readied.{IsReadied};
+ghost use Rattle.ports.specs.Kept.{GoesOnBy};
+ghost use Rattle.stable_record.specs.Faults.{HasRisen};
+ghost use Rattle.solo.specs.Turn.{HasTaken, IsUntouched, LeavesAtMost};
+ghost use Rattle.solo.specs.inside.Turning.{IsTakingFault, solo_of};
+
+use crate::choosing::told;
+use choice::{Act, Pending, TurnFault};
+use node::{Node, NodeFault, Ready};
+use parts::{Readied, offer};
+use ports::Port;
+use stable_record::{Disk, LogFault};
+
+/// The node takes the step that is ready: what follows for later turns is kept; the step's note
+/// goes to the log; and then its sends are offered to the port. Where it is refused nothing is
+/// kept or offered.
+///
+/// # Errors
+///
+/// `Memory`; `Down`, where the node's device failed; `Node` where its log has no room.
+pub(crate) fn take<D: Disk, P: Port>(
+    node: &mut Node<'_, D>,
+    pending: &mut Pending,
+    port: &mut P,
+    readied: Readied,
+) -> Result<Act, TurnFault>
+    requires { IsReadied node.old (asked_by readied.act) readied }
+    ensures act { IfOk result (λ act. act ≡ readied.act) }
+    ensures taken { IfOk result (λ act. HasTaken P.offered (solo_of node.old pending.old port.old)
+        (solo_of node.new pending.new port.new) (asked_by readied.act)) }
+    ensures given { GoesOnBy [] (P.given port.old) (P.given port.new) }
+    ensures refused { IfErr result
+        (IsTakingFault node.old node.new (note_in readied.ready.step)) }
+    ensures left { OnErr result ((pending.new ≡ pending.old) × (port.new ≡ port.old)) }
+    ensures device { IfErr result (λ f. (k : _) → f ≡ refused.Down k
+        → HasRisen (D.failures_of node.old.log.disk) (D.failures_of node.new.log.disk)) }
+    ensures on_log { D.is_kept node.new.log.disk → IsOnLog D.history node.old
+        → node.new.node.stopped ≡ false → IsOnLog D.history node.new }
+    ensures any_moment { LeavesAtMost D.is_kept D.history
+        (solo_of node.old pending.old port.old) (solo_of node.new pending.new port.new)
+        (asked_by readied.act) }
+    ensures untouched { IfErr result (λ f. ((k : _) × (f ≡ refused.Down k))
+        ⊎ IsUntouched D.is_kept D.history (solo_of node.old pending.old port.old)
+        (solo_of node.new pending.new port.new)) }
+    ensures kept { D.is_kept node.new.log.disk → D.is_kept node.old.log.disk }
+{
+    let me = node.me();
+    let before = match pending.keep(node.member(), me, &readied.act) {
+        Ok(before) => before,
+        Err(memory) => {
+            drop(readied);
+            return Err(TurnFault::from(memory));
+        }
+    };
+    let Readied { act, ready } = readied;
+    match finish(node, port, me, ready) {
+        Ok(()) => Ok(act),
+        Err(fault) => {
+            drop(act);
+            pending.put_back(before);
+            Err(fault)
+        }
+    }
+}
+
+/// The node, which has this number, takes the step, and what the step sends is offered to the port.
+fn finish<D: Disk, P: Port>(
+    node: &mut Node<'_, D>,
+    port: &mut P,
+    me: u8,
+    ready: Ready,
+) -> Result<(), TurnFault>
+    requires me { me ≡ node.old.node.member.me }
+    requires ready { IsReadyFor node.old.node ready }
+    ensures taken { OnOk result
+        (node.new.node ≡ after node.old.node (taken_by node.old.node ready)) }
+    ensures offered { OnOk result (GoesOnBy
+        (parcels_from me (datagrams_to (taken_by node.old.node ready).answer.sends))
+        (P.offered port.old) (P.offered port.new)) }
+    ensures given { GoesOnBy [] (P.given port.old) (P.given port.new) }
+    ensures no_offer { OnErr result (port.new ≡ port.old) }
+    ensures refused { IfErr result (IsTakingFault node.old node.new (note_in ready.step)) }
+    ensures device { IfErr result (λ f. (k : _) → f ≡ refused.Down k
+        → HasRisen (D.failures_of node.old.log.disk) (D.failures_of node.new.log.disk)) }
+    ensures on_log { D.is_kept node.new.log.disk → IsOnLog D.history node.old
+        → node.new.node.stopped ≡ false → IsOnLog D.history node.new }
+    ensures any_moment { D.is_kept node.new.log.disk → IsOnLog D.history node.old
+        → LeavesOneMoreAtMost node.old.node (note_in ready.step)
+        (D.history node.old.log.disk) (D.history node.new.log.disk) }
+    ensures untouched { D.is_kept node.new.log.disk → IsOnLog D.history node.old
+        → IfErr result (λ f. ((k : _) × (f ≡ refused.Down k))
+        ⊎ (D.history node.new.log.disk ≡ D.history node.old.log.disk)) }
+    ensures kept { D.is_kept node.new.log.disk → D.is_kept node.old.log.disk }
+{
+    match node.finish(ready) {
+        Ok(out) => {
+            offer(port, me, &out.sends);
+            Ok(())
+        }
+        Err(NodeFault::Log(LogFault::Device)) => Err(TurnFault::Down(me)),
+        Err(fault) => Err(told(fault)),
+    }
+}

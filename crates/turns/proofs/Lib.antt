@@ -1,0 +1,14 @@
+pub mod AnyCase
+pub mod Disks
+pub mod EventOf
+pub mod Fresh
+pub mod GoingDown
+pub mod Led
+pub mod Moving
+pub mod OneStep
+pub mod Openings
+pub mod Settling
+pub mod Standing
+pub mod Stepping
+pub mod Still
+pub mod Turns

@@ -1,0 +1,18 @@
+use Rattle.std.proofs.Common.{subst}
+use Rattle.turns.proofs.AnyCase.{listed_in_any}
+use Rattle.turns.proofs.Led.{one_list, safe}
+use Rattle.turns.specs.AnyCase.{IsListedInAnyCase}
+use Rattle.turns.specs.inside.Standing.{cluster_of}
+use Rattle.turns.proofs.cluster.Cluster.events.Goals as goal
+
+pub returns-clause-one_list : goal.returns-clause-one_list
+returns-clause-one_list g c = one_list c.args.self.now
+
+pub returns-clause-safe : goal.returns-clause-safe
+returns-clause-safe g c = safe c.args.self.now
+
+pub returns-clause-any_case : goal.returns-clause-any_case
+returns-clause-any_case g c =
+    subst (λ s. IsListedInAnyCase s) c.self.view_is
+    (listed_in_any (cluster_of c.self.inside) c.self.invariant.0.is_world.made
+    c.self.invariant.0.any_case)

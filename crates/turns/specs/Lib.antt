@@ -1,0 +1,6 @@
+pub mod State
+pub mod Turn
+pub mod Faults
+pub mod Starting
+pub mod AnyCase
+pub mod inside

@@ -1,0 +1,64 @@
+-- What a cluster is made of, and why none is made.
+use Rattle.std.specs.Prelude.{◌≡◌, ◌≢◌, ◌<◌, ◌⊎◌, ℕ, List, [], ◌∷◌, Some, Ok, slice_get}
+use Rattle.choice.specs.declared.fault.TurnFault.{TurnFault}
+use Rattle.choice.specs.declared.fault.TurnFault.TheVariants.{Memory, Node, Down, NotSent, NotFresh}
+use Rattle.listing.specs.Tree.{Tree}
+use Rattle.node.specs.Calls.{IsOpenFault, IsOpened}
+use Rattle.node.specs.OnLog.{identity, identity_of}
+use Rattle.node.specs.State.{LoggedNode}
+use Rattle.node.specs.declared.fault.NodeFault.TheVariants as fault
+use Rattle.stable_record.specs.Crash.{AllAlong}
+use Rattle.stable_record.specs.Faults.{HasRisen}
+use Rattle.stable_record.specs.History.{History, seen}
+use Rattle.stable_record.specs.Log.{Note}
+use Rattle.stable_record.specs.Opening.{Opens, OpensAsLeft}
+use Rattle.stable_record.specs.declared.log_fault.LogFault.TheVariants as log
+
+-- The node stands on the disk that was handed in for it, which had no notes; and at each moment a
+-- crash left what it could leave before.
+pub record StandsFresh {D : Type 0} (is_kept : D → Type 0) (history : D → History)
+    (n : LoggedNode D) (disk : D) : Type 0 where
+  pub kept : is_kept n.log.disk → is_kept disk
+  pub fresh : is_kept n.log.disk → Opens (identity_of n.node.member) (seen (history disk)) (Ok [])
+  pub any_moment : is_kept n.log.disk
+      → AllAlong (OpensAsLeft (identity_of n.node.member) (history disk)) (history disk)
+      (history n.log.disk)
+
+-- Why no node is opened over the disk, want of memory aside: its log can't be opened, or has notes.
+abbrev pub IsOpeningFault : {D : Type 0} → (D → Type 0) → (D → History) → (D → ℕ) → Tree → List ℕ
+    → ℕ → D → TurnFault → Type 0
+IsOpeningFault is_kept history failures tree weights k disk Memory = Prim.Unit {0}
+IsOpeningFault {D} is_kept history failures tree weights k disk (Node f) =
+    (after : D) × (f ≢ fault.Memory)
+    × (is_kept after → IsOpenFault tree weights k (seen (history disk)) f)
+    × (f ≡ fault.Log log.Device → HasRisen (failures disk) (failures after))
+IsOpeningFault is_kept history failures tree weights k disk (Down j) = ⊥
+IsOpeningFault is_kept history failures tree weights k disk NotSent = ⊥
+IsOpeningFault {D} is_kept history failures tree weights k disk NotFresh =
+    (after : D) × (note : Note) × (notes : List Note)
+    × (is_kept after → Opens (identity tree weights k) (seen (history disk)) (Ok (note ∷ notes)))
+
+-- A node of the member was opened over the disk, which had no notes.
+pub record IsOpenedFresh {D : Type 0} (is_kept : D → Type 0) (history : D → History) (tree : Tree)
+    (weights : List ℕ) (k : ℕ) (disk : D) : Type 0 where
+  pub node : LoggedNode D
+  pub opened : IsOpened tree weights k node.node
+  pub stands : StandsFresh is_kept history node disk
+
+-- The first disk of which this holds is the one: nodes were opened over those before it, and none is
+-- opened over it.
+pub record FailsFirstAt {D : Type 0} (is_kept : D → Type 0) (history : D → History)
+    (failures : D → ℕ) (tree : Tree) (weights : List ℕ) (disks : List D) (f : TurnFault) : Type 0
+  where
+    pub place : ℕ
+    pub disk : D
+    pub stands : slice_get disks place ≡ Some disk
+    pub before : (j : ℕ) (earlier : D) → j < place → slice_get disks j ≡ Some earlier
+        → IsOpenedFresh is_kept history tree weights j earlier
+    pub refused : IsOpeningFault is_kept history failures tree weights place disk f
+
+-- Why no cluster is made: memory was wanting, or no node is opened over one of the disks.
+abbrev pub IsNewFault : {D : Type 0} → (D → Type 0) → (D → History) → (D → ℕ) → Tree → List ℕ
+    → List D → TurnFault → Type 0
+IsNewFault is_kept history failures tree weights disks f =
+    (f ≡ Memory) ⊎ FailsFirstAt is_kept history failures tree weights disks f

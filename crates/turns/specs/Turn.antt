@@ -1,0 +1,122 @@
+-- A turn of a cluster.
+use Rattle.std.specs.Prelude.{◌≡◌, ◌++◌, ℕ, true, List, [], ◌∷◌, Option, Some, length, map, slice_get, slice_set}
+use Rattle.choice.specs.Choice.{Chosen, IsChoice, has_job}
+use Rattle.choice.specs.Pending.{kept_after}
+use Rattle.choosing.specs.Choosing.{looked_for}
+use Rattle.choosing.specs.Events.{event_of}
+use Rattle.events.specs.Events.{Event, StopIn, node_of}
+use Rattle.events.specs.declared.event.Left.{Left}
+use Rattle.events.specs.declared.event.Left.TheVariants as left
+use Rattle.node.specs.OnLog.{LeavesOneMoreAtMost}
+use Rattle.node.specs.Parcels.{datagrams_to}
+use Rattle.node.specs.State.{LoggedNode}
+use Rattle.node.specs.Step.{Asked, Taken}
+use Rattle.parts.specs.Offered.{parcels_from}
+use Rattle.ports.specs.Kept.{Arrived, GoesOnBy, Parcel}
+use Rattle.protocol.specs.Given.{Given}
+use Rattle.protocol.specs.State.{State}
+use Rattle.stable_record.specs.Faults.{HasRisen}
+use Rattle.stable_record.specs.History.{History}
+use Rattle.turns.specs.State.{ClusterState, IsWorldOf, here_of, taken}
+use Rattle.world.specs.Happening.{Acts, Happens, StopsIn}
+use Rattle.world.specs.World.{World, WorldNode}
+
+-- ---- what was chosen
+
+-- It is the turn's choice, by what the port gave in the turn.
+pub record IsChosen {D P : Type 0} (given : P → Option (List Arrived)) (old new : ClusterState D P)
+    (builds : Given) (chosen : Chosen) : Type 0 where
+  pub came : Arrived
+  pub looked : GoesOnBy (looked_for (has_job (here_of old) (length old.weights) builds) came)
+      (given old.port) (given new.port)
+  pub choice : IsChoice (here_of old) (length old.weights) old.pending builds came chosen
+
+-- The event is the turn's choice.
+pub record IsEventChosen {D P : Type 0} (given : P → Option (List Arrived))
+    (old new : ClusterState D P) (builds : Given) (e : Event) : Type 0 where
+  pub chosen : ℕ × Asked
+  pub is_chosen : IsChosen given old new builds (Some chosen)
+  pub event : event_of old.sent chosen ≡ Some e
+
+-- ---- what a turn leaves
+
+-- The event happened: from each world that the cluster was, to one that it is.
+abbrev pub HasHappened : {D P : Type 0} → ClusterState D P → ClusterState D P → Event → Type 0
+HasHappened old new e =
+    (w : World) → IsWorldOf old w → (v : World) × Happens w e v × IsWorldOf new v
+
+-- Just what the event's step sends was offered to the port, each once and in order, as far as the
+-- port keeps it.
+abbrev pub OffersItsSends : {D P : Type 0} → (P → Option (List Parcel)) → ClusterState D P
+    → ClusterState D P → Event → Type 0
+OffersItsSends offered old new e =
+    (w : World) (x : WorldNode) (t : Taken) → IsWorldOf old w → Acts w e x t
+    → GoesOnBy (parcels_from (node_of e) (datagrams_to t.answer.sends)) (offered old.port)
+    (offered new.port)
+
+-- Nothing was offered to the port.
+abbrev pub OffersNothing : {D P : Type 0} → (P → Option (List Parcel)) → ClusterState D P
+    → ClusterState D P → Type 0
+OffersNothing offered old new = GoesOnBy [] (offered old.port) (offered new.port)
+
+-- What is kept between turns is what it was, with what the event's node did.
+abbrev pub KeepsWith : {D P : Type 0} → ClusterState D P → ClusterState D P → Event → Type 0
+KeepsWith old new e =
+    (chosen : ℕ × Asked) (s : State) → event_of old.sent chosen ≡ Some e
+    → here_of old chosen.0 ≡ Some s
+    → new.pending ≡ kept_after old.pending chosen.0 s chosen.1
+
+-- Everything but the port is as it was. (What a disk has room for may have grown.)
+pub record IsSame {D P : Type 0} (old new : ClusterState D P) : Type 0 where
+  pub nodes : map (λ n. n.node) new.nodes ≡ map (λ n. n.node) old.nodes
+  pub sent : new.sent ≡ old.sent
+  pub events : new.events ≡ old.events
+  pub pending : new.pending ≡ old.pending
+
+-- No call came to a disk that keeps the disk model.
+abbrev pub AreUntouched : {D P : Type 0} → (D → Type 0) → (D → History) → ClusterState D P
+    → ClusterState D P → Type 0
+AreUntouched {D} is_kept history old new =
+    (k : ℕ) (before after : LoggedNode D) → slice_get old.nodes k ≡ Some before
+    → slice_get new.nodes k ≡ Some after → is_kept after.log.disk
+    → is_kept before.log.disk × (history after.log.disk ≡ history before.log.disk)
+
+-- All nodes but one are as they were.
+pub record OthersStay {D P : Type 0} (old new : ClusterState D P) (k : ℕ) : Type 0 where
+  pub node : LoggedNode D
+  pub nodes : new.nodes ≡ slice_set old.nodes k node
+
+-- ---- a device that failed
+
+-- Node k went down inside the event's step: it notes nothing more, the others and what was sent
+-- stay, and whatever its log was left with, that is a stop inside the step.
+pub record WentDown {D P : Type 0} (old new : ClusterState D P) (e : Event) (k : ℕ) : Type 0 where
+  pub of_node : node_of e ≡ k
+  pub before : LoggedNode D
+  pub stood : slice_get old.nodes k ≡ Some before
+  pub after : LoggedNode D
+  pub nodes : new.nodes ≡ slice_set old.nodes k after
+  pub down : after.node ≡ record before.node { stopped = true }
+  pub sent : new.sent ≡ old.sent
+  pub pending : new.pending ≡ old.pending
+  pub events : taken new ≡ taken old ++ StopIn e left.None ∷ []
+  pub stopped : HasHappened old new (StopIn e left.None)
+  pub any_case : (w : World) (l : Left) → IsWorldOf old w → (v : World) × StopsIn w e l v
+
+-- A crash at any moment of it, or later, leaves the log of node k with its notes, and with that of
+-- the event's step or without.
+abbrev pub LeavesItsNotes : {D P : Type 0} → (D → Type 0) → (D → History) → ClusterState D P
+    → ClusterState D P → Event → ℕ → Type 0
+LeavesItsNotes {D} is_kept history old new e k =
+    (before after : LoggedNode D) (w : World) (x : WorldNode) (t : Taken)
+    → slice_get old.nodes k ≡ Some before → slice_get new.nodes k ≡ Some after
+    → is_kept after.log.disk → IsWorldOf old w → Acts w e x t
+    → LeavesOneMoreAtMost before.node t.answer.note (history before.log.disk)
+    (history after.log.disk)
+
+-- The device of node k failed in the turn.
+abbrev pub HasFailedAt : {D P : Type 0} → (D → ℕ) → ClusterState D P → ClusterState D P → ℕ → Type 0
+HasFailedAt {D} failures old new k =
+    (before after : LoggedNode D) → slice_get old.nodes k ≡ Some before
+    → slice_get new.nodes k ≡ Some after
+    → HasRisen (failures before.log.disk) (failures after.log.disk)

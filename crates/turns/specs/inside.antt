@@ -1,0 +1,4 @@
+-- What only bodies and proofs need.
+pub mod Standing
+pub mod Opening
+pub mod Turning

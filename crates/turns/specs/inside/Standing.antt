@@ -1,0 +1,30 @@
+-- What a contract sees of a cluster's fields, and what holds of them.
+use Rattle.std.specs.Prelude.{◌≡◌, ◌+◌, ◌<◌, length}
+use Rattle.turns.specs.AnyCase.{StandsInAnyCase}
+use Rattle.turns.specs.State.{ClusterState, IsWorldOf}
+use Rattle.turns.specs.declared.cluster.Cluster.TheInside.{Inside}
+use Rattle.units.specs.Division.{IsDivision}
+use Rattle.world.specs.World.{World}
+
+-- the cluster
+abbrev pub cluster_of : {D P : Type 0} → Inside D P → ClusterState D P
+cluster_of c = record {
+  division = c.units;
+  weights = c.weights;
+  nodes = c.nodes.items;
+  sent = c.sent;
+  events = c.events.items;
+  pending = c.pending;
+  port = c.port;
+}
+
+-- What holds of each cluster: it is some world, and so it is whatever was left of each step inside
+-- which a node went down.
+pub record IsCluster {D P : Type 0} (c : Inside D P) : Type 0 where
+  pub tree : c.units.tree ≡ c.tree.now
+  pub divided : IsDivision c.units
+  pub world : World
+  pub is_world : IsWorldOf (cluster_of c) world
+  pub count : length c.nodes.items ≡ length c.weights
+  pub placed : c.pending.next < length c.nodes.items + 1
+  pub any_case : StandsInAnyCase (cluster_of c)
