@@ -1,26 +1,32 @@
-use Rattle.std.proofs.Common.{◌≡◌, ◌<◌, ◌∙◌, ap, arith, get_or, length, subst, sym, true}
+use Rattle.std.proofs.Common.{◌≡◌, ◌∙◌, List, None, Some, length, rules, subst}
 use Rattle.std.specs.Str.{bytes_eq}
+use Rattle.faults.specs.Bytes.{Text}
+use Rattle.package_record.specs.Content.{NamedFile}
+use Rattle.indexmap.specs.IndexMap.{get}
+use Rattle.dpbr_wayon.specs.inside.First.{IsFirst}
 use Rattle.dpbr_wayon.proofs.GivenFiles.{first_has, none_has}
 use Rattle.dpbr_wayon.proofs.handed.files_of.Goals as goal
 
-pub returns-then-eq : goal.returns-then-eq
-returns-then-eq c =
+pub files_at-requires : goal.files_at-requires
+files_at-requires c =
     let builds = c.args.builds.now in
     let path = c.args.path.now in
-    let i = c.loop-given.given-index in
-    let g = c.given-item.result in
-    let same = c.as_slice-given-items.ensures in
-    let below : i < length builds =
-    subst (λ ys. i < length ys) same c.loop-given-test.true in
-    let is : g ≡ get_or builds i g = subst (λ ys. g ≡ get_or ys i g) same c.given-item.is in
-    let has : bytes_eq g.0 path ≡ true = sym c.eq.ensures ∙ c.if-eq.true in
-    let first = first_has builds path i g below c.loop-given.invariant
-    (subst (λ x. bytes_eq x.0 path ≡ true) is has) in
-    (first.0, ap (λ x. x.1) is ∙ first.1)
+    let some : get bytes_eq c.args.numbers.now path ≡ Some c.in-Some.number.now = search rules in
+    (subst (IsFirst builds path (length builds)) some c.requires).0
 
-pub returns : goal.returns
-returns c =
-    let long : length c.as_slice-given-items.result.now ≡ length c.args.builds.now =
-    ap length c.as_slice-given-items.ensures in
-    none_has c.args.builds.now c.args.path.now
-    (λ k d a b. c.loop-given.invariant k d (omega (arith, a, long, c.loop-given-test.false)) b)
+pub returns-in-Some : goal.returns-in-Some
+returns-in-Some c =
+    let builds = c.args.builds.now in
+    let path = c.args.path.now in
+    let some : get bytes_eq c.args.numbers.now path ≡ Some c.in-Some.number.now = search rules in
+    let first = subst (IsFirst builds path (length builds)) some c.requires in
+    let d : Text × List NamedFile = (path, c.files_at.result.now) in
+    let has = first_has builds path c.in-Some.number.now d first.0 first.1 (first.2 d) in
+    (has.0, c.files_at.ensures d ∙ has.1)
+
+pub returns-in-None : goal.returns-in-None
+returns-in-None c =
+    let builds = c.args.builds.now in
+    let path = c.args.path.now in
+    let none : get bytes_eq c.args.numbers.now path ≡ None = search rules in
+    none_has builds path (subst (IsFirst builds path (length builds)) none c.requires)
