@@ -1,0 +1,20 @@
+-- What the values of a call are at most.
+use Rattle.std.proofs.Common.{List, Option, None, Some}
+use Rattle.clap.specs.Words.{Row, Text}
+use Rattle.cluster.specs.Stopped.{IsGood}
+use Rattle.dpbn_words.specs.Calls.{ArePeers, IsCallOf}
+use Rattle.dpbn_words.specs.declared.Call.{Call}
+use Rattle.dpbn_words.specs.declared.Call.TheVariants.{Cluster, Node}
+use Rattle.dpbn_words.specs.declared.Peers.{Peers}
+use Rattle.dpbn_words.specs.declared.Peers.TheVariants.{Base, Hosts}
+use Rattle.dpbn_node.specs.Node.{AreGood}
+
+good_peers : (rows : List Row) (peers : Peers) → ArePeers rows peers → AreGood peers
+good_peers rows (Base port) are = are.0.2
+good_peers rows (Hosts text) are = tt
+
+pub good_call : (o : Option (Text × List Row)) (call : Call) → IsCallOf o call → IsGood call
+good_call None call is = absurd is
+good_call (Some (name, rows)) (Cluster files trace) is = is.1.members.2
+good_call (Some (name, rows)) (Node files me peers patience) is =
+    (is.1.members.2, good_peers rows peers is.3)

@@ -1,0 +1,54 @@
+-- Why the program stops before its lines are printed, and what it has written then.
+use Rattle.std.specs.Prelude.{◌≡◌, ◌≤◌, ◌⊎◌, ℕ, List, Option}
+use Rattle.std.specs.Io.KnownBytes.{Keeps}
+use Rattle.clap.specs.Words.{IsAmong, Text as Word, kind_of}
+use Rattle.cluster.specs.Printed.{HasBegun}
+use Rattle.dpbn_cluster.specs.Cluster.{RefusesCluster}
+use Rattle.dpbn_node.specs.Node.{AreGood, RefusesNode}
+use Rattle.dpbn_words.specs.Calls.{AreTaken, IsCallOf, faults_of, matched}
+use Rattle.dpbn_words.specs.declared.Call.{Call}
+use Rattle.dpbn_words.specs.declared.Call.TheVariants.{Cluster, Node}
+use Rattle.program.specs.Refusals.{device_refusal, memory_refusal}
+use Rattle.program.specs.Stops.{status_after}
+use Rattle.program.specs.declared.refusal.Refusal.{Refusal}
+use Rattle.program.specs.declared.stop.Stop.{Stop}
+use Rattle.program.specs.declared.stop.Stop.TheVariants.{Refused, Unwritten, WrongWords}
+
+-- what the values of a call are at most
+abbrev pub IsGood : Call → Type 0
+IsGood (Cluster files trace) = files.members ≤ 9
+IsGood (Node files me peers patience) = (files.members ≤ 9) × AreGood peers
+
+-- what is told of what a call is given
+abbrev pub RefusesCall : Call → Refusal → Type 0
+RefusesCall (Cluster files trace) r = RefusesCluster files r
+RefusesCall (Node files me peers patience) r = RefusesNode files me r
+
+-- A refusal comes before anything was written, but for one that is told as fault 2: then a
+-- beginning of the lines was written, maybe all of them.
+abbrev pub CannotCarryOut : Call → Stop → Option (List ℕ) → Option (List ℕ) → Type 0
+CannotCarryOut call (WrongWords e) before after = ⊥
+CannotCarryOut call (Refused r) before after = RefusesCall call r × Keeps before after
+CannotCarryOut call (Unwritten r) before after = (r ≡ device_refusal) × HasBegun call before after
+
+-- the words are taken, and the call that is matched can't be carried out
+pub record HasFailedAt (words : List Word) (stop : Stop)
+    (before after : Option (List ℕ)) : Type 0 where
+  pub taken : AreTaken words
+  pub call : Call
+  pub is_call : IsCallOf (matched words) call
+  pub failed : CannotCarryOut call stop before after
+
+-- one of the words' faults was named and nothing was written; or so it was, for want of memory; or
+-- the call failed
+abbrev pub HasStopped : List Word → Stop → Option (List ℕ) → Option (List ℕ) → Type 0
+HasStopped words (WrongWords e) before after =
+    IsAmong (kind_of e) (faults_of words) × Keeps before after
+HasStopped words (Refused r) before after =
+    ((r ≡ memory_refusal) × Keeps before after) ⊎ HasFailedAt words (Refused r) before after
+HasStopped words (Unwritten r) before after = HasFailedAt words (Unwritten r) before after
+
+-- the program stopped, and not for its words
+abbrev pub HasFailed : List Word → Option (List ℕ) → Option (List ℕ) → Type 0
+HasFailed words before after =
+    (stop : Stop) × (status_after stop ≡ 1) × HasStopped words stop before after

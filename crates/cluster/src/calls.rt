@@ -1,0 +1,101 @@
+//! The calls of `dpbn`.
+ghost use Rattle.std.specs.Prelude.{◌≡◌, ◌≤◌, IfErr, IfOk, OnOk, map, string_bytes};
+ghost use Rattle.std.specs.Io.KnownBytes.{Keeps};
+ghost use Rattle.cluster.specs.Printed.{HasCarriedOut, HasPrinted, IsOutputOf};
+ghost use Rattle.cluster.specs.Stopped.{
+  CannotCarryOut,
+  HasFailed,
+  HasStopped,
+  IsGood,
+  RefusesCall,
+};
+ghost use Rattle.dpbn_words.specs.Calls.{AreTaken};
+
+use dpbn_cluster::cluster_of_words;
+use dpbn_node::node_of_words;
+use dpbn_words::{Call, dpbn_words};
+use program::{Answer, Refusal, Stop, print};
+use std::io::Write;
+
+/// Carries out the call that the words make, and gives the status with which the program ends: 0;
+/// 1 after a fault, of which it writes one line to `err`, `dpbn: fault N` or `dpbn: fault N at K`;
+/// 2 where the words make no call, or ask for help, after clap's text on `err`. A fault of a turn
+/// is written to `err`, too, and the turns go on.
+///
+/// The first word is the program's name. The nodes' lines are made before any of them is written
+/// to `out`; lines that can't be written are fault 2.
+pub fn dpbn_main<O: Write, E: Write>(
+    rt: &HostRuntime,
+    words: &[String],
+    out: &mut O,
+    err: &mut E,
+) -> u8
+    ensures status { result ≤ 2 }
+    ensures done { result ≡ 0 → HasCarriedOut (map string_bytes words.now) (O.contents out.old)
+        (O.contents out.new) }
+    ensures fault { result ≡ 1 → HasFailed (map string_bytes words.now) (O.contents out.old)
+        (O.contents out.new) }
+    ensures wrong_words { result ≡ 2 → ¬ AreTaken (map string_bytes words.now) }
+    ensures quiet { result ≡ 2 → Keeps (O.contents out.old) (O.contents out.new) }
+{
+    match dpbn_call(rt, words, out, err) {
+        Ok(()) => 0,
+        Err(stop) => stop.tell("dpbn", err),
+    }
+}
+
+/// Carries out the call that the words make, the first of which is the program's name.
+///
+/// # Errors
+///
+/// `WrongWords`, where the words make no call; `Refused`, where something that the call is given is
+/// bad, or memory was refused; `Unwritten`, where a write to `out` failed.
+fn dpbn_call<O: Write, E: Write>(
+    rt: &HostRuntime,
+    words: &[String],
+    out: &mut O,
+    err: &mut E,
+) -> Result<(), Stop>
+    ensures done { OnOk result (HasCarriedOut (map string_bytes words.now) (O.contents out.old)
+        (O.contents out.new)) }
+    ensures stopped { IfErr result (λ stop. HasStopped (map string_bytes words.now) stop
+        (O.contents out.old) (O.contents out.new)) }
+{
+    let call = dpbn_words(rt.alloc(), words)?;
+    carry_out(rt, &call, out, err)
+}
+
+/// Prints what the call asks for.
+fn carry_out<O: Write, E: Write>(
+    rt: &HostRuntime,
+    call: &Call<'_>,
+    out: &mut O,
+    err: &mut E,
+) -> Result<(), Stop>
+    requires { IsGood call.now }
+    ensures printed { OnOk result (HasPrinted call.now (O.contents out.old) (O.contents out.new)) }
+    ensures stopped { IfErr result
+        (λ stop. CannotCarryOut call.now stop (O.contents out.old) (O.contents out.new)) }
+{
+    let answer = answer_to(rt, call, err)?;
+    match print(out, answer.text.as_slice()) {
+        Ok(()) => Ok(()),
+        Err(_) => Err(Stop::Unwritten(Refusal::device())),
+    }
+}
+
+fn answer_to<E: Write>(rt: &HostRuntime, call: &Call<'_>, err: &mut E) -> Result<Answer, Refusal>
+    requires { IsGood call.now }
+    ensures output { IfOk result (λ answer. IsOutputOf call.now answer.text.items) }
+    ensures refused { IfErr result (RefusesCall call.now) }
+{
+    match call {
+        Call::Cluster { files, trace } => cluster_of_words(rt, files, *trace, err),
+        Call::Node {
+            files,
+            me,
+            peers,
+            patience,
+        } => node_of_words(rt, files, *me, peers, *patience, err),
+    }
+}

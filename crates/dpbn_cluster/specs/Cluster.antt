@@ -1,0 +1,57 @@
+-- What `dpbn cluster` prints, and what is told where it can't run.
+use Rattle.std.specs.Prelude.{◌≡◌, ◌⊎◌, ℕ, List, Some, flat_map, length, option_map, slice_get}
+use Rattle.choice.specs.Refusals.{number_of, place_of}
+use Rattle.choice.specs.declared.fault.TurnFault.{TurnFault}
+use Rattle.dpbn_node.specs.Given.{AreTold}
+use Rattle.dpbn_node.specs.Node.{RefusesGiven, socket_refusal}
+use Rattle.dpbn_words.specs.declared.Files.{Files}
+use Rattle.dpbr_run.specs.Run.{IsNodeLine}
+use Rattle.events.specs.Events.{Event}
+use Rattle.faults.specs.Bytes.{Text}
+use Rattle.program.specs.Listings.{IsDescribed, RefusesListingFile}
+use Rattle.program.specs.Refusals.{IsSystemRefusal}
+use Rattle.program.specs.declared.refusal.Refusal.{Refusal}
+use Rattle.units.specs.Division.{Division}
+use Rattle.world.specs.Happening.{Leads}
+use Rattle.world.specs.World.{IsMade, World, start}
+
+-- a line for each node of the world, by number: those that `dpbr run` prints of it
+pub record HasLines (w : World) (text : Text) : Type 0 where
+  pub lines : List Text
+  pub one_for_each : length lines ≡ length w.nodes
+  pub are_lines : (k : ℕ) (line : Text) → slice_get lines k ≡ Some line → IsNodeLine w k line
+  pub parts : text ≡ flat_map (λ line. line) lines
+
+-- The events lead from the start, over the units among members that weigh so much, to a world, and
+-- the text has its lines.
+pub record IsShown (division : Division) (weights : List ℕ) (events : List Event) (text : Text)
+    : Type 0 where
+  pub made : IsMade division weights
+  pub world : World
+  pub led : Leads (start division weights) events world
+  pub has_lines : HasLines world text
+
+-- So it is of some events, over the tree that a listing describes, where so many members weigh what
+-- is told.
+pub record IsClusterText (files : Files) (text : Text) : Type 0 where
+  pub division : Division
+  pub described : IsDescribed files.is_single division.tree
+  pub weights : List ℕ
+  pub told : AreTold files.members (option_map (λ t. t.now) files.weights) weights
+  pub events : List Event
+  pub shown : IsShown division weights events text
+
+-- why no cluster is made: a log that is none of its members', or has notes
+abbrev pub IsClusterRefusal : Refusal → Type 0
+IsClusterRefusal r =
+    (f : TurnFault) × (r ≡ record { number = number_of f; place = place_of f })
+
+-- what is told of the logs' files, the sockets, and then the logs; or of a trace that can't be
+-- written
+abbrev pub RefusesStart : Refusal → Type 0
+RefusesStart r = IsSystemRefusal r ⊎ ((r ≡ socket_refusal) ⊎ IsClusterRefusal r)
+
+-- what is told of the listing, of what is given, or of the start
+abbrev pub RefusesCluster : Files → Refusal → Type 0
+RefusesCluster files r =
+    RefusesListingFile files.is_single r ⊎ (RefusesGiven r ⊎ RefusesStart r)

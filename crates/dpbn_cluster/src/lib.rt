@@ -1,0 +1,7 @@
+//! What `dpbn cluster` does: all members' nodes run in one process, each on its log.
+#![tactic(auto)]
+
+mod answering;
+mod running;
+
+pub use crate::answering::cluster_of_words;

@@ -1,0 +1,157 @@
+//! What a node is started with.
+ghost use Rattle.std.specs.Prelude.{◌≡◌, ◌∷◌, ◌≤◌, IfErr, IfOk, Some, option_map, string_bytes, true};
+ghost use Rattle.dpbn_node.specs.Node.{RefusesGiven};
+ghost use Rattle.dpbn_node.specs.Given.{AreBuilds, AreTold, RefusesBuilds, RefusesWeights, weights_refusal, with_commas};
+ghost use Rattle.program.specs.Refusals.{IsSystemRefusal};
+
+use arrayvec::ArrayVec;
+use ballots::Weights;
+use dpbn_words::Files as Words;
+use program::Refusal;
+use protocol::Packages;
+use stable_record::FileDisk;
+use std::alloc::{AllocError, Global};
+use std::fs;
+use std::rt::Files;
+use traces::read_builds;
+
+/// What nodes build from, and what their members weigh.
+#[derive(Drop)]
+pub struct Given {
+    pub builds: Packages,
+    pub weights: Weights,
+}
+
+/// The builds in the file and the weights, as the words have them.
+///
+/// # Errors
+///
+/// That of the builds; else that of the weights.
+pub fn given_of_words(rt: &HostRuntime, files: &Words<'_>) -> Result<Given, Refusal>
+    requires few { files.now.members ≤ 9 }
+    ensures weights { IfOk result (λ given.
+        AreTold files.now.members (option_map (λ t. t.now) files.now.weights) given.weights) }
+    ensures refused { IfErr result RefusesGiven }
+{
+    let builds = builds_of_file(rt, files.builds)?;
+    let weights = weights_of_words(rt.alloc(), files.members, files.weights)?;
+    Ok(Given { builds, weights })
+}
+
+/// The files for package paths, which stand as JSON in a file of this name.
+///
+/// # Errors
+///
+/// What the system refused; else the text's fault.
+fn builds_of_file<R: Files + AllocGlobal>(rt: &R, builds: &str) -> Result<Packages, Refusal>
+    ensures ok { IfOk result AreBuilds }
+    ensures refused { IfErr result RefusesBuilds }
+{
+    let text = fs::read(rt, builds)?;
+    match read_builds(rt.alloc(), text.as_slice()) {
+        Ok(builds) => Ok(builds),
+        Err(fault) => Err(Refusal::of(&fault)),
+    }
+}
+
+/// What so many members weigh: 1 each, unless it is told, with commas between the weights.
+///
+/// # Errors
+///
+/// Memory; that of bad weights, also where they aren't as many as members, or a weight is not
+/// spelled as a number is printed.
+fn weights_of_words(alloc: Global, members: u8, told: Option<&str>) -> Result<Weights, Refusal>
+    requires { members ≤ 9 }
+    ensures ok { IfOk result (λ w. AreTold members (option_map (λ t. t.now) told.entry) w) }
+    ensures refused { IfErr result RefusesWeights }
+{
+    match told {
+        Some(told) => weights_of_text(alloc, members, told),
+        None => weights_of(&[1; 9][..members as usize]),
+    }
+}
+
+/// The weights that the text tells of so many members.
+fn weights_of_text(alloc: Global, members: u8, told: &str) -> Result<Weights, Refusal>
+    ensures ok { IfOk result (λ w. AreTold members (Some told.now) w) }
+    ensures refused { IfErr result RefusesWeights }
+{
+    let weights = numbers_in(told);
+    if weights.len() != members as usize || !is_told(alloc, weights.as_slice(), told)? {
+        return Err(bad_weights());
+    }
+    weights_of(weights.as_slice())
+}
+
+/// The numbers that stand between commas, at most nine; 0 for what is none.
+fn numbers_in(told: &str) -> ArrayVec<u8, 9> {
+    let mut numbers = ArrayVec::new();
+    for part in told.split(',') {
+        if numbers.len() < 9 {
+            numbers.push(part.parse::<u8>().unwrap_or(0));
+        }
+    }
+    numbers
+}
+
+/// Whether the text has just these numbers, with commas between them.
+fn is_told(alloc: Global, numbers: &[u8], told: &str) -> Result<bool, AllocError>
+    ensures { IfOk result (λ is. is ≡ true → with_commas numbers.now ≡ 44 ∷ told.now) }
+{
+    let spelled = text_of(alloc, numbers)?;
+    let told = format!(in alloc; ",{told}")?;
+    Ok(spelled.as_bytes() == told.as_bytes())
+}
+
+/// The numbers, each with a comma before it.
+fn text_of(alloc: Global, numbers: &[u8]) -> Result<String, AllocError>
+    ensures { IfOk result (λ text. string_bytes text ≡ with_commas numbers.now) }
+{
+    let mut text = String::new(alloc);
+    for number in numbers {
+        let number = *number;
+        let part = format!(in alloc; ",{number}")?;
+        text.push_str(part.as_str())?;
+    }
+    Ok(text)
+}
+
+/// Members that weigh so much.
+fn weights_of(weights: &[u8]) -> Result<Weights, Refusal>
+    ensures ok { IfOk result (λ w. w ≡ weights.now) }
+    ensures refused { IfErr result (λ r. r ≡ weights_refusal) }
+{
+    match Weights::new(weights) {
+        Ok(weights) => Ok(weights),
+        Err(_) => Err(bad_weights()),
+    }
+}
+
+/// How bad weights are told.
+fn bad_weights() -> Refusal
+    ensures { result ≡ weights_refusal }
+{
+    Refusal {
+        number: 801,
+        place: None,
+    }
+}
+
+/// The disk of the member's log, which is a file in this folder. A file that isn't there is made;
+/// the folder has to be there.
+///
+/// # Errors
+///
+/// What the system refused.
+pub fn log_of_file(rt: &HostRuntime, folder: &str, me: u8) -> Result<FileDisk, Refusal>
+    ensures { IfErr result IsSystemRefusal }
+{
+    let path = path_of(rt.alloc(), folder, me)?;
+    let file = FileDisk::open_file(rt, path.as_str())?;
+    Ok(FileDisk::new(file))
+}
+
+/// Where the member's log stands.
+fn path_of(alloc: Global, folder: &str, me: u8) -> Result<String, AllocError> {
+    format!(in alloc; "{folder}/node-{me}.log")
+}

@@ -1,0 +1,9 @@
+//! What `dpbn node` does: one member's node runs on its log, and hears its peers over UDP.
+#![tactic(auto)]
+
+mod answering;
+mod given;
+mod running;
+
+pub use crate::answering::node_of_words;
+pub use crate::given::{Given, given_of_words, log_of_file};
