@@ -1,0 +1,5 @@
+//! Turns of one node.
+#![tactic(auto)]
+
+#[cfg(test)]
+mod rows;
