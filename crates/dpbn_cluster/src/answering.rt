@@ -14,7 +14,7 @@ ghost use Rattle.turns.specs.State.{IsWorldOf};
 ghost use Rattle.units.specs.Division.{Division};
 ghost use Rattle.world.specs.World.{World};
 
-use crate::running::{lines_of, run};
+use crate::turning::{lines_of, run};
 use ballots::Weights;
 use dpbn_node::{Given, given_of_words, log_of_file};
 use dpbn_words::Files;

@@ -2,6 +2,6 @@
 #![tactic(auto)]
 
 mod answering;
-mod running;
+mod turning;
 
 pub use crate::answering::cluster_of_words;

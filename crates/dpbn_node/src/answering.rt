@@ -17,7 +17,7 @@ ghost use Rattle.node.specs.Calls.{IsOpened};
 ghost use Rattle.program.specs.Refusals.{memory_refusal};
 
 use crate::given::{Given, given_of_words, log_of_file};
-use crate::running::run;
+use crate::turning::run;
 use ballots::Weights;
 use dpbn_words::{Files, Peers};
 use listing::Tree;

@@ -3,7 +3,7 @@
 
 mod answering;
 mod given;
-mod running;
+mod turning;
 
 pub use crate::answering::node_of_words;
 pub use crate::given::{Given, given_of_words, log_of_file};

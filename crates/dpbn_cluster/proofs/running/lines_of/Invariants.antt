@@ -1,8 +1,0 @@
-use Rattle.dpbr_run.specs.inside.NodeLines.{HasNodeLines}
-use Rattle.turns.specs.State.{IsWorldOf}
-use Rattle.world.specs.World.{World}
-use Rattle.dpbn_cluster.proofs.running.lines_of.Given as goal
-
-abbrev pub invariant-loop-node : goal.invariant-loop-node
-invariant-loop-node g l =
-    (w : World) → IsWorldOf l.cluster w → HasNodeLines w l.node l.text.items
