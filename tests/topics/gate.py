@@ -108,7 +108,8 @@ def run(tally):
     if status and not (counts and int(counts[2])):
         tally.add("rt ci", f"it ended with status {status}")
     if not status and os.path.exists(PROGRAM) and not changed_since(began):
-        # the gate has just proved and built the program from these sources, so ./dpbr need not do it again
-        open(f"{TOP}/crates/dpbr/out/built", "w").close()
+        # the gate has just proved and built the programs from these sources, so ./dpbr and ./dpbn need not do it again
+        for program in ("dpbr", "dpbn"):
+            open(f"{TOP}/crates/{program}/out/built", "w").close()
         with open(LAST_LINES, "w") as file:
             file.writelines(lines[-2:])

@@ -89,19 +89,30 @@ pub record HasChosen {D : Type 0} (nodes : List (LoggedNode D)) (sent : List Tex
   pub readied : IsChosenAs nodes chosen r
   pub event : (x : _) → chosen ≡ Some x → is_some (event_of sent x) ≡ true
 
--- Why nothing was made ready: memory was wanting; the chosen node takes no step on what it would do
--- of itself; bytes came, for a node that is up, that none of the nodes sent.
+-- the chosen node takes no step on what it would do of itself
+abbrev pub IsRefusedOwn : {D : Type 0} → List (LoggedNode D) → List Text → Pending → Given
+    → Option (List Arrived) → Option (List Arrived) → NodeFault → Type 0
+IsRefusedOwn nodes sent p builds old new f =
+    (k : ℕ) × (input : Input)
+    × IsChosenBy (here_in nodes) (length nodes) p builds old new (Some (k, Does input))
+    × (is_some (event_of sent (k, Does input)) ≡ true) × RefusesAt nodes k (Does input) f
+
+-- bytes came, for a node that is up, that none of the nodes sent
+abbrev pub HasForeign : {D : Type 0} → List (LoggedNode D) → List Text → Pending → Given
+    → Option (List Arrived) → Option (List Arrived) → Type 0
+HasForeign nodes sent p builds old new =
+    (k : ℕ) × (text : Text)
+    × IsChosenBy (here_in nodes) (length nodes) p builds old new (Some (k, Comes text))
+    × (is_among sent text ≡ false)
+
+-- Why nothing was made ready: memory was wanting, or one of these two.
 abbrev pub IsChoosingFault : {D : Type 0} → List (LoggedNode D) → List Text → Pending → Given
     → Option (List Arrived) → Option (List Arrived) → TurnFault → Type 0
 IsChoosingFault nodes sent p builds old new refused.Memory =
     (chosen : Chosen) × IsChosenBy (here_in nodes) (length nodes) p builds old new chosen
 IsChoosingFault nodes sent p builds old new (refused.Node f) =
-    (k : ℕ) × (input : Input)
-    × IsChosenBy (here_in nodes) (length nodes) p builds old new (Some (k, Does input))
-    × (is_some (event_of sent (k, Does input)) ≡ true) × RefusesAt nodes k (Does input) f
+    IsRefusedOwn nodes sent p builds old new f
 IsChoosingFault nodes sent p builds old new (refused.Down k) = ⊥
 IsChoosingFault nodes sent p builds old new refused.NotSent =
-    (k : ℕ) × (text : Text)
-    × IsChosenBy (here_in nodes) (length nodes) p builds old new (Some (k, Comes text))
-    × (is_among sent text ≡ false)
+    HasForeign nodes sent p builds old new
 IsChoosingFault nodes sent p builds old new refused.NotFresh = ⊥

@@ -1,4 +1,5 @@
-//! What a turn of a cluster is: which node does what, with its step ready, and the event that it is.
+//! What a turn of a cluster is: which node does what, with its step ready, and the event that that
+//! is.
 #![tactic(auto)]
 
 mod chosen;

@@ -35,8 +35,8 @@ use udp::UdpPort;
 /// told on `err`, and uses the turn up. The events that turns answered are written into the file of
 /// the trace, if one is named.
 ///
-/// All that can be wrong is looked at before the first turn, in this order: the listing, the builds,
-/// the weights, the logs' files, the sockets, the logs.
+/// All that can be wrong is looked at before the first turn, in this order: the listing, the
+/// builds, the weights, the logs' files, the sockets, the logs.
 ///
 /// # Errors
 ///

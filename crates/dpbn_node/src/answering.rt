@@ -37,8 +37,8 @@ const PATIENCE: u16 = 20;
 /// Runs the member's node for so many turns, and answers the line on it. What a turn refuses is
 /// told on `err`, and uses the turn up.
 ///
-/// All that can be wrong is looked at before the first turn, in this order: the listing, the builds,
-/// the weights, the hosts, the member, the log's file, the socket, the log.
+/// All that can be wrong is looked at before the first turn, in this order: the listing, the
+/// builds, the weights, the hosts, the member, the log's file, the socket, the log.
 ///
 /// # Errors
 ///

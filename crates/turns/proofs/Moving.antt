@@ -143,8 +143,9 @@ module _ {D P : Type 0} (is_kept : D → Type 0) (history : D → History)
 
   pub has_happened : HasHappened old new e
   has_happened =
-      happened old r.node step_due.at.node step_due.at.stands step_due.at.up (asked_by r.readied.act) step_due.can e
-      (event old r e step_due) (step_of old r e step_due) (takes old r e step_due) new took.after moved
+      happened old r.node step_due.at.node step_due.at.stands step_due.at.up
+      (asked_by r.readied.act) step_due.can e (event old r e step_due) (step_of old r e step_due)
+      (takes old r e step_due) new took.after moved
       (no_room old r e step_due took.took.room)
 
   pub others_stay : OthersStay old new (node_of e)
@@ -166,10 +167,12 @@ module _ {D P : Type 0} (is_kept : D → Type 0) (history : D → History)
   pub keeps_with : (w : World) → IsWorldOf old w → KeepsWith old new e
   keeps_with w is chosen s event_is here =
       let back : (r.node, asked_by r.readied.act) ≡ chosen =
-      one_chosen w old.sent is.sent (r.node, asked_by r.readied.act) chosen e step_due.event event_is in
+      one_chosen w old.sent is.sent (r.node, asked_by r.readied.act) chosen e step_due.event
+      event_is in
       let there : here_of old r.node ≡ Some s = ap (λ x. here_of old x.0) back ∙ here in
       let member : step_due.at.node.node.member ≡ s =
-      some_same step_due.at.node.node.member s (sym (here_at old.nodes r.node step_due.at.node step_due.at.stands step_due.at.up)
+      some_same step_due.at.node.node.member s
+      (sym (here_at old.nodes r.node step_due.at.node step_due.at.stands step_due.at.up)
       ∙ there) in
       took.pending ∙ (λ i. kept_after old.pending (back i).0 (member i) (back i).1)
 
@@ -219,12 +222,14 @@ module _ {D P : Type 0} (is_kept : D → Type 0) (history : D → History) (fail
   }
 
   has_place : ¬ IsFull stopping.node (step_of old r e stop_due).answer.note
-  has_place = no_room old r e stop_due (has_room stopping.log (note_in r.readied.ready.step) goes.failed.room)
+  has_place =
+      no_room old r e stop_due
+      (has_room stopping.log (note_in r.readied.ready.step) goes.failed.room)
 
   pub has_stopped : HasHappened old new (StopIn e left.None)
   has_stopped =
-      went old r.node stopping stop_due.at.stands stop_due.at.up (asked_by r.readied.act) stop_due.can e (event old r e stop_due)
-      (step_of old r e stop_due) (takes old r e stop_due) has_place new goes.after dropped
+      went old r.node stopping stop_due.at.stands stop_due.at.up (asked_by r.readied.act)
+      stop_due.can e (event old r e stop_due) (step_of old r e stop_due) (takes old r e stop_due) has_place new goes.after dropped
 
   pub went_down : WentDown old new e r.node
   went_down = record {
@@ -239,8 +244,8 @@ module _ {D P : Type 0} (is_kept : D → Type 0) (history : D → History) (fail
     events = goes.events;
     stopped = has_stopped;
     any_case = λ w l is.
-        stops old r.node stopping stop_due.at.stands stop_due.at.up (asked_by r.readied.act) stop_due.can e (event old r e stop_due)
-        (step_of old r e stop_due) (takes old r e stop_due) has_place w l is;
+        stops old r.node stopping stop_due.at.stands stop_due.at.up (asked_by r.readied.act)
+        stop_due.can e (event old r e stop_due) (step_of old r e stop_due) (takes old r e stop_due) has_place w l is;
   }
 
   -- so it is whatever was left of this stop and of earlier ones

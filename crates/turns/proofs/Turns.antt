@@ -213,7 +213,9 @@ module _ {D P : Type 0} (is_kept : D → Type 0) (history : D → History) (fail
       let asked : x.1 ≡ asked_by r.readied.act = sym shown.1.readied.asks in
       λ i. Some (number i, asked i)
 
-  event_chosen : (r : Ready) (e : Event) → IsMadeReady given (turning_of old) (turning_of new) builds (Some r) → IsDue old.nodes old.sent r e
+  event_chosen : (r : Ready) (e : Event)
+      → IsMadeReady given (turning_of old) (turning_of new) builds (Some r)
+      → IsDue old.nodes old.sent r e
       → IsEventChosen given old new builds e
   event_chosen r e made due = record {
     chosen = (r.node, asked_by r.readied.act);

@@ -45,8 +45,8 @@ pub record IsOpenedFresh {D : Type 0} (is_kept : D → Type 0) (history : D → 
   pub opened : IsOpened tree weights k node.node
   pub stands : StandsFresh is_kept history node disk
 
--- The first disk of which this holds is the one: nodes were opened over those before it, and none is
--- opened over it.
+-- The first disk of which this holds is the one: nodes were opened over those before it, and none
+-- is opened over it.
 pub record FailsFirstAt {D : Type 0} (is_kept : D → Type 0) (history : D → History)
     (failures : D → ℕ) (tree : Tree) (weights : List ℕ) (disks : List D) (f : TurnFault) : Type 0
   where

@@ -1,5 +1,5 @@
-//! A cluster, which contracts see as its nodes, its datagrams, its events, and what it keeps between
-//! turns.
+//! A cluster, which contracts see as its nodes, its datagrams, its events, and what it keeps
+//! between turns.
 ghost use Rattle.std.specs.Prelude.{◌≡◌, [], IfErr, IfOk, MatchOption, None, Some, length};
 ghost use Rattle.choice.specs.Pending.{nothing_kept};
 ghost use Rattle.engine.specs.State as engines;

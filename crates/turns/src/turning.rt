@@ -33,8 +33,8 @@ impl<'a, D: Disk, P: Port> Cluster<'a, D, P> {
     ///
     /// # Errors
     ///
-    /// `Memory`; `NotSent`, where bytes came that none of the nodes sent; `Down`, where the device of
-    /// the event's node failed; else what that node refuses.
+    /// `Memory`; `NotSent`, where bytes came that none of the nodes sent; `Down`, where the device
+    /// of the event's node failed; else what that node refuses.
     pub fn turn(&mut self, builds: &Packages) -> Result<Option<Event>, TurnFault>
         // The choice, and the port: it was asked once, unless a job waited for its answer.
         ensures chosen { IfOk result (λ o. IfSome o
