@@ -2,18 +2,19 @@
 PREFIX ?=	/usr/local
 BINDIR ?=	$(PREFIX)/bin
 MANDIR ?=	$(PREFIX)/man
-# what is installed beside the program; each has a page in man/
+# what is installed beside the programs; each has a page in man/
 TOOLS =		expand-listing why-ignored unpack-log make-builds
 
 all:
 	./dpbr status /dev/null /dev/null >/dev/null
+	./dpbn node --help 2>/dev/null; [ $$? -eq 2 ]
 
 check:
 	tests/run
 
 install: all
 	install -d $(DESTDIR)$(BINDIR) $(DESTDIR)$(MANDIR)/man1 $(DESTDIR)$(MANDIR)/man5
-	install -m 755 crates/dpbr/out/dpbr $(DESTDIR)$(BINDIR)/dpbr
+	for program in dpbr dpbn; do install -m 755 crates/$$program/out/$$program $(DESTDIR)$(BINDIR)/$$program || exit 1; done
 	for tool in $(TOOLS); do install -m 755 tools/$$tool $(DESTDIR)$(BINDIR)/$$tool || exit 1; done
 	for page in man/*.1; do install -m 644 $$page $(DESTDIR)$(MANDIR)/man1/ || exit 1; done
 	for page in man/*.5; do install -m 644 $$page $(DESTDIR)$(MANDIR)/man5/ || exit 1; done

@@ -19,7 +19,8 @@ IsStopOf (Some note) e (Some stop) = event_view stop ≡ StopIn e left.None
 
 -- These are the events of what the node is asked: to be kept, to be answered, and of a stop inside
 -- the step.
-pub record IsRecorded (sent : List Text) (x : ℕ × Asked) (ready : ReadyStep) (r : Recorded) : Type 0 where
+pub record IsRecorded (sent : List Text) (x : ℕ × Asked) (ready : ReadyStep) (r : Recorded)
+    : Type 0 where
   pub kept : event_of sent x ≡ Some (event_view r.kept)
   pub answered : event_view r.answered ≡ event_view r.kept
   pub stop : IsStopOf (note_in ready.step) (event_view r.kept) r.stop
