@@ -31,5 +31,7 @@ bench: all
 	-bench/member
 	-bench/node
 	-bench/traces
+	./dpbn node --help 2>/dev/null; [ $$? -eq 2 ]
+	-bench/nodes
 
 .PHONY: all check install dist bench

@@ -2,6 +2,7 @@
 import json
 import os
 import random
+import resource
 import shutil
 import signal
 import socket
@@ -100,6 +101,9 @@ def faults(tally):
             words = ["node", "--members", "4", "--turns", "1", *(it for pair in good.items() for it in pair)]
             tally.add(f"dpbn {' '.join(words)}", difference(answer(words, folder), (b"", f"dpbn: fault {fault}\n".encode(), 1)))
         good = ["node", *SHARED, "--members", "4", "--me", "3", "--turns", "0"]
+        for name in ("listing", "builds"):
+            lacking = ["none" if it == name else it for it in good]
+            tally.add(f"no {name}", difference(answer([*lacking, "--base", str(base)], folder), (b"", b"dpbn: fault 2\n", 1)))
         tally.add("a socket that is taken", difference(answer([*good, "--base", str(base)], folder), (b"", b"dpbn: fault 1204\n", 1)))
         taken.close()
         for weights, fault in (("1,1,1", "801"), ("1,1,1,1,1", "801"), ("1,1,1,0", "801"), ("1,1,1,101", "801"), ("1,1,1,01", "801"), ("1,1,1,+1", "801"),
@@ -144,8 +148,14 @@ def cluster(tally):
         tally.add("lines to a full device", "" if (done.stderr, done.returncode) == (b"dpbn: fault 2\n", 1) else f"{done.stderr!r}, {done.returncode}")
 
 
-def started(folder, me, words):
-    return subprocess.Popen([NODES, "node", *SHARED, "--members", "3", "--me", str(me), *words], cwd=folder, stdout=subprocess.PIPE, stderr=subprocess.PIPE)
+def started(folder, me, words, room=None):
+    """A node of three, whose log may grow to so many bytes: more is refused, as by a full device."""
+    def full():
+        signal.signal(signal.SIGXFSZ, signal.SIG_IGN)
+        resource.setrlimit(resource.RLIMIT_FSIZE, (room, room))
+
+    return subprocess.Popen([NODES, "node", *SHARED, "--members", "3", "--me", str(me), *words], cwd=folder, stdout=subprocess.PIPE,
+                            stderr=subprocess.PIPE, preexec_fn=full if room is not None else None)
 
 
 def hosts(tally):
@@ -160,7 +170,8 @@ def hosts(tally):
 
 
 def kills(tally, rounds=20, seed=1, packages=60):
-    """Three nodes on a listing, of which one after the other is killed and started again, while noise is sent to their sockets."""
+    """Three nodes on a listing, of which one after the other is killed and started again, each fifth time with a full device, while
+    noise is sent to their sockets."""
     dice = random.Random(seed)
     listing = "".join(f"p/n{k}.FULLPKGNAME=n{k}-1\n" + (f"p/n{k}.LIB_DEPENDS=p/n{dice.randrange(k)}\n" if k % 3 else "") for k in range(packages))
     builds = {f"p/n{k}": [{"hex": dice.randbytes(dice.choice((0, 10, 40_000))).hex(), "name": "x"}] for k in range(packages)}
@@ -170,19 +181,20 @@ def kills(tally, rounds=20, seed=1, packages=60):
         words = ["--base", str(base), "--turns", "1000000", "--patience", "5"]
         nodes = [started(folder, me, words) for me in range(3)]
         noise = socket.socket(socket.AF_INET, socket.SOCK_DGRAM)
-        for _ in range(rounds):
+        for number in range(rounds):
             time.sleep(dice.uniform(0.01, 0.15))
             noise.sendto(dice.randbytes(dice.randrange(100)), ("127.0.0.1", base + dice.randrange(3)))
             me = dice.randrange(3)
             nodes[me].send_signal(signal.SIGKILL)
             nodes[me].communicate()
-            nodes[me] = started(folder, me, words)
+            room = os.path.getsize(f"{folder}/logs/node-{me}.log") + dice.randrange(300) if number % 5 == 4 else None
+            nodes[me] = started(folder, me, words, room)
         for node in nodes:
             node.send_signal(signal.SIGKILL)
             node.communicate()
         noise.close()
         agreed(tally, folder, f"{rounds} kills")
-        last = [started(folder, me, ["--base", str(base), "--turns", "6000", "--patience", "5"]) for me in range(3)]
+        last = [started(folder, me, ["--base", str(base), "--turns", str(40 * packages), "--patience", "5"]) for me in range(3)]
         lines = b"".join(node.communicate(timeout=300)[0] for node in last)
         wanted = b"".join(b"node %d: I=%d B=0 Q=0 T=0 !=0\n" % (me, packages) for me in range(3))
         tally.add(f"all is held after {rounds} kills", "" if lines == wanted else f"{lines!r}")
