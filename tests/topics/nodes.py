@@ -164,7 +164,7 @@ def hosts(tally):
         lay(folder)
         base = free_ports(1)
         where = ",".join(f"127.0.0.{k + 1}:{base}" for k in range(3))
-        nodes = [started(folder, me, ["--hosts", where, "--turns", "150"]) for me in range(3)]
+        nodes = [started(folder, me, ["--hosts", where, "--turns", "300"]) for me in range(3)]
         out = b"".join(node.communicate(timeout=60)[0] for node in nodes)
         tally.add("three nodes on three addresses", "" if out == ALL else f"{out!r}")
 
@@ -194,7 +194,7 @@ def kills(tally, rounds=20, seed=1, packages=60):
             node.communicate()
         noise.close()
         agreed(tally, folder, f"{rounds} kills")
-        last = [started(folder, me, ["--base", str(base), "--turns", str(40 * packages), "--patience", "5"]) for me in range(3)]
+        last = [started(folder, me, ["--base", str(base), "--turns", str(60 * packages), "--patience", "5"]) for me in range(3)]
         lines = b"".join(node.communicate(timeout=300)[0] for node in last)
         wanted = b"".join(b"node %d: I=%d B=0 Q=0 T=0 !=0\n" % (me, packages) for me in range(3))
         tally.add(f"all is held after {rounds} kills", "" if lines == wanted else f"{lines!r}")
