@@ -131,7 +131,6 @@ def bad_logs(tally):
              ("records in another order", log([note(4, "a/b", build(MAIN, DOCS))]), None), ("a build too short", log([HELD_D[:-1]]), 54),
              ("a host too great", log([note(4, "c/d", build(record("c/d", "d-2", [], host=65536)))]), None),
              ("a file that leads out of its folder", log([note(4, "c/d", build(record("c/d", "d-2", [("../x", b"x")])))]), None),
-             ("a file in a file", log([note(4, "c/d", build(record("c/d", "d-2", [("x", b"x"), ("x/y", b"y")])))]), None),
              ("a name without a version", log([note(4, "c/d", build(record("c/d", "d", [])))]), None)]
     for name, text, place in cases:
         with tempfile.TemporaryDirectory() as folder:
