@@ -8,6 +8,7 @@ import os
 import re
 import signal
 import subprocess
+import sys
 import tempfile
 import time
 import xml.dom.minidom
@@ -17,8 +18,9 @@ from topics.tally import EXAMPLES, TESTS, TOP, Answer, answer, contents, differe
 
 ROW, MOST_HEIGHT = 24, 1700
 SIGNALS = (signal.SIGHUP, signal.SIGINT, signal.SIGTERM)
-# how large a build with --digests may be where enough files could give way
-MOST_SPARED = packages.MOST_OF_A_BUILD - 1_048_576
+# how large a build may be, and with --digests where enough files could give way
+MOST = packages.MOST_OF_A_BUILD
+MOST_SPARED = MOST - 1_048_576
 UNIT = "a/b,-docs.FULLPKGNAME=b-docs-1\na/b,-main.FULLPKGNAME=b-1\n"
 
 
@@ -143,49 +145,64 @@ def laid(files, links=()):
         yield folder
 
 
-def size_of(text, host=0, claim="1.0"):
-    """How many bytes the builds of a text of JSON have, with the least names, and nothing that they need."""
-    records = [packages.record(path, "a-1", [(file["name"], bytes.fromhex(file["hex"])) for file in files], host=host, claim=claim)
-               for path, files in json.loads(text).items()]
-    return len(packages.build(*records)) - 4
+def size_of(builds):
+    """How many bytes a build of these files has, by path, where its names are the least and nothing is needed."""
+    return len(packages.build(*(packages.record(path, "a-1", files) for path, files in builds.items()))) - 4
 
 
-def refused(tally, name, folder, *words, what=b"a build of it has at least "):
-    """make-builds ends with 1, nothing on standard output, and a line that names the package, or what is in the way."""
+def made(out):
+    """The files by path that make-builds wrote."""
+    return {path: [(file["name"], bytes.fromhex(file["hex"])) for file in files] for path, files in json.loads(out or "{}").items()}
+
+
+def refused(tally, name, folder, *words, what=b": a/b: a build of it has at least "):
+    """make-builds ends with 1, nothing on standard output, and a line that says what is in the way."""
     out, said, status = packages.tool("make-builds", *words, folder)
     right = (out, status) == (b"", 1) and said.startswith(b"make-builds: ") and what in said and said.count(b"\n") == 1
     tally.add(f"make-builds of {name} {' '.join(words)}", "" if right else f"{out!r:.100} {said!r:.200}, status {status}")
-    return said
 
 
-def fitting(tally, name, folder, *words, most=packages.MOST_OF_A_BUILD):
-    """make-builds ends with 0, and its builds can be made: the least that they may have is answered."""
+def fitting(tally, name, folder, *words, least=0, most=MOST):
+    """make-builds ends with 0, and a build of what it wrote has so many bytes; where there are few to spare it is told."""
     out, said, status = packages.tool("make-builds", *words, folder)
-    size = size_of(out) if status == 0 else 0
-    told = b"" if size <= MOST_SPARED else b"make-builds: a/b: %d bytes are left for its names and for what it needs\n" % (packages.MOST_OF_A_BUILD - size)
-    tally.add(f"make-builds of {name} {' '.join(words)}", "" if status == 0 and said == told and size <= most else f"{size} bytes, {said!r:.200}, status {status}")
-    return size
+    size = size_of(made(out)) if status == 0 else 0
+    told = b"" if size <= MOST_SPARED else b"make-builds: a/b: %d bytes are left for its names and for what it needs\n" % (MOST - size)
+    right = status == 0 and said == told and least <= size <= most
+    tally.add(f"make-builds of {name} {' '.join(words)}", "" if right else f"{size} bytes, {said!r:.200}, status {status}")
+
+
+def as_large_as_may_be(paths):
+    """A file for each of these packages, so that a build of all of them has just as many bytes as may be."""
+    sizes = [MOST // len(paths) - 1_000] * len(paths)
+    sizes[0] += MOST - size_of({path: [("x", bytes(size))] for path, size in zip(paths, sizes)})
+    return {f"{path.replace('/', ':')}/x": bytes(size) for path, size in zip(paths, sizes)}
 
 
 def limits(tally):
-    """A build may have just so many bytes, with its lines: of one package, and of two that one build makes or, with --single, two do."""
-    most = packages.MOST_OF_A_BUILD
-    for name, paths in (("one package", ["a/b"]), ("two packages of a group", ["a/b,-x", "a/b,-y"])):
-        sizes = [most // len(paths) - 1_000] * len(paths)
-        lines = len(packages.build(*(packages.record(path, "a-1", [("x", bytes(size))], host=0) for path, size in zip(paths, sizes)))) - 4 - sum(sizes)
-        sizes[0] = most - lines - sum(sizes[1:])
-        with laid({f"{path.replace('/', ':')}/x": bytes(size) for path, size in zip(paths, sizes)}) as folder:
-            tally.add(f"make-builds of {name}, as large as may be", "" if fitting(tally, name, folder) == most else "it isn't")
-            with open(f"{folder}/{paths[0].replace('/', ':')}/x", "ab") as file:
+    """A build may have just so many bytes, with its lines, of one package and of two."""
+    for paths in (["a/b"], ["a/b,-x", "a/b,-y"]):
+        name, files = f"a build of {len(paths)}", as_large_as_may_be(paths)
+        with laid(files) as folder:
+            fitting(tally, name, folder, least=MOST)
+            with open(f"{folder}/{list(files)[0]}", "ab") as file:
                 file.write(b"x")
-            said = refused(tally, f"{name}, a byte too large", folder)
-            tally.add("the same, its name", "" if b": a/b: " in said else f"{said!r:.200}")
+            refused(tally, f"{name}, a byte too large", folder)
             fitting(tally, f"{name}, a byte too large", folder, "--digests", most=MOST_SPARED)
-            if len(paths) > 1:
-                out, said, status = packages.tool("make-builds", "--single", folder)
-                tally.add("make-builds --single of two packages", "" if (len(json.loads(out or "{}")), said, status) == (2, b"", 0) else f"{said!r:.200}")
-    with laid({"a:b/x": bytes(most)}) as folder:
+    with laid({"a:b/x": bytes(MOST)}) as folder:
         refused(tally, "a file of as many bytes as a build may have", folder)
+
+
+def single(tally):
+    """With --single packages that differ in the subpackage alone are a build each."""
+    with laid(as_large_as_may_be(["a/b,-x", "a/b,-y", "a/b,-z"])) as folder:
+        with open(f"{folder}/a:b,-x/y", "wb") as file:
+            file.write(b"x")
+        refused(tally, "three packages of a group", folder)
+        out, said, status = packages.tool("make-builds", "--single", folder)
+        tally.add("make-builds --single of them", "" if (len(made(out)), said, status) == (3, b"", 0) else f"{said!r:.200}, status {status}")
+        with open(f"{folder}/a:b,-z/y", "wb") as file:
+            file.write(bytes(MOST))
+        refused(tally, "three packages, one too large", folder, "--single", what=b": a/b,-z: a build of it has at least ")
 
 
 def many_files(tally):
@@ -202,33 +219,33 @@ def many_files(tally):
 
 
 def other_names(tally):
-    """A file doesn't give way to one of a name that stands for a file, or for a folder, or that makes the build longer."""
-    large = bytes(2_500_000)
-    with laid({"a:b/x": large, "a:b/x.sha256/y": b"", "a:b/z": large[1:], "a:c/x": large, "a:c/x.sha256": b"", "a:c/z": large[1:]}) as folder:
-        out, said, status = packages.tool("make-builds", "--digests", folder)
-        names = {path: [file["name"] for file in files] for path, files in json.loads(out or "{}").items()}
-        wanted = {"a/b": ["x", "x.sha256/y", "z.sha256"], "a/c": ["x", "x.sha256", "z.sha256"]}
-        tally.add("make-builds --digests, names that are taken", "" if (names, said, status) == (wanted, b"", 0) else f"{names} {said!r:.200}, status {status}")
-    with laid({"a:b/x": large, "a:b/y": large[1_500_000:], "a:b/z": b""}) as folder:
-        out, _, _ = packages.tool("make-builds", "--digests", folder)
-        names = [file["name"] for file in json.loads(out or '{"a/b":[]}')["a/b"]]
-        tally.add("make-builds --digests, as few as have to", "" if names == ["x.sha256", "y", "z"] else f"{names}")
+    """A file gives way where it has to, and another stands for it by a name that is no file's and no folder's, and is shorter."""
+    large, small, dot = bytes(2_500_000), bytes(1_000_000), (b"x" * 10)
+    for name, files, wanted in (("names of files", {"x": large, "x.sha256": dot, "z": large[1:]}, ["x", "x.sha256", "z.sha256"]),
+                                ("names of folders", {"x": large, "x.sha256/y": dot, "z": large[1:]}, ["x", "x.sha256/y", "z.sha256"]),
+                                ("as few as have to", {"x": large, "y": small, "z": dot}, ["x.sha256", "y", "z"]),
+                                ("none that is short", {"x": large + small, "x.sha256": dot, "z": dot}, ["x", "x.sha256", "z"])):
+        with laid({f"a:b/{file}": text for file, text in files.items()}) as folder:
+            out, _, status = packages.tool("make-builds", "--digests", folder)
+            names = [file for file, _ in made(out).get("a/b", [])]
+            tally.add(f"make-builds --digests, {name}", "" if (names, status) == (wanted, 0) else f"{names}, status {status}")
 
 
 def forbidden():
-    """The process can't read what its rights forbid, also where it is root's: prctl's PR_CAPBSET_DROP."""
-    if os.geteuid() == 0:
+    """A program that is started now can't read what its rights forbid, nor can root's on Linux: prctl's PR_CAPBSET_DROP."""
+    if os.geteuid() == 0 and sys.platform == "linux":
         for right in (1, 2):
             ctypes.CDLL(None).prctl(24, right, 0, 0, 0)
 
 
 def unread(tally):
-    """Where a file can't be read nothing is written; nor where something is a link."""
-    with laid({"a:b/x": b"x", "c:d/x": b"x"}) as folder:
-        os.chmod(f"{folder}/c:d/x", 0)
-        done = subprocess.run([f"{TOP}/tools/make-builds", folder], capture_output=True, timeout=120, preexec_fn=forbidden)
-        told = done.stdout == b"" and b"Permission denied" in done.stderr and done.returncode == 1
-        tally.add("make-builds of a file that can't be read", "" if told else f"{done.stdout!r:.200} {done.stderr!r:.200}, status {done.returncode}")
+    """Where a file can't be read, which elsewhere root always can, nothing is written; nor where something is a link."""
+    if os.geteuid() or sys.platform == "linux":
+        with laid({"a:b/x": b"x", "c:d/x": b"x"}) as folder:
+            os.chmod(f"{folder}/c:d/x", 0)
+            done = subprocess.run([f"{TOP}/tools/make-builds", folder], capture_output=True, timeout=120, preexec_fn=forbidden)
+            told = done.stdout == b"" and b"Permission denied" in done.stderr and done.returncode == 1
+            tally.add("make-builds of a file that can't be read", "" if told else f"{done.stdout!r:.200} {done.stderr!r:.200}, status {done.returncode}")
     for name, link, to in (("a link to a file", "a:b/y", "a:b/x"), ("a link to a folder", "a:b/y", "a:b/z"), ("a link to a package", "c:d", "a:b"), ("a link to nothing", "y", "none")):
         with laid({"a:b/x": b"x", "a:b/z/x": b"x"}, [(link, to)]) as folder:
             refused(tally, name, folder, what=b"/%s': it is a symbolic link" % link.encode())
@@ -236,6 +253,7 @@ def unread(tally):
 
 def brought(tally):
     limits(tally)
+    single(tally)
     many_files(tally)
     other_names(tally)
     unread(tally)
