@@ -24,7 +24,8 @@ module _ (tree : Tree) (weights : List ℕ) (me : ℕ) (n : NodeState) where
       → letters_of n ≡ (if b then None else Some (engine_of n.member))
   letters_if b e = ap (λ c. if c then None else Some (engine_of n.member)) e
 
-  line_is : (o : Option Counts)
+  -- what is told of it says what it shows
+  pub line_is : (o : Option Counts)
       → MatchOption o (n.stopped ≡ true)
       (λ counts. (n.stopped ≡ false) × AreCounts (engine_of n.member) counts)
       → (line : Text) → line ≡ node_line me o → IsLineOf me (letters_of n) line
@@ -34,14 +35,12 @@ module _ (tree : Tree) (weights : List ℕ) (me : ℕ) (n : NodeState) where
       subst (λ (l : Option State). IsLineOf me l line) (sym (letters_if false up))
       (counts, are, told)
 
-  -- what is told of it
-  pub shown : IsNode n → IsOf tree weights me n → (o : Option Counts)
-      → MatchOption o (n.stopped ≡ true)
-      (λ counts. (n.stopped ≡ false) × AreCounts (engine_of n.member) counts)
-      → (line : Text) → line ≡ node_line me o → IsShown tree weights me line
-  shown is_node is o counted line told = record {
+  -- and so does that of such a node
+  pub shown : IsNode n → IsOf tree weights me n → (line : Text) → IsLineOf me (letters_of n) line
+      → IsShown tree weights me line
+  shown is_node is line told = record {
     node = n;
     is_node = is_node;
     of_member = is;
-    is_line = line_is o counted line told;
+    is_line = told;
   }
