@@ -7,5 +7,5 @@ pub returns : goal.returns
 returns g c =
     let shown = c.args.solo.now.node.node in
     IfOk-weaker c.node_text.result _ _
-    (λ text told. line_is _ _ c.args.me shown c.counts.result c.counts.ensures (string_bytes text) told)
+    (λ text told. line_is c.args.me shown c.counts.result c.counts.ensures (string_bytes text) told)
     c.node_text.ensures
