@@ -2,9 +2,13 @@
 import os
 import re
 import shutil
+import subprocess
 import tempfile
 
-from topics.tally import EXAMPLES, TESTS, answer, built_shim, difference
+from topics import nodes
+from topics.tally import EXAMPLES, PROGRAM, TESTS, answer, built_shim, difference
+
+CLUSTER = ["cluster", *nodes.SHARED, "--members", "3", "--turns", "120", "--trace", "TRACE"]
 
 
 def refusing(folder, number):
@@ -48,6 +52,38 @@ def refusals(tally, folder, words, name):
     tally.add(name, difference(got, right) or ("" if number > 1 else "no allocation was seen"))
 
 
+def cluster_problem(folder, got):
+    """What is wrong with a cluster of which a request for memory was refused: turns go on, and what the trace has is what the nodes
+    show; or nothing is printed but fault 1."""
+    out, error, status = got
+    if set(error.split(b"\n")) - {b"", b"dpbn: fault 1"}:
+        return f"it tells {error!r}"
+    if status == 1 and error:
+        return f"it prints {out!r}" if out else ""
+    told = subprocess.run([PROGRAM, "run", "listing", "TRACE"], cwd=folder, capture_output=True, timeout=60).stdout
+    lines = b"".join(line + b"\n" for line in told.split(b"\n") if line.startswith(b"node "))
+    return "" if (out, lines, status) == (nodes.ALL, nodes.ALL, 0) else f"it prints {out!r}, dpbr run {told!r}, its status is {status}"
+
+
+def cluster_refusals(tally, shims):
+    """Refuses each request for memory of a cluster in turn."""
+    number, is_met = 0, True
+    while is_met:
+        number += 1
+        with tempfile.TemporaryDirectory() as folder:
+            nodes.lay(folder)
+            environment, mark = refusing(shims, number)
+            problem = cluster_problem(folder, nodes.answer(CLUSTER, folder, env=environment))
+        is_met = os.path.exists(mark)
+        if is_met:
+            os.remove(mark)
+        if problem:
+            tally.add(f"memory for a cluster, allocation {number} refused", problem)
+            return
+    print(f"tests/run: memory for a cluster: {number - 1} allocations, each refused once", flush=True)
+    tally.add("memory for a cluster", "" if number > 1 else "no allocation was seen")
+
+
 def run(tally):
     with tempfile.TemporaryDirectory() as folder:
         if not built_shim(tally, folder, "refuse"):
@@ -71,3 +107,4 @@ def run(tally):
         for case in ("a_build_in_pieces", "a_torn_vote_is_cast_again"):
             files = [f"{TESTS}/traces/{case}/{name}" for name in ("LISTING", "TRACE")]
             refusals(tally, folder, ["run", *files], f"memory for {case}")
+        cluster_refusals(tally, folder)

@@ -22,7 +22,7 @@ IsGood (Node files me peers patience) = (files.members ≤ 9) × AreGood peers
 -- what is told of what a call is given
 abbrev pub RefusesCall : Call → Refusal → Type 0
 RefusesCall (Cluster files trace) r = RefusesCluster files r
-RefusesCall (Node files me peers patience) r = RefusesNode files me r
+RefusesCall (Node files me peers patience) r = RefusesNode files me peers r
 
 -- A refusal comes before anything was written, but for one that is told as fault 2: then a
 -- beginning of the lines was written, maybe all of them.

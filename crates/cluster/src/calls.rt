@@ -40,7 +40,11 @@ pub fn dpbn_main<O: Write, E: Write>(
 {
     match dpbn_call(rt, words, out, err) {
         Ok(()) => 0,
-        Err(stop) => stop.tell("dpbn", err),
+        Err(stop) => {
+            let status = stop.status();
+            let _ = stop.tell("dpbn", err);
+            status
+        }
     }
 }
 

@@ -10,21 +10,14 @@ use Rattle.node.specs.State.{IsNode, NodeState}
 use Rattle.program.specs.NodeLine.{IsLineOf, node_line}
 use Rattle.protocol.specs.State.{engine_of}
 
-module _ (tree : Tree) (weights : List ℕ) (me : ℕ) (n : NodeState) where
-  -- a node that was opened is that of its member
-  pub opened_is : IsOpened tree weights me n → IsOf tree weights me n
-  opened_is o = record {
-    over = ap (λ (m : NodeState). m.member.division.tree) o.node ∙ o.of_tree;
-    weigh = ap (λ (m : NodeState). m.member.weights) o.node;
-    own = ap (λ (m : NodeState). m.member.me) o.node;
-  }
-
+module _ (me : ℕ) (n : NodeState) where
   -- its letters, as it is up or down
   letters_if : (b : Bool) → n.stopped ≡ b
       → letters_of n ≡ (if b then None else Some (engine_of n.member))
   letters_if b e = ap (λ c. if c then None else Some (engine_of n.member)) e
 
-  line_is : (o : Option Counts)
+  -- what is told of it says what it shows
+  pub line_is : (o : Option Counts)
       → MatchOption o (n.stopped ≡ true)
       (λ counts. (n.stopped ≡ false) × AreCounts (engine_of n.member) counts)
       → (line : Text) → line ≡ node_line me o → IsLineOf me (letters_of n) line
@@ -34,14 +27,21 @@ module _ (tree : Tree) (weights : List ℕ) (me : ℕ) (n : NodeState) where
       subst (λ (l : Option State). IsLineOf me l line) (sym (letters_if false up))
       (counts, are, told)
 
-  -- what is told of it
-  pub shown : IsNode n → IsOf tree weights me n → (o : Option Counts)
-      → MatchOption o (n.stopped ≡ true)
-      (λ counts. (n.stopped ≡ false) × AreCounts (engine_of n.member) counts)
-      → (line : Text) → line ≡ node_line me o → IsShown tree weights me line
-  shown is_node is o counted line told = record {
+module _ (tree : Tree) (weights : List ℕ) (me : ℕ) (n : NodeState) where
+  -- a node that was opened is that of its member
+  pub opened_is : IsOpened tree weights me n → IsOf tree weights me n
+  opened_is o = record {
+    over = ap (λ (m : NodeState). m.member.division.tree) o.node ∙ o.of_tree;
+    weigh = ap (λ (m : NodeState). m.member.weights) o.node;
+    own = ap (λ (m : NodeState). m.member.me) o.node;
+  }
+
+  -- what is told of such a node
+  pub shown : IsNode n → IsOf tree weights me n → (line : Text) → IsLineOf me (letters_of n) line
+      → IsShown tree weights me line
+  shown is_node is line told = record {
     node = n;
     is_node = is_node;
     of_member = is;
-    is_line = line_is o counted line told;
+    is_line = told;
   }

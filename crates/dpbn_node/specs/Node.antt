@@ -47,9 +47,10 @@ pub record IsNodeText (files : Files) (me : ℕ) (text : Text) : Type 0 where
 
 -- ---- refusals
 
--- hosts that are none of so many members, by which of them
-abbrev pub IsHostsRefusal : Refusal → Type 0
-IsHostsRefusal r = (n : ℕ) × (r ≡ record { number = 1206; place = Some n })
+-- hosts that are none of so many members, by which of them; a first port is never refused
+abbrev pub IsHostsRefusal : Peers → Refusal → Type 0
+IsHostsRefusal (Base port) r = ⊥
+IsHostsRefusal (Hosts text) r = (n : ℕ) × (r ≡ record { number = 1206; place = Some n })
 
 -- no member has this number
 abbrev pub member_refusal : Refusal
@@ -75,10 +76,10 @@ RefusesStart files me r =
 
 -- what is told before the first turn: of the listing, of what is given, of the hosts, or of the
 -- start
-abbrev pub RefusesNode : Files → ℕ → Refusal → Type 0
-RefusesNode files me r =
+abbrev pub RefusesNode : Files → ℕ → Peers → Refusal → Type 0
+RefusesNode files me peers r =
     RefusesListingFile files.is_single r
-    ⊎ (RefusesGiven r ⊎ (IsHostsRefusal r ⊎ RefusesStart files me r))
+    ⊎ (RefusesGiven r ⊎ (IsHostsRefusal peers r ⊎ RefusesStart files me r))
 
 -- the first port is low enough for all members
 abbrev pub AreGood : Peers → Type 0

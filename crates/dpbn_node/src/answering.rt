@@ -9,11 +9,13 @@ ghost use Rattle.dpbn_node.specs.Node.{
   IsShown,
   RefusesNode,
   RefusesStart,
+  letters_of,
   member_refusal,
   socket_refusal,
 };
 ghost use Rattle.listing.specs.Tree.{Tree};
 ghost use Rattle.node.specs.Calls.{IsOpened};
+ghost use Rattle.program.specs.NodeLine.{IsLineOf};
 ghost use Rattle.program.specs.Refusals.{memory_refusal};
 
 use crate::given::{Given, given_of_words, log_of_file};
@@ -22,10 +24,11 @@ use ballots::Weights;
 use dpbn_words::{Files, Peers};
 use listing::Tree;
 use node::Node;
+use ports::Port;
 use program::{Answer, Refusal, node_text, tree_of_file};
 use protocol::Packages;
 use solo::Solo;
-use stable_record::FileDisk;
+use stable_record::{Disk, FileDisk};
 use std::alloc::{AllocError, Global};
 use std::io::Write;
 use std::net::SocketAddr;
@@ -55,7 +58,7 @@ pub fn node_of_words<E: Write>(
     requires peers { AreGood peers.now }
     ensures ok { IfOk result
         (λ answer. (answer.status ≡ 0) × IsNodeText files.now me answer.text.items) }
-    ensures refused { IfErr result (RefusesNode files.now me) }
+    ensures refused { IfErr result (RefusesNode files.now me peers.now) }
 {
     let tree = tree_of_file(rt, files.listing, files.is_single)?;
     let given = given_of_words(rt, files)?;
@@ -74,7 +77,7 @@ fn addresses_of(alloc: Global, members: u8, peers: &Peers<'_>) -> Result<Vec<Soc
     requires few { members ≤ 9 }
     requires peers { AreGood peers.now }
     ensures count { IfOk result (λ addresses. length addresses.items ≡ members) }
-    ensures refused { IfErr result (λ r. (r ≡ memory_refusal) ⊎ IsHostsRefusal r) }
+    ensures refused { IfErr result (λ r. (r ≡ memory_refusal) ⊎ IsHostsRefusal peers.now r) }
 {
     match peers {
         Peers::Base(base) => Ok(loopback(alloc, members, *base)?),
@@ -139,6 +142,18 @@ fn line_after<E: Write>(
         err,
     );
     let _len = solo.node().log_len();
+    line_of(alloc, &solo, me)
+}
+
+/// The line of the node as it is.
+fn line_of<D: Disk, P: Port>(
+    alloc: Global,
+    solo: &Solo<'_, D, P>,
+    me: u8,
+) -> Result<String, AllocError>
+    ensures { IfOk result (λ text.
+        IsLineOf me (letters_of solo.now.node.node) (string_bytes text)) }
+{
     node_text(alloc, me, solo.counts())
 }
 

@@ -138,17 +138,21 @@ fn bad_weights() -> Refusal
 }
 
 /// The disk of the member's log, which is a file in this folder. A file that isn't there is made;
-/// the folder has to be there.
+/// the folder has to be there. The file is locked as long as the disk is open, so that a second
+/// node on it is refused before it reads or cuts anything.
 ///
 /// # Errors
 ///
-/// What the system refused.
+/// What the system refused; that the file is locked is told as one that can't be read.
 pub fn log_of_file(rt: &HostRuntime, folder: &str, me: u8) -> Result<FileDisk, Refusal>
     ensures { IfErr result IsSystemRefusal }
 {
     let path = path_of(rt.alloc(), folder, me)?;
     let file = FileDisk::open_file(rt, path.as_str())?;
-    Ok(FileDisk::new(file))
+    match file.try_lock() {
+        Ok(()) => Ok(FileDisk::new(file)),
+        Err(_) => Err(Refusal::device()),
+    }
 }
 
 /// Where the member's log stands.

@@ -1,5 +1,7 @@
 -- What is told where the system refuses.
-use Rattle.std.specs.Prelude.{◌≡◌, ◌⊎◌, None}
+use Rattle.std.specs.Prelude.{◌≡◌, ◌⊎◌, ◌++◌, ℕ, Option, None, Some, codes}
+use Rattle.std.specs.Fmt.{decimal}
+use Rattle.faults.specs.Bytes.{Text}
 use Rattle.program.specs.declared.refusal.Refusal.{Refusal}
 
 -- memory was refused
@@ -13,3 +15,12 @@ device_refusal = record { number = 2; place = None }
 -- the system refused to read or to write, or memory for that
 abbrev pub IsSystemRefusal : Refusal → Type 0
 IsSystemRefusal r = (r ≡ memory_refusal) ⊎ (r ≡ device_refusal)
+
+-- where it came up, if that is known
+abbrev pub place_text : Option ℕ → Text
+place_text None = codes ""
+place_text (Some place) = codes " at " ++ decimal place
+
+-- the words of a refusal: its number, and where it came up
+abbrev pub refusal_text : Refusal → Text
+refusal_text r = codes "fault " ++ decimal r.number ++ place_text r.place

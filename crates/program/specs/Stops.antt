@@ -1,9 +1,12 @@
 -- Why a program stops before its answer is printed.
-use Rattle.std.specs.Prelude.{◌≡◌, ◌≢◌, ◌⊎◌, ℕ}
+use Rattle.std.specs.Prelude.{◌≡◌, ◌≢◌, ◌⊎◌, ◌++◌, ⊤, ℕ, List, [], ◌∷◌, Option, codes}
+use Rattle.std.specs.Io.KnownBytes.{Appends}
 use Rattle.clap.specs.Words.{kind_of}
 use Rattle.clap.specs.declared.error.Error.{Error}
 use Rattle.clap.specs.declared.error.kind.ErrorKind.TheVariants.{OutOfMemory}
-use Rattle.program.specs.Refusals.{memory_refusal}
+use Rattle.faults.specs.Bytes.{Text, line_feed}
+use Rattle.program.specs.Refusals.{memory_refusal, refusal_text}
+use Rattle.program.specs.declared.refusal.Refusal.{Refusal}
 use Rattle.program.specs.declared.stop.Stop.{Stop}
 use Rattle.program.specs.declared.stop.Stop.TheVariants.{Refused, Unwritten, WrongWords}
 
@@ -18,3 +21,13 @@ abbrev pub StopsBy : Error → Stop → Type 0
 StopsBy e stop =
     ((kind_of e ≡ OutOfMemory) × (stop ≡ Refused memory_refusal))
     ⊎ ((kind_of e ≢ OutOfMemory) × (stop ≡ WrongWords e))
+
+-- the line that tells a refusal
+abbrev pub refusal_line : Text → Refusal → Text
+refusal_line program r = program ++ codes ": " ++ refusal_text r ++ line_feed ∷ []
+
+-- What was written since, where it is known, is the line of the refusal; clap's own texts are its.
+abbrev pub IsTold : Text → Stop → Option (List ℕ) → Option (List ℕ) → Type 0
+IsTold program (WrongWords e) before after = ⊤
+IsTold program (Refused r) before after = Appends before after (refusal_line program r)
+IsTold program (Unwritten r) before after = Appends before after (refusal_line program r)

@@ -1,7 +1,12 @@
 //! How a refusal is told.
-ghost use Rattle.std.specs.Prelude.{◌≡◌};
+ghost use Rattle.std.specs.Prelude.{◌≡◌, Some};
 ghost use Rattle.program.specs.Listings.{listing_refusal};
-ghost use Rattle.program.specs.Refusals.{IsSystemRefusal, device_refusal, memory_refusal};
+ghost use Rattle.program.specs.Refusals.{
+  IsSystemRefusal,
+  device_refusal,
+  memory_refusal,
+  refusal_text,
+};
 
 use faults::{Fault, Memory};
 use listing::ListingFault;
@@ -51,6 +56,8 @@ impl Refusal {
 }
 
 impl fmt::Display for Refusal {
+    ghost output = { λ r. Some (refusal_text r) };
+
     fn fmt<W: fmt::Write>(&self, f: &mut fmt::Formatter<W>) -> fmt::Result {
         match self.place {
             Some(place) => write!(f, "fault {} at {place}", self.number),

@@ -1,11 +1,12 @@
 //! Why the program stops before its answer is printed.
-ghost use Rattle.std.specs.Prelude.{◌≡◌, ◌⊎◌};
-ghost use Rattle.program.specs.Stops.{StopsBy, status_after};
+ghost use Rattle.std.specs.Prelude.{◌≡◌, ◌⊎◌, OnOk};
+ghost use Rattle.program.specs.Stops.{IsTold, StopsBy, status_after};
 ghost use Rattle.program.specs.declared.stop.Stop.TheVariants.{Refused};
 
 use crate::refusal::Refusal;
 use clap::Error;
 use clap::error::ErrorKind;
+use std::io;
 use std::io::Write;
 
 /// Why the program stops before its answer is printed.
@@ -20,20 +21,27 @@ pub enum Stop {
 }
 
 impl Stop {
-    /// Says why on `err`: clap's text, or one line, the program's name and then `: fault N` or
-    /// `: fault N at K`. Gives the status with which the program ends, 2 or 1.
-    pub fn tell<E: Write>(self, program: &str, err: &mut E) -> u8
-        ensures after { result ≡ status_after self }
+    /// The status with which the program then ends: 2 or 1.
+    pub fn status(&self) -> u8
+        ensures after { result ≡ status_after self.now }
         ensures ill { (result ≡ 1) ⊎ (result ≡ 2) }
     {
         match self {
-            Stop::WrongWords(error) => {
-                let _ = write!(err, "{error}");
-                2
-            }
+            Stop::WrongWords(_) => 2,
+            Stop::Refused(_) | Stop::Unwritten(_) => 1,
+        }
+    }
+
+    /// Says why on `err`: clap's text, or one line, the program's name and then `: fault N` or
+    /// `: fault N at K`.
+    pub fn tell<E: Write>(self, program: &str, err: &mut E) -> io::Result<()>
+        ensures { OnOk result
+            (IsTold program.now self (E.contents err.old) (E.contents err.new)) }
+    {
+        match self {
+            Stop::WrongWords(error) => write!(err, "{error}"),
             Stop::Refused(refusal) | Stop::Unwritten(refusal) => {
-                let _ = writeln!(err, "{program}: {refusal}");
-                1
+                writeln!(err, "{program}: {refusal}")
             }
         }
     }

@@ -40,7 +40,11 @@ pub fn dpbr_main<R: Files + AllocGlobal, O: Write, E: Write>(
 {
     match dpbr_call(rt, words, out) {
         Ok(status) => status,
-        Err(stop) => stop.tell("dpbr", err),
+        Err(stop) => {
+            let status = stop.status();
+            let _ = stop.tell("dpbr", err);
+            status
+        }
     }
 }
 

@@ -8,7 +8,7 @@ pub returns : goal.returns
 returns g c tree weights is =
     let is_node = subst (λ (n : LoggedNode _). IsNode n.node) c.node.ensures
     c.log_len-len.ensures.node.node in
-    IfOk-weaker c.node_text.result _ _
+    IfOk-weaker c.line_of.result _ _
     (λ text told. shown tree weights c.args.me c.run.new.solo.node.node is_node
-    (c.run.ensures tree weights c.args.me is) c.counts.result c.counts.ensures (string_bytes text) told)
-    c.node_text.ensures
+    (c.run.ensures tree weights c.args.me is) (string_bytes text) told)
+    c.line_of.ensures
