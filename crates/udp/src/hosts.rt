@@ -1,5 +1,10 @@
 //! Where the members of a cluster listen.
-ghost use Rattle.std.specs.Prelude.{◌≡◌, IfOk, None, Some, length};
+ghost use Rattle.std.specs.Prelude.{◌≡◌, ◌↔◌, IfErr, IfOk, IsTrue, MatchOption, None, Some, length};
+ghost use Rattle.std.specs.List.{Contains};
+ghost use Rattle.std.specs.declared.net.socket_addr.SocketAddr.{SocketAddr};
+ghost use Rattle.faults.specs.Bytes.{comma};
+ghost use Rattle.faults.specs.Pieces.{pieces_at};
+ghost use Rattle.udp.specs.Hosts.{IsHostText, RefusesHosts, WriteHosts, WritesNoOther};
 ghost use Rattle.udp.specs.Refusals.{number_of, place_of};
 ghost use Rattle.udp.specs.declared.hosts.HostsFault.TheVariants.{Memory as out_of_memory};
 
@@ -9,8 +14,8 @@ use std::net::{SocketAddr, SocketAddrV4};
 use thiserror::Error;
 
 /// Why a text names no hosts for so many members: want of memory, or its first part, counted from
-/// 1, that is no address of IPv4 with a port, is that of an earlier member, is lacking or is too
-/// much.
+/// 1, that is no address of IPv4 with a port from 1 on, is that of an earlier member, is lacking or
+/// is too much.
 #[derive(Clone, Copy, Debug, PartialEq, Eq, Error)]
 pub enum HostsFault {
     #[error("out of memory")]
@@ -48,21 +53,26 @@ impl Fault for HostsFault {
 }
 
 /// The addresses that the text names, by member: as many as there are members, each once, with
-/// commas between them.
+/// commas between them. None has port 0, at which nobody hears.
 ///
 /// # Errors
 ///
-/// `Memory`; `BadHost`.
+/// `Memory`; `BadHost`, at the first part that is bad.
 pub fn parse_hosts(alloc: Global, text: &str, members: u8) -> Result<Vec<SocketAddr>, HostsFault>
     ensures count { IfOk result (λ hosts. length hosts.items ≡ members) }
+    ensures hosts { IfOk result (λ hosts. WriteHosts (pieces_at comma text.now) hosts.items) }
+    ensures refused { IfErr result (RefusesHosts members (pieces_at comma text.now)) }
 {
     let mut hosts = Vec::with_capacity(alloc, members as usize)?;
     for part in text.split(',') {
         let place = hosts.len() as u64 + 1;
-        match host(part, hosts.as_slice()) {
-            Some(host) if hosts.len() < members as usize => hosts.push(host)?,
-            _ => return Err(HostsFault::BadHost(place)),
+        if hosts.len() >= members as usize {
+            return Err(HostsFault::BadHost(place));
         }
+        let Some(host) = next_host(part, hosts.as_slice()) else {
+            return Err(HostsFault::BadHost(place));
+        };
+        hosts.push(host)?;
     }
     if hosts.len() < members as usize {
         return Err(HostsFault::BadHost(hosts.len() as u64 + 1));
@@ -70,14 +80,35 @@ pub fn parse_hosts(alloc: Global, text: &str, members: u8) -> Result<Vec<SocketA
     Ok(hosts)
 }
 
-/// The address that the part names, unless it is one of these.
-fn host(part: &str, earlier: &[SocketAddr]) -> Option<SocketAddr> {
-    let Ok(host) = part.parse::<SocketAddrV4>() else {
-        return None;
-    };
-    let host = SocketAddr::V4(host);
-    if earlier.contains(&host) {
+/// The host that the part writes, unless it is one of these.
+fn next_host(part: &str, earlier: &[SocketAddr]) -> Option<SocketAddr>
+    ensures { MatchOption result (WritesNoOther earlier.now part.now)
+        (λ host. IsHostText part.now host × ¬ (Contains earlier.now host)) }
+{
+    let host = host(part)?;
+    if is_among(&host, earlier) {
         return None;
     }
     Some(host)
+}
+
+/// Whether the host is one of these.
+fn is_among(host: &SocketAddr, hosts: &[SocketAddr]) -> bool
+    ensures { IsTrue result ↔ (Contains hosts.now host.now) }
+{
+    hosts.contains(host)
+}
+
+/// The host that the part writes.
+fn host(part: &str) -> Option<SocketAddr>
+    ensures { MatchOption result ((host : SocketAddr) → ¬ (IsHostText part.now host))
+        (IsHostText part.now) }
+{
+    let Ok(host) = part.parse::<SocketAddrV4>() else {
+        return None;
+    };
+    if host.port() == 0 {
+        return None;
+    }
+    Some(SocketAddr::V4(host))
 }

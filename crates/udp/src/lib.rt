@@ -2,6 +2,7 @@
 #![tactic(auto)]
 
 mod hosts;
+mod line;
 mod patience;
 mod sockets;
 mod udp_port;

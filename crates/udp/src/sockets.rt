@@ -2,14 +2,11 @@
 ghost use Rattle.std.specs.Prelude.{IfErr};
 ghost use Rattle.udp.specs.Refusals.{CannotStart};
 
+use crate::line::Line;
 use ports::PortFault;
 use std::alloc::Global;
-use std::collections::VecDeque;
 use std::io::ErrorKind;
 use std::net::{Net, SocketAddr, UdpSocket};
-
-/// How many datagrams may stand in line. What comes beyond is lost.
-const MOST_IN_LINE: usize = 65_536;
 
 /// How many are taken off a socket at each look.
 const TAKEN_AT_A_LOOK: u32 = 1_024;
@@ -19,13 +16,6 @@ const TAKEN_AT_A_LOOK: u32 = 1_024;
 pub struct Seat {
     pub node: u8,
     pub socket: UdpSocket,
-}
-
-/// A datagram that came for a node here.
-#[derive(Drop)]
-pub struct Come {
-    pub to: u8,
-    pub bytes: Vec<u8>,
 }
 
 /// A seat for the node, at this address; at a free port where the port is 0.
@@ -52,25 +42,17 @@ pub fn address_of(seat: &Seat) -> Result<SocketAddr, PortFault>
 }
 
 /// Takes some of what came off the seat's socket, and says whether the socket failed. That nothing
-/// more came is no failure.
-pub fn take_all(alloc: Global, seat: &Seat, buffer: &mut [u8], come: &mut VecDeque<Come>) -> bool {
+/// more came is no failure. What finds no room in the line, or no memory, is lost.
+pub fn take_all(alloc: Global, seat: &Seat, buffer: &mut [u8], come: &mut Line<u8>) -> bool {
     for _ in 0..TAKEN_AT_A_LOOK {
         match seat.socket.recv_from(buffer) {
-            Ok((count, _)) => keep(alloc, seat.node, &buffer[..count], come),
+            Ok((count, _)) => {
+                let _ = come.put(alloc, seat.node, &buffer[..count]);
+            }
             Err(error) => return error.kind() != ErrorKind::WouldBlock,
         }
     }
     false
-}
-
-/// Puts the bytes behind those that came, unless the line is full or there is no memory for them.
-fn keep(alloc: Global, to: u8, bytes: &[u8], come: &mut VecDeque<Come>) {
-    if come.len() >= MOST_IN_LINE {
-        return;
-    }
-    if let Ok(bytes) = bytes.to_vec(alloc) {
-        let _ = come.push_back(Come { to, bytes });
-    }
 }
 
 /// Whether the system took the whole datagram.

@@ -3,17 +3,20 @@ ghost use Rattle.std.specs.Prelude.{◌≡◌, ◌<◌, ◌≤◌, IfErr, IfOk, 
 ghost use Rattle.ports.specs.Kept.{one_more};
 ghost use Rattle.udp.specs.Refusals.{CannotStart};
 
+use crate::line::{Line, Waiting};
 use crate::patience::Patience;
-use crate::sockets::{Come, Seat, address_of, is_whole, take_all, take_seat};
+use crate::sockets::{Seat, address_of, is_whole, take_all, take_seat};
 use faults::Memory;
 use ports::{Port, PortFault};
 use std::alloc::Global;
-use std::collections::VecDeque;
 use std::net::{Ipv4Addr, Net, SocketAddr, SocketAddrV4};
 use std::time::Clock;
 
 /// The bytes of the longest datagram that IPv4 takes, and one more.
 const ROOM: usize = 65_508;
+
+/// How many datagrams that came may stand in line. What comes beyond is lost.
+const MOST_COME: usize = 65_536;
 
 /// How many datagrams may wait to leave.
 const MOST_LEAVING: usize = 2_048;
@@ -21,13 +24,12 @@ const MOST_LEAVING: usize = 2_048;
 /// How many of them leave at each look at the sockets.
 const LEAVE_AT_A_LOOK: usize = 4;
 
-/// A datagram that is to leave for a node of another process.
+/// How a datagram leaves for a node of another process.
 #[derive(Drop)]
-struct Leaving {
+struct Away {
     /// The place of its sender's seat.
     seat: usize,
     to: SocketAddr,
-    bytes: Vec<u8>,
 }
 
 /// One socket for each node here. None of them blocks.
@@ -44,8 +46,9 @@ pub struct UdpPort<'c, C: Clock> {
     /// Where the members' nodes listen, by number.
     addresses: Vec<SocketAddr>,
     buffer: Vec<u8>,
-    come: VecDeque<Come>,
-    leaving: Vec<Leaving>,
+    /// What came, with the node that it came for.
+    come: Line<u8>,
+    leaving: Line<Away>,
     /// Picks the next one to leave.
     pick: usize,
     patience: Patience,
@@ -132,9 +135,11 @@ impl<'c, C: Clock> UdpPort<'c, C> {
             return;
         }
         self.pick = self.pick.wrapping_mul(25_214_903_917).wrapping_add(11);
-        let Leaving { seat, to, bytes } = self.leaving.swap_remove((self.pick >> 16) % count);
-        if let Some(seat) = self.seats.get(seat) {
-            let _ = seat.socket.send_to(&bytes, to);
+        let Some(leaving) = self.leaving.take_at((self.pick >> 16) % count) else {
+            return;
+        };
+        if let Some(seat) = self.seats.get(leaving.errand.seat) {
+            let _ = seat.socket.send_to(&leaving.bytes, leaving.errand.to);
         }
     }
 
@@ -181,17 +186,13 @@ impl<'c, C: Clock> UdpPort<'c, C> {
         is_sent
     }
 
-    /// Puts the datagram among those that wait to leave.
+    /// Puts the datagram among those that wait to leave, unless there is no room for it.
     fn send_away(&mut self, seat: usize, to: SocketAddr, bytes: &[u8]) -> Result<bool, Memory>
         ensures { self.new.failures ≡ self.old.failures }
     {
-        if self.leaving.len() >= MOST_LEAVING {
-            return Ok(false);
-        }
-        let bytes = bytes.to_vec(self.alloc)?;
-        self.leaving.push(Leaving { seat, to, bytes })?;
+        let is_put = self.leaving.put(self.alloc, Away { seat, to }, bytes)?;
         self.take_in();
-        Ok(true)
+        Ok(is_put)
     }
 
     /// Whether the port took the datagram.
@@ -249,8 +250,8 @@ fn port_of<'c, C: Clock>(
         seats,
         addresses,
         buffer,
-        come: VecDeque::new(alloc),
-        leaving: Vec::new(alloc),
+        come: Line::new(alloc, MOST_COME),
+        leaving: Line::new(alloc, MOST_LEAVING),
         pick: 0,
         patience,
         failures: 0,
@@ -266,8 +267,8 @@ impl<'c, C: Clock> Port for UdpPort<'c, C> {
 
     fn receive(&mut self) -> Result<Option<(u8, Vec<u8>)>, PortFault> {
         let has_failed = self.look();
-        match self.come.pop_front() {
-            Some(Come { to, bytes }) => Ok(Some((to, bytes))),
+        match self.come.take_first() {
+            Some(Waiting { errand, bytes }) => Ok(Some((errand, bytes))),
             None if has_failed => {
                 self.failures = self.failures.saturating_add(1);
                 Err(PortFault::Failed)

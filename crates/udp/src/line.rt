@@ -1,0 +1,91 @@
+//! Datagrams that stand in line.
+ghost use Rattle.std.specs.Prelude.{◌≡◌, ◌+◌, ◌≤◌, ◌<◌, ◌++◌, ◌∷◌, IfSome, IsPermutation, length, option_to_list, sum_by, true};
+
+use faults::Memory;
+use std::alloc::Global;
+use std::collections::VecDeque;
+
+/// How many bytes may stand in a line: 64 MiB. A build of the most bytes, in pieces for eight
+/// others, takes about half of that.
+const MOST_BYTES: usize = 67_108_864;
+
+/// A datagram that stands in line, and what for.
+#[derive(Drop)]
+pub struct Waiting<T: Drop> {
+    pub errand: T,
+    pub bytes: Vec<u8>,
+}
+
+/// A line of at most so many datagrams, of 64 MiB in all.
+#[derive(Drop)]
+pub struct Line<T: Drop> {
+    most: usize,
+    waiting: VecDeque<Waiting<T>>,
+    /// How many bytes stand in it.
+    size: usize,
+    ghost few: { length waiting.items ≤ most },
+    ghost counted: { sum_by (λ w. length w.bytes.items) waiting.items ≡ size },
+    ghost small: { size ≤ 67108864 },
+}
+
+impl<T: Drop> Line<T> {
+    /// A line for so many datagrams, with none in it.
+    pub fn new(alloc: Global, most: usize) -> Line<T> {
+        Line {
+            most,
+            waiting: VecDeque::new(alloc),
+            size: 0,
+        }
+    }
+
+    /// Whether none stands in it.
+    pub fn is_empty(&self) -> bool {
+        self.waiting.is_empty()
+    }
+
+    /// How many stand in it.
+    pub fn len(&self) -> usize
+        ensures { result ≡ length self.now.waiting.items }
+    {
+        self.waiting.len()
+    }
+
+    /// Whether such a datagram has room in it.
+    fn has_room_for(&self, bytes: &[u8]) -> bool
+        ensures few { result ≡ true → length self.now.waiting.items < self.now.most }
+        ensures small { result ≡ true → self.now.size + length bytes.now ≤ 67108864 }
+    {
+        self.waiting.len() < self.most && bytes.len() <= MOST_BYTES - self.size
+    }
+
+    /// Puts equal bytes at its end, if there is room for them, and says whether there was.
+    pub fn put(&mut self, alloc: Global, errand: T, bytes: &[u8]) -> Result<bool, Memory> {
+        if !self.has_room_for(bytes) {
+            return Ok(false);
+        }
+        let size = bytes.len();
+        let bytes = bytes.to_vec(alloc)?;
+        self.waiting.push_back(Waiting { errand, bytes })?;
+        self.size += size;
+        Ok(true)
+    }
+
+    /// Takes the first.
+    pub fn take_first(&mut self) -> Option<Waiting<T>>
+        ensures { self.old.waiting.items ≡ option_to_list result ++ self.new.waiting.items }
+    {
+        let first = self.waiting.pop_front()?;
+        self.size -= first.bytes.len();
+        Some(first)
+    }
+
+    /// Takes the one at this place, where the first stands then.
+    pub fn take_at(&mut self, place: usize) -> Option<Waiting<T>>
+        ensures { IfSome result (λ w. IsPermutation self.old.waiting.items
+            (w ∷ self.new.waiting.items)) }
+    {
+        let taken = self.waiting.swap_remove_front(place)?;
+        self.size -= taken.bytes.len();
+        Some(taken)
+    }
+}
