@@ -5,7 +5,8 @@ use Rattle.dpbn_words.specs.declared.Files.{Files}
 use Rattle.dpbn_words.specs.declared.Peers.{Peers}
 use Rattle.dpbn_words.specs.declared.Peers.TheVariants.{Base, Hosts}
 use Rattle.engine.specs.State.{State}
-use Rattle.faults.specs.Bytes.{Text}
+use Rattle.faults.specs.Bytes.{Text, comma}
+use Rattle.faults.specs.Pieces.{pieces_at}
 use Rattle.listing.specs.Tree.{Tree}
 use Rattle.node.specs.Refusals.{number_of}
 use Rattle.node.specs.State.{IsNode, NodeState}
@@ -15,6 +16,7 @@ use Rattle.program.specs.NodeLine.{IsLineOf}
 use Rattle.program.specs.Refusals.{IsSystemRefusal}
 use Rattle.program.specs.declared.refusal.Refusal.{Refusal}
 use Rattle.protocol.specs.State.{engine_of}
+use Rattle.udp.specs.Hosts.{IsFirstBad}
 
 -- ---- what is printed
 
@@ -47,10 +49,13 @@ pub record IsNodeText (files : Files) (me : ℕ) (text : Text) : Type 0 where
 
 -- ---- refusals
 
--- hosts that are none of so many members, by which of them; a first port is never refused
-abbrev pub IsHostsRefusal : Peers → Refusal → Type 0
-IsHostsRefusal (Base port) r = ⊥
-IsHostsRefusal (Hosts text) r = (n : ℕ) × (r ≡ record { number = 1206; place = Some n })
+-- the hosts are none of so many members, by the first of them that is bad; a first port is never
+-- refused
+abbrev pub IsHostsRefusal : ℕ → Peers → Refusal → Type 0
+IsHostsRefusal members (Base port) r = ⊥
+IsHostsRefusal members (Hosts text) r =
+    (n : ℕ) × IsFirstBad members (pieces_at comma text.now) n
+    × (r ≡ record { number = 1206; place = Some n })
 
 -- no member has this number
 abbrev pub member_refusal : Refusal
@@ -79,7 +84,8 @@ RefusesStart files me r =
 abbrev pub RefusesNode : Files → ℕ → Peers → Refusal → Type 0
 RefusesNode files me peers r =
     RefusesListingFile files.is_single r
-    ⊎ (RefusesGiven r ⊎ (IsHostsRefusal peers r ⊎ RefusesStart files me r))
+    ⊎ (RefusesGiven r
+    ⊎ (IsHostsRefusal files.members peers r ⊎ RefusesStart files me r))
 
 -- the first port is low enough for all members
 abbrev pub AreGood : Peers → Type 0

@@ -77,7 +77,8 @@ fn addresses_of(alloc: Global, members: u8, peers: &Peers<'_>) -> Result<Vec<Soc
     requires few { members ≤ 9 }
     requires peers { AreGood peers.now }
     ensures count { IfOk result (λ addresses. length addresses.items ≡ members) }
-    ensures refused { IfErr result (λ r. (r ≡ memory_refusal) ⊎ IsHostsRefusal peers.now r) }
+    ensures refused { IfErr result
+        (λ r. (r ≡ memory_refusal) ⊎ IsHostsRefusal members peers.now r) }
 {
     match peers {
         Peers::Base(base) => Ok(loopback(alloc, members, *base)?),
