@@ -15,7 +15,7 @@ import time
 from concurrent.futures import ThreadPoolExecutor
 
 from topics.programs import shown
-from topics.tally import PROGRAM, TESTS, TOP, built_shim, contents, difference, text_difference
+from topics.tally import PROGRAM, TESTS, TOP, Tally, built_shim, contents, difference, text_difference
 
 NODES = f"{TOP}/crates/dpbn/out/dpbn"
 
@@ -31,6 +31,10 @@ def node_line(me, i=0, q=0):
     return b"node %d: I=%d B=0 Q=%d T=0 !=0\n" % (me, i, q)
 
 
+# where ports may begin, below those that systems give to who asks for any
+BASES = iter(random.sample(range(20_000, 32_000, 10), 1_200))
+# a folder in memory, where the system has one
+MEMORY = "/dev/shm" if os.path.isdir("/dev/shm") else None
 ALL = node_line(0, i=1) + node_line(1, i=1) + node_line(2, i=1)
 
 
@@ -82,8 +86,8 @@ def taken(port, address="127.0.0.1"):
 
 
 def free_ports(count):
-    """The first of so many ports that nobody has, one after the other."""
-    for base in random.sample(range(20_000, 60_000), 1_000):
+    """The first of so many ports that nobody has, one after the other, none of which was given before."""
+    for base in BASES:
         sockets = [socket.socket(socket.AF_INET, socket.SOCK_DGRAM) for _ in range(count)]
         try:
             for number, it in enumerate(sockets):
@@ -334,59 +338,55 @@ def down_problem(folder, got, once):
     return "" if run == out else f"dpbr run of its trace prints\n{text_difference(run, out)}"
 
 
-def called(folder, words, fail):
+def called(shim, folder, words, fail):
     """What is answered where this call of the logs' devices fails, on logs that are new, and how many such calls there were."""
     lay_logs(folder)
-    more = {"LD_PRELOAD": f"{folder}/calls.so", "CALLS": f"{folder}/calls", "FAIL": fail}
     put(f"{folder}/calls", b"")
-    got = answer(words, folder, env={**os.environ, **more})
+    got = answer(words, folder, env={**os.environ, "LD_PRELOAD": f"{shim}/calls.so", "CALLS": f"{folder}/calls", "FAIL": fail})
     return got, contents(f"{folder}/calls").count(b"\n")
 
 
-def failing_devices(tally):
-    """Each call of the logs' devices of a cluster failing in turn, alone or with all later ones: where the logs stand, that node is down
-    and the others go on."""
+def failing_devices(tally, shim, folder):
+    """Each call of the logs' devices of a cluster failing in turn, and each third with all later ones: where the logs stand, those nodes
+    are down and the others go on."""
     opening = 3 + 3 * 8  # each log's folder is brought to the disk, and then each log is made
-    words = ["cluster", *SHARED, "--members", "3", "--turns", "200", "--trace", "trace"]
-    with tempfile.TemporaryDirectory() as folder:
-        if not built_shim(tally, folder, "calls"):
-            return
-        lay(folder)
-        got, count = called(folder, words, "")
-        tally.add("a cluster whose calls are counted", difference(got, (ALL, b"", 0)))
-        for once in (True, False):
-            problem = ""
-            for number in range(1, count + 1):
-                got, _ = called(folder, words, f"{number}" if once else f"{number}..")
-                if number > opening:
-                    problem = problem or down_problem(folder, got, once)
-                else:
-                    problem = problem or difference(got, refused(2 if number <= 3 else 1001))
-                problem = problem and f"call {number} of {count}: {problem}"
-                if problem:
-                    break
-            tally.add(f"devices of a cluster that fail {'once' if once else 'from a call on'}", problem)
-        print(f"tests/run: a cluster of three: {count} calls of its logs' devices, each failed", flush=True)
+    words = ["cluster", *SHARED, "--members", "3", "--turns", "80", "--trace", "trace"]
+    got, count = called(shim, folder, words, "")
+    tally.add("a cluster whose calls are counted", difference(got, (ALL, b"", 0)))
+    for once in (True, False):
+        problem, number = "", 1
+        while number <= count and not problem:
+            got, _ = called(shim, folder, words, f"{number}" if once else f"{number}..")
+            problem = down_problem(folder, got, once) if number > opening else difference(got, refused(2 if number <= 3 else 1001))
+            problem = problem and f"call {number} of {count}: {problem}"
+            number += 1 if once else 3
+        tally.add(f"devices of a cluster that fail {'once' if once else 'from a call on'}", problem)
+    print(f"tests/run: a cluster of three: {count} calls of its logs' devices, each failed", flush=True)
 
 
-def failing_device(tally):
+def failing_device(tally, shim, folder):
     """Each call of a lone node's log failing in turn, and a device that is full: it is down, and run again it goes on."""
     words = ["node", *SHARED, "--members", "1", "--me", "0", "--base", str(free_ports(1)), "--turns", "20"]
     down, held = (b"node 0: down\n", b"dpbn: fault 1001 at 0\n", 0), (node_line(0, i=1), b"", 0)
-    with tempfile.TemporaryDirectory() as folder:
-        if not built_shim(tally, folder, "calls"):
-            return
-        lay(folder)
-        got, count = called(folder, words, "")
-        tally.add("a node whose calls are counted", difference(got, held))
-        for number in range(10, count + 1):
-            got, _ = called(folder, words, str(number))
-            tally.add(f"call {number} of {count} of a node's log", difference(got, down))
-            tally.add(f"the node run again after call {number}", difference(answer(words, folder), held))
-        for room in (44, 50, 100, 150):
-            lay_logs(folder)
-            tally.add(f"a device with room for {room} bytes", difference(answer(words, folder, preexec_fn=with_room(room)), down))
-            tally.add(f"the device that had {room} bytes", difference(answer(words, folder), held))
+    got, count = called(shim, folder, words, "")
+    tally.add("a node whose calls are counted", difference(got, held))
+    for number in range(10, count + 1):
+        got, _ = called(shim, folder, words, str(number))
+        tally.add(f"call {number} of {count} of a node's log", difference(got, down))
+        tally.add(f"the node run again after call {number}", difference(answer(words, folder), held))
+    for room in (44, 50, 100, 150):
+        lay_logs(folder)
+        tally.add(f"a device with room for {room} bytes", difference(answer(words, folder, preexec_fn=with_room(room)), down))
+        tally.add(f"the device that had {room} bytes", difference(answer(words, folder), held))
+
+
+def failing(tally):
+    """Devices that fail: in memory, where there is a folder for it, since what stays on them isn't asked here."""
+    with tempfile.TemporaryDirectory() as shim, tempfile.TemporaryDirectory(dir=MEMORY) as folder:
+        if built_shim(tally, shim, "calls"):
+            lay(folder)
+            failing_devices(tally, shim, folder)
+            failing_device(tally, shim, folder)
 
 
 def with_room(room):
@@ -407,7 +407,7 @@ def started(folder, me, words, room=None, files=SHARED):
 def ended(process):
     """Ends a process that runs, and gives what it told on standard error."""
     process.kill()
-    return process.communicate(timeout=60)[1]
+    return process.communicate(timeout=300)[1]
 
 
 def sockets_of(process):
@@ -472,8 +472,8 @@ def hosts(tally):
         lay(folder)
         base = free_ports(1)
         where = ",".join(f"127.0.0.{k + 1}:{base}" for k in range(3))
-        nodes = [started(folder, me, ["--hosts", where, "--turns", "200", "--patience", "10"]) for me in range(3)]
-        out = b"".join(node.communicate(timeout=60)[0] for node in nodes)
+        nodes = [started(folder, me, ["--hosts", where, "--turns", "300"]) for me in range(3)]
+        out = b"".join(node.communicate(timeout=300)[0] for node in nodes)
         tally.add("three nodes on three addresses", "" if out == ALL else f"{out!r}")
 
 
@@ -489,7 +489,7 @@ def stops(tally, packages=12):
             nodes = [started(folder, me, [*words, "3000", "--progress", "20"]) for me in range(3)]
             has_begun = grown(f"{folder}/logs/node-{number}.log", 400)
             nodes[number].send_signal(how)
-            nodes[number].communicate(timeout=60)
+            nodes[number].communicate(timeout=300)
             status, before = nodes[number].returncode, letters_at(folder, number, words)
             tally.add(f"node {number} in the middle", "" if has_begun and status == -how and before[0] < packages else f"{before}, status {status}")
             nodes[number] = started(folder, number, [*words, "3000", "--progress", "20"])
@@ -535,21 +535,24 @@ def noise(tally):
         strange = [b"", b"noise", bytes(1_000), random.Random(1).randbytes(65_507), overheard(folder)]
         told = len(strange) * b"dpbn: fault 1202\n"
         base = free_ports(3)
-        nodes = [started(folder, me, ["--base", str(base), "--turns", "200", "--patience", "10"]) for me in range(3)]
+        nodes = [started(folder, me, ["--base", str(base), "--turns", "300"]) for me in range(3)]
         for node in nodes:
             put_in(listening(node), strange)
-        got = [(*node.communicate(timeout=60), node.returncode) for node in nodes]
+        got = [(*node.communicate(timeout=300), node.returncode) for node in nodes]
         for me in range(3):
             tally.add(f"node {me} with noise", difference(got[me], (node_line(me, i=1), told, 0)))
         lay_logs(folder)
         lone = started(folder, 0, ["--base", str(base), "--turns", "40"])
         put_in(listening(lone), strange)
-        tally.add("a node without others, with noise", difference((*lone.communicate(timeout=60), lone.returncode), (node_line(0, q=1), told, 0)))
+        tally.add("a node without others, with noise", difference((*lone.communicate(timeout=300), lone.returncode), (node_line(0, q=1), told, 0)))
         lay_logs(folder)
-        run = subprocess.Popen([NODES, "cluster", *SHARED, "--members", "3", "--turns", "1000000", "--trace", "trace"], cwd=folder,
+        # its lines fill the pipe, and it waits until they are read
+        run = subprocess.Popen([NODES, "cluster", *SHARED, "--members", "3", "--turns", "3000", "--progress", "1", "--trace", "trace"], cwd=folder,
                                stdout=subprocess.PIPE, stderr=subprocess.PIPE)
         put_in(listening(run, 3), strange)
-        tally.add("a cluster with noise", difference((*run.communicate(timeout=120), run.returncode), (ALL, 3 * told, 0)))
+        out, error = run.communicate(timeout=300)
+        error = b"".join(line + b"\n" for line in error.split(b"\n")[:-1] if not line.startswith(b"node "))
+        tally.add("a cluster with noise", difference((out, error, run.returncode), (ALL, 3 * told, 0)))
         lines = told_by_run(folder, "listing", "trace")
         tally.add("the trace of a cluster with noise", "" if lines == ALL else f"dpbr run of it differs\n{text_difference(lines, ALL)}")
 
@@ -575,12 +578,12 @@ def patience(tally):
     with tempfile.TemporaryDirectory() as folder:
         lay(folder, "a/b.FULLPKGNAME=b-1.0\na/b.IGNORE=broken\n")
         base = str(free_ports(3))
-        for members, me, ms, least, most in ((3, 0, 300, 0.9, 30), (3, 1, 300, 1.35, 30), (3, 2, 300, 1.8, 30), (3, 0, 0, 0, 0.45), (3, 2, 0, 0, 0.45),
-                                             (1, 0, 300, 0, 0.45)):
-            words = ["node", *SHARED, "--members", str(members), "--me", str(me), "--base", base, "--turns", "3", "--patience", str(ms)]
+        for members, me, turns, ms, least, most in ((3, 0, 3, 300, 0.9, 60), (3, 1, 3, 300, 1.35, 60), (3, 2, 3, 300, 1.8, 60),
+                                                    (3, 0, 300, 0, 0, 5), (3, 2, 300, 0, 0, 5), (1, 0, 3, 3_000, 0, 5)):
+            words = ["node", *SHARED, "--members", str(members), "--me", str(me), "--base", base, "--turns", str(turns), "--patience", str(ms)]
             lay_logs(folder)
             seconds = took(words, folder)
-            tally.add(f"node {me} of {members}, patience {ms}", "" if least <= seconds < most else f"three turns took {seconds:.2f} s")
+            tally.add(f"node {me} of {members}, patience {ms}", "" if least <= seconds < most else f"{turns} turns took {seconds:.2f} s")
         lay_logs(folder)
         put(f"{folder}/listing", LISTING.encode())
         for patient in ([], ["--patience", "5"]):
@@ -615,7 +618,7 @@ def second_start(tally):
         tally.add("a second start at the same port", "" if (out, status) == (b"", 1) and error else f"{out!r}, {error!r}, status {status}")
         tally.add("the log of the node that runs", "" if logs_in(folder)["node-0.log"] == before["node-0.log"] else "it changed")
         others = [started(folder, me, ["--base", str(base), "--turns", "100"]) for me in (1, 2)]
-        lines = b"".join(it.communicate(timeout=60)[0] for it in others)
+        lines = b"".join(it.communicate(timeout=300)[0] for it in others)
         tally.add("the others beside it", "" if lines == node_line(1, i=1) + node_line(2, i=1) else f"{lines!r}")
         tally.add("the node that runs", "" if first.poll() is None else f"it ended with {first.returncode}")
         ended(first)
@@ -634,7 +637,7 @@ def readme(tally):
             os.symlink(at, f"{folder}/{name}")
         script = block.replace("--base 7000", f"--base {free_ports(3)}")
         tally.add("README.md, its ports", "" if script != block else "--base 7000 stands nowhere")
-        done = subprocess.run(["sh", "-c", script], cwd=folder, capture_output=True, text=True, timeout=120)
+        done = subprocess.run(["sh", "-c", script], cwd=folder, capture_output=True, text=True, timeout=300)
         got = sorted(done.stdout.split("\n")[:-2]) + done.stdout.split("\n")[-2:-1]
         tally.add("README.md, three nodes", "" if got == wanted and "Usage" in done.stderr else f"it shows {wanted}, and {got} {done.stderr} is printed")
 
@@ -753,32 +756,28 @@ def manual_page(tally):
             more = [it for it in text.split("\n") if it.startswith("> ")]
             command = "\n".join([line, *(it[2:] for it in more)]).replace("\\e", "\\").replace("--base 7000", f"--base {free_ports(3)}")
             wanted = sorted(it for it in text.split("\n") if it and not it.startswith("> "))
-            done = subprocess.run(["sh", "-c", command], cwd=folder, capture_output=True, text=True, timeout=120, env={**os.environ, "PATH": path})
+            done = subprocess.run(["sh", "-c", command], cwd=folder, capture_output=True, text=True, timeout=300, env={**os.environ, "PATH": path})
             got = sorted(done.stdout.split("\n"))
             tally.add(f"man/dpbn.1, {line}", "" if [it for it in got if it] == wanted and not done.stderr else f"it shows {wanted}, and {got} {done.stderr} is printed")
+
+
+def beside(tally, several):
+    """Runs these beside each other, since they wait more than they work."""
+    def counted(one):
+        own = Tally()
+        one(own)
+        return own
+
+    with ThreadPoolExecutor(len(several)) as pool:
+        for own in pool.map(counted, several):
+            tally.passed += own.passed
+            tally.failed += own.failed
 
 
 def run(tally):
     for name in sorted(os.listdir(f"{TESTS}/nodes")):
         case(tally, "nodes", name)
-    no_calls(tally)
-    faults(tally)
-    cluster_faults(tally)
-    bad_words(tally)
-    refused_logs(tally)
-    alone(tally)
-    cluster(tally)
-    exact_turns(tally)
-    progress(tally)
-    failing_devices(tally)
-    failing_device(tally)
-    sockets(tally)
-    stops(tally)
-    noise(tally)
-    patience(tally)
+    for one in (no_calls, faults, cluster_faults, bad_words, refused_logs, alone, cluster, exact_turns, progress, failing, sockets, kills):
+        one(tally)
+    beside(tally, (hosts, stops, noise, patience, manual_page, readme))
     second_start(tally)
-    kills(tally)
-    with ThreadPoolExecutor() as pool:
-        # they wait more than they work
-        for done in [pool.submit(it, tally) for it in (hosts, manual_page, readme)]:
-            done.result()
