@@ -430,12 +430,18 @@ def sockets_of(process):
 def listening(process, count=1):
     """The same, once it has so many."""
     found = []
-    for _ in range(2_000):
+    for _ in range(12_000):
         found = sockets_of(process)
         if len(found) == count or process.poll() is not None:
             break
         time.sleep(0.005)
     return found
+
+
+def waiting_cluster(folder):
+    """A cluster that runs: its lines fill the pipe, so that it waits in the middle until they are read."""
+    return subprocess.Popen([NODES, "cluster", *SHARED, "--members", "3", "--turns", "3000", "--progress", "1", "--trace", "trace"], cwd=folder,
+                            stdout=subprocess.PIPE, stderr=subprocess.PIPE)
 
 
 def sockets(tally):
@@ -451,10 +457,9 @@ def sockets(tally):
                 ended(node)
                 tally.add(f"the sockets of node {me} with {words[0]}", "" if found == [place] else f"{found}, not {[place]}")
         lay_logs(folder)
-        with subprocess.Popen([NODES, "cluster", *SHARED, "--members", "3", "--turns", "1000000"], cwd=folder, stdout=subprocess.PIPE,
-                              stderr=subprocess.PIPE) as run:
-            found = listening(run, 3)
-            ended(run)
+        run = waiting_cluster(folder)
+        found = listening(run, 3)
+        ended(run)
         right = len(set(found)) == 3 and all(address == "127.0.0.1" for address, _ in found)
         tally.add("the sockets of a cluster", "" if right else f"{found}, not three of 127.0.0.1")
         lay_logs(folder)
@@ -506,9 +511,9 @@ def letters_at(folder, me, words):
     return (int(found[1]) if found and not status else -1), out or error
 
 
-def grown(path, size):
-    """Waits until the file has so many bytes."""
-    for _ in range(20_000):
+def grown(path, size, tries=20_000):
+    """Waits until the file has so many bytes, for so many milliseconds or somewhat longer."""
+    for _ in range(tries):
         if os.path.exists(path) and os.path.getsize(path) >= size:
             return True
         time.sleep(0.001)
@@ -546,9 +551,7 @@ def noise(tally):
         put_in(listening(lone), strange)
         tally.add("a node without others, with noise", difference((*lone.communicate(timeout=300), lone.returncode), (node_line(0, q=1), told, 0)))
         lay_logs(folder)
-        # its lines fill the pipe, and it waits until they are read
-        run = subprocess.Popen([NODES, "cluster", *SHARED, "--members", "3", "--turns", "3000", "--progress", "1", "--trace", "trace"], cwd=folder,
-                               stdout=subprocess.PIPE, stderr=subprocess.PIPE)
+        run = waiting_cluster(folder)
         put_in(listening(run, 3), strange)
         out, error = run.communicate(timeout=300)
         error = b"".join(line + b"\n" for line in error.split(b"\n")[:-1] if not line.startswith(b"node "))
@@ -602,15 +605,23 @@ def ticks(process):
     return int(words[11]) + int(words[12])
 
 
+def at_rest(folder):
+    """Waits until a lone node has claimed what it can, and its log stays as it is; and gives the logs."""
+    grown(f"{folder}/logs/node-0.log", 45)
+    before, now = {}, logs_in(folder)
+    while before != now:
+        time.sleep(1)
+        before, now = now, logs_in(folder)
+    return now
+
+
 def second_start(tally):
     """A node that runs, and another start on its folder: it is refused, the log keeps its bytes, and the first one goes on."""
     with tempfile.TemporaryDirectory() as folder:
         lay(folder)
         base, other = free_ports(3), free_ports(3)
         first = started(folder, 0, ["--base", str(base), "--turns", "1000000"])
-        grown(f"{folder}/logs/node-0.log", 45)
-        time.sleep(0.3)  # it has claimed, and waits for the others
-        before = logs_in(folder)
+        before = at_rest(folder)
         node = ["node", *SHARED, "--members", "3", "--me", "0", "--turns", "5", "--base"]
         for name, words in (("at another port", [*node, str(other)]), ("as a cluster", ["cluster", *SHARED, "--members", "3", "--turns", "5"])):
             tally.add(f"a second start {name}", difference(answer(words, folder), refused(2)))
@@ -705,6 +716,8 @@ def kills(tally, rounds=20, seed=1, packages=60):
         words = ["--base", str(base), "--turns", "1000000", "--patience", "5"]
         nodes = [started(folder, me, words) for me in range(3)]
         full = Full(folder)
+        for me in range(3):
+            grown(full.log(me), 44)
         noise = socket.socket(socket.AF_INET, socket.SOCK_DGRAM)
         for number in range(rounds):
             time.sleep(dice.uniform(0.01, 0.15))
@@ -714,6 +727,8 @@ def kills(tally, rounds=20, seed=1, packages=60):
             if number % 5 == 4:
                 full.rooms[me] = os.path.getsize(full.log(me)) + dice.randrange(300)
             nodes[me] = started(folder, me, words, full.rooms.get(me))
+            if me in full.rooms:
+                grown(full.log(me), full.rooms[me], 1_000)
         for me, node in enumerate(nodes):
             full.ended(me, node)
         noise.close()
