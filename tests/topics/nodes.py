@@ -153,10 +153,10 @@ def no_calls(tally):
 
 
 def ordered(tally, folder, command, good, bad, **more):
-    """Words of which each in its turn is the first that is bad, and all later ones are bad, too: its fault is told."""
+    """Words of which each in its turn is the first that is bad, and all that is looked at later is bad, too: its fault is told."""
     for without, (fault, values) in enumerate(bad):
         words = dict(good)
-        for _, later in bad[without:]:
+        for _, later in reversed(bad[without:]):
             words.update(later)
         words = [command, *(it for pair in words.items() for it in pair)]
         tally.add(f"dpbn {' '.join(words)}", difference(answer(words, folder, **more), refused(fault)))
@@ -172,15 +172,12 @@ def faults(tally):
                 "--members": "4", "--turns": "0"}
         with taken(base + 3):
             ordered(tally, folder, "node", good, (
-                ("401 at 1", {"--listing": "bad"}), ("1305 at 0", {"--builds": "bad"}), ("801", {"--weights": "1,2"}),
-                ("1206 at 1", {"--hosts": "1.2.3.4"}), ("909", {"--me": "4"}), ("2", {"--dir": "none"}), ("1204", {})))
+                ("2", {"--listing": "none"}), ("401 at 1", {"--listing": "bad"}), ("2", {"--builds": "none"}),
+                ("1305 at 0", {"--builds": "bad"}), ("801", {"--weights": "1,2"}), ("1206 at 1", {"--hosts": "1.2.3.4"}), ("909", {"--me": "4"}), ("2", {"--dir": "none"}), ("1204", {})))
         ordered(tally, folder, "node", good, (("1004", {}),))
-        short = [*SHARED, "--members", "4", "--me", "3", "--turns", "0", "--base", str(base)]
-        for name in ("listing", "builds"):
-            lacking = ["none" if it == name else it for it in short]
-            tally.add(f"no {name}", difference(answer(["node", *lacking], folder), refused(2)))
+        short = ["node", *SHARED, "--members", "4", "--me", "3", "--turns", "0", "--base", str(base)]
         with taken(base + 3):
-            tally.add("a socket that is taken", difference(answer(["node", *short], folder), refused(1204)))
+            tally.add("a socket that is taken", difference(answer(short, folder), refused(1204)))
 
 
 def cluster_faults(tally):
@@ -194,17 +191,17 @@ def cluster_faults(tally):
         bad_files(folder)
         good = {"--listing": "listing", "--builds": "builds", "--weights": "1,2,3", "--dir": "bad-logs", "--members": "3", "--turns": "0"}
         ordered(tally, folder, "cluster", good, (
-            ("401 at 1", {"--listing": "bad"}), ("1305 at 0", {"--builds": "bad"}), ("801", {"--weights": "1,2"}), ("2", {"--dir": "none"}),
-            ("1204", {})), preexec_fn=no_files_left)
+            ("2", {"--listing": "none"}), ("401 at 1", {"--listing": "bad"}), ("2", {"--builds": "none"}), ("1305 at 0", {"--builds": "bad"}),
+            ("801", {"--weights": "1,2"}), ("2", {"--dir": "none"}), ("1204", {})), preexec_fn=no_files_left)
         words = ["cluster", *SHARED, "--members", "3", "--turns", "200"]
         answer(words, folder)
-        used = logs_in(folder)
-        for name, first, wanted in (("no log", b"this is no log", 1004), ("another's log", used["node-1.log"], 1005),
-                                    ("a used log", used["node-0.log"], 1203), ("a new log", b"", 1203)):
+        none, used = b"this is no log", logs_in(folder)
+        # one log after the other, by number
+        for first, second, wanted in ((none, used["node-1.log"], 1004), (used["node-1.log"], none, 1005), (used["node-0.log"], none, 1203),
+                                      (b"", none, 1004), (b"", used["node-0.log"], 1005), (b"", used["node-1.log"], 1203)):
             put(f"{folder}/logs/node-0.log", first)
-            tally.add(f"{name}, and then used ones", difference(answer(words, folder), refused(wanted)))
-        for name in ("listing", "builds"):
-            tally.add(f"no {name} for a cluster", difference(answer(["none" if it == name else it for it in words], folder), refused(2)))
+            put(f"{folder}/logs/node-1.log", second)
+            tally.add(f"logs of {len(first)} and {len(second)} bytes", difference(answer(words, folder), refused(wanted)))
 
 
 def bad_files(folder):
@@ -582,8 +579,9 @@ def patience(tally):
         lay(folder, "a/b.FULLPKGNAME=b-1.0\na/b.IGNORE=broken\n")
         base = str(free_ports(3))
         for members, me, turns, ms, least, most in ((3, 0, 3, 300, 0.9, 60), (3, 1, 3, 300, 1.35, 60), (3, 2, 3, 300, 1.8, 60),
-                                                    (3, 0, 300, 0, 0, 5), (3, 2, 300, 0, 0, 5), (1, 0, 3, 3_000, 0, 5)):
-            words = ["node", *SHARED, "--members", str(members), "--me", str(me), "--base", base, "--turns", str(turns), "--patience", str(ms)]
+                                                    (3, 0, 50, None, 1, 60), (3, 0, 300, 0, 0, 5), (3, 2, 300, 0, 0, 5), (1, 0, 3, 3_000, 0, 5)):
+            words = ["node", *SHARED, "--members", str(members), "--me", str(me), "--base", base, "--turns", str(turns)]
+            words += [] if ms is None else ["--patience", str(ms)]
             lay_logs(folder)
             seconds = took(words, folder)
             tally.add(f"node {me} of {members}, patience {ms}", "" if least <= seconds < most else f"{turns} turns took {seconds:.2f} s")
