@@ -173,7 +173,8 @@ def faults(tally):
         with taken(base + 3):
             ordered(tally, folder, "node", good, (
                 ("2", {"--listing": "none"}), ("401 at 1", {"--listing": "bad"}), ("2", {"--builds": "none"}),
-                ("1305 at 0", {"--builds": "bad"}), ("801", {"--weights": "1,2"}), ("1206 at 1", {"--hosts": "1.2.3.4"}), ("909", {"--me": "4"}), ("2", {"--dir": "none"}), ("1204", {})))
+                ("1305 at 0", {"--builds": "bad"}), ("801", {"--weights": "1,2"}), ("1206 at 1", {"--hosts": "1.2.3.4"}),
+                ("909", {"--me": "4"}), ("2", {"--dir": "none"}), ("1204", {})))
         ordered(tally, folder, "node", good, (("1004", {}),))
         short = ["node", *SHARED, "--members", "4", "--me", "3", "--turns", "0", "--base", str(base)]
         with taken(base + 3):
@@ -648,7 +649,8 @@ def readme(tally):
         tally.add("README.md, its ports", "" if script != block else "--base 7000 stands nowhere")
         done = subprocess.run(["sh", "-c", script], cwd=folder, capture_output=True, text=True, timeout=300)
         got = sorted(done.stdout.split("\n")[:-2]) + done.stdout.split("\n")[-2:-1]
-        tally.add("README.md, three nodes", "" if got == wanted and "Usage" in done.stderr else f"it shows {wanted}, and {got} {done.stderr} is printed")
+        is_right = got == wanted and "Usage" in done.stderr
+        tally.add("README.md, three nodes", "" if is_right else f"it shows {wanted}, and {got} {done.stderr} is printed")
 
 
 def is_filled(log, room):
@@ -689,7 +691,8 @@ class Full:
     def tally(self, tally, when):
         """Whether a note finds no room is a matter of time, and so is whether a node that was killed had told of it. But where notes
         had none, one of their nodes has."""
-        print(f"tests/run: {when}: {self.rounds} with a full device; a note had no room in {self.filled}, and 1001 was told in {self.told}", flush=True)
+        seen = f"a note had no room in {self.filled}, and 1001 was told in {self.told}"
+        print(f"tests/run: {when}: {self.rounds} with a full device; {seen}", flush=True)
         tally.add(f"{when}: what is told of full devices", "" if self.told or not self.filled else f"nothing, and {self.filled} notes had no room")
         tally.add(f"{when}: other faults", f"{sorted(self.strange)}" if self.strange else "")
 
