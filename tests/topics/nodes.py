@@ -1,24 +1,41 @@
-"""dpbn as it is built: stored runs of clusters, nodes that hear each other, stops and kills, words and what is refused."""
+"""dpbn as it is built: stored runs of clusters, nodes that hear each other, stops and kills, devices that fail, noise, sockets,
+patience, words and what is refused."""
 import json
 import os
 import random
+import re
 import resource
 import shutil
 import signal
 import socket
+import struct
 import subprocess
 import tempfile
 import time
+from concurrent.futures import ThreadPoolExecutor
 
 from topics.programs import shown
-from topics.tally import PROGRAM, TESTS, TOP, contents, difference, text_difference
+from topics.tally import PROGRAM, TESTS, TOP, Tally, built_shim, contents, difference, text_difference
 
 NODES = f"{TOP}/crates/dpbn/out/dpbn"
 
 LISTING = "a/b.FULLPKGNAME=b-1.0\n"
 BUILDS = '{"a/b":[{"hex":"616263","name":"x"}]}\n'
 SHARED = ["--listing", "listing", "--builds", "builds", "--dir", "logs"]
-ALL = b"node 0: I=1 B=0 Q=0 T=0 !=0\nnode 1: I=1 B=0 Q=0 T=0 !=0\nnode 2: I=1 B=0 Q=0 T=0 !=0\n"
+# what a lone member does with one package, turn by turn, and then nothing: the package is published with the last of these
+ALONE = ["claim", "deliver", "deliver", "built", "deliver", "deliver"]
+
+
+def node_line(me, i=0, q=0):
+    """What a node prints."""
+    return b"node %d: I=%d B=0 Q=%d T=0 !=0\n" % (me, i, q)
+
+
+# where ports may begin, below those that systems give to who asks for any
+BASES = iter(random.sample(range(20_000, 32_000, 10), 1_200))
+# a folder in memory, where the system has one
+MEMORY = "/dev/shm" if os.path.isdir("/dev/shm") else None
+ALL = node_line(0, i=1) + node_line(1, i=1) + node_line(2, i=1)
 
 
 def answer(words, folder, **more):
@@ -35,9 +52,42 @@ def lay(folder, listing=LISTING, builds=BUILDS):
     os.mkdir(f"{folder}/logs")
 
 
+def lay_logs(folder):
+    """A new folder for logs, in place of the one that is there."""
+    shutil.rmtree(f"{folder}/logs")
+    os.mkdir(f"{folder}/logs")
+
+
+def logs_in(folder):
+    """The bytes of the logs there, by name."""
+    return {name: contents(f"{folder}/logs/{name}") for name in sorted(os.listdir(f"{folder}/logs"))}
+
+
+def put(path, text):
+    with open(path, "wb") as file:
+        file.write(text)
+
+
+def refused(fault):
+    """What is answered where a fault is told before the first turn."""
+    return b"", f"dpbn: fault {fault}\n".encode(), 1
+
+
+def places(base, count):
+    """So many places on 127.0.0.1, as words have them."""
+    return ",".join(f"127.0.0.1:{base + number}" for number in range(count))
+
+
+def taken(port, address="127.0.0.1"):
+    """A socket there, which nobody else has until it is closed."""
+    it = socket.socket(socket.AF_INET, socket.SOCK_DGRAM)
+    it.bind((address, port))
+    return it
+
+
 def free_ports(count):
-    """The first of so many ports that nobody has, one after the other."""
-    for base in random.sample(range(20_000, 60_000), 1_000):
+    """The first of so many ports that nobody has, one after the other, none of which was given before."""
+    for base in BASES:
         sockets = [socket.socket(socket.AF_INET, socket.SOCK_DGRAM) for _ in range(count)]
         try:
             for number, it in enumerate(sockets):
@@ -51,6 +101,12 @@ def free_ports(count):
     raise OSError("no ports are free")
 
 
+def told_by_run(folder, listing, trace, single=()):
+    """The nodes' lines of `dpbr run` of the trace."""
+    done = subprocess.run([PROGRAM, "run", *single, listing, trace], cwd=folder, capture_output=True, timeout=120)
+    return b"".join(line + b"\n" for line in done.stdout.split(b"\n") if line.startswith(b"node "))
+
+
 def case(tally, kind, name):
     """A stored run of a cluster: the nodes' lines, and the same lines by `dpbr run` of the trace that it writes."""
     stored = f"{TESTS}/{kind}/{name}"
@@ -61,61 +117,147 @@ def case(tally, kind, name):
             shutil.copy(f"{stored}/{file}", folder)
         os.mkdir(f"{folder}/DIR")
         tally.add(f"{kind}/{name}", difference(answer([*words, "--trace", "TRACE"], folder), (wanted, b"", 0)))
-        single = ["--single"] if "--single" in words else []
-        done = subprocess.run([PROGRAM, "run", *single, "LISTING", "TRACE"], cwd=folder, capture_output=True, timeout=120)
-        lines = b"".join(line + b"\n" for line in done.stdout.split(b"\n") if line.startswith(b"node "))
+        lines = told_by_run(folder, "LISTING", "TRACE", ["--single"] if "--single" in words else [])
         tally.add(f"{kind}/{name}, its trace", "" if lines == wanted else f"dpbr run of it differs\n{text_difference(lines, wanted)}")
+
+
+def wrong_words():
+    """Words that are no call."""
+    node = ["node", *SHARED, "--members", "3", "--me", "0", "--turns", "1"]
+    cluster = ["cluster", *SHARED, "--members", "3", "--turns", "1"]
+    here = [*node, "--base", "7000"]
+    yield from ([], ["--help"], ["-h"], ["help"], ["help", "node"], ["--version"], ["-V"], ["node", "--help"], ["cluster", "--help"])
+    yield from (["node"], ["cluster"], ["nodes", *here[1:]], node, [*here, "--hosts", "1.2.3.4:5"], [*cluster, "more"], [*here, "more"])
+    yield from ([b"\xff"], [*cluster, b"\xff"], [*here, "--weights", b"\xff"], ["cluster", "--listing", b"\xff", *cluster[3:]])
+    yield from ([*cluster, "--single", "--single"], [*here, "--single", "--single"], [*cluster, "--single="], [*here, "--single="],
+                [*cluster, "--single=yes"], ["--single", *cluster], [*cluster, "--singles"], [*cluster, "--", "--single"])
+    yield from ([*cluster, "--members", "3"], [*here, "--members", "3"], [*cluster, "--members=3"], [*here, "--base", "7000"],
+                [*here, "--me", "0"], [*here, "--hosts", "1.2.3.4:5", "--hosts", "1.2.3.4:5"], [*cluster, "--turns", "1"])
+    yield from ([*cluster, "--weights"], [*cluster, "--trace"], [*cluster, "--progress"], [*cluster, "--base", "7000"],
+                [*cluster, "--patience", "20"], [*cluster, "--me", "0"], [*here, "--trace", "x"])
+    yield from ([*node, "--base", "1023"], [*node, "--base", "65527"], [*here, "--patience", "60001"], [*here, "--patience", "-1"],
+                [*here, "--progress", "0"], [*here, "--progress", "1000001"], [*cluster, "--progress", "0"])
+    for members, turns in (("10", "1"), ("0", "1"), ("3", "1000001"), ("-1", "1"), ("three", "1"), ("3", "")):
+        yield ["cluster", *SHARED, "--members", members, "--turns", turns]
+    yield ["node", *SHARED, "--members", "3", "--me", "256", "--turns", "1", "--base", "7000"]
 
 
 def no_calls(tally):
     """Words that are no call: clap's text on standard error, and status 2."""
-    node = ["node", *SHARED, "--members", "3", "--me", "0", "--turns", "1"]
-    cluster = ["cluster", *SHARED, "--members", "3", "--turns", "1"]
     with tempfile.TemporaryDirectory() as folder:
         lay(folder)
-        for words in ([], ["--help"], ["node"], ["cluster"], ["nodes", *node[1:]], node, [*node, "--base", "7000", "--hosts", "1.2.3.4:5"],
-                      [*node, "--base", "1023"], [*node, "--base", "65527"], [*node, "--base", "7000", "--patience", "60001"],
-                      [*node, "--base", "7000", "--trace", "x"], [*node, "--base", "7000", "--progress", "0"], [*cluster, "more"],
-                      [*cluster, "--me", "0"], [*cluster, "--turns", "1"], ["cluster", *SHARED, "--members", "10", "--turns", "1"],
-                      ["cluster", *SHARED, "--members", "0", "--turns", "1"], ["cluster", *SHARED, "--members", "3", "--turns", "1000001"],
-                      ["node", *SHARED, "--members", "3", "--me", "256", "--turns", "1", "--base", "7000"]):
+        for words in wrong_words():
             out, error, code = answer(words, folder)
             tally.add(f"dpbn {words}", "" if (out, code) == (b"", 2) and error else f"{out!r:.200}, {error!r:.200}, status {code}")
+        tally.add("the logs after words that are no call", f"{logs_in(folder)}" if logs_in(folder) else "")
+
+
+def ordered(tally, folder, command, good, bad, **more):
+    """Words of which each in its turn is the first that is bad, and all that is looked at later is bad, too: its fault is told."""
+    for without, (fault, values) in enumerate(bad):
+        words = dict(good)
+        for _, later in reversed(bad[without:]):
+            words.update(later)
+        words = [command, *(it for pair in words.items() for it in pair)]
+        tally.add(f"dpbn {' '.join(words)}", difference(answer(words, folder, **more), refused(fault)))
 
 
 def faults(tally):
-    """What is refused before the first turn, in the order in which it is looked at."""
+    """What `node` refuses before the first turn, in the order in which it is looked at."""
     with tempfile.TemporaryDirectory() as folder:
         lay(folder)
-        with open(f"{folder}/bad", "w") as file:
-            file.write("bad\n")
+        bad_files(folder)
         base = free_ports(4)
-        taken = socket.socket(socket.AF_INET, socket.SOCK_DGRAM)
-        taken.bind(("127.0.0.1", base + 3))
-        bad = {"--listing": "bad", "--builds": "bad", "--weights": "1,2", "--hosts": "1.2.3.4", "--me": "4", "--dir": "none"}
-        for without, fault in ((0, "401 at 1"), (1, "1305 at 0"), (2, "801"), (3, "1206 at 1"), (4, "909"), (5, "2")):
-            good = {"--listing": "listing", "--builds": "builds", "--weights": "1,2,3,4", "--hosts": f"127.0.0.1:{base},127.0.0.1:{base + 1},127.0.0.1:{base + 2},127.0.0.1:{base + 3}",
-                    "--me": "3", "--dir": "none"}
-            for key in list(bad)[without:]:
-                good[key] = bad[key]
-            words = ["node", "--members", "4", "--turns", "1", *(it for pair in good.items() for it in pair)]
-            tally.add(f"dpbn {' '.join(words)}", difference(answer(words, folder), (b"", f"dpbn: fault {fault}\n".encode(), 1)))
+        good = {"--listing": "listing", "--builds": "builds", "--weights": "1,2,3,4", "--hosts": places(base, 4), "--me": "3", "--dir": "bad-logs",
+                "--members": "4", "--turns": "0"}
+        with taken(base + 3):
+            ordered(tally, folder, "node", good, (
+                ("2", {"--listing": "none"}), ("401 at 1", {"--listing": "bad"}), ("2", {"--builds": "none"}),
+                ("1305 at 0", {"--builds": "bad"}), ("801", {"--weights": "1,2"}), ("1206 at 1", {"--hosts": "1.2.3.4"}),
+                ("909", {"--me": "4"}), ("2", {"--dir": "none"}), ("1204", {})))
+        ordered(tally, folder, "node", good, (("1004", {}),))
+        short = ["node", *SHARED, "--members", "4", "--me", "3", "--turns", "0", "--base", str(base)]
+        with taken(base + 3):
+            tally.add("a socket that is taken", difference(answer(short, folder), refused(1204)))
+
+
+def cluster_faults(tally):
+    """What `cluster` refuses before the first turn, in the order in which it is looked at; with no file left for a socket its sockets
+    can't be had."""
+    def no_files_left():
+        resource.setrlimit(resource.RLIMIT_NOFILE, (7, 7))
+
+    with tempfile.TemporaryDirectory() as folder:
+        lay(folder)
+        bad_files(folder)
+        good = {"--listing": "listing", "--builds": "builds", "--weights": "1,2,3", "--dir": "bad-logs", "--members": "3", "--turns": "0"}
+        ordered(tally, folder, "cluster", good, (
+            ("2", {"--listing": "none"}), ("401 at 1", {"--listing": "bad"}), ("2", {"--builds": "none"}), ("1305 at 0", {"--builds": "bad"}),
+            ("801", {"--weights": "1,2"}), ("2", {"--dir": "none"}), ("1204", {})), preexec_fn=no_files_left)
+        words = ["cluster", *SHARED, "--members", "3", "--turns", "200"]
+        answer(words, folder)
+        none, used = b"this is no log", logs_in(folder)
+        # one log after the other, by number
+        for first, second, wanted in ((none, used["node-1.log"], 1004), (used["node-1.log"], none, 1005), (used["node-0.log"], none, 1203),
+                                      (b"", none, 1004), (b"", used["node-0.log"], 1005), (b"", used["node-1.log"], 1203)):
+            put(f"{folder}/logs/node-0.log", first)
+            put(f"{folder}/logs/node-1.log", second)
+            tally.add(f"logs of {len(first)} and {len(second)} bytes", difference(answer(words, folder), refused(wanted)))
+
+
+def bad_files(folder):
+    """A listing that is none, and so no builds, and a folder of logs that are none."""
+    put(f"{folder}/bad", b"bad\n")
+    os.mkdir(f"{folder}/bad-logs")
+    for me in range(4):
+        put(f"{folder}/bad-logs/node-{me}.log", b"this is no log")
+
+
+def bad_words(tally):
+    """Weights and hosts that are refused, for what is wrong with them."""
+    with tempfile.TemporaryDirectory() as folder:
+        lay(folder)
+        base = free_ports(4)
         good = ["node", *SHARED, "--members", "4", "--me", "3", "--turns", "0"]
-        for name in ("listing", "builds"):
-            lacking = ["none" if it == name else it for it in good]
-            tally.add(f"no {name}", difference(answer([*lacking, "--base", str(base)], folder), (b"", b"dpbn: fault 2\n", 1)))
-        tally.add("a socket that is taken", difference(answer([*good, "--base", str(base)], folder), (b"", b"dpbn: fault 1204\n", 1)))
-        taken.close()
-        for weights, fault in (("1,1,1", "801"), ("1,1,1,1,1", "801"), ("1,1,1,0", "801"), ("1,1,1,101", "801"), ("1,1,1,01", "801"), ("1,1,1,+1", "801"),
-                               ("1,1,1,", "801"), ("", "801"), ("1,1,1,1,1,1,1,1,1,1", "801")):
-            tally.add(f"the weights {weights!r}", difference(answer([*good, "--base", str(base), f"--weights={weights}"], folder), (b"", f"dpbn: fault {fault}\n".encode(), 1)))
-        here = [f"127.0.0.1:{base + k}" for k in range(4)]
-        for hosts, place in ((here[:3], 4), ([*here, here[0]], 5), ([here[0], here[0], *here[2:]], 2), ([*here[:3], "host:1"], 4), ([*here[:3], "[::1]:1"], 4), ([""], 1)):
-            told = difference(answer([*good, f"--hosts={','.join(hosts)}"], folder), (b"", f"dpbn: fault 1206 at {place}\n".encode(), 1))
-            tally.add(f"the hosts {','.join(hosts)!r}", told)
-        with open(f"{folder}/logs/node-3.log", "w") as file:
-            file.write("this is no log")
-        tally.add("a log that is none", difference(answer([*good, "--base", str(base)], folder), (b"", b"dpbn: fault 1004\n", 1)))
+        for weights in ("1,1,1", "1,1,1,1,1", "1,1,1,0", "1,1,1,101", "1,1,1,01", "1,1,1,+1", "1,1,1,", "", "1,1,1,1,1,1,1,1,1,1"):
+            got = answer([*good, "--base", str(base), f"--weights={weights}"], folder)
+            tally.add(f"the weights {weights!r}", difference(got, refused(801)))
+        here = places(base, 4).split(",")
+        for hosts, place in ((here[:3], 4), ([*here, here[0]], 5), ([here[0], here[0], *here[2:]], 2), ([*here[:3], "host:1"], 4),
+                             ([*here[:3], "[::1]:1"], 4), ([""], 1)):
+            got = answer([*good, f"--hosts={','.join(hosts)}"], folder)
+            tally.add(f"the hosts {','.join(hosts)!r}", difference(got, refused(f"1206 at {place}")))
+
+
+def logs_stay(tally, folder, words, wanted):
+    """Words of a call that refuses a log: it leaves all logs as they are."""
+    before = logs_in(folder)
+    told = difference(answer(words, folder), refused(wanted))
+    after = logs_in(folder)
+    changed = [it for it in before if after.get(it) != before[it]]
+    tally.add(f"dpbn {' '.join(words)}, and its logs", told or (f"{changed} changed" if changed else ""))
+
+
+def refused_logs(tally):
+    """Logs that a call refuses stay as they are, and so do those beside them."""
+    with tempfile.TemporaryDirectory() as folder:
+        lay(folder)
+        put(f"{folder}/other", b"a/c.FULLPKGNAME=c-1.0\n")
+        three = [*SHARED, "--turns", "200", "--members", "3"]
+        node = ["node", *three, "--base", str(free_ports(4)), "--me"]
+        tally.add("a cluster", difference(answer(["cluster", *three], folder), (ALL, b"", 0)))
+        logs_stay(tally, folder, ["cluster", *three], 1203)
+        for words in (["cluster", *three], [*node, "0"], [*node, "2"]):
+            logs_stay(tally, folder, [*words, "--weights", "1,1,2"], 1005)
+            logs_stay(tally, folder, ["4" if it == "3" else it for it in words], 1005)
+            logs_stay(tally, folder, ["other" if it == "listing" else it for it in words], 1005)
+        whole = logs_in(folder)
+        for spoiled, wanted in ((b"this is no log", 1004), (whole["node-0.log"][:-1], 1004), (whole["node-2.log"], 1005)):
+            put(f"{folder}/logs/node-0.log", spoiled)
+            logs_stay(tally, folder, ["cluster", *three], wanted)
+            logs_stay(tally, folder, [*node, "0"], wanted)
+        put(f"{folder}/logs/node-0.log", whole["node-0.log"][:43] + b"\0")
+        logs_stay(tally, folder, ["cluster", *three], 1203)
 
 
 def alone(tally):
@@ -137,36 +279,430 @@ def cluster(tally):
     with tempfile.TemporaryDirectory() as folder:
         lay(folder)
         tally.add("a trace that can't be written", difference(answer([*words, "--trace", "none/x"], folder), (b"", b"dpbn: fault 2\n", 1)))
-        shutil.rmtree(f"{folder}/logs")
-        os.mkdir(f"{folder}/logs")
-        told = answer([*words, "--progress", "100"], folder)
-        tally.add("lines after each 100 turns", difference(told, (ALL, ALL + ALL, 0)))
-        shutil.rmtree(f"{folder}/logs")
-        os.mkdir(f"{folder}/logs")
+        lay_logs(folder)
         with open("/dev/full", "wb") as full:
             done = subprocess.run([NODES, *words], cwd=folder, stdout=full, stderr=subprocess.PIPE, timeout=60)
         tally.add("lines to a full device", "" if (done.stderr, done.returncode) == (b"dpbn: fault 2\n", 1) else f"{done.stderr!r}, {done.returncode}")
 
 
-def started(folder, me, words, room=None):
-    """A node of three, whose log may grow to so many bytes: more is refused, as by a full device."""
+def exact_turns(tally):
+    """A lone member takes just so many turns, one of them after the other, in a cluster and as a node."""
+    for turns in range(len(ALONE) + 2):
+        line = node_line(0, i=1) if turns >= len(ALONE) else node_line(0, q=1)
+        with tempfile.TemporaryDirectory() as folder:
+            lay(folder)
+            words = [*SHARED, "--members", "1", "--turns", str(turns)]
+            tally.add(f"a cluster of one, {turns} turns", difference(answer(["cluster", *words, "--trace", "trace"], folder), (line, b"", 0)))
+            events = [it["event"] for it in json.loads(contents(f"{folder}/trace"))["events"]]
+            tally.add(f"the events of {turns} turns", "" if events == ALONE[:turns] else f"{events}, not {ALONE[:turns]}")
+            lay_logs(folder)
+            got = answer(["node", *words, "--me", "0", "--base", str(free_ports(1))], folder)
+            tally.add(f"a lone node, {turns} turns", difference(got, (line, b"", 0)))
+
+
+def progress(tally):
+    """The lines after each so many turns, on standard error, and on standard output the last ones alone."""
+    one, three = ["--members", "1", "--turns"], ["--members", "3", "--turns"]
+    node = ["node", "--me", "0", "--base", str(free_ports(1)), *one]
+    queued, held = node_line(0, q=1), node_line(0, i=1)
+    before = node_line(0, q=1) + node_line(1, q=1) + node_line(2, q=1)
+    # what three members do with one package takes 16 turns, and in the first 8 nobody holds it
+    for words, out, error in (([*node, "7", "--progress", "2"], held, queued + queued + held), ([*node, "5", "--progress", "5"], queued, queued),
+                              ([*node, "5", "--progress", "6"], queued, b""), ([*node, "3", "--progress", "1"], queued, 3 * queued),
+                              (["cluster", *one, "7", "--progress", "2"], held, queued + queued + held),
+                              (["cluster", *three, "16", "--progress", "8"], ALL, before + ALL),
+                              (["cluster", *three, "200", "--progress", "100"], ALL, ALL + ALL)):
+        with tempfile.TemporaryDirectory() as folder:
+            lay(folder)
+            tally.add(f"dpbn {' '.join(words)}", difference(answer([*words, *SHARED], folder), (out, error, 0)))
+
+
+def down_problem(folder, got, once):
+    """What is wrong with what a cluster of three answered, and wrote as its trace, where devices of its logs failed, if anything."""
+    out, error, status = got
+    told = [int(it) for it in re.findall(rb"^dpbn: fault 1001 at (\d)$", error, re.MULTILINE)]
+    wanted = b"".join(b"dpbn: fault 1001 at %d\n" % me for me in told)
+    if not told or len(set(told)) < len(told) or (once and len(told) > 1) or (error, status) != (wanted, 0):
+        return f"{error!r:.300} on standard error, status {status}"
+    down = [int(it) for it in re.findall(rb"^node (\d): down$", out, re.MULTILINE)]
+    lines = b"".join(b"node %d: down\n" % me if me in told else node_line(me, i=1) for me in range(3))
+    if down != sorted(told) or (once and out != lines):
+        return f"{told} failed, and it prints\n{out.decode()}"
+    events = json.loads(contents(f"{folder}/trace"))["events"]
+    stops = [(it["input"]["node"], it["left"]) for it in events if it["event"] == "stopin"]
+    if stops != [(me, "none") for me in told]:
+        return f"{told} failed, and its trace has the stops {stops}"
+    run = told_by_run(folder, "listing", "trace")
+    return "" if run == out else f"dpbr run of its trace prints\n{text_difference(run, out)}"
+
+
+def called(shim, folder, words, fail):
+    """What is answered where this call of the logs' devices fails, on logs that are new, and how many such calls there were."""
+    lay_logs(folder)
+    put(f"{folder}/calls", b"")
+    got = answer(words, folder, env={**os.environ, "LD_PRELOAD": f"{shim}/calls.so", "CALLS": f"{folder}/calls", "FAIL": fail})
+    return got, contents(f"{folder}/calls").count(b"\n")
+
+
+def failing_devices(tally, shim, folder):
+    """Each call of the logs' devices of a cluster failing in turn, and each third with all later ones: where the logs stand, those nodes
+    are down and the others go on."""
+    opening = 3 + 3 * 8  # each log's folder is brought to the disk, and then each log is made
+    words = ["cluster", *SHARED, "--members", "3", "--turns", "80", "--trace", "trace"]
+    got, count = called(shim, folder, words, "")
+    tally.add("a cluster whose calls are counted", difference(got, (ALL, b"", 0)))
+    for once in (True, False):
+        problem, number = "", 1
+        while number <= count and not problem:
+            got, _ = called(shim, folder, words, f"{number}" if once else f"{number}..")
+            problem = down_problem(folder, got, once) if number > opening else difference(got, refused(2 if number <= 3 else 1001))
+            problem = problem and f"call {number} of {count}: {problem}"
+            number += 1 if once else 3
+        tally.add(f"devices of a cluster that fail {'once' if once else 'from a call on'}", problem)
+    print(f"tests/run: a cluster of three: {count} calls of its logs' devices, each failed", flush=True)
+
+
+def failing_device(tally, shim, folder):
+    """Each call of a lone node's log failing in turn, and a device that is full: it is down, and run again it goes on."""
+    words = ["node", *SHARED, "--members", "1", "--me", "0", "--base", str(free_ports(1)), "--turns", "20"]
+    down, held = (b"node 0: down\n", b"dpbn: fault 1001 at 0\n", 0), (node_line(0, i=1), b"", 0)
+    got, count = called(shim, folder, words, "")
+    tally.add("a node whose calls are counted", difference(got, held))
+    for number in range(10, count + 1):
+        got, _ = called(shim, folder, words, str(number))
+        tally.add(f"call {number} of {count} of a node's log", difference(got, down))
+        tally.add(f"the node run again after call {number}", difference(answer(words, folder), held))
+    for room in (44, 50, 100, 150):
+        lay_logs(folder)
+        tally.add(f"a device with room for {room} bytes", difference(answer(words, folder, preexec_fn=with_room(room)), down))
+        tally.add(f"the device that had {room} bytes", difference(answer(words, folder), held))
+
+
+def failing(tally):
+    """Devices that fail: in memory, where there is a folder for it, since what stays on them isn't asked here."""
+    with tempfile.TemporaryDirectory() as shim, tempfile.TemporaryDirectory(dir=MEMORY) as folder:
+        if built_shim(tally, shim, "calls"):
+            lay(folder)
+            failing_devices(tally, shim, folder)
+            failing_device(tally, shim, folder)
+
+
+def with_room(room):
+    """What a process does before it is dpbn, so that its log may grow to so many bytes: more is refused, as by a full device."""
     def full():
         signal.signal(signal.SIGXFSZ, signal.SIG_IGN)
         resource.setrlimit(resource.RLIMIT_FSIZE, (room, room))
 
-    return subprocess.Popen([NODES, "node", *SHARED, "--members", "3", "--me", str(me), *words], cwd=folder, stdout=subprocess.PIPE,
-                            stderr=subprocess.PIPE, preexec_fn=full if room is not None else None)
+    return full
+
+
+def started(folder, me, words, room=None, files=SHARED):
+    """A node of three, whose log may grow to so many bytes."""
+    return subprocess.Popen([NODES, "node", *files, "--members", "3", "--me", str(me), *words], cwd=folder, stdout=subprocess.PIPE,
+                            stderr=subprocess.PIPE, preexec_fn=with_room(room) if room is not None else None)
+
+
+def ended(process):
+    """Ends a process that runs, and gives what it told on standard error."""
+    process.kill()
+    return process.communicate(timeout=300)[1]
+
+
+def sockets_of(process):
+    """Where the process listens by UDP: addresses and ports."""
+    try:
+        links = [os.readlink(f"/proc/{process.pid}/fd/{fd}") for fd in os.listdir(f"/proc/{process.pid}/fd")]
+    except OSError:
+        return []
+    found = []
+    for family in ("udp", "udp6"):
+        for line in contents(f"/proc/net/{family}").decode().split("\n")[1:]:
+            words = line.split()
+            if words and f"socket:[{words[9]}]" in links:
+                address, _, port = words[1].partition(":")
+                known = socket.inet_ntoa(struct.pack("=I", int(address, 16))) if family == "udp" else address
+                found.append((known, int(port, 16)))
+    return sorted(found)
+
+
+def listening(process, count=1):
+    """The same, once it has so many."""
+    found = []
+    for _ in range(12_000):
+        found = sockets_of(process)
+        if len(found) == count or process.poll() is not None:
+            break
+        time.sleep(0.005)
+    return found
+
+
+def waiting_cluster(folder):
+    """A cluster that runs: its lines fill the pipe, so that it waits in the middle until they are read."""
+    return subprocess.Popen([NODES, "cluster", *SHARED, "--members", "3", "--turns", "3000", "--progress", "1", "--trace", "trace"], cwd=folder,
+                            stdout=subprocess.PIPE, stderr=subprocess.PIPE)
+
+
+def sockets(tally):
+    """With --base and in a cluster nothing but 127.0.0.1 is listened at, and with --hosts the member's own address."""
+    with tempfile.TemporaryDirectory() as folder:
+        lay(folder)
+        base = free_ports(3)
+        where = ",".join(f"127.0.0.{me + 2}:{base}" for me in range(3))
+        for me in range(3):
+            for words, place in ((["--base", str(base)], ("127.0.0.1", base + me)), (["--hosts", where], (f"127.0.0.{me + 2}", base))):
+                node = started(folder, me, [*words, "--turns", "1000000"])
+                found = listening(node)
+                ended(node)
+                tally.add(f"the sockets of node {me} with {words[0]}", "" if found == [place] else f"{found}, not {[place]}")
+        lay_logs(folder)
+        run = waiting_cluster(folder)
+        found = listening(run, 3)
+        ended(run)
+        right = len(set(found)) == 3 and all(address == "127.0.0.1" for address, _ in found)
+        tally.add("the sockets of a cluster", "" if right else f"{found}, not three of 127.0.0.1")
+        lay_logs(folder)
+        for held in range(3):
+            with taken(base, f"127.0.0.{held + 2}"):
+                for me in range(3):
+                    got = answer(["node", *SHARED, "--members", "3", "--me", str(me), "--hosts", where, "--turns", "0"], folder)
+                    wanted = refused(1204) if me == held else (node_line(me, q=1), b"", 0)
+                    tally.add(f"node {me}, where address {held} is taken", difference(got, wanted))
 
 
 def hosts(tally):
-    """Three nodes on three addresses; one that is stopped in the middle, and started again."""
+    """Three nodes on three addresses."""
     with tempfile.TemporaryDirectory() as folder:
         lay(folder)
         base = free_ports(1)
         where = ",".join(f"127.0.0.{k + 1}:{base}" for k in range(3))
         nodes = [started(folder, me, ["--hosts", where, "--turns", "300"]) for me in range(3)]
-        out = b"".join(node.communicate(timeout=60)[0] for node in nodes)
+        out = b"".join(node.communicate(timeout=300)[0] for node in nodes)
         tally.add("three nodes on three addresses", "" if out == ALL else f"{out!r}")
+
+
+def stops(tally, packages=12):
+    """Three nodes on three addresses, of which one is stopped in the middle, and started again on its folder: in the end all hold all."""
+    listing = "".join(f"p/n{k}.FULLPKGNAME=n{k}-1\n" + (f"p/n{k}.LIB_DEPENDS=p/n{k - 1}\n" if k else "") for k in range(packages))
+    builds = {f"p/n{k}": [{"hex": f"{k:02x}", "name": "x"}] for k in range(packages)}
+    for number, how in ((1, signal.SIGKILL), (0, signal.SIGTERM)):
+        with tempfile.TemporaryDirectory() as folder:
+            lay(folder, listing, json.dumps(builds))
+            base = free_ports(1)
+            words = ["--hosts", ",".join(f"127.0.0.{me + 1}:{base}" for me in range(3)), "--patience", "5", "--turns"]
+            nodes = [started(folder, me, [*words, "3000", "--progress", "20"]) for me in range(3)]
+            has_begun = grown(f"{folder}/logs/node-{number}.log", 400)
+            nodes[number].send_signal(how)
+            nodes[number].communicate(timeout=300)
+            status, before = nodes[number].returncode, letters_at(folder, number, words)
+            tally.add(f"node {number} in the middle", "" if has_begun and status == -how and before[0] < packages else f"{before}, status {status}")
+            nodes[number] = started(folder, number, [*words, "3000", "--progress", "20"])
+            held_by_all(tally, f"all is held after node {number} was stopped by {how.name}", nodes, packages)
+            lines = [letters_at(folder, me, words)[1] for me in range(3)]
+            wanted = [node_line(me, i=packages) for me in range(3)]
+            tally.add(f"the logs after node {number} was stopped by {how.name}", "" if lines == wanted else f"{lines}")
+
+
+def letters_at(folder, me, words):
+    """How many packages are held at a node, and its line, from its log."""
+    out, error, status = answer(["node", *SHARED, "--members", "3", "--me", str(me), *words, "0"], folder)
+    found = re.match(rb"node \d: I=(\d+) ", out)
+    return (int(found[1]) if found and not status else -1), out or error
+
+
+def grown(path, size, tries=20_000):
+    """Waits until the file has so many bytes, for so many milliseconds or somewhat longer."""
+    for _ in range(tries):
+        if os.path.exists(path) and os.path.getsize(path) >= size:
+            return True
+        time.sleep(0.001)
+    return False
+
+
+def overheard(folder):
+    """A datagram that a node of another listing sends to the next one."""
+    put(f"{folder}/other", b"a/c.FULLPKGNAME=c-1.0\n")
+    os.mkdir(f"{folder}/more")
+    base = free_ports(3)
+    with taken(base + 1) as ear:
+        ear.settimeout(20)
+        answer(["node", "--listing", "other", "--builds", "builds", "--dir", "more", "--members", "3", "--me", "0", "--base", str(base),
+                "--turns", "2", "--patience", "0"], folder)
+        return ear.recv(65_536)
+
+
+def noise(tally):
+    """Bytes that no node sent, and a datagram of another listing, put into the sockets of nodes and of a cluster that run: each uses a
+    turn up, and they go on."""
+    with tempfile.TemporaryDirectory() as folder:
+        lay(folder)
+        strange = [b"", b"noise", bytes(1_000), random.Random(1).randbytes(65_507), overheard(folder)]
+        told = len(strange) * b"dpbn: fault 1202\n"
+        base = free_ports(3)
+        nodes = [started(folder, me, ["--base", str(base), "--turns", "300"]) for me in range(3)]
+        for node in nodes:
+            put_in(listening(node), strange)
+        got = [(*node.communicate(timeout=300), node.returncode) for node in nodes]
+        for me in range(3):
+            tally.add(f"node {me} with noise", difference(got[me], (node_line(me, i=1), told, 0)))
+        lay_logs(folder)
+        lone = started(folder, 0, ["--base", str(base), "--turns", "40"])
+        put_in(listening(lone), strange)
+        tally.add("a node without others, with noise", difference((*lone.communicate(timeout=300), lone.returncode), (node_line(0, q=1), told, 0)))
+        lay_logs(folder)
+        run = waiting_cluster(folder)
+        put_in(listening(run, 3), strange)
+        out, error = run.communicate(timeout=300)
+        error = b"".join(line + b"\n" for line in error.split(b"\n")[:-1] if not line.startswith(b"node "))
+        tally.add("a cluster with noise", difference((out, error, run.returncode), (ALL, 3 * told, 0)))
+        lines = told_by_run(folder, "listing", "trace")
+        tally.add("the trace of a cluster with noise", "" if lines == ALL else f"dpbr run of it differs\n{text_difference(lines, ALL)}")
+
+
+def put_in(where, strange):
+    """Sends these to each place."""
+    with socket.socket(socket.AF_INET, socket.SOCK_DGRAM) as mouth:
+        for place in where:
+            for it in strange:
+                mouth.sendto(it, place)
+
+
+def took(words, folder):
+    """How long a call takes, in seconds."""
+    began = time.monotonic()
+    got = answer(words, folder)
+    return time.monotonic() - began if got[1:] == (b"", 0) else -1
+
+
+def patience(tally):
+    """A turn in which nothing comes waits as long as its patience tells, and half of that longer for each smaller number; a lone member
+    waits for nobody. An idle node leaves the processor to others."""
+    with tempfile.TemporaryDirectory() as folder:
+        lay(folder, "a/b.FULLPKGNAME=b-1.0\na/b.IGNORE=broken\n")
+        base = str(free_ports(3))
+        for members, me, turns, ms, least, most in ((3, 0, 3, 300, 0.9, 60), (3, 1, 3, 300, 1.35, 60), (3, 2, 3, 300, 1.8, 60),
+                                                    (3, 0, 50, None, 1, 60), (3, 0, 300, 0, 0, 5), (3, 2, 300, 0, 0, 5), (1, 0, 3, 3_000, 0, 5)):
+            words = ["node", *SHARED, "--members", str(members), "--me", str(me), "--base", base, "--turns", str(turns)]
+            words += [] if ms is None else ["--patience", str(ms)]
+            lay_logs(folder)
+            seconds = took(words, folder)
+            tally.add(f"node {me} of {members}, patience {ms}", "" if least <= seconds < most else f"{turns} turns took {seconds:.2f} s")
+        lay_logs(folder)
+        put(f"{folder}/listing", LISTING.encode())
+        for patient in ([], ["--patience", "5"]):
+            node = started(folder, 0, ["--base", base, "--turns", "1000000", *patient])
+            listening(node)
+            before = ticks(node)
+            time.sleep(2)
+            share = (ticks(node) - before) / os.sysconf("SC_CLK_TCK") / 2
+            ended(node)
+            tally.add(f"an idle node {patient}", "" if share < 0.25 else f"it takes {share:.0%} of a processor")
+
+
+def ticks(process):
+    """The processor's ticks that a process has taken."""
+    words = contents(f"/proc/{process.pid}/stat").rpartition(b")")[2].split()
+    return int(words[11]) + int(words[12])
+
+
+def at_rest(folder):
+    """Waits until a lone node has claimed what it can, and its log stays as it is; and gives the logs."""
+    grown(f"{folder}/logs/node-0.log", 45)
+    before, now = {}, logs_in(folder)
+    while before != now:
+        time.sleep(1)
+        before, now = now, logs_in(folder)
+    return now
+
+
+def second_start(tally):
+    """A node that runs, and another start on its folder: it is refused, the log keeps its bytes, and the first one goes on."""
+    with tempfile.TemporaryDirectory() as folder:
+        lay(folder)
+        base, other = free_ports(3), free_ports(3)
+        first = started(folder, 0, ["--base", str(base), "--turns", "1000000"])
+        before = at_rest(folder)
+        node = ["node", *SHARED, "--members", "3", "--me", "0", "--turns", "5", "--base"]
+        for name, words in (("at another port", [*node, str(other)]), ("as a cluster", ["cluster", *SHARED, "--members", "3", "--turns", "5"])):
+            tally.add(f"a second start {name}", difference(answer(words, folder), refused(2)))
+        out, error, status = answer([*node, str(base)], folder)
+        tally.add("a second start at the same port", "" if (out, status) == (b"", 1) and error else f"{out!r}, {error!r}, status {status}")
+        tally.add("the log of the node that runs", "" if logs_in(folder)["node-0.log"] == before["node-0.log"] else "it changed")
+        others = [started(folder, me, ["--base", str(base), "--turns", "100"]) for me in (1, 2)]
+        lines = b"".join(it.communicate(timeout=300)[0] for it in others)
+        tally.add("the others beside it", "" if lines == node_line(1, i=1) + node_line(2, i=1) else f"{lines!r}")
+        tally.add("the node that runs", "" if first.poll() is None else f"it ended with {first.returncode}")
+        ended(first)
+        got = answer([*node[:-3], "--turns", "0", "--base", str(base)], folder)
+        tally.add("its log, opened again", difference(got, (node_line(0, i=1), b"", 0)))
+
+
+def readme(tally):
+    """The README's three nodes: its very commands, in a folder where they find what they name, print what it says."""
+    text = contents(f"{TOP}/README.md").decode()
+    block = re.search(r"^Three nodes that build this tree.*?\n\n(.*?)\n\n", text, re.DOTALL | re.MULTILINE)[1]
+    line = re.search(r"# each prints: node K: (.*)", block)[1]
+    wanted = [f"node {me}: {line}" for me in range(3)] + [re.search(r"packages/list +# (\w+)$", block)[1]]
+    with tempfile.TemporaryDirectory() as folder:
+        for name, at in (("dpbn", NODES), ("dpbr", PROGRAM), ("examples", f"{TOP}/examples"), ("tools", f"{TOP}/tools")):
+            os.symlink(at, f"{folder}/{name}")
+        script = block.replace("--base 7000", f"--base {free_ports(3)}")
+        tally.add("README.md, its ports", "" if script != block else "--base 7000 stands nowhere")
+        done = subprocess.run(["sh", "-c", script], cwd=folder, capture_output=True, text=True, timeout=300)
+        got = sorted(done.stdout.split("\n")[:-2]) + done.stdout.split("\n")[-2:-1]
+        is_right = got == wanted and "Usage" in done.stderr
+        tally.add("README.md, three nodes", "" if is_right else f"it shows {wanted}, and {got} {done.stderr} is printed")
+
+
+def is_filled(log, room):
+    """Whether the last note in a log of all weights 1 had no room: what is there of it goes on to the last byte, and it is longer."""
+    with open(log, "rb") as file:
+        text = file.read()
+    end = 43
+    while text[end:end + 1] == b"\1":
+        end += 5 + int.from_bytes(text[end + 1:end + 5], "big")
+    whole = end + 6 + int.from_bytes(text[end + 1:end + 5], "big")
+    return len(text) == room > end + 1 and (len(text) < end + 5 or len(text) < whole)
+
+
+class Full:
+    """Which nodes have a full device, and what they told of it."""
+
+    def __init__(self, folder):
+        self.folder = folder
+        self.rooms = {}
+        self.rounds = self.filled = self.told = 0
+        self.strange = set()
+
+    def ended(self, me, node):
+        """Ends the node; faults that it may tell are 1202, of noise, and 1001, where its device could get full."""
+        error = ended(node)
+        room = self.rooms.pop(me, None)
+        down = b"dpbn: fault 1001 at %d" % me
+        lines = set(error.split(b"\n")[:-1])
+        self.strange |= lines - ({b"dpbn: fault 1202"} if room is None else {b"dpbn: fault 1202", down})
+        if room is not None:
+            self.rounds += 1
+            self.filled += is_filled(self.log(me), room)
+            self.told += down in lines
+
+    def log(self, me):
+        return f"{self.folder}/logs/node-{me}.log"
+
+    def tally(self, tally, when):
+        """Whether a note finds no room is a matter of time, and so is whether a node that was killed had told of it. But where notes
+        had none, one of their nodes has."""
+        seen = f"a note had no room in {self.filled}, and 1001 was told in {self.told}"
+        print(f"tests/run: {when}: {self.rounds} with a full device; {seen}", flush=True)
+        tally.add(f"{when}: what is told of full devices", "" if self.told or not self.filled else f"nothing, and {self.filled} notes had no room")
+        tally.add(f"{when}: other faults", f"{sorted(self.strange)}" if self.strange else "")
+
+
+def held_by_all(tally, name, nodes, packages):
+    """Nodes that tell their lines as they go come to hold all while they run."""
+    held = [node_line(me, i=packages) in iter(node.stderr.readline, b"") for me, node in enumerate(nodes)]
+    for node in nodes:
+        ended(node)
+    tally.add(name, "" if all(held) else f"of the nodes {[me for me in range(3) if not held[me]]} not")
 
 
 def kills(tally, rounds=20, seed=1, packages=60):
@@ -180,24 +716,27 @@ def kills(tally, rounds=20, seed=1, packages=60):
         base = free_ports(3)
         words = ["--base", str(base), "--turns", "1000000", "--patience", "5"]
         nodes = [started(folder, me, words) for me in range(3)]
+        full = Full(folder)
+        for me in range(3):
+            grown(full.log(me), 44)
         noise = socket.socket(socket.AF_INET, socket.SOCK_DGRAM)
         for number in range(rounds):
             time.sleep(dice.uniform(0.01, 0.15))
             noise.sendto(dice.randbytes(dice.randrange(100)), ("127.0.0.1", base + dice.randrange(3)))
             me = dice.randrange(3)
-            nodes[me].send_signal(signal.SIGKILL)
-            nodes[me].communicate()
-            room = os.path.getsize(f"{folder}/logs/node-{me}.log") + dice.randrange(300) if number % 5 == 4 else None
-            nodes[me] = started(folder, me, words, room)
-        for node in nodes:
-            node.send_signal(signal.SIGKILL)
-            node.communicate()
+            full.ended(me, nodes[me])
+            if number % 5 == 4:
+                full.rooms[me] = os.path.getsize(full.log(me)) + dice.randrange(300)
+            nodes[me] = started(folder, me, words, full.rooms.get(me))
+            if me in full.rooms:
+                grown(full.log(me), full.rooms[me], 1_000)
+        for me, node in enumerate(nodes):
+            full.ended(me, node)
         noise.close()
+        full.tally(tally, f"{rounds} kills")
         agreed(tally, folder, f"{rounds} kills")
-        last = [started(folder, me, ["--base", str(base), "--turns", str(60 * packages), "--patience", "5"]) for me in range(3)]
-        lines = b"".join(node.communicate(timeout=300)[0] for node in last)
-        wanted = b"".join(b"node %d: I=%d B=0 Q=0 T=0 !=0\n" % (me, packages) for me in range(3))
-        tally.add(f"all is held after {rounds} kills", "" if lines == wanted else f"{lines!r}")
+        last = [started(folder, me, ["--base", str(base), "--turns", str(60 * packages), "--patience", "5", "--progress", "20"]) for me in range(3)]
+        held_by_all(tally, f"all is held after {rounds} kills", last, packages)
         agreed(tally, folder, f"{rounds} kills, and turns to spare")
 
 
@@ -233,18 +772,28 @@ def manual_page(tally):
             more = [it for it in text.split("\n") if it.startswith("> ")]
             command = "\n".join([line, *(it[2:] for it in more)]).replace("\\e", "\\").replace("--base 7000", f"--base {free_ports(3)}")
             wanted = sorted(it for it in text.split("\n") if it and not it.startswith("> "))
-            done = subprocess.run(["sh", "-c", command], cwd=folder, capture_output=True, text=True, timeout=120, env={**os.environ, "PATH": path})
+            done = subprocess.run(["sh", "-c", command], cwd=folder, capture_output=True, text=True, timeout=300, env={**os.environ, "PATH": path})
             got = sorted(done.stdout.split("\n"))
             tally.add(f"man/dpbn.1, {line}", "" if [it for it in got if it] == wanted and not done.stderr else f"it shows {wanted}, and {got} {done.stderr} is printed")
+
+
+def beside(tally, several):
+    """Runs these beside each other, since they wait more than they work."""
+    def counted(one):
+        own = Tally()
+        one(own)
+        return own
+
+    with ThreadPoolExecutor(len(several)) as pool:
+        for own in pool.map(counted, several):
+            tally.passed += own.passed
+            tally.failed += own.failed
 
 
 def run(tally):
     for name in sorted(os.listdir(f"{TESTS}/nodes")):
         case(tally, "nodes", name)
-    no_calls(tally)
-    faults(tally)
-    alone(tally)
-    cluster(tally)
-    hosts(tally)
-    kills(tally)
-    manual_page(tally)
+    for one in (no_calls, faults, cluster_faults, bad_words, refused_logs, alone, cluster, exact_turns, progress, failing, sockets, kills):
+        one(tally)
+    beside(tally, (hosts, stops, noise, patience, manual_page, readme))
+    second_start(tally)
