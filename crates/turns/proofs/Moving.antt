@@ -30,7 +30,7 @@ use Rattle.turns.proofs.Stepping.{HasMoved, acts, happened, hosted_here}
 use Rattle.turns.proofs.Still.{at_place, off_place}
 use Rattle.turns.specs.AnyCase.{StandsInAnyCase}
 use Rattle.turns.specs.State.{AreOnLogs, ClusterState, IsWorldOf, here_of, taken}
-use Rattle.turns.specs.Turn.{HasFailedAt, HasHappened, KeepsWith, LeavesItsNotes, OffersItsSends, OthersStay, WentDown}
+use Rattle.turns.specs.Turn.{HasFailedAt, HasHappened, KeepsWith, LeavesItsNotes, OffersItsSends, OthersStay, WentDown, WereKept}
 use Rattle.turns.specs.inside.Turning.{GoesDown, IsDue, TakesStep, turning_of}
 use Rattle.world.specs.Happening.{Acts, IsRefused}
 use Rattle.world.specs.Sent.{with_sends}
@@ -107,6 +107,53 @@ module _ {D P : Type 0} (old : ClusterState D P) (r : Ready) (e : Event)
   no_room : ¬ LacksRoom n.log (note_in r.readied.ready.step) → ¬ IsFull n.node step_of.answer.note
   no_room room full = room (subst (LacksRoom n.log) note_is
       (lack_of_full n due.logged.end step_of.answer.note full))
+
+  -- ---- the node before and after
+
+  -- the node of that number is this one
+  is_before : (m : LoggedNode D) → slice_get old.nodes k ≡ Some m → n ≡ m
+  is_before m at = some_same n m (sym due.at.stands ∙ at)
+
+  module _ (new : ClusterState D P) (later : LoggedNode D)
+      (nodes : new.nodes ≡ slice_set old.nodes k later) where
+    is_after : (m : LoggedNode D) → slice_get new.nodes k ≡ Some m → later ≡ m
+    is_after m at = at_place old.nodes new.nodes k n later m due.at.stands nodes at
+
+    module _ (is_kept : D → Type 0) (kept : is_kept later.log.disk → is_kept n.log.disk) where
+      -- each disk that keeps the disk model kept it before
+      were_kept : WereKept is_kept old new
+      were_kept j before after stood stands is = elim (cases_eq j k) [
+        | inl same ↦
+            let first : n ≡ before = is_before before (ap (slice_get old.nodes) (sym same) ∙ stood) in
+            let last : later ≡ after = is_after after (ap (slice_get new.nodes) (sym same) ∙ stands) in
+            subst (λ (m : LoggedNode D). is_kept m.log.disk) first
+            (kept (subst (λ (m : LoggedNode D). is_kept m.log.disk) (sym last) is))
+        | inr other ↦
+            let stays : before ≡ after = some_same before after
+            (sym stood ∙ off_place old.nodes new.nodes k j later after other nodes stands) in
+            subst (λ (m : LoggedNode D). is_kept m.log.disk) (sym stays) is
+      ]
+
+      -- a crash at any moment leaves the node's notes, with that of the step or without
+      step_leaves : (history : D → History) → AreOnLogs is_kept history old
+          → (is_kept later.log.disk → IsOnLog history n
+          → LeavesOneMoreAtMost n.node (note_in r.readied.ready.step) (history n.log.disk)
+          (history later.log.disk))
+          → LeavesItsNotes is_kept history old new e k
+      step_leaves history on_logs any_moment before after w x t stood stands is is_world acts =
+          let first : n ≡ before = is_before before stood in
+          let last : later ≡ after = is_after after stands in
+          let kept_then : is_kept later.log.disk =
+          subst (λ (m : LoggedNode D). is_kept m.log.disk) (sym last) is in
+          let on : IsOnLog history n = on_logs k n due.at.stands due.at.up (kept kept_then) in
+          let note : note_in r.readied.ready.step ≡ t.answer.note =
+          sym note_is ∙ ap (λ (u : Taken). u.answer.note) (sym (only_step w x t is_world acts)) in
+          subst (λ (m : LoggedNode D). LeavesOneMoreAtMost before.node t.answer.note
+          (history before.log.disk) (history m.log.disk)) last
+          (subst (λ (m : LoggedNode D). LeavesOneMoreAtMost m.node t.answer.note
+          (history m.log.disk) (history later.log.disk)) first
+          (subst (λ o. LeavesOneMoreAtMost n.node o (history n.log.disk)
+          (history later.log.disk)) note (any_moment kept_then on)))
 
   -- ---- refused for want of room
 
@@ -198,6 +245,19 @@ module _ {D P : Type 0} (is_kept : D → Type 0) (history : D → History)
         on_logs j m (off_place old.nodes new.nodes r.node j took.after m other took.nodes at) up kept
   ]
 
+  -- each disk that keeps the disk model kept it before
+  pub taken_were_kept : WereKept is_kept old new
+  taken_were_kept =
+      were_kept old r e step_due new took.after took.nodes is_kept took.took.kept
+
+  -- and a crash at any moment leaves the notes of the event's node, with the step's or without
+  pub taken_leaves : AreOnLogs is_kept history old
+      → LeavesItsNotes is_kept history old new e (node_of e)
+  taken_leaves on_logs =
+      subst (LeavesItsNotes is_kept history old new e) (sym (event old r e step_due).of_node)
+      (step_leaves old r e step_due new took.after took.nodes is_kept took.took.kept history on_logs
+      took.took.any_moment)
+
 -- ---- down
 
 module _ {D P : Type 0} (is_kept : D → Type 0) (history : D → History) (failures : D → ℕ)
@@ -256,20 +316,12 @@ module _ {D P : Type 0} (is_kept : D → Type 0) (history : D → History) (fail
       (takes old r e stop_due) has_place made any new division weights goes.after goes.nodes
       (ap (λ (x : NodeState). x.stopped) goes.failed.state) goes.sent goes.events
 
-  -- the nodes of that number are these
-  is_before : (m : LoggedNode D) → slice_get old.nodes r.node ≡ Some m → stopping ≡ m
-  is_before m at = some_same stopping m (sym stop_due.at.stands ∙ at)
-
-  is_after : (m : LoggedNode D) → slice_get new.nodes r.node ≡ Some m → goes.after ≡ m
-  is_after m at =
-      at_place old.nodes new.nodes r.node stopping goes.after m stop_due.at.stands goes.nodes at
-
   pub has_failed_at : HasFailedAt failures old new r.node
   has_failed_at before after stood stands =
       subst (λ (m : LoggedNode D). HasRisen (failures before.log.disk) (failures m.log.disk))
-      (is_after after stands)
+      (is_after old r e stop_due new goes.after goes.nodes after stands)
       (subst (λ (m : LoggedNode D). HasRisen (failures m.log.disk) (failures goes.after.log.disk))
-      (is_before before stood) goes.failed.risen)
+      (is_before old r e stop_due before stood) goes.failed.risen)
 
   -- the event of the stop is this one
   one_stop : (f : Event) → taken new ≡ taken old ++ StopIn f left.None ∷ [] → e ≡ f
@@ -281,32 +333,23 @@ module _ {D P : Type 0} (is_kept : D → Type 0) (history : D → History) (fail
   pub leaves_notes : AreOnLogs is_kept history old → (f : Event)
       → taken new ≡ taken old ++ StopIn f left.None ∷ []
       → LeavesItsNotes is_kept history old new f r.node
-  leaves_notes on_logs f events before after w x t stood stands kept is acts =
-      let acts_e : Acts w e x t = subst (λ g. Acts w g x t) (sym (one_stop f events)) acts in
-      let first : stopping ≡ before = is_before before stood in
-      let last : goes.after ≡ after = is_after after stands in
-      let kept_then : is_kept goes.after.log.disk =
-      subst (λ (m : LoggedNode D). is_kept m.log.disk) (sym last) kept in
-      let on : IsOnLog history stopping =
-      on_logs r.node stopping stop_due.at.stands stop_due.at.up (goes.failed.kept kept_then) in
-      let note : note_in r.readied.ready.step ≡ t.answer.note =
-      sym (note_is old r e stop_due)
-      ∙ ap (λ (u : Taken). u.answer.note) (sym (only_step old r e stop_due w x t is acts_e)) in
-      let left_there : LeavesOneMoreAtMost stopping.node (note_in r.readied.ready.step)
-      (history stopping.log.disk) (history goes.after.log.disk) = goes.failed.any_moment kept_then on in
-      subst (λ (m : LoggedNode D). LeavesOneMoreAtMost before.node t.answer.note
-      (history before.log.disk) (history m.log.disk)) last
-      (subst (λ (m : LoggedNode D). LeavesOneMoreAtMost m.node t.answer.note
-      (history m.log.disk) (history goes.after.log.disk)) first
-      (subst (λ o. LeavesOneMoreAtMost stopping.node o (history stopping.log.disk)
-      (history goes.after.log.disk)) note left_there))
+  leaves_notes on_logs f events =
+      subst (λ g. LeavesItsNotes is_kept history old new g r.node) (one_stop f events)
+      (step_leaves old r e stop_due new goes.after goes.nodes is_kept goes.failed.kept history
+      on_logs goes.failed.any_moment)
+
+  -- each disk that keeps the disk model kept it before
+  pub down_were_kept : WereKept is_kept old new
+  down_were_kept =
+      were_kept old r e stop_due new goes.after goes.nodes is_kept goes.failed.kept
 
   pub down_on_logs : AreOnLogs is_kept history old → AreOnLogs is_kept history new
   down_on_logs on_logs j m at up kept = elim (cases_eq j r.node) [
     | inl same ↦ absurd (true≢false (
         sym (ap (λ (x : NodeState). x.stopped) goes.failed.state)
         ∙ ap (λ (x : LoggedNode D). x.node.stopped)
-        (is_after m (ap (slice_get new.nodes) (sym same) ∙ at))
+        (is_after old r e stop_due new goes.after goes.nodes m
+        (ap (slice_get new.nodes) (sym same) ∙ at))
         ∙ up))
     | inr other ↦
         on_logs j m (off_place old.nodes new.nodes r.node j goes.after m other goes.nodes at) up

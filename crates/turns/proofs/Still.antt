@@ -92,7 +92,7 @@ module _ {D : Type 0} where
         ])
         stay
 
-    -- No call came to a disk.
+    -- The disks went through nothing.
     pub still_there : (on_logs : (k : ℕ) (n : LoggedNode D) → slice_get old k ≡ Some n
         → n.node.stopped ≡ false → is_kept n.log.disk → IsOnLog history n)
         → (k : ℕ) (before after : LoggedNode D)

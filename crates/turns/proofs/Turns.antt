@@ -38,13 +38,13 @@ use Rattle.protocol.specs.declared.refusal.Refusal.{Refusal}
 use Rattle.stable_record.specs.History.{History}
 use Rattle.turns.proofs.AnyCase.{still_in_any}
 use Rattle.turns.proofs.EventOf.{IsEventOf, event_is, sent_is}
-use Rattle.turns.proofs.Moving.{down_in_any, down_on_logs, full_there, has_failed_at, has_happened, has_stopped, keeps_with, leaves_notes, offers_sends, others_stay, taken_in_any, taken_on_logs, went_down}
+use Rattle.turns.proofs.Moving.{down_in_any, down_on_logs, full_there, down_were_kept, has_failed_at, has_happened, has_stopped, keeps_with, leaves_notes, offers_sends, others_stay, taken_in_any, taken_leaves, taken_on_logs, taken_were_kept, went_down}
 use Rattle.turns.proofs.Standing.{hosted, led_there, made_there}
 use Rattle.turns.proofs.Still.{are_untouched, is_same, same_count, still_on_logs, still_world}
 use Rattle.turns.specs.AnyCase.{StandsInAnyCase}
 use Rattle.turns.specs.Faults.{IsLeftBy, IsTurnFault}
 use Rattle.turns.specs.State.{AreOnLogs, ClusterState, IsWorldOf, taken}
-use Rattle.turns.specs.Turn.{AreUntouched, HasFailedAt, HasHappened, IsChosen, IsEventChosen, IsSame, KeepsWith, LeavesItsNotes, OffersItsSends, OthersStay, WentDown}
+use Rattle.turns.specs.Turn.{AreUntouched, HasFailedAt, HasHappened, IsChosen, IsEventChosen, IsSame, KeepsWith, LeavesItsNotes, OffersItsSends, OthersStay, WentDown, WereKept}
 use Rattle.turns.specs.inside.Turning.{GoesDown, IsDue, IsMadeReady, IsTurn, StandsStill, TakesStep, turning_of}
 use Rattle.wire.specs.Reading.{datagram_of}
 use Rattle.wire.specs.declared.datagram.Piece.{Piece}
@@ -161,6 +161,8 @@ pub record Promises {D P : Type 0} (is_kept : D → Type 0) (history : D → His
   pub untouched : IfErr result
       (λ f. ((k : ℕ) × (f ≡ refused.Down k)) ⊎ AreUntouched is_kept history old new)
   pub nothing_touched : IfOk result (λ o. IfNone o (AreUntouched is_kept history old new))
+  pub any_moment_taken : IfOk result (λ o. IfSome o (λ e.
+      LeavesItsNotes is_kept history old new (event_view e) (node_of (event_view e))))
   pub any_moment : IfErr result (λ f. (e : Event) (k : ℕ) → f ≡ refused.Down k
       → taken new ≡ taken old ++ StopIn e left.None ∷ []
       → LeavesItsNotes is_kept history old new e k)
@@ -172,6 +174,7 @@ pub record StandsThen {D P : Type 0} (is_kept : D → Type 0) (history : D → H
   pub world : World
   pub is_world : IsWorldOf new world
   pub on_logs : AreOnLogs is_kept history new
+  pub kept_before : WereKept is_kept old new
   pub count : length new.nodes ≡ length old.nodes
   pub placed : old.pending.next < length old.nodes + 1
       → new.pending.next < length new.nodes + 1
@@ -322,6 +325,7 @@ module _ {D P : Type 0} (is_kept : D → Type 0) (history : D → History) (fail
     leaves = tt;
     untouched = tt;
     nothing_touched = still_untouched t.1;
+    any_moment_taken = tt;
     any_moment = tt;
     device = tt;
   }
@@ -340,6 +344,8 @@ module _ {D P : Type 0} (is_kept : D → Type 0) (history : D → History) (fail
     leaves = tt;
     untouched = tt;
     nothing_touched = tt;
+    any_moment_taken = taken_leaves is_kept history offered old new division weights t.0
+        (event_view e) t.2 on_logs;
     any_moment = tt;
     device = tt;
   }
@@ -361,6 +367,7 @@ module _ {D P : Type 0} (is_kept : D → Type 0) (history : D → History) (fail
         (λ down. inl (down.0, down.1))
         (still_or_down f t);
     nothing_touched = tt;
+    any_moment_taken = tt;
     any_moment = λ e k is_down events.
         down_leaves k e (subst (λ g. IsTurnOf (Err g)) is_down t) events;
     device = λ k is_down. down_failed k (subst (λ g. IsTurnOf (Err g)) is_down t);
@@ -373,6 +380,8 @@ module _ {D P : Type 0} (is_kept : D → Type 0) (history : D → History) (fail
     world = w;
     is_world = still_world is_kept history offered old new division weights still w is;
     on_logs = still_on_logs is_kept history offered old new division weights still on_logs;
+    kept_before = λ k before after stood stands kept.
+        (still_untouched still k before after stood stands kept).0;
     count = same_count is_kept history old.nodes new.nodes still.nodes;
     placed = λ placed. omega (
       arith,
@@ -406,6 +415,7 @@ module _ {D P : Type 0} (is_kept : D → Type 0) (history : D → History) (fail
         world = h.0;
         is_world = h.2;
         on_logs = taken_on_logs is_kept history offered old new division weights r e took on_logs;
+        kept_before = taken_were_kept is_kept history offered old new division weights r e took;
         count = many;
         placed = next_then r e took many;
         any_case = taken_in_any is_kept history offered old new division weights r e took is.made;
@@ -422,6 +432,8 @@ module _ {D P : Type 0} (is_kept : D → Type 0) (history : D → History) (fail
         is_world = h.2;
         on_logs = down_on_logs is_kept history failures offered old new division weights r e goes
             on_logs;
+        kept_before = down_were_kept is_kept history failures offered old new division weights r e
+            goes;
         count = many;
         placed = λ placed.
             omega (arith, placed, many, ap (λ (p : Pending). p.next) goes.pending);

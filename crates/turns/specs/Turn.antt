@@ -73,7 +73,8 @@ pub record IsSame {D P : Type 0} (old new : ClusterState D P) : Type 0 where
   pub events : new.events ≡ old.events
   pub pending : new.pending ≡ old.pending
 
--- No call came to a disk that keeps the disk model.
+-- Each disk that keeps the disk model went through nothing: no write or cut that did anything, and
+-- no sync that succeeded.
 abbrev pub AreUntouched : {D P : Type 0} → (D → Type 0) → (D → History) → ClusterState D P
     → ClusterState D P → Type 0
 AreUntouched {D} is_kept history old new =
@@ -81,10 +82,29 @@ AreUntouched {D} is_kept history old new =
     → slice_get new.nodes k ≡ Some after → is_kept after.log.disk
     → is_kept before.log.disk × (history after.log.disk ≡ history before.log.disk)
 
+-- Each disk that keeps the disk model kept it before.
+abbrev pub WereKept : {D P : Type 0} → (D → Type 0) → ClusterState D P → ClusterState D P → Type 0
+WereKept {D} is_kept old new =
+    (k : ℕ) (before after : LoggedNode D) → slice_get old.nodes k ≡ Some before
+    → slice_get new.nodes k ≡ Some after → is_kept after.log.disk → is_kept before.log.disk
+
 -- All nodes but one are as they were.
 pub record OthersStay {D P : Type 0} (old new : ClusterState D P) (k : ℕ) : Type 0 where
   pub node : LoggedNode D
   pub nodes : new.nodes ≡ slice_set old.nodes k node
+
+-- ---- a crash inside a turn
+
+-- A crash at any moment of it, or later, leaves the log of node k with its notes, and with that of
+-- the event's step or without.
+abbrev pub LeavesItsNotes : {D P : Type 0} → (D → Type 0) → (D → History) → ClusterState D P
+    → ClusterState D P → Event → ℕ → Type 0
+LeavesItsNotes {D} is_kept history old new e k =
+    (before after : LoggedNode D) (w : World) (x : WorldNode) (t : Taken)
+    → slice_get old.nodes k ≡ Some before → slice_get new.nodes k ≡ Some after
+    → is_kept after.log.disk → IsWorldOf old w → Acts w e x t
+    → LeavesOneMoreAtMost before.node t.answer.note (history before.log.disk)
+    (history after.log.disk)
 
 -- ---- a device that failed
 
@@ -102,17 +122,6 @@ pub record WentDown {D P : Type 0} (old new : ClusterState D P) (e : Event) (k :
   pub events : taken new ≡ taken old ++ StopIn e left.None ∷ []
   pub stopped : HasHappened old new (StopIn e left.None)
   pub any_case : (w : World) (l : Left) → IsWorldOf old w → (v : World) × StopsIn w e l v
-
--- A crash at any moment of it, or later, leaves the log of node k with its notes, and with that of
--- the event's step or without.
-abbrev pub LeavesItsNotes : {D P : Type 0} → (D → Type 0) → (D → History) → ClusterState D P
-    → ClusterState D P → Event → ℕ → Type 0
-LeavesItsNotes {D} is_kept history old new e k =
-    (before after : LoggedNode D) (w : World) (x : WorldNode) (t : Taken)
-    → slice_get old.nodes k ≡ Some before → slice_get new.nodes k ≡ Some after
-    → is_kept after.log.disk → IsWorldOf old w → Acts w e x t
-    → LeavesOneMoreAtMost before.node t.answer.note (history before.log.disk)
-    (history after.log.disk)
 
 -- The device of node k failed in the turn.
 abbrev pub HasFailedAt : {D P : Type 0} → (D → ℕ) → ClusterState D P → ClusterState D P → ℕ → Type 0

@@ -74,7 +74,8 @@ impl<'a, D: Disk, P: Port> Cluster<'a, D, P> {
     ///
     /// # Errors
     ///
-    /// `Memory`; that of the first log that can't be opened; `NotFresh`, where it has notes.
+    /// `Memory`; else that of the first disk over which no node is opened: why its log can't be
+    /// opened, or `NotFresh`, where its log has notes.
     pub fn new(
         alloc: Global,
         tree: &'a Tree,
@@ -116,9 +117,11 @@ impl<'a, D: Disk, P: Port> Cluster<'a, D, P> {
     /// All events so far: what turns answered, with a stop inside the step for each node that went
     /// down. They led from the start to a world with these nodes and these datagrams, so that all
     /// holds of it that holds of each run; and so it is, of the nodes that are up, whatever was
-    /// left of the steps inside which nodes went down.
+    /// left of the steps inside which nodes went down. Each node that is up has its notes on its
+    /// log.
     pub fn events(&self) -> &[Event]
         ensures events { result.now ≡ self.now.events }
+        ensures on_logs { AreOnLogs D.is_kept D.history self.now }
         ensures history { (w : worlds.World) × IsWorldOf self.now w }
         ensures one_list { (w : worlds.World) → IsWorldOf self.now w
             → HasOneList self.now.division self.now.weights (taken self.now) w }

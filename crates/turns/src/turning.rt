@@ -11,7 +11,7 @@ ghost use Rattle.turns.specs.AnyCase.{IsListedInAnyCase};
 ghost use Rattle.turns.specs.Faults.{IsLeftBy, IsTurnFault};
 ghost use Rattle.turns.specs.State.{AreOnLogs, IsWorldOf, taken};
 ghost use Rattle.turns.specs.inside.Turning.{IsTurn};
-ghost use Rattle.turns.specs.Turn.{AreUntouched, HasFailedAt, HasHappened, IsChosen, IsEventChosen, IsSame, KeepsWith, LeavesItsNotes, OffersItsSends, OffersNothing, OthersStay};
+ghost use Rattle.turns.specs.Turn.{AreUntouched, HasFailedAt, HasHappened, IsChosen, IsEventChosen, IsSame, KeepsWith, LeavesItsNotes, OffersItsSends, OffersNothing, OthersStay, WereKept};
 ghost use Rattle.world.specs.Headline.{HasOneList};
 ghost use Rattle.world.specs.World as worlds;
 
@@ -33,16 +33,17 @@ impl<'a, D: Disk, P: Port> Cluster<'a, D, P> {
     ///
     /// # Errors
     ///
-    /// `Memory`; `NotSent`, where bytes came that none of the nodes sent; `Down`, where the device
-    /// of the event's node failed; else what that node refuses.
+    /// `Memory`; `NotSent`, where bytes came, for a node that is up, that none of the nodes sent;
+    /// `Down`, where the device of the event's node failed; else what that node refuses.
     pub fn turn(&mut self, builds: &Packages) -> Result<Option<Event>, TurnFault>
-        // The choice, and the port: it was asked once, unless a job waited for its answer.
+        // The choice, and the port: as far as it keeps what it gave, it was asked once, unless a
+        // job waited for its answer.
         ensures chosen { IfOk result (λ o. IfSome o
             (λ e. IsEventChosen P.given self.old self.new builds.now (event_view e))) }
         ensures nothing { IfOk result (λ o. IfNone o
             (IsChosen P.given self.old self.new builds.now None)) }
 
-        // What was chosen happened, and just its sends were offered.
+        // What was chosen happened, and just its sends were offered, as far as the port keeps them.
         ensures happened { IfOk result (λ o. IfSome o
             (λ e. HasHappened self.old self.new (event_view e))) }
         ensures others { IfOk result (λ o. IfSome o
@@ -53,6 +54,9 @@ impl<'a, D: Disk, P: Port> Cluster<'a, D, P> {
             (λ e. KeepsWith self.old self.new (event_view e))) }
         ensures kept { IfOk result (λ o. IfSome o
             (λ e. taken self.new ≡ taken self.old ++ event_view e ∷ [])) }
+        ensures any_moment_taken { IfOk result (λ o. IfSome o
+            (λ e. LeavesItsNotes D.is_kept D.history self.old self.new (event_view e)
+            (values.node_of (event_view e)))) }
         ensures same { IfOk result (λ o. IfNone o (IsSame self.old self.new)) }
         ensures silent { IfOk result (λ o. IfNone o (OffersNothing P.offered self.old self.new)) }
 
@@ -76,6 +80,7 @@ impl<'a, D: Disk, P: Port> Cluster<'a, D, P> {
         ensures fixed { (self.new.division ≡ self.old.division)
             × (self.new.weights ≡ self.old.weights) }
         ensures on_logs { AreOnLogs D.is_kept D.history self.new }
+        ensures kept_before { WereKept D.is_kept self.old self.new }
         ensures history { (w : worlds.World) × IsWorldOf self.new w }
         ensures one_list { (w : worlds.World) → IsWorldOf self.new w
             → HasOneList self.new.division self.new.weights (taken self.new) w }

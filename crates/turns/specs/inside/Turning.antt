@@ -46,15 +46,19 @@ turning_of c = record {
 
 -- ---- one node
 
--- The node took the step that was ready: its log had room for the note, which stands there.
+-- The node took the step that was ready: its log had room for the note, which stands there; and at
+-- each moment a crash left its notes, with this one or without.
 pub record HasTaken {D : Type 0} (is_kept : D → Type 0) (history : D → History)
     (old new : LoggedNode D) (ready : ReadyStep) : Type 0 where
   pub state : new.node ≡ after old.node (taken_by old.node ready)
   pub room : ¬ LacksRoom old.log (note_in ready.step)
   pub kept : is_kept new.log.disk → is_kept old.log.disk
   pub on_log : is_kept new.log.disk → IsOnLog history old → IsOnLog history new
+  pub any_moment : is_kept new.log.disk → IsOnLog history old
+      → LeavesOneMoreAtMost old.node (note_in ready.step) (history old.log.disk)
+      (history new.log.disk)
 
--- The node stands as it did, and no call came to its disk.
+-- The node stands as it did, and its disk went through nothing.
 pub record HasStayed {D : Type 0} (is_kept : D → Type 0) (history : D → History)
     (old new : LoggedNode D) : Type 0 where
   pub state : new.node ≡ old.node

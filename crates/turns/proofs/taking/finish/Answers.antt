@@ -13,6 +13,7 @@ returns-clause-taken g c = record {
   room = c.in_ok-out.ensures.within;
   kept = c.in_ok-out.ensures.kept;
   on_log = c.in_ok-out.ensures.on_log;
+  any_moment = c.in_ok-out.ensures.any_moment;
 }
 
 pub returns-clause-offered : goal.returns-clause-offered

@@ -2,8 +2,13 @@ use Rattle.std.proofs.Common.{subst}
 use Rattle.turns.proofs.AnyCase.{listed_in_any}
 use Rattle.turns.proofs.Led.{one_list, safe}
 use Rattle.turns.specs.AnyCase.{IsListedInAnyCase}
+use Rattle.turns.specs.State.{AreOnLogs}
 use Rattle.turns.specs.inside.Standing.{cluster_of}
 use Rattle.turns.proofs.cluster.Cluster.events.Goals as goal
+
+pub returns-clause-on_logs : goal.returns-clause-on_logs
+returns-clause-on_logs g c =
+    subst (λ s. AreOnLogs g.D.Disk.is_kept g.D.Disk.history s) c.self.view_is c.self.invariant.1
 
 pub returns-clause-one_list : goal.returns-clause-one_list
 returns-clause-one_list g c = one_list c.args.self.now

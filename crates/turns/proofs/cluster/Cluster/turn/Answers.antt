@@ -4,6 +4,7 @@ use Rattle.turns.proofs.Led.{one_list, safe}
 use Rattle.turns.proofs.Standing.{members_there}
 use Rattle.turns.proofs.Turns.{Promises, StandsThen, none_foreign, promises, stands_then}
 use Rattle.turns.specs.State.{ClusterState}
+use Rattle.turns.specs.Turn.{WereKept}
 use Rattle.turns.specs.inside.Standing.{cluster_of}
 use Rattle.turns.proofs.cluster.Cluster.turn.Given.{Over}
 use Rattle.turns.proofs.cluster.Cluster.turn.Goals as goal
@@ -99,6 +100,9 @@ returns-clause-nothing_touched g c = (promised g c).nothing_touched
 pub returns-clause-any_moment : goal.returns-clause-any_moment
 returns-clause-any_moment g c = (promised g c).any_moment
 
+pub returns-clause-any_moment_taken : goal.returns-clause-any_moment_taken
+returns-clause-any_moment_taken g c = (promised g c).any_moment_taken
+
 pub returns-clause-device : goal.returns-clause-device
 returns-clause-device g c = (promised g c).device
 
@@ -107,6 +111,11 @@ returns-clause-left g c = (promised g c).leaves
 
 pub returns-clause-on_logs : goal.returns-clause-on_logs
 returns-clause-on_logs g c = (standing g c).on_logs
+
+pub returns-clause-kept_before : goal.returns-clause-kept_before
+returns-clause-kept_before g c =
+    subst (λ old. WereKept g.D.Disk.is_kept old (cluster_then g c)) c.self.view_is
+    (standing g c).kept_before
 
 pub returns-clause-history : goal.returns-clause-history
 returns-clause-history g c = let s = standing g c in (s.world, s.is_world)
