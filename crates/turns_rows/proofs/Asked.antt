@@ -1,5 +1,5 @@
 -- How often a port was asked.
-use Rattle.std.proofs.Common.{◌≡◌, ◌∙◌, ◌≤◌, ◌+◌, ◌++◌, ℕ, Bool, true, false, List, [], ◌∷◌, Option, None, Some, Result, Ok, Err, IfErr, IfOk, ap, append-nil, append_assoc, arith, length, length-append, sym}
+use Rattle.std.proofs.Common.{◌∙◌, ◌≤◌, ◌+◌, ◌++◌, ℕ, Bool, true, false, List, [], Option, None, Some, Result, Ok, Err, IfErr, IfOk, ap, append-nil, append_assoc, arith, length, length-append, sym}
 use Rattle.std.specs.Prelude.{IfNone, IfSome}
 use Rattle.choice.specs.Choice.{Chosen, has_job}
 use Rattle.choice.specs.declared.fault.TurnFault.{TurnFault}

@@ -13,7 +13,7 @@ use Rattle.protocol.specs.Given.{Given}
 use Rattle.turns.specs.Faults.{IsLeftBy, IsTurnFault}
 use Rattle.turns.specs.State.{ClusterState, IsWorldOf, node_view, taken}
 use Rattle.turns.specs.Turn.{HasHappened, IsSame}
-use Rattle.turns_rows.specs.Going.{GoesOn, GoesOnWith, HaveHappened, event_in}
+use Rattle.turns_rows.specs.Going.{GoesOn, GoesOnWith, event_in}
 use Rattle.units.specs.Division.{Division}
 use Rattle.world.proofs.Leading.{leads_together}
 use Rattle.world.specs.Happening.{Leads}
@@ -149,12 +149,15 @@ both old mid new es fs first second = record {
 }
 
 pub no_turn : {D P : Type 0} (c : ClusterState D P) → GoesOn c c
-no_turn c = ([], record {
-  kept = sym (append-nil (taken c));
-  happened = λ w is. (w, refl, is);
-  division = refl;
-  weights = refl;
-})
+no_turn c = (
+  [],
+  record {
+    kept = sym (append-nil (taken c));
+    happened = λ w is. (w, refl, is);
+    division = refl;
+    weights = refl;
+  },
+)
 
 pub one_more : {D P : Type 0} (old mid new : ClusterState D P) → GoesOn old mid → GoesOn mid new
     → GoesOn old new

@@ -1,5 +1,5 @@
 -- What a turn does of what the port gave.
-use Rattle.std.proofs.Common.{◌≡◌, ◌∙◌, ◌++◌, ℕ, Bool, true, false, List, [], ◌∷◌, Option, None, Some, Result, Ok, Err, IfErr, IfOk, IsErrOf, ap, get_or, is_some, length, refl, slice_get, subst, sym}
+use Rattle.std.proofs.Common.{◌≡◌, ◌∙◌, ◌++◌, ℕ, Bool, true, false, List, [], ◌∷◌, Option, None, Some, Result, Ok, Err, IfErr, IfOk, ap, get_or, is_some, length, refl, slice_get, subst, sym}
 use Rattle.std.proofs.lemmas.List.{append_cancel_left}
 use Rattle.std.proofs.lemmas.List.Quantifiers.{position-Some}
 use Rattle.std.proofs.lemmas.Option.{slice_get-get_or}
@@ -62,7 +62,7 @@ module _ {D P : Type 0} (given : P → Option (List Arrived)) (old new : Cluster
       let none : first_job here count builds ≡ None =
       no_job (first_job here count builds) told.0 in
       let its : option_or (first_job here count builds) (comes_to here is.came)
-          ≡ Some (k, Comes text) =
+      ≡ Some (k, Comes text) =
       ap (λ (o : Chosen). option_or o (comes_to here is.came)) none
       ∙ ap (comes_to here) told.1 ∙ ap (option_map (λ (x : State). (k, Comes text))) up in
       subst (λ (o : Chosen). IsGivenOr o chosen

@@ -1,5 +1,5 @@
 -- Where a turn has nothing to do no claim is open.
-use Rattle.std.proofs.Common.{◌≡◌, ◌∙◌, ◌<◌, ◌+◌, ◌++◌, ℕ, List, [], ◌∷◌, Option, None, Some, Result, Ok, Err, IfOk, ap, arith, drop, get_or, inl, inr, is_some, length, map, option_map, refl, slice_get, subst, sym, take, true, false, ⊎_elim, if◌then◌else◌}
+use Rattle.std.proofs.Common.{◌≡◌, ◌∙◌, ◌<◌, ◌+◌, ◌++◌, ℕ, List, [], ◌∷◌, Option, None, Some, ap, arith, drop, is_some, length, refl, slice_get, subst, sym, take, true, false, ⊎_elim, if◌then◌else◌}
 use Rattle.std.proofs.lemmas.List.{length-map, length-replicate, take-append-drop}
 use Rattle.std.proofs.lemmas.List.Elements.{Contains-append_cases, Contains-append_left, Contains-append_right, Contains-push_cases}
 use Rattle.std.proofs.lemmas.List.FromFn.{get_or-range_with_len, length-range_with_len}
@@ -9,7 +9,6 @@ use Rattle.std.specs.Prelude.{Contains, IfNone}
 use Rattle.choice.specs.Choice.{Chosen, Here, IsDoneOr, IsFirstOwn, IsGivenOr, IsOwnIf, barred_at, comes_to, first_job, in_turn}
 use Rattle.choice.specs.Own.{Barred, IsOwnBy, renewed}
 use Rattle.choice.specs.Pending.{Pending, above_at}
-use Rattle.choice.specs.declared.fault.TurnFault.{TurnFault}
 use Rattle.choosing.specs.Here.{member_up}
 use Rattle.events.specs.declared.event.Event as declared
 use Rattle.faults.specs.Answers.{option_or}

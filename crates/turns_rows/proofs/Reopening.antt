@@ -1,11 +1,11 @@
 -- A node that went down, and its notes where it is opened again.
-use Rattle.std.proofs.Common.{◌≡◌, ◌⊎◌, ◌∙◌, ◌++◌, ◌∷◌, ℕ, Bool, true, false, List, [], Option, None, Some, Ok, ap, inl, inr, refl, slice_get, subst, sym, ⊎_elim}
+use Rattle.std.proofs.Common.{◌≡◌, ◌⊎◌, ◌∙◌, ◌++◌, ◌∷◌, ℕ, false, List, [], Option, None, Some, Ok, ap, inl, inr, refl, slice_get, subst, sym, ⊎_elim}
 use Rattle.std.proofs.lemmas.List.{map-append}
 use Rattle.std.specs.Prelude.{option_map}
 use Rattle.ballots.specs.declared.message.Note.{Note}
 use Rattle.choice.specs.declared.fault.TurnFault.{TurnFault}
 use Rattle.choice.specs.declared.fault.TurnFault.TheVariants as refused
-use Rattle.events.specs.Events.{Event, StopIn, node_of}
+use Rattle.events.specs.Events.{Event, StopIn}
 use Rattle.events.specs.declared.event.Left.TheVariants as left
 use Rattle.faults.specs.Bytes.{Text}
 use Rattle.listing.specs.Tree.{Tree}
@@ -14,7 +14,7 @@ use Rattle.node.specs.OnLog.{IsOnLog, LeavesOneMoreAtMost, identity, identity_of
 use Rattle.node.specs.State.{LoggedNode, NodeState, with_note}
 use Rattle.ports.specs.Kept.{Arrived}
 use Rattle.protocol.specs.Given.{Given}
-use Rattle.protocol.specs.State.{State, Value}
+use Rattle.protocol.specs.State.{Value}
 use Rattle.stable_record.specs.Crash.{AllAlong, Leaves, MayLeave, and_then, at_first}
 use Rattle.stable_record.specs.History.{History}
 use Rattle.stable_record.specs.Log.{HasBeforeOrAfter, HasNotes}

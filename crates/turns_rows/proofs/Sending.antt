@@ -1,12 +1,11 @@
 -- What an event's step sends was sent then.
-use Rattle.std.proofs.Common.{◌≡◌, ◌∙◌, ℕ, true, false, List, Option, None, Some, Bool, ap, map, refl, subst, sym}
+use Rattle.std.proofs.Common.{◌≡◌, ◌∙◌, ℕ, true, false, List, Option, None, Some, ap, refl, subst, sym}
 use Rattle.std.specs.Prelude.{Contains, option_map, position}
 use Rattle.std.specs.Str.{bytes_eq}
 use Rattle.choosing.specs.Events.{event_of, event_of_input}
-use Rattle.events.specs.Events.{Event, Ask, Built, Claim, Deliver, Failed, Nudge, Restart, Stop, StopIn, event_view, is_step, node_of}
+use Rattle.events.specs.Events.{Event, Ask, Built, Claim, Deliver, Failed, Nudge, Restart, Stop, StopIn, event_view, is_step}
 use Rattle.events.specs.declared.event.Event as declared
-use Rattle.faults.specs.Bytes.{Text, is_among}
-use Rattle.node.specs.Parcels.{datagrams_to}
+use Rattle.faults.specs.Bytes.{Text}
 use Rattle.node.specs.Step.{Asked, Comes, Does}
 use Rattle.protocol.specs.declared.input.Input.{Input}
 use Rattle.protocol.specs.declared.input.Input.TheVariants as inputs

@@ -11,7 +11,7 @@ use Rattle.turns.specs.State.{ClusterState, IsWorldOf, here_of, node_view}
 use Rattle.turns_rows.proofs.Going.{view_of}
 use Rattle.turns_rows.specs.Shown.{AreCountsAt, IsDownAt}
 use Rattle.world.specs.Happening.{is_up, up_of}
-use Rattle.world.specs.World.{World, WorldNode, down_node, member_at, node_at, up_node}
+use Rattle.world.specs.World.{World, WorldNode, down_node, member_at, up_node}
 
 -- a node that is up in a world is up
 pub up_there : (x : NodeState) (stopped : Bool) → x.stopped ≡ stopped → (view_of x).up ≡ true

@@ -25,10 +25,10 @@ HaveHappened old new events =
 -- stay.
 pub record GoesOnWith {D P : Type 0} (old new : ClusterState D P) (events : List Event) : Type 0
   where
-  pub kept : taken new ≡ taken old ++ events
-  pub happened : HaveHappened old new events
-  pub division : new.division ≡ old.division
-  pub weights : new.weights ≡ old.weights
+    pub kept : taken new ≡ taken old ++ events
+    pub happened : HaveHappened old new events
+    pub division : new.division ≡ old.division
+    pub weights : new.weights ≡ old.weights
 
 -- It went on with some events.
 abbrev pub GoesOn : {D P : Type 0} → ClusterState D P → ClusterState D P → Type 0

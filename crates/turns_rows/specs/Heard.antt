@@ -10,7 +10,7 @@ use Rattle.node.specs.Step.{Taken}
 use Rattle.ports.specs.Kept.{Arrived}
 use Rattle.protocol.specs.State.{State}
 use Rattle.turns.specs.State.{ClusterState, IsWorldOf, here_of}
-use Rattle.turns_rows.specs.Going.{GoesOnWith, event_in}
+use Rattle.turns_rows.specs.Going.{GoesOnWith}
 use Rattle.world.specs.Happening.{Acts}
 use Rattle.world.specs.World.{World, WorldNode}
 
