@@ -1,0 +1,9 @@
+pub mod Going
+pub mod Asked
+pub mod Sending
+pub mod Hearing
+pub mod Following
+pub mod Idle
+pub mod Listed
+pub mod Showing
+pub mod Reopening

@@ -1,0 +1,15 @@
+use Rattle.turns_rows.proofs.Following.{hears_next}
+use Rattle.turns_rows.proofs.heard.hear_next.Goals as goal
+
+pub returns-in-Some : goal.returns-in-Some
+returns-in-Some g c =
+    let old = c.args.cluster.now in
+    let mid = c.turn.new.self in
+    let new = c.turn-next.new.self in
+    let e = c.turn.ensures in
+    let f = c.turn-next.ensures in
+    let chosen = rw c.in-Some.is at c.in_ok-event.ensures.chosen in
+    let happened = rw c.in-Some.is at c.in_ok-event.ensures.happened in
+    let kept = rw c.in-Some.is at c.in_ok-event.ensures.kept in
+    hears_next g.P.Port.given old mid new c.args.first.now c.args.second.now c.in-Some.event
+    e.fixed.0 e.fixed.1 chosen happened kept c.turn-next.result f.chosen f.nothing f.refused

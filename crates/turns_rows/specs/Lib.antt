@@ -1,0 +1,5 @@
+pub mod Going
+pub mod Listed
+pub mod Heard
+pub mod Reopened
+pub mod Shown

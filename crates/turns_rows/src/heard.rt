@@ -1,0 +1,37 @@
+//! What a turn sends, at the next one.
+ghost use Rattle.std.specs.Prelude.{IfOk, IfSome};
+ghost use Rattle.turns_rows.specs.Heard.{HearsNext};
+
+use choice::TurnFault;
+use events::Event;
+use ports::Port;
+use protocol::Packages;
+use stable_record::Disk;
+use turns::Cluster;
+
+/// What two turns answered, of which the first was an event.
+#[derive(Drop)]
+pub struct Heard {
+    pub event: Event,
+    pub next: Result<Option<Event>, TurnFault>,
+}
+
+/// Takes a turn, and where that was an event, another one. What the first one sent counts as sent
+/// then; and where the port gives one text that was sent, by then or before, for a node that is up,
+/// the second turn doesn't refuse it as not sent, and its event is the delivery of that text.
+pub fn hear_next<D: Disk, P: Port>(
+    cluster: &mut Cluster<'_, D, P>,
+    first: &Packages,
+    second: &Packages,
+) -> Result<Option<Heard>, TurnFault>
+    ensures { IfOk result (λ o. IfSome o
+        (λ h. HearsNext P.given cluster.old cluster.new h.event h.next)) }
+{
+    match cluster.turn(first)? {
+        Some(event) => {
+            let next = cluster.turn(second);
+            Ok(Some(Heard { event, next }))
+        }
+        None => Ok(None),
+    }
+}

@@ -1,0 +1,14 @@
+//! A cluster's turns one after the other, over what their contracts say and no more.
+#![tactic(auto)]
+
+mod heard;
+mod reopened;
+mod run;
+mod shown;
+mod two;
+
+pub use crate::heard::hear_next;
+pub use crate::reopened::turn_then_reopen;
+pub use crate::run::{run_until_nothing, take_turns};
+pub use crate::shown::turn_then_count;
+pub use crate::two::two_turns;

@@ -1,0 +1,50 @@
+//! A node whose device fails in a turn, and that is opened again.
+ghost use Rattle.std.specs.Prelude.{◌≡◌, ◌<◌, IfSome, length};
+ghost use Rattle.stable_record.specs.History.{seen};
+ghost use Rattle.turns.specs.State.{AreOnLogs};
+ghost use Rattle.turns_rows.specs.Reopened.{HasNotesAcross, IsLeftOf};
+
+use ballots::Weights;
+use choice::TurnFault;
+use listing::Tree;
+use node::Node;
+use ports::Port;
+use protocol::Packages;
+use stable_record::Disk;
+use std::alloc::Global;
+use turns::Cluster;
+use world::events_lead_to_later_worlds;
+
+/// Takes a turn; where the node of this number goes down in it, opens that member's node over the
+/// disk that is handed in. If a crash of the failed disk may leave just that disk's file, the node
+/// that is opened has the notes of the one that went down, or these and that of the event's step.
+pub fn turn_then_reopen<'a, D: Disk, P: Port, E: Disk>(
+    alloc: Global,
+    cluster: &mut Cluster<'_, D, P>,
+    builds: &Packages,
+    left: E,
+    tree: &'a Tree,
+    weights: &Weights,
+    me: u8,
+) -> Option<Node<'a, E>>
+    requires me { me < length weights.now }
+    requires tree { cluster.old.division.tree ≡ tree.now }
+    requires weights { cluster.old.weights ≡ weights.now }
+    requires on_logs { AreOnLogs D.is_kept D.history cluster.old }
+    ensures { IfSome result (λ n. E.is_kept n.log.disk
+        → IsLeftOf D.is_kept D.history cluster.old cluster.new me (seen (E.history left))
+        → HasNotesAcross cluster.old cluster.new me n.node) }
+{
+    events_lead_to_later_worlds();
+    let _events = cluster.events();
+    let Err(TurnFault::Down(node)) = cluster.turn(builds) else {
+        return None;
+    };
+    if node != me {
+        return None;
+    }
+    match Node::open(alloc, left, tree, weights, me) {
+        Ok(node) => Some(node),
+        Err(_refused) => None,
+    }
+}

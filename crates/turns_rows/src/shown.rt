@@ -1,0 +1,22 @@
+//! What nodes show after a turn.
+ghost use Rattle.std.specs.Prelude.{MatchOption};
+ghost use Rattle.turns_rows.specs.Shown.{AreCountsAt, IsDownAt};
+
+use engine::Counts;
+use ports::Port;
+use protocol::Packages;
+use stable_record::Disk;
+use turns::Cluster;
+
+/// Takes a turn, and tells how many packages have each letter at the node then, as long as it is
+/// up: just those of the world's node.
+pub fn turn_then_count<D: Disk, P: Port>(
+    cluster: &mut Cluster<'_, D, P>,
+    builds: &Packages,
+    node: u8,
+) -> Option<Counts>
+    ensures { MatchOption result (IsDownAt cluster.new node) (AreCountsAt cluster.new node) }
+{
+    let _answer = cluster.turn(builds);
+    cluster.counts(node)
+}
