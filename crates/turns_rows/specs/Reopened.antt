@@ -12,7 +12,8 @@ use Rattle.turns.specs.Turn.{WentDown}
 use Rattle.world.specs.Happening.{Acts}
 use Rattle.world.specs.World.{World, WorldNode}
 
--- A crash may leave the file of node k's disk, which kept the disk model.
+-- A crash after the turn may leave this file of node k's disk, which keeps the disk model then, and
+-- did so before.
 pub record IsLeftOf {D P : Type 0} (is_kept : D → Type 0) (history : D → History)
     (old new : ClusterState D P) (k : ℕ) (file : Text) : Type 0 where
   pub before : LoggedNode D

@@ -1,6 +1,7 @@
 //! What a turn sends, at the next one.
-ghost use Rattle.std.specs.Prelude.{IfOk, IfSome};
+ghost use Rattle.std.specs.Prelude.{IfNone, IfOk, IfSome};
 ghost use Rattle.turns_rows.specs.Heard.{HearsNext};
+ghost use Rattle.turns_rows.specs.Listed.{HasNoClaims};
 
 use choice::TurnFault;
 use events::Event;
@@ -16,16 +17,18 @@ pub struct Heard {
     pub next: Result<Option<Event>, TurnFault>,
 }
 
-/// Takes a turn, and where that was an event, another one. What the first one sent counts as sent
-/// then; and where the port gives one text that was sent, by then or before, for a node that is up,
-/// the second turn doesn't refuse it as not sent, and its event is the delivery of that text.
+/// Takes a turn, and where that was an event, another one; where it had nothing to do, no node that
+/// is up has an open claim. What the first one sent counts as sent then; and where the port gives
+/// one text that was sent, by then or before, for a node that is up, the second turn doesn't refuse
+/// it as not sent, and its event is the delivery of that text.
 pub fn hear_next<D: Disk, P: Port>(
     cluster: &mut Cluster<'_, D, P>,
     first: &Packages,
     second: &Packages,
 ) -> Result<Option<Heard>, TurnFault>
-    ensures { IfOk result (λ o. IfSome o
+    ensures heard { IfOk result (λ o. IfSome o
         (λ h. HearsNext P.given cluster.old cluster.new h.event h.next)) }
+    ensures idle { IfOk result (λ o. IfNone o (HasNoClaims cluster.new)) }
 {
     match cluster.turn(first)? {
         Some(event) => {

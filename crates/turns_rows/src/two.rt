@@ -1,6 +1,7 @@
 //! Two turns in a row.
-ghost use Rattle.std.specs.Prelude.{◌++◌, IfErr, IfOk};
+ghost use Rattle.std.specs.Prelude.{◌≡◌, ◌++◌, IfErr, IfOk, None};
 ghost use Rattle.turns_rows.specs.Going.{GoesOnWith, IsRefusedInTwo, WasAskedAtMost, event_in};
+ghost use Rattle.turns_rows.specs.Listed.{HasNoClaims};
 
 use choice::TurnFault;
 use events::Event;
@@ -11,7 +12,8 @@ use turns::Cluster;
 
 /// Takes two turns, and answers the event of each, if it was one. From each world that the cluster
 /// was the events lead, the first one and then the second, to a world that it is, and they are all
-/// that its events went on by. The port was asked once a turn at most, whatever is answered.
+/// that its events went on by. Where the second turn had nothing to do, no node that is up has an
+/// open claim. The port was asked once a turn at most, whatever is answered.
 pub fn two_turns<D: Disk, P: Port>(
     cluster: &mut Cluster<'_, D, P>,
     first: &Packages,
@@ -19,6 +21,7 @@ pub fn two_turns<D: Disk, P: Port>(
 ) -> Result<(Option<Event>, Option<Event>), TurnFault>
     ensures goes_on { IfOk result
         (λ r. GoesOnWith cluster.old cluster.new (event_in r.0 ++ event_in r.1)) }
+    ensures idle { IfOk result (λ r. r.1 ≡ None → HasNoClaims cluster.new) }
     ensures asked { WasAskedAtMost 2 P.given cluster.old.port cluster.new.port }
     ensures refused { IfErr result
         (IsRefusedInTwo P.given cluster.old cluster.new first.now second.now) }

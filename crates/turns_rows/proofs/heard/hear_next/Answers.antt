@@ -1,4 +1,6 @@
+use Rattle.std.proofs.Common.{ap, is_some}
 use Rattle.turns_rows.proofs.Following.{hears_next}
+use Rattle.turns_rows.proofs.Idle.{if_nothing}
 use Rattle.turns_rows.proofs.heard.hear_next.Goals as goal
 
 pub returns-in-Some : goal.returns-in-Some
@@ -11,5 +13,21 @@ returns-in-Some g c =
     let chosen = rw c.in-Some.is at c.in_ok-event.ensures.chosen in
     let happened = rw c.in-Some.is at c.in_ok-event.ensures.happened in
     let kept = rw c.in-Some.is at c.in_ok-event.ensures.kept in
-    hears_next g.P.Port.given old mid new c.args.first.now c.args.second.now c.in-Some.event
-    e.fixed.0 e.fixed.1 chosen happened kept c.turn-next.result f.chosen f.nothing f.refused
+    record {
+      heard = hears_next g.P.Port.given old mid new c.args.first.now c.args.second.now
+          c.in-Some.event e.fixed.0 e.fixed.1 chosen happened kept c.turn-next.result f.chosen
+          f.nothing f.refused;
+      idle = tt;
+    }
+
+pub returns-in-None : goal.returns-in-None
+returns-in-None g c =
+    let old = c.args.cluster.now in
+    let mid = c.turn.new.self in
+    let e = c.turn.ensures in
+    let arm = c.in_ok-event.ensures in
+    record {
+      heard = tt;
+      idle = if_nothing old mid e.fixed.1 e.history.0 e.history.1 g.P.Port.given c.args.first.now
+          c.in_ok-event.field-0 arm.nothing arm.same (ap is_some c.in-None.is);
+    }

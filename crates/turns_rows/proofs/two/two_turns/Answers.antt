@@ -1,7 +1,8 @@
-use Rattle.std.proofs.Common.{arith, inl, inr}
+use Rattle.std.proofs.Common.{ap, arith, inl, inr, is_some}
 use Rattle.std.proofs.lemmas.Result.{err_from_is_err_and}
 use Rattle.turns_rows.proofs.Asked.{and_then, in_a_turn, so_often}
 use Rattle.turns_rows.proofs.Going.{answered, both}
+use Rattle.turns_rows.proofs.Idle.{if_nothing}
 use Rattle.turns_rows.specs.Going.{event_in}
 use Rattle.turns_rows.proofs.two.two_turns.Goals as goal
 
@@ -14,6 +15,7 @@ returns-in_err-one g c =
     let e = c.turn.ensures in
     rw (p.1, p.2) (record {
       goes_on = tt;
+      idle = tt;
       asked = so_often given 1 2 old.port mid.port (omega arith)
           (in_a_turn given old mid c.args.first.now c.turn.result e.chosen e.nothing e.refused);
       refused = inl c.in_err-one.ensures.refused;
@@ -32,6 +34,7 @@ returns-in_err-other g c =
     let one = c.in_ok-one.ensures in
     rw (p.1, p.2) (record {
       goes_on = tt;
+      idle = tt;
       asked = and_then given 1 1 old.port mid.port new.port
           (in_a_turn given old mid c.args.first.now c.turn.result e.chosen e.nothing e.refused)
           (in_a_turn given mid new c.args.second.now c.turn-2.result f.chosen f.nothing f.refused);
@@ -58,6 +61,8 @@ returns g c =
           (answered old mid e.fixed.0 e.fixed.1 c.in_ok-one.one one.happened one.kept one.same)
           (answered mid new f.fixed.0 f.fixed.1 c.in_ok-other.other other.happened other.kept
           other.same);
+      idle = λ none. if_nothing mid new f.fixed.1 f.history.0 f.history.1 given c.args.second.now
+          c.in_ok-other.other other.nothing other.same (ap is_some none);
       asked = and_then given 1 1 old.port mid.port new.port
           (in_a_turn given old mid c.args.first.now c.turn.result e.chosen e.nothing e.refused)
           (in_a_turn given mid new c.args.second.now c.turn-2.result f.chosen f.nothing f.refused);
