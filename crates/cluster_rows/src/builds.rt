@@ -1,6 +1,6 @@
 //! Files that make no build, and units of two packages.
 use crate::clusters::{
-    LISTING, build_of, builds_of_two, cluster, disks, holders_of, is_of, tell, turns, turns_till_quiet,
+    LISTING, build_of, builds_of_two, cluster, disks, holders_of, is_of, tell, turns,
 };
 use listing::Tree;
 use pkgpath::PkgPath;
@@ -8,6 +8,9 @@ use ports::MemPort;
 use protocol::Packages;
 use std::alloc::Global;
 use std::test::Fail;
+
+/// What three members tell where files make no build: once it failed, nobody claims it again.
+static FAILED: &[u8; 51] = b"C00D00D01D02D10D20F00D30...........................";
 
 /// What three members tell of these builds, and at how many nodes so many packages can be installed
 /// then.
@@ -29,15 +32,17 @@ fn told_of(
 fn names_of_no_files(rt: HostRuntime) -> Result<(), Fail> {
     let alloc = rt.alloc();
     let tree = Tree::parse(alloc, LISTING)?;
-    for name in ["@x", "", "/x", "x/", "x//y", ".", "..", "x/../y", "x\n", "\u{e9}"] {
+    for name in [
+        "@x", "", "/x", "x/", "x//y", ".", "..", "x/../y", "x\n", "\u{e9}",
+    ] {
         let builds = build_of(alloc, "a/b", &[("y", 3), (name, 3)])?;
         let (told, holders) = told_of(alloc, &tree, &builds, 0)?;
-        assert!(rt; told == *b"C00D00D01D02D10D20F00D30...........................", "{name}");
+        assert!(rt; told == *FAILED, "{name}");
         assert!(rt; holders == 3);
     }
     let builds = build_of(alloc, "a/b", &[("x", 3), ("y", 3), ("x", 0)])?;
     let (told, holders) = told_of(alloc, &tree, &builds, 0)?;
-    assert!(rt; told == *b"C00D00D01D02D10D20F00D30...........................");
+    assert!(rt; told == *FAILED);
     assert!(rt; holders == 3);
     Ok(())
 }
@@ -45,10 +50,7 @@ fn names_of_no_files(rt: HostRuntime) -> Result<(), Fail> {
 #[test]
 fn the_next_package_is_built(rt: HostRuntime) -> Result<(), Fail> {
     let alloc = rt.alloc();
-    let tree = Tree::parse(
-        alloc,
-        b"a/b.FULLPKGNAME=b-1.0\nc/d.FULLPKGNAME=d-1.0\n",
-    )?;
+    let tree = Tree::parse(alloc, b"a/b.FULLPKGNAME=b-1.0\nc/d.FULLPKGNAME=d-1.0\n")?;
     let builds = builds_of_two(alloc, ("a/b", "@x", 3), ("c/d", "x", 3))?;
     let disks = disks(alloc, 3)?;
     let mut told = Vec::new(alloc);
@@ -65,24 +67,23 @@ fn the_next_package_is_built(rt: HostRuntime) -> Result<(), Fail> {
 }
 
 #[test]
-fn the_largest_build(rt: HostRuntime) -> Result<(), Fail> {
+fn one_byte_too_many(rt: HostRuntime) -> Result<(), Fail> {
     let alloc = rt.alloc();
     let tree = Tree::parse(alloc, LISTING)?;
 
     // 146 bytes stand before the file's own, and a build has at most 4,194,304.
-    let builds = build_of(alloc, "a/b", &[("x", 4_194_158)])?;
-    let disks = disks(alloc, 3)?;
-    let mut cluster = cluster(alloc, &tree, &[1, 1, 1], disks, MemPort::new(alloc))?;
-    let quiet = turns_till_quiet(&mut cluster, &builds, 1_000);
-    let holders = holders_of(&cluster, 1);
-    drop(cluster);
-    assert!(rt; quiet == Some(11 + 5 * 128));
-    assert!(rt; holders == 3);
-
-    let builds = build_of(alloc, "a/b", &[("x", 4_194_159)])?;
-    let (told, holders) = told_of(alloc, &tree, &builds, 0)?;
-    assert!(rt; told == *b"C00D00D01D02D10D20F00D30...........................");
-    assert!(rt; holders == 3);
+    for (size, wanted) in [
+        (4_194_158, b"C00D00D01D02D10D20B00D30"),
+        (4_194_159, b"C00D00D01D02D10D20F00D30"),
+    ] {
+        let builds = build_of(alloc, "a/b", &[("x", size)])?;
+        let disks = disks(alloc, 3)?;
+        let mut told = Vec::new(alloc);
+        let mut cluster = cluster(alloc, &tree, &[1, 1, 1], disks, MemPort::new(alloc))?;
+        tell(&mut cluster, &builds, 8, &mut told);
+        drop(cluster);
+        assert!(rt; told.as_slice() == wanted, "{size}");
+    }
     Ok(())
 }
 
@@ -96,15 +97,15 @@ fn one_of_two_packages(rt: HostRuntime) -> Result<(), Fail> {
     for path in ["a/b,-main", "a/b,-docs", "a/b", "c/d"] {
         let builds = build_of(alloc, path, &[("x", 3)])?;
         let (told, holders) = told_of(alloc, &tree, &builds, 0)?;
-        assert!(rt; told == *b"C00D00D01D02D10D20F00D30...........................", "{path}");
+        assert!(rt; told == *FAILED, "{path}");
         assert!(rt; holders == 3);
     }
 
-    // One has a name that is none of a file; or both have too many bytes in all.
-    for (name, size) in [("@x", 3), ("x", 4_194_000)] {
-        let builds = builds_of_two(alloc, ("a/b,-main", "x", 3), ("a/b,-docs", name, size))?;
+    // One has a file with a bad name; or each makes a build, but not both.
+    for (name, size) in [("@x", 3), ("x", 2_200_000)] {
+        let builds = builds_of_two(alloc, ("a/b,-main", "x", size), ("a/b,-docs", name, size))?;
         let (told, holders) = told_of(alloc, &tree, &builds, 0)?;
-        assert!(rt; told == *b"C00D00D01D02D10D20F00D30...........................", "{name}");
+        assert!(rt; told == *FAILED, "{name}");
         assert!(rt; holders == 3);
     }
     Ok(())

@@ -181,7 +181,9 @@ pub fn holders<D: Disk, P: Port>(cluster: &Cluster<'_, D, P>) -> u8 {
 pub fn holders_of<D: Disk, P: Port>(cluster: &Cluster<'_, D, P>, packages: u32) -> u8 {
     let mut count = 0u8;
     for node in 0..9 {
-        if let Some(Counts { i, .. }) = cluster.counts(node) && i == packages {
+        if let Some(Counts { i, .. }) = cluster.counts(node)
+            && i == packages
+        {
             count = count.saturating_add(1);
         }
     }

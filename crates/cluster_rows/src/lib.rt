@@ -6,6 +6,8 @@ mod builds;
 #[cfg(test)]
 mod clusters;
 #[cfg(test)]
+mod down;
+#[cfg(test)]
 mod nine;
 #[cfg(test)]
 mod overtaken;

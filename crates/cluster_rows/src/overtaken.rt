@@ -50,10 +50,7 @@ fn told_of(
 #[test]
 fn a_claim_above_the_one_in_its_way(rt: HostRuntime) -> Result<(), Fail> {
     let alloc = rt.alloc();
-    let tree = Tree::parse(
-        alloc,
-        b"a/b.FULLPKGNAME=b-1.0\nc/d.FULLPKGNAME=d-1.0\n",
-    )?;
+    let tree = Tree::parse(alloc, b"a/b.FULLPKGNAME=b-1.0\nc/d.FULLPKGNAME=d-1.0\n")?;
     let builds = builds_of(alloc, &["a/b", "c/d"])?;
     let lines: [(usize, &[u8]); 2] = [(14, &[0]), (39, &[])];
     let (told, holders) = told_of(alloc, &tree, &builds, &[1, 1, 1], &lines)?;
