@@ -82,7 +82,7 @@ fn one_byte_too_many(rt: HostRuntime) -> Result<(), Fail> {
         let mut cluster = cluster(alloc, &tree, &[1, 1, 1], disks, MemPort::new(alloc))?;
         tell(&mut cluster, &builds, 8, &mut told);
         drop(cluster);
-        assert!(rt; told.as_slice() == wanted, "{size}");
+        assert!(rt; told.as_slice() == wanted.as_slice(), "{size}");
     }
     Ok(())
 }
