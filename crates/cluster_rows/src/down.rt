@@ -7,12 +7,6 @@ use stable_record::{Failing, FaultDisk, MemDisk};
 use std::alloc::Global;
 use std::test::Fail;
 
-/// How many calls of its disk a member makes before its first note.
-const BEFORE: u64 = 10;
-
-/// How many it makes for each note.
-const FOR_A_NOTE: u64 = 4;
-
 /// What the turns of three members tell, where this call of this one's disk fails.
 fn told_of(
     alloc: Global,
@@ -38,19 +32,47 @@ fn a_note_that_fails(rt: HostRuntime) -> Result<(), Fail> {
     let tree = Tree::parse(alloc, LISTING)?;
     let builds = builds(alloc)?;
 
-    // What comes for a node that is down is as if nothing came: another node does something of
-    // itself in that very turn, or nobody does.
-    for (node, note, wanted) in [
-        (0, 0, b"!00C01N01D01D02N01D01D02D11D21B01N01D01D02D11D21N01"),
-        (0, 1, b"C00!00D01D02C01N01N01D31D32N01D31D32N01D31D32D41D51"),
-        (0, 2, b"C00D00D01D02D10D20B00D30!00D41D42C01N01N01D71D72N01"),
-        (0, 3, b"C00D00D01D02D10D20B00D30D40D41D42D50!00C01N01D81D82"),
-        (1, 0, b"C00D00!01D02D10D20B00D30N00D32D40D30N00D32D50D40C02"),
-        (1, 1, b"C00D00D01D02D10D20B00D30D40!01D42D50D60C02D72D80..."),
-        (1, 2, b"C00D00D01D02D10D20B00D30D40D41D42D50D60D70!01D82..."),
+    // A member's first note is written from the 11th call of its disk on, each by four calls. What
+    // comes for a node that is down is as if nothing came: another node does something of itself
+    // in that very turn, or nobody does.
+    for (node, calls, wanted) in [
+        (
+            0,
+            11..15,
+            b"!00C01N01D01D02N01D01D02D11D21B01N01D01D02D11D21N01",
+        ),
+        (
+            0,
+            15..19,
+            b"C00!00D01D02C01N01N01D31D32N01D31D32N01D31D32D41D51",
+        ),
+        (
+            0,
+            19..23,
+            b"C00D00D01D02D10D20B00D30!00D41D42C01N01N01D71D72N01",
+        ),
+        (
+            0,
+            23..27,
+            b"C00D00D01D02D10D20B00D30D40D41D42D50!00C01N01D81D82",
+        ),
+        (
+            1,
+            11..15,
+            b"C00D00!01D02D10D20B00D30N00D32D40D30N00D32D50D40C02",
+        ),
+        (
+            1,
+            15..19,
+            b"C00D00D01D02D10D20B00D30D40!01D42D50D60C02D72D80...",
+        ),
+        (
+            1,
+            19..23,
+            b"C00D00D01D02D10D20B00D30D40D41D42D50D60D70!01D82...",
+        ),
     ] {
-        for call in 1..=FOR_A_NOTE {
-            let call = BEFORE + note * FOR_A_NOTE + call;
+        for call in calls {
             let told = told_of(alloc, &tree, &builds, node, call)?;
             assert!(rt; told == *wanted, "call {call} of {node}");
         }

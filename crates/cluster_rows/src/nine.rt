@@ -13,30 +13,42 @@ use turns::Cluster;
 /// How many packages there are.
 const PACKAGES: u32 = 48;
 
-/// A listing of the packages. Each but the first is built with the one of half its number, and runs
-/// with the one of a third of it; the last two run with each other.
-fn listing(alloc: Global) -> Result<Vec<u8>, Fail> {
-    let mut text = Vec::new(alloc);
+/// The last but one.
+const BEFORE_LAST: u32 = 47;
+
+/// What a package is built with: that of half its number, but the first with none.
+fn built_with(alloc: Global, number: u32) -> Result<String, Fail> {
+    let half = number / 2;
+    if half == 0 {
+        return Ok(String::new(alloc));
+    }
+    Ok(format!(in alloc; "c/p{half}")?)
+}
+
+/// What it runs with: that of a third of its number, but the first two with none, and the last two
+/// with each other, too.
+fn run_with(alloc: Global, number: u32) -> Result<String, Fail> {
+    let third = number / 3;
+    if third == 0 {
+        return Ok(String::new(alloc));
+    }
+    Ok(match number {
+        BEFORE_LAST => format!(in alloc; "c/p{third} c/p{PACKAGES}")?,
+        PACKAGES => format!(in alloc; "c/p{third} c/p{BEFORE_LAST}")?,
+        _ => format!(in alloc; "c/p{third}")?,
+    })
+}
+
+/// A listing of the packages.
+fn listing(alloc: Global) -> Result<String, Fail> {
+    let mut text = String::new(alloc);
     for number in 1..=PACKAGES {
-        let (half, third) = (number / 2, number / 3);
-        let name = format!(in alloc; "c/p{number}.FULLPKGNAME=p-{number}\n")?;
-        text.extend_from_slice(name.as_bytes())?;
-        if half > 0 {
-            let line = format!(in alloc; "c/p{number}.BUILD_DEPENDS=c/p{half}\n")?;
-            text.extend_from_slice(line.as_bytes())?;
-        }
-        let line = match third {
-            _ if number + 1 == PACKAGES => {
-                format!(in alloc; "c/p{number}.RUN_DEPENDS=c/p{third} c/p{PACKAGES}\n")?
-            }
-            _ if number == PACKAGES => {
-                let before = PACKAGES - 1;
-                format!(in alloc; "c/p{number}.RUN_DEPENDS=c/p{third} c/p{before}\n")?
-            }
-            0 => continue,
-            third => format!(in alloc; "c/p{number}.RUN_DEPENDS=c/p{third}\n")?,
-        };
-        text.extend_from_slice(line.as_bytes())?;
+        let path = format!(in alloc; "c/p{number}")?;
+        let built = built_with(alloc, number)?;
+        let run = run_with(alloc, number)?;
+        text.push_str(format!(in alloc; "{path}.FULLPKGNAME=p-{number}\n")?.as_str())?;
+        text.push_str(format!(in alloc; "{path}.BUILD_DEPENDS={built}\n")?.as_str())?;
+        text.push_str(format!(in alloc; "{path}.RUN_DEPENDS={run}\n")?.as_str())?;
     }
     Ok(text)
 }
@@ -87,7 +99,7 @@ fn alike<D: Disk, P: Port>(cluster: &Cluster<'_, D, P>, world: &World<'_>) -> u8
 fn many_packages(rt: HostRuntime) -> Result<(), Fail> {
     let alloc = rt.alloc();
     let text = listing(alloc)?;
-    let tree = Tree::parse(alloc, text.as_slice())?;
+    let tree = Tree::parse(alloc, text.as_bytes())?;
     let builds = builds(alloc)?;
     let weights = Weights::new(&[1, 1, 1, 1, 1, 1, 1, 1, 1])?;
     let disks = disks(alloc, 9)?;
