@@ -7,7 +7,7 @@ use faults::Fault;
 use listing::Tree;
 use package_record::{File, Files};
 use pkgpath::PkgPath;
-use ports::MemPort;
+use ports::Port;
 use protocol::Packages;
 use stable_record::{Disk, MemDisk};
 use std::alloc::Global;
@@ -31,6 +31,41 @@ pub fn builds(alloc: Global) -> Result<Packages, Fail> {
     Ok(Packages::new(items))
 }
 
+/// A package's files: each has this name and so many zero bytes.
+pub fn package(
+    alloc: Global,
+    path: &str,
+    files: &[(&str, usize)],
+) -> Result<(PkgPath, Files), Fail> {
+    let mut made = Vec::new(alloc);
+    for (name, size) in files {
+        let name = name.as_bytes().to_vec(alloc)?;
+        let bytes = vec![in alloc; 0; *size]?;
+        made.push(File { name, bytes })?;
+    }
+    Ok((PkgPath::parse(alloc, path.as_bytes())?, Files::new(made)))
+}
+
+/// One package's files, and no others.
+pub fn build_of(alloc: Global, path: &str, files: &[(&str, usize)]) -> Result<Packages, Fail> {
+    let mut items = Vec::new(alloc);
+    items.push(package(alloc, path, files)?)?;
+    Ok(Packages::new(items))
+}
+
+/// Two packages' files, of which each has one, of this name and size.
+pub fn builds_of_two(
+    alloc: Global,
+    first: (&str, &str, usize),
+    second: (&str, &str, usize),
+) -> Result<Packages, Fail> {
+    let mut items = Vec::new(alloc);
+    for (path, name, size) in [first, second] {
+        items.push(package(alloc, path, &[(name, size)])?)?;
+    }
+    Ok(Packages::new(items))
+}
+
 /// Empty disks, so many.
 pub fn disks(alloc: Global, members: usize) -> Result<Vec<MemDisk>, Fail> {
     let mut disks = Vec::new(alloc);
@@ -41,13 +76,13 @@ pub fn disks(alloc: Global, members: usize) -> Result<Vec<MemDisk>, Fail> {
 }
 
 /// The cluster at its start, of members that weigh so much.
-pub fn cluster<'a, D: Disk>(
+pub fn cluster<'a, D: Disk, P: Port>(
     alloc: Global,
     tree: &'a Tree,
     weights: &[u8],
     disks: Vec<D>,
-    port: MemPort,
-) -> Result<Cluster<'a, D, MemPort>, Fail> {
+    port: P,
+) -> Result<Cluster<'a, D, P>, Fail> {
     let weights = Weights::new(weights)?;
     if disks.len() != weights.as_slice().len() {
         return Err(Fail::from("a disk for each member"));
@@ -75,7 +110,7 @@ fn digit(number: u64) -> u8 {
 
 /// What one turn did: its event, `...` for nothing, X for bytes that nobody sent, and ! for a
 /// node that went down.
-pub fn turn<D: Disk>(cluster: &mut Cluster<'_, D, MemPort>, builds: &Packages) -> [u8; 3] {
+pub fn turn<D: Disk, P: Port>(cluster: &mut Cluster<'_, D, P>, builds: &Packages) -> [u8; 3] {
     match cluster.turn(builds) {
         Ok(Some(event)) => told(&event),
         Ok(None) => *b"...",
@@ -86,7 +121,7 @@ pub fn turn<D: Disk>(cluster: &mut Cluster<'_, D, MemPort>, builds: &Packages) -
 }
 
 /// What the first turns did.
-pub fn turns<D: Disk>(cluster: &mut Cluster<'_, D, MemPort>, builds: &Packages) -> [u8; 51] {
+pub fn turns<D: Disk, P: Port>(cluster: &mut Cluster<'_, D, P>, builds: &Packages) -> [u8; 51] {
     let mut all = [b'.'; 51];
     for number in 0..TURNS {
         let one = turn(cluster, builds);
@@ -97,11 +132,58 @@ pub fn turns<D: Disk>(cluster: &mut Cluster<'_, D, MemPort>, builds: &Packages) 
     all
 }
 
+/// Puts what so many turns did behind what is told, as far as there is memory for it.
+pub fn tell<D: Disk, P: Port>(
+    cluster: &mut Cluster<'_, D, P>,
+    builds: &Packages,
+    turns: usize,
+    told: &mut Vec<u8>,
+) {
+    for _ in 0..turns {
+        let one = turn(cluster, builds);
+        let _ = told.extend_from_slice(&one);
+    }
+}
+
+/// How many turns did something before one did nothing, if one of so many does nothing and none is
+/// refused.
+pub fn turns_till_quiet<D: Disk, P: Port>(
+    cluster: &mut Cluster<'_, D, P>,
+    builds: &Packages,
+    most: usize,
+) -> Option<usize> {
+    for number in 0..most {
+        match cluster.turn(builds) {
+            Ok(Some(_)) => {}
+            Ok(None) => return Some(number),
+            Err(_) => return None,
+        }
+    }
+    None
+}
+
+/// Whether the event is there, and a claim, a build or a failure of what the path names.
+pub fn is_of(event: Option<&Event>, path: &PkgPath) -> bool {
+    match event {
+        Some(Event::Claim { path: named, .. })
+        | Some(Event::Built { path: named, .. })
+        | Some(Event::Failed { path: named, .. }) => named == path,
+        _ => false,
+    }
+}
+
 /// How many nodes that are up hold the package.
-pub fn holders<D: Disk>(cluster: &Cluster<'_, D, MemPort>) -> u8 {
+pub fn holders<D: Disk, P: Port>(cluster: &Cluster<'_, D, P>) -> u8 {
+    holders_of(cluster, 1)
+}
+
+/// At how many nodes that are up so many packages can be installed.
+pub fn holders_of<D: Disk, P: Port>(cluster: &Cluster<'_, D, P>, packages: u32) -> u8 {
     let mut count = 0u8;
     for node in 0..9 {
-        if let Some(Counts { i: 1, .. }) = cluster.counts(node) {
+        if let Some(Counts { i, .. }) = cluster.counts(node)
+            && i == packages
+        {
             count = count.saturating_add(1);
         }
     }
