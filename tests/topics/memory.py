@@ -1,4 +1,5 @@
 """Want of memory at each allocation of dpbr: the right answer or fault 1, and nothing else."""
+import concurrent.futures
 import os
 import re
 import shutil
@@ -9,6 +10,7 @@ from topics import nodes
 from topics.tally import EXAMPLES, PROGRAM, TESTS, answer, built_shim, difference
 
 CLUSTER = ["cluster", *nodes.SHARED, "--members", "3", "--turns", "120", "--trace", "TRACE"]
+SIDE_BY_SIDE = 8
 
 
 def refusing(folder, number):
@@ -65,23 +67,30 @@ def cluster_problem(folder, got):
     return "" if (out, lines, status) == (nodes.ALL, nodes.ALL, 0) else f"it prints {out!r}, dpbr run {told!r}, its status is {status}"
 
 
+def cluster_refusal(shims, number):
+    """What is wrong with a cluster of which the request for memory of that number is refused, and whether there was one."""
+    with tempfile.TemporaryDirectory() as folder:
+        nodes.lay(folder)
+        mark = f"{folder}/refused"
+        environment = {**refusing(shims, number)[0], "REFUSED": mark}
+        problem = cluster_problem(folder, nodes.answer(CLUSTER, folder, env=environment))
+        return problem, os.path.exists(mark)
+
+
 def cluster_refusals(tally, shims):
-    """Refuses each request for memory of a cluster in turn."""
-    number, is_met = 0, True
-    while is_met:
-        number += 1
-        with tempfile.TemporaryDirectory() as folder:
-            nodes.lay(folder)
-            environment, mark = refusing(shims, number)
-            problem = cluster_problem(folder, nodes.answer(CLUSTER, folder, env=environment))
-        is_met = os.path.exists(mark)
-        if is_met:
-            os.remove(mark)
-        if problem:
-            tally.add(f"memory for a cluster, allocation {number} refused", problem)
-            return
-    print(f"tests/run: memory for a cluster: {number - 1} allocations, each refused once", flush=True)
-    tally.add("memory for a cluster", "" if number > 1 else "no allocation was seen")
+    """Refuses each request for memory of a cluster in turn; most of a run is waiting for its logs, so several run side by side."""
+    count, are_met = 0, True
+    with concurrent.futures.ThreadPoolExecutor(SIDE_BY_SIDE) as pool:
+        while are_met:
+            numbers = range(count + 1, count + 1 + 8 * SIDE_BY_SIDE)
+            for number, (problem, is_met) in zip(numbers, pool.map(lambda it: cluster_refusal(shims, it), numbers)):
+                if problem:
+                    tally.add(f"memory for a cluster, allocation {number} refused", problem)
+                    return
+                count += is_met
+                are_met = is_met
+    print(f"tests/run: memory for a cluster: {count} allocations, each refused once", flush=True)
+    tally.add("memory for a cluster", "" if count else "no allocation was seen")
 
 
 def run(tally):
