@@ -16,9 +16,18 @@ fn three_members(rt: HostRuntime) -> Result<(), Fail> {
     let mut cluster = cluster(alloc, &tree, &[1, 1, 1], disks, MemPort::new(alloc))?;
     let told = turns(&mut cluster, &builds);
     let holders = holders(&cluster);
+    let receives = cluster.port().receives();
+    let offered = match cluster.port().offered() {
+        Some(offered) => offered.len(),
+        None => 0,
+    };
     drop(cluster);
     assert!(rt; told == *b"C00D00D01D02D10D20B00D30D40D41D42D50D60D70D81D82...");
     assert!(rt; holders == 3);
+
+    // The port is asked in each turn but that of the build, and each offered datagram comes.
+    assert!(rt; receives == Some(16));
+    assert!(rt; offered == 14);
     Ok(())
 }
 
@@ -101,7 +110,7 @@ fn nothing_to_build(rt: HostRuntime) -> Result<(), Fail> {
     let told = turns(&mut cluster, &builds);
     let holders = holders(&cluster);
     drop(cluster);
-    assert!(rt; told.starts_with(b"C00D00D01D02D10D20F00D30"));
+    assert!(rt; told == *b"C00D00D01D02D10D20F00D30...........................");
     assert!(rt; holders == 0);
     Ok(())
 }
