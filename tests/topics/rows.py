@@ -17,7 +17,7 @@ def laid(folder):
     shutil.copy(f"{TOP}/HANDLES", folder)
     shutil.copytree(f"{TOP}/crates", f"{folder}/crates", ignore=shutil.ignore_patterns("out", "must-fail"))
     with open(f"{folder}/crates.txt", "w") as all_of_them:
-        for lines in (f"{TOP}/crates.txt", f"{ROWS}/crates.txt"):
+        for lines in (f"{TOP}/crates.txt", f"{ROWS}/crates"):
             with open(lines) as file:
                 all_of_them.write(file.read())
 
