@@ -22,6 +22,13 @@ def laid(folder):
                 all_of_them.write(file.read())
 
 
+def lay_rows(crate, to):
+    """The crate with its sources named as the compiler wants them: the gate takes none by these names outside crates/."""
+    os.makedirs(f"{to}/src")
+    for name in os.listdir(f"{crate}/src"):
+        shutil.copy(f"{crate}/src/{name}", f"{to}/src/{name[:-3]}.rt")
+
+
 def names_of_tests(crate):
     """The tests that its sources have."""
     found = []
@@ -35,7 +42,7 @@ def run(tally):
     for name in sorted(it for it in os.listdir(ROWS) if os.path.isdir(f"{ROWS}/{it}")):
         with tempfile.TemporaryDirectory(prefix="dpbn-") as folder:
             laid(folder)
-            shutil.copytree(f"{ROWS}/{name}", f"{folder}/crates/{name}")
+            lay_rows(f"{ROWS}/{name}", f"{folder}/crates/{name}")
             done = subprocess.run(["rt", "try", "--test", "--seconds", "900"], cwd=f"{folder}/crates/{name}", stdin=subprocess.DEVNULL,
                                   stdout=subprocess.PIPE, stderr=subprocess.STDOUT, text=True, errors="replace")
             ended = dict(re.findall(r"^test (\S+) \.\.\. (\w+)", done.stdout, re.MULTILINE))
