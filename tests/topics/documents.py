@@ -152,6 +152,28 @@ def counted(tally):
     tally.add("README.md, its length", "" if lines <= FRONT_PAGE else f"{lines} lines, and more than {FRONT_PAGE} aren't read")
 
 
+def cited(crate):
+    """What files of a crate cite of other crates: the kind of each file (src, specs, proofs), the crate, and the module there."""
+    for kind in ("src", "specs", "proofs"):
+        for path in glob.glob(f"{TOP}/crates/{crate}/{kind}/**/*", recursive=True):
+            if path.endswith((".rt", ".antt")):
+                for other, module in set(re.findall(r"\bRattle\.(\w+)\.(proofs|specs\.inside)\b", contents(path).decode())):
+                    if other != crate:
+                        yield kind, path, other, module
+
+
+def leaning(tally):
+    """docs/MAP.md says how often crates lean on more than the public clauses of those below."""
+    named = crates()
+    found = [(crate, *it) for crate in named for it in cited(crate) if it[2] in named]
+    pairs = {(crate, other) for crate, _, _, other, module in found if module == "proofs"}
+    inside = {kind: {path for _, it, path, _, module in found if (it, module) == (kind, "specs.inside")} for kind in ("src", "specs")}
+    counts = len(pairs), sum(map(len, named.values())), len(inside["src"]), len(inside["specs"])
+    form = r"in (\d+) of the (\d+) pairs of crates.*?and (\d+) sources and (\d+) files of\s+definitions"
+    told = re.search(form, contents(f"{TOP}/docs/MAP.md").decode(), re.DOTALL)
+    tally.add("docs/MAP.md, what it counts", "" if told and tuple(map(int, told.groups())) == counts else f"{told and told.groups()}, and there are {counts}")
+
+
 def places(tally):
     """The files that documents name stand; each tool that is installed has a page."""
     form = r"\b((?:docs|man|tools|tests|examples|bench|crates)/[\w./-]*\w)/?(?![\w*/-])"
@@ -172,4 +194,5 @@ def run(tally):
     wrong_bodies(tally)
     one_order(tally)
     counted(tally)
+    leaning(tally)
     places(tally)

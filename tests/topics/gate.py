@@ -1,18 +1,15 @@
 """The gate: every proof, each wrong body, each test and each program."""
+import glob
 import os
 import re
 import resource
 import subprocess
-import threading
 import time
 
 from topics.tally import PROGRAM, TOP
 
-# what `make dist` tells of the gate that the program passed
-LAST_LINES = f"{TOP}/crates/dpbr/out/gate"
-
-# the memory that a check takes at its most, in bytes: peaks of 2.8 GB were seen
-MOST_OF_A_CHECK = 3_500_000_000
+# what is noted of what was built: the programs, each by a file of its name, and what `make dist` tells of the gate that they passed
+BUILT = f"{TOP}/.built"
 
 
 def changed_since(began):
@@ -25,82 +22,47 @@ def changed_since(began):
 
 
 def processor_seconds():
-    """Those of all programs that ended before."""
+    """Those of all programs that were started here and have ended."""
     used = resource.getrusage(resource.RUSAGE_CHILDREN)
     return used.ru_utime + used.ru_stime
 
 
-def free_memory():
-    """In bytes."""
-    with open("/proc/meminfo") as file:
-        return 1024 * int(re.search(r"MemAvailable:\s+(\d+)", file.read())[1])
+def lines_in(path):
+    with open(path, "rb") as file:
+        return file.read().count(b"\n")
 
 
-def lanes():
-    """How many checks are to run side by side: one a core, where the memory holds what each of so many takes at its most."""
-    return max(1, min(len(os.sched_getaffinity(0)), free_memory() // MOST_OF_A_CHECK))
+def judged():
+    """How much the gate looks at, in words."""
+    crates = lines_of_code = 0
+    for folder in glob.glob(f"{TOP}/crates/*/src"):
+        crates += 1
+        lines_of_code += sum(lines_in(path) for path in glob.glob(f"{folder}/**/*.rt", recursive=True))
+    wrong_bodies = len(glob.glob(f"{TOP}/crates/*/must-fail/*.edit"))
+    return f"{crates} crates of {lines_of_code:,} lines, {wrong_bodies} wrong bodies"
 
 
-class Reference:
-    """What the proof of one crate from nothing takes, seen while the gate runs: against it the gate's time can be told on any machine."""
-
-    CRATE = "engine"
-
-    def __init__(self):
-        self.seconds = 0.0
-        self.ended = threading.Event()
-        self.watch = threading.Thread(target=self.look, daemon=True)
-
-    def __enter__(self):
-        self.watch.start()
-        return self
-
-    def __exit__(self, *_):
-        self.ended.set()
-        self.watch.join()
-
-    def look(self):
-        while not self.ended.wait(0.5):
-            for process in filter(str.isdigit, os.listdir("/proc")):
-                try:
-                    self.seconds = max(self.seconds, self.taken(process))
-                except OSError:
-                    # it has ended since
-                    pass
-
-    def taken(self, process):
-        """The processor seconds that the process took so far, where it proves that crate of this repository."""
-        with open(f"/proc/{process}/cmdline", "rb") as file:
-            words = file.read().split(b"\0")
-        if b"build" not in words[:2] or os.readlink(f"/proc/{process}/cwd") != f"{TOP}/crates/{self.CRATE}":
-            return 0.0
-        with open(f"/proc/{process}/stat") as file:
-            fields = file.read().rpartition(")")[2].split()
-        return sum(int(it) for it in fields[11:15]) / os.sysconf("SC_CLK_TCK")
-
-    def told(self, used):
-        """A time beside it."""
-        if not self.seconds:
-            return ""
-        return f", {used / self.seconds:.0f} times what the proof of {self.CRATE} took in it ({self.seconds:.0f} s)"
+def note_built(last_lines):
+    """Notes that the programs are those of these sources, so that ./dpbr and ./dpbn need not build them again, and what was told."""
+    os.makedirs(BUILT, exist_ok=True)
+    for program in ("dpbr", "dpbn"):
+        open(f"{BUILT}/{program}", "w").close()
+    with open(f"{BUILT}/gate", "w") as file:
+        file.writelines(last_lines)
 
 
 def run(tally):
-    """Runs `rt ci`, shows what it prints, tells how long it took, and adds its counts."""
+    """Runs `rt ci`, shows what it prints, tells how long it took for how much, and adds its counts."""
     began, before = time.time(), processor_seconds()
-    # by itself it reckons with two to three times the memory that a check takes, and may leave cores idle
-    environment = {"RT_JOBS": str(lanes()), **os.environ}
-    gate = subprocess.Popen(["rt", "ci"], cwd=TOP, stdout=subprocess.PIPE, text=True, env=environment)
+    gate = subprocess.Popen(["rt", "ci"], cwd=TOP, stdout=subprocess.PIPE, text=True)
     lines = []
-    with Reference() as reference:
-        for line in gate.stdout:
-            print(line, end="", flush=True)
-            lines.append(line)
-        status = gate.wait()
+    for line in gate.stdout:
+        print(line, end="", flush=True)
+        lines.append(line)
+    status = gate.wait()
     took, used = time.time() - began, processor_seconds() - before
-    cores = len(os.sched_getaffinity(0))
-    clock = f"{used / 60:.0f} processor minutes, {took / 60:.0f} by the clock on {cores} cores"
-    print(f"tests/run: the gate took {clock}{reference.told(used)}", flush=True)
+    clock = f"{used / 60:.0f} processor minutes, {took / 60:.0f} by the clock on {len(os.sched_getaffinity(0))} cores"
+    print(f"tests/run: the gate took {clock}: {judged()}", flush=True)
     counts = re.fullmatch(r"(\d+) passed, (\d+) failed\s*", lines[-1] if lines else "")
     if counts:
         tally.passed += int(counts[1])
@@ -108,8 +70,4 @@ def run(tally):
     if status and not (counts and int(counts[2])):
         tally.add("rt ci", f"it ended with status {status}")
     if not status and os.path.exists(PROGRAM) and not changed_since(began):
-        # the gate has just proved and built the programs from these sources, so ./dpbr and ./dpbn need not do it again
-        for program in ("dpbr", "dpbn"):
-            open(f"{TOP}/crates/{program}/out/built", "w").close()
-        with open(LAST_LINES, "w") as file:
-            file.writelines(lines[-2:])
+        note_built(lines[-2:])

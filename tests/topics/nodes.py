@@ -14,7 +14,7 @@ import tempfile
 import time
 from concurrent.futures import ThreadPoolExecutor
 
-from topics.programs import shown
+from topics.programs import help_of, shown
 from topics.tally import PROGRAM, TESTS, TOP, Tally, built_shim, contents, difference, text_difference
 
 NODES = f"{TOP}/crates/dpbn/out/dpbn"
@@ -150,6 +150,12 @@ def no_calls(tally):
             out, error, code = answer(words, folder)
             tally.add(f"dpbn {words}", "" if (out, code) == (b"", 2) and error else f"{out!r:.200}, {error!r:.200}, status {code}")
         tally.add("the logs after words that are no call", f"{logs_in(folder)}" if logs_in(folder) else "")
+
+
+def helps(tally):
+    """What is told where help is asked for is what dpbn(1) has."""
+    with tempfile.TemporaryDirectory() as folder:
+        help_of(tally, "dpbn", lambda words: answer(words, folder))
 
 
 def ordered(tally, folder, command, good, bad, **more):
@@ -793,7 +799,7 @@ def beside(tally, several):
 def run(tally):
     for name in sorted(os.listdir(f"{TESTS}/nodes")):
         case(tally, "nodes", name)
-    for one in (no_calls, faults, cluster_faults, bad_words, refused_logs, alone, cluster, exact_turns, progress, failing, sockets, kills):
+    for one in (no_calls, helps, faults, cluster_faults, bad_words, refused_logs, alone, cluster, exact_turns, progress, failing, sockets, kills):
         one(tally)
     beside(tally, (hosts, stops, noise, patience, manual_page, readme))
     second_start(tally)

@@ -1,6 +1,7 @@
 """dpbr as it is built: stored cases, words and files that are refused, listings at their limits."""
 import os
 import re
+import shutil
 import subprocess
 import tempfile
 import time
@@ -65,15 +66,91 @@ def manual_page(tally):
     tally.add("man/dpbr.1, its examples", f"{list(left)} are stored, and not shown" if left else "")
 
 
+def synopsis(page):
+    """What the synopsis of a manual page has of each subcommand: its arguments in order, and the options that have to stand and those
+    that may, of which it is said whether they have a value. Of two between which a bar is, either may stand."""
+    calls = {}
+    part = re.search(r"^\.Sh SYNOPSIS\n(.*?)^\.Sh ", page, re.DOTALL | re.MULTILINE)[1]
+    for call in re.split(r"^\.Nm\n", part, flags=re.MULTILINE)[1:]:
+        lines = call.split("\n")
+        options = [(name, bool(value), line.startswith(".Op") or "|" in line)
+                   for line in lines for name, value in re.findall(r"Fl -(\w+)( Ar \S+)?", line)]
+        calls[re.match(r"\.Cm (\w+)\n", call)[1]] = ([line[4:].upper() for line in lines if line.startswith(".Ar ")],
+                                                     {it[:2] for it in options if not it[2]}, {it[:2] for it in options if it[2]})
+    return calls
+
+
+def usage(text):
+    """The same of a subcommand, as the program tells it where help is asked for."""
+    line = re.search(r"^Usage: (.*)$", text, re.MULTILINE)[1]
+    option = r"--(\w+)( <[^>]*>)?"
+    needed = {(name, bool(value)) for name, value in re.findall(option, line)}
+    told = {(name, bool(value)) for name, value in re.findall(rf"^ +(?:-\w, )?{option}", text, re.MULTILINE)}
+    return re.findall(r"<(\w+)>", re.sub(option, "", line)), needed, told - needed - {("help", False)}
+
+
+def strange_numbers(page, text):
+    """The options of which a subcommand's help tells numbers that the page doesn't, or not what the page says they are if they aren't
+    given."""
+    strange = []
+    for name, told in re.findall(r"^ +--(\w+)(?: <[^>]*>)? +(.*)$", text, re.MULTILINE):
+        said = (re.search(rf"^\.It Fl -{name}\b.*?\n(.*?)^\.(?:It|El)", page, re.DOTALL | re.MULTILINE) or ["", ""])[1]
+        defaults = {f"[default: {it}" for it in re.findall(r"(\d+)(?: each)? where\s+it\s+isn't\s+given", said)}
+        if not set(re.findall(r"\d+", told)) <= set(re.findall(r"\d+", said)) or not all(it in told for it in defaults):
+            strange.append(name)
+    return strange
+
+
+def help_of(tally, name, ask):
+    """What a program tells where help is asked for is what its page has."""
+    page = contents(f"{TOP}/man/{name}.1").decode()
+    calls = synopsis(page)
+    _, error, status = ask(["--help"])
+    commands = re.findall(r"^  (\w+) ", error.decode().partition("Commands:")[2].partition("Options:")[0], re.MULTILINE)
+    wanted = sorted([*calls, "help"])
+    tally.add(f"{name} --help", "" if (sorted(commands), status) == (wanted, 2) else f"{commands}, not {wanted}; status {status}")
+    for command, call in calls.items():
+        out, error, status = ask([command, "--help"])
+        got = usage(error.decode()) if (out, status) == (b"", 2) else (out, error, status)
+        tally.add(f"{name} {command} --help", "" if got == call else f"it tells {got}, and man/{name}.1 has {call}")
+        strange = strange_numbers(page, error.decode())
+        tally.add(f"{name} {command} --help, its numbers", f"those of {strange} aren't the page's" if strange else "")
+
+
+def helps(tally):
+    help_of(tally, "dpbr", lambda words: answer(words, EXAMPLES))
+
+
+def readme(tally):
+    """The README's lines on files, each as it stands there, in a folder where it finds what it names: what they print is stored."""
+    text = contents(f"{TOP}/README.md").decode()
+    lines = re.findall(r"^    (\./dpbr status .*)$", text, re.MULTILINE)
+    lines += [it.strip() for it in re.search(r"^The others, and your own tree.*?\n\n(.*?)\n\n", text, re.DOTALL | re.MULTILINE)[1].split("\n")]
+    # what lines that begin so print, and tell on standard error
+    stored = {"./dpbr status": ("examples.stdout", ""), "./dpbr run": ("examples.run.stdout", ""), "./dpbr wayon": ("examples.wayon.stdout", ""),
+              "tools/expand-listing DUMP": ("expand/000/letters", "expand/000/stderr"),
+              "tools/why-ignored LISTING": ("ignored/the_example/stdout", "")}
+    begins = [" ".join(line.split()[:2]) for line in lines]
+    if begins != list(stored):
+        tally.add("README.md, its lines on files", f"{begins}, not {list(stored)}")
+        return
+    with tempfile.TemporaryDirectory() as folder:
+        for name, at in (("dpbr", PROGRAM), ("examples", EXAMPLES), ("tools", f"{TOP}/tools"), ("DUMP", f"{TESTS}/expand/000/dump")):
+            os.symlink(at, f"{folder}/{name}")
+        for line, begin in zip(lines, begins):
+            if begin == "tools/why-ignored LISTING":
+                shutil.copy(f"{TESTS}/ignored/the_example/listing", f"{folder}/LISTING")
+            done = subprocess.run(["sh", "-c", line], cwd=folder, stdin=subprocess.DEVNULL, capture_output=True, timeout=120)
+            out, error = (contents(f"{TESTS}/{it}") if it else b"" for it in stored[begin])
+            tally.add(f"README.md, {line}", difference((done.stdout, done.stderr, done.returncode), (out, error, 0)))
+
+
 def examples(tally):
-    """What the README shows."""
+    """What dpbr says of the examples, and of empty files; the README's lines on them are run as they stand there."""
     letters = contents(f"{TESTS}/examples.stdout")
     late = b"no: package 5: dependency not earlier\n"
-    ran = contents(f"{TESTS}/examples.run.stdout")
-    further = contents(f"{TESTS}/examples.wayon.stdout")
     for words, out, status in ((["status", "listing", "held"], letters, 0), (["audit", "listing", "list"], b"yes\n", 0),
-                               (["audit", "listing", "list.late"], late, 3), (["run", "listing", "trace"], ran, 0),
-                               (["wayon", "listing", "trace", "1", "devel/gettext", "4", "builds"], further, 0)):
+                               (["audit", "listing", "list.late"], late, 3)):
         tally.add(f"the example {' '.join(words)}", difference(answer(words, EXAMPLES), (out, b"", status)))
     for command, text in (("status", b"I=0 B=0 Q=0 T=0 !=0\n"), ("audit", b"yes\n")):
         got = answer([command, "/dev/null", "/dev/null"], EXAMPLES)
@@ -198,6 +275,8 @@ def run(tally):
     stored_cases(tally, STORED)
     manual_page(tally)
     examples(tally)
+    readme(tally)
+    helps(tally)
     no_calls(tally)
     faults(tally)
     limits(tally)

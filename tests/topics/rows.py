@@ -1,5 +1,6 @@
-"""Rows of clusters in memory: tests of a crate of their own, compiled from the sources as they are, before any proof. A proof of them
-would prove nothing of the program, and take the gate twenty minutes of a processor."""
+"""Rows of clusters in memory, and texts that are joined with a known build and without one: tests of crates of their own, compiled from
+the sources as they are, before any proof. A proof of them would prove nothing of the program, and take the gate twenty minutes of a
+processor."""
 import os
 import re
 import shutil
@@ -11,15 +12,22 @@ from topics.tally import TESTS, TOP
 ROWS = f"{TESTS}/rows"
 
 
-def laid(folder):
-    """The crates with those of rows beside them, in a repository of their own."""
+def stands_on(name):
+    """The line that says what the crate of rows stands on."""
+    with open(f"{ROWS}/crates") as file:
+        return next(line for line in file if line.startswith(f"{name}:"))
+
+
+def laid(folder, name):
+    """The crates with this one of rows beside them, in a repository of their own."""
     os.mkdir(f"{folder}/.git")
     shutil.copy(f"{TOP}/HANDLES", folder)
     shutil.copytree(f"{TOP}/crates", f"{folder}/crates", ignore=shutil.ignore_patterns("out", "must-fail"))
-    with open(f"{folder}/crates.txt", "w") as all_of_them:
-        for lines in (f"{TOP}/crates.txt", f"{ROWS}/crates"):
-            with open(lines) as file:
-                all_of_them.write(file.read())
+    with open(f"{TOP}/crates.txt") as file:
+        lines = file.read() + stands_on(name)
+    with open(f"{folder}/crates.txt", "w") as file:
+        file.write(lines)
+    lay_rows(f"{ROWS}/{name}", f"{folder}/crates/{name}")
 
 
 def lay_rows(crate, to):
@@ -41,8 +49,7 @@ def names_of_tests(crate):
 def run(tally):
     for name in sorted(it for it in os.listdir(ROWS) if os.path.isdir(f"{ROWS}/{it}")):
         with tempfile.TemporaryDirectory(prefix="dpbn-") as folder:
-            laid(folder)
-            lay_rows(f"{ROWS}/{name}", f"{folder}/crates/{name}")
+            laid(folder, name)
             done = subprocess.run(["rt", "try", "--test", "--seconds", "900"], cwd=f"{folder}/crates/{name}", stdin=subprocess.DEVNULL,
                                   stdout=subprocess.PIPE, stderr=subprocess.STDOUT, text=True, errors="replace")
             ended = dict(re.findall(r"^test (\S+) \.\.\. (\w+)", done.stdout, re.MULTILINE))

@@ -1,9 +1,10 @@
 """`dpbr wayon`: stored cases, words and files that are refused, each in its turn, and the largest builds.
 
 Which list of events is printed is free. So of a way is tested what has to hold of any: the members, weights and events of the
-trace that was given stand first; a bounded number of events is behind them, each the node's own claim or build or a datagram, none
-at a node that is down; and `dpbr run` takes all of them, and then one that asks the node for the path is refused, as it is held.
-Of a named case what is printed is known, too, where it is not long.
+trace that was given stand first; a bounded number of events is behind them, each the node's own claim for the path on the host, its
+own build of the files that are given for the unit's packages, or a datagram, none at a node that is down; and `dpbr run` takes the
+very bytes that were printed, and then one event more, that asks the node for the path, is refused, as it is held. Of a named case
+what is printed is known, too, where it is not long.
 """
 import json
 import os
@@ -11,6 +12,53 @@ import subprocess
 import tempfile
 
 from topics.tally import EXAMPLES, PROGRAM, TESTS, answer, contents, difference
+
+
+class Asked:
+    """What was asked for: the words of a call, in the folder of the files that they name."""
+
+    def __init__(self, words, folder):
+        self.flags = [word for word in words if word.startswith("--")]
+        _, listing, trace, node, path, host, builds = [word for word in words if not word.startswith("--")]
+        self.listing = f"{folder}/{listing}"
+        self.trace = json.loads(contents(f"{folder}/{trace}"))
+        self.node, self.path, self.host = int(node), canonical(path), int(host)
+        self.builds = {canonical(path): spelled(files) for path, files in json.loads(contents(f"{folder}/{builds}")).items()}
+
+    def given(self):
+        """The files that are given for each package of the unit that the path names."""
+        return {path: self.builds.get(path) for path in self.packages()}
+
+    def packages(self):
+        """The packages of that unit: with it in one group, and not ignored; the letters say which are."""
+        if "--single" in self.flags:
+            return [self.path]
+        lines = answer(["status", self.listing, "/dev/null"], TESTS)[0].decode().split("\n")[:-2]
+        listed = [canonical(line.split(" ")[1]) for line in lines if line[0] != "!"]
+        return [it for it in listed if without_subpackage(it) == without_subpackage(self.path)]
+
+
+def canonical(path):
+    """The one spelling of a package path: its flavors in order, each once, and then the subpackage."""
+    directory, *parts = path.split(",")
+    flavors = sorted({it for it in parts if it and not it.startswith("-")})
+    mark = [""] if "" in parts and not flavors else []
+    return ",".join([directory, *mark, *flavors, *(it for it in parts if it.startswith("-"))])
+
+
+def without_subpackage(path):
+    return path.partition(",-")[0]
+
+
+def spelled(files):
+    """Names and bytes of files, the digits in lower case."""
+    return [(file["name"], file["hex"].lower()) for file in files]
+
+
+def files_of(built):
+    """What was built of each package, by an event."""
+    packages = built.get("packages") or [{"files": built["files"], "path": built["path"]}]
+    return {it["path"]: spelled(it["files"]) for it in packages}
 
 
 def nodes_up(trace):
@@ -24,29 +72,46 @@ def nodes_up(trace):
     return up
 
 
-def form_problem(given, printed, most):
+def event_problem(event, asked, up):
+    """What keeps an event from being one of a way, if anything."""
+    if event["event"] not in ("claim", "built", "deliver"):
+        return "no way has such an event"
+    if not up[event["node"]]:
+        return "that node is down"
+    if event["event"] == "deliver":
+        return ""
+    if (event["node"], event["path"]) != (asked.node, asked.path):
+        return f"it is not node {asked.node}'s own for {asked.path}"
+    if event["event"] == "claim":
+        return "" if event["host"] == asked.host else f"it is not for host {asked.host}"
+    return "" if files_of(event) == asked.given() else f"it is not of the files that are given for {sorted(asked.given())}"
+
+
+def form_problem(asked, printed, most):
     """What is wrong with a trace that was printed behind the given one, which has at most so many events more."""
-    known = len(given["events"])
+    known = len(asked.trace["events"])
     way = printed["events"][known:]
-    if printed["events"][:known] != given["events"] or any(printed.get(it) != given.get(it) for it in ("members", "weights")):
+    if printed["events"][:known] != asked.trace["events"] or any(printed.get(it) != asked.trace.get(it) for it in ("members", "weights")):
         return "it does not begin with the trace that was given"
     if len(way) > most:
         return f"it has {len(way)} events more, and not {most} at most"
-    up = nodes_up(given)
-    wrong = [event for event in way if event["event"] not in ("claim", "built", "deliver") or not up[event["node"]]]
-    return f"{wrong[0]} is no event of a way, or at a node that is down" if wrong else ""
+    up = nodes_up(asked.trace)
+    wrong = [(event, event_problem(event, asked, up)) for event in way if event_problem(event, asked, up)]
+    return f"{str(wrong[0][0])[:200]}: {wrong[0][1]}" if wrong else ""
 
 
-def run_problem(printed, listing, node, path, flags):
-    """What is wrong with a trace as `dpbr run` has it: an event is refused, or the node doesn't hold the path in the end."""
-    asked = {**printed, "events": [*printed["events"], {"event": "ask", "node": node, "path": path}]}
-    held = f"dpbr: fault 904 at {len(asked['events'])}\n".encode()
+def run_problem(out, asked):
+    """What is wrong with a trace as `dpbr run` has its bytes: an event is refused, or the node doesn't hold the path in the end."""
+    events, end, outer = out.rpartition(b'],"members":')
+    question = json.dumps({"event": "ask", "node": asked.node, "path": asked.path}, separators=(",", ":")).encode()
+    held = f"dpbr: fault 904 at {len(json.loads(out)['events']) + 1}\n".encode()
     with tempfile.TemporaryDirectory() as folder:
-        for name, trace in (("printed", printed), ("asked", asked)):
-            with open(f"{folder}/{name}", "w") as file:
-                json.dump(trace, file)
-        ran = answer(["run", *flags, listing, "printed"], folder)
-        return difference((b"", *ran[1:]), (b"", b"", 0)) or difference(answer(["run", *flags, listing, "asked"], folder), (b"", held, 1))
+        for name, trace in (("printed", out), ("asked", b"".join((events, b",", question, end, outer)))):
+            with open(f"{folder}/{name}", "wb") as file:
+                file.write(trace)
+        words = ["run", *asked.flags, asked.listing]
+        ran = answer([*words, "printed"], folder)
+        return difference((b"", *ran[1:]), (b"", b"", 0)) or difference(answer([*words, "asked"], folder), (b"", held, 1))
 
 
 def way_problem(got, folder, words, most):
@@ -54,10 +119,10 @@ def way_problem(got, folder, words, most):
     out, error, status = got
     if (error, status) != (b"", 0) or out[-1:] != b"\n":
         return difference(got, (out, b"", 0)) or "no line feed is at its end"
-    flags = [word for word in words if word.startswith("--")]
-    _, listing, trace, node, path, _, _ = [word for word in words if not word.startswith("--")]
-    given, printed = json.loads(contents(f"{folder}/{trace}")), json.loads(out)
-    return form_problem(given, printed, most) or run_problem(printed, f"{folder}/{listing}", int(node), path, flags)
+    asked, printed = Asked(words, folder), json.loads(out)
+    if json.dumps(printed, separators=(",", ":")).encode() + b"\n" != out:
+        return "it is not written compactly"
+    return form_problem(asked, printed, most) or run_problem(out, asked)
 
 
 def case(tally, kind, name):

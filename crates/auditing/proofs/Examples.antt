@@ -5,8 +5,8 @@ use Rattle.std.specs.Prelude.{AllPairs, Any, Contains}
 use Rattle.std.specs.Str.{bytes_eq}
 use Rattle.std.proofs.lemmas.Bool.{false≢true, true≢false}
 use Rattle.std.proofs.lemmas.Option.{none-some}
-use Rattle.units.specs.Ignored.{AreTheIgnored, HoldsTheMarked, IsIgnored}
-use Rattle.units.specs.Units.{IsUnitOf, Unit, unit_with}
+use Rattle.engine.specs.Ignored.{AreTheIgnored, HoldsTheMarked, IsIgnored}
+use Rattle.engine.specs.Units.{IsUnitOf, Unit, unit_with}
 use Rattle.faults.specs.Bytes.{Text}
 use Rattle.claims.specs.declared.deps.Dep.{Dep}
 use Rattle.listing.specs.Tree.{Tree, build_at, is_marked_at, run_at}

@@ -4,8 +4,8 @@ use Rattle.std.specs.List.Sorted.{IsPermutation, IsSorted}
 use Rattle.std.specs.Ordering.{nat_cmp}
 use Rattle.claims.specs.declared.deps.Dep.{Dep}
 use Rattle.listing.specs.Tree.{IsTree, Tree, position_of}
-use Rattle.units.specs.Units.{IsUnitOf}
-use Rattle.units.proofs.WellMade.{well_made}
+use Rattle.engine.specs.Units.{IsUnitOf}
+use Rattle.engine.proofs.WellMade.{well_made}
 use Rattle.auditing.specs.Allowed.{AreItsDependencies}
 use Rattle.auditing.specs.inside.Standing.{AreNeeded}
 use Rattle.auditing.proofs.Built.{are_from_same, same_from_are}

@@ -4,11 +4,11 @@ use Rattle.std.proofs.lemmas.Option.{none-some}
 use Rattle.std.specs.Prelude.{List}
 use Rattle.claims.specs.declared.deps.Dep.{Dep}
 use Rattle.listing.specs.Tree.{Tree}
-use Rattle.units.specs.Division.{Division, IsDivision, number_of, unit_at}
-use Rattle.units.specs.Ignored.{IsIgnored}
-use Rattle.units.specs.Units.{IsUnitOf, Unit}
-use Rattle.units.proofs.Once.{one_unit}
-use Rattle.units.proofs.WellMade.{unit_unless}
+use Rattle.engine.specs.Division.{Division, IsDivision, number_of, unit_at}
+use Rattle.engine.specs.Ignored.{IsIgnored}
+use Rattle.engine.specs.Units.{IsUnitOf, Unit}
+use Rattle.engine.proofs.Once.{one_unit}
+use Rattle.engine.proofs.WellMade.{unit_unless}
 use Rattle.auditing.specs.Allowed.{AreItsDependencies, AreThese}
 
 -- its number tells the unit

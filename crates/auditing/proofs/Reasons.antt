@@ -4,7 +4,7 @@ use Rattle.std.specs.Prelude.{IfOk, MatchOption}
 use Rattle.claims.specs.declared.deps.Dep.{Dep}
 use Rattle.faults.specs.declared.Memory.{Memory}
 use Rattle.listing.specs.Tree.{Tree, name_at, position_of}
-use Rattle.units.specs.Ignored.{IsIgnored}
+use Rattle.engine.specs.Ignored.{IsIgnored}
 use Rattle.auditing.specs.Allowed.{AreItsDependencies, IsNew, MayFollow, StoodEarlier}
 use Rattle.auditing.specs.inside.Standing.{IsReasonInBuilt}
 use Rattle.auditing.specs.Verdicts.{IsFirstReason}

@@ -11,7 +11,7 @@ use Rattle.faults.specs.Bytes.{Text}
 use Rattle.program.specs.Listings.{IsDescribed, RefusesListingFile}
 use Rattle.program.specs.Refusals.{IsSystemRefusal}
 use Rattle.program.specs.declared.refusal.Refusal.{Refusal}
-use Rattle.units.specs.Division.{Division}
+use Rattle.engine.specs.Division.{Division}
 use Rattle.world.specs.Happening.{Leads}
 use Rattle.world.specs.World.{IsMade, World, start}
 

@@ -11,7 +11,7 @@ ghost use Rattle.dpbn_node.specs.Node.{socket_refusal};
 ghost use Rattle.events.specs.Events.{event_view};
 ghost use Rattle.program.specs.Refusals.{IsSystemRefusal, memory_refusal};
 ghost use Rattle.turns.specs.State.{IsWorldOf};
-ghost use Rattle.units.specs.Division.{Division};
+ghost use Rattle.engine.specs.Division.{Division};
 ghost use Rattle.world.specs.World.{World};
 
 use crate::turning::{lines_of, run};

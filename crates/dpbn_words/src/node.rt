@@ -44,7 +44,8 @@ fn base<'a>(alloc: Global) -> Arg<'a>
     ensures local { result.global ≡ false }
 {
     let range = value_parser!(u16).range(1024..=65_526);
-    option(alloc, "base", "PORT", "member K listens at PORT + K").value_parser(range)
+    let help = "member K listens at PORT + K: 1024 to 65526";
+    option(alloc, "base", "PORT", help).value_parser(range)
 }
 
 /// For how many milliseconds a turn waits for a datagram.
@@ -53,7 +54,8 @@ fn patience<'a>(alloc: Global) -> Arg<'a>
     ensures local { result.global ≡ false }
 {
     let range = value_parser!(u16).range(0..=60_000);
-    option(alloc, "patience", "MS", "how long a turn may wait").value_parser(range)
+    let help = "how long a turn may wait, 0 to 60000 [default: 20]";
+    option(alloc, "patience", "MS", help).value_parser(range)
 }
 
 /// The call with the values that were found, or the kind of fault in them.

@@ -39,7 +39,8 @@ fn with_counts<'a>(alloc: Global, command: Command<'a>) -> Result<Command<'a>, A
     ensures app { IfOk result (λ more. app_of more ≡ with_rules (app_of command.entry) counts) }
     ensures local { IfOk result (λ more. (fields_of more).has_globals ≡ false) }
 {
-    let weights = option(alloc, "weights", "W0,W1,..", "what each weighs: 1 to 100");
+    let weighs = "what each member weighs, 1 to 100 [default: 1 each]";
+    let weights = option(alloc, "weights", "W0,W1,..", weighs);
     with_options(command, members(alloc), turns(alloc), weights)?
         .arg(progress(alloc))?
         .arg(single(alloc))
@@ -51,7 +52,7 @@ fn members<'a>(alloc: Global) -> Arg<'a>
     ensures local { result.global ≡ false }
 {
     let range = value_parser!(u8).range(1..=9);
-    needed(alloc, "members", "N", "how many members there are").value_parser(range)
+    needed(alloc, "members", "N", "how many members there are, 1 to 9").value_parser(range)
 }
 
 /// How many turns are taken.
@@ -60,7 +61,8 @@ fn turns<'a>(alloc: Global) -> Arg<'a>
     ensures local { result.global ≡ false }
 {
     let range = value_parser!(u32).range(0..=1_000_000);
-    needed(alloc, "turns", "T", "how many turns are taken").value_parser(range)
+    let help = "how many turns are taken, 0 to 1000000";
+    needed(alloc, "turns", "T", help).value_parser(range)
 }
 
 /// After each how many turns the nodes' lines are told.
@@ -69,7 +71,8 @@ fn progress<'a>(alloc: Global) -> Arg<'a>
     ensures local { result.global ≡ false }
 {
     let range = value_parser!(u32).range(1..=1_000_000);
-    option(alloc, "progress", "N", "tell lines after each N turns").value_parser(range)
+    let help = "tell lines after each N turns, too [default: at the end alone]";
+    option(alloc, "progress", "N", help).value_parser(range)
 }
 
 /// The values that were found.

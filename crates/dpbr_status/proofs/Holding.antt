@@ -4,7 +4,7 @@ use Rattle.std.proofs.lemmas.Bool.{cases_lt}
 use Rattle.std.proofs.lemmas.List.{get_or-replicate, get_or_past, length-replicate, length-set}
 use Rattle.std.proofs.lemmas.List.Elements.{All-nil, All-push}
 use Rattle.std.proofs.lemmas.List.Quantifiers.{Any-push}
-use Rattle.units.specs.Ignored.{IsIgnored}
+use Rattle.engine.specs.Ignored.{IsIgnored}
 use Rattle.faults.specs.Bytes.{Text, is_empty}
 use Rattle.graph.specs.Marks.{has_mark}
 use Rattle.graph.proofs.Marked.{has_mark-same, marked_after, marked_before}

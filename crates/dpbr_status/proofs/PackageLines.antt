@@ -10,7 +10,7 @@ use Rattle.engine.specs.declared.Letter.{Letter}
 use Rattle.faults.specs.Bytes.{Text}
 use Rattle.listing.specs.Tree.{Package, name_at, no_package, package_at, path_at}
 use Rattle.dpbr_status.specs.Status.{package_line, package_lines}
-use Rattle.units.proofs.Lists.{range_next}
+use Rattle.engine.proofs.Lists.{range_next}
 
 -- the text has the lines of the packages below a position
 pub record HasLines (s : State) (p : ℕ) (text : Text) : Type 0 where

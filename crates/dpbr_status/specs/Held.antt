@@ -1,6 +1,6 @@
 -- What a text of held package paths, one a line, says of a tree.
 use Rattle.std.specs.Prelude.{◌≡◌, ◌<◌, ◌↔◌, ℕ, Bool, true, false, length, take, slice_get, All, Any, IsErr, Ok, Some}
-use Rattle.units.specs.Ignored.{IsIgnored}
+use Rattle.engine.specs.Ignored.{IsIgnored}
 use Rattle.faults.specs.Bytes.{Text, is_empty}
 use Rattle.listing.specs.Lines.{Line, lines_of}
 use Rattle.listing.specs.Tree.{Tree, path_at}

@@ -8,13 +8,13 @@ ghost use Rattle.dpbr_status.specs.HeldRefusals.{held_refusal, number_of, place_
 ghost use Rattle.dpbr_status.specs.declared.held.HeldFault.TheVariants.{Memory as OutOfMemory};
 
 use crate::pieces::pieces;
+use engine::Units;
 use faults::{Fault, WantOfMemory};
 use listing::Tree;
 use pkgpath::{PathFault, PkgPath};
 use program::Refusal;
 use std::alloc::Global;
 use thiserror::Error;
-use units::Units;
 
 /// Why a text is read as naming no packages that can be held: want of memory, or else its first
 /// faulty line, counted from 1.

@@ -5,7 +5,7 @@ ghost use Rattle.dpbr_status.specs.Status.{IsStatusOf, IsStatusText, letter_text
 ghost use Rattle.engine.specs.State.{has_agreed};
 
 use crate::held::{HeldFault, held_marks};
-use engine::Letter;
+use engine::{Letter, Units};
 use faults::Memory;
 use listing::Tree;
 use pkgname::PkgName;
@@ -13,7 +13,6 @@ use pkgpath::PkgPath;
 use program::counts_text;
 use snapshot::Snapshot;
 use std::alloc::Global;
-use units::Units;
 
 /// What is printed of a tree and a text of held package paths: for each package its letter, path
 /// and name, and then how many have each letter, a line each.

@@ -12,7 +12,7 @@ use Rattle.running.specs.History.{History, IsHistory, taken}
 use Rattle.traces.specs.Builds.{builds_of}
 use Rattle.traces.specs.Trace.{Trace, trace_of}
 use Rattle.traces.specs.Written.{trace_text}
-use Rattle.units.specs.Division.{Division, number_found, unit_at}
+use Rattle.engine.specs.Division.{Division, number_found, unit_at}
 use Rattle.way.specs.Asked.{IsGranted}
 use Rattle.way.specs.Laws.{HasWay}
 

@@ -9,8 +9,9 @@ ghost use Rattle.indexmap.specs.IndexMap.{get};
 ghost use Rattle.listing.specs.Tree.{path_at};
 ghost use Rattle.package_record.specs.Content.{NamedFile};
 ghost use Rattle.protocol.specs.Jobs.{files_for};
-ghost use Rattle.units.specs.Division.{number_found};
+ghost use Rattle.engine.specs.Division.{number_found};
 
+use engine::Units;
 use faults::Memory;
 use indexmap::IndexMap;
 use listing::Tree;
@@ -18,7 +19,6 @@ use package_record::Files;
 use pkgpath::PkgPath;
 use protocol::Packages;
 use std::alloc::Global;
-use units::Units;
 
 /// Of the files that are given, those of the unit that the path names, in its packages' order.
 pub(crate) fn handed_over(

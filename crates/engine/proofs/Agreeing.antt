@@ -4,7 +4,7 @@ use Rattle.std.proofs.lemmas.Bool.{both_ways, cases_Bool, cases_eq}
 use Rattle.std.proofs.lemmas.List.{get_or-set_other, get_or-set_same, length-map, length-set}
 use Rattle.std.specs.FinSet as finset
 use Rattle.listing.specs.Tree.{run_at}
-use Rattle.units.specs.Division.{Division, number_of}
+use Rattle.engine.specs.Division.{Division, number_of}
 use Rattle.engine.specs.State.{State}
 use Rattle.engine.specs.declared.Letter.{Letter}
 use Rattle.engine.specs.declared.Letter.TheVariants.{T, Q, B, I, Ignored}

@@ -2,11 +2,11 @@
 use Rattle.std.proofs.Common.{◌≡◌, ◌<◌, ℕ, None, Some, length, sym, ◌∙◌}
 use Rattle.std.proofs.lemmas.Bool.{both_ways, true_from_ne_false}
 use Rattle.std.proofs.lemmas.List.Quantifiers.{position-Some}
-use Rattle.units.specs.Division.{Division, IsDivision, no_unit, number_of, unit_at}
-use Rattle.units.specs.Ignored.{IsIgnored}
-use Rattle.units.specs.Units.{IsUnitOf, Unit, is_in}
-use Rattle.units.proofs.Lists.{in_contains}
-use Rattle.units.proofs.WellMade.{one_unit_has, unit_unless}
+use Rattle.engine.specs.Division.{Division, IsDivision, no_unit, number_of, unit_at}
+use Rattle.engine.specs.Ignored.{IsIgnored}
+use Rattle.engine.specs.Units.{IsUnitOf, Unit, is_in}
+use Rattle.engine.proofs.Lists.{in_contains}
+use Rattle.engine.proofs.WellMade.{one_unit_has, unit_unless}
 
 -- a package without a number is ignored
 pub unnumbered_ignored : (d : Division) (p : ℕ) → IsDivision d → p < length d.tree → number_of d p ≡ None → IsIgnored d.tree p

@@ -7,9 +7,9 @@ use Rattle.std.proofs.lemmas.List.Elements.{All-contains, Contains-get_or}
 use Rattle.std.proofs.lemmas.List.Sums.{get_or-le-sum_by, sum_by-cons}
 use Rattle.std.specs.List.{AllZip, range_with_len}
 use Rattle.listing.specs.Tree.{Tree, run_at}
-use Rattle.units.specs.Division.{Division, IsDivision, number_of, unit_at}
-use Rattle.units.specs.Units.{Unit}
-use Rattle.units.proofs.Once.{one_unit}
+use Rattle.engine.specs.Division.{Division, IsDivision, number_of, unit_at}
+use Rattle.engine.specs.Units.{Unit}
+use Rattle.engine.proofs.Once.{one_unit}
 use Rattle.engine.specs.Letters.{IsInstallable}
 use Rattle.engine.specs.State.{AreCounts, HasLetter, IsEngine, IsNextQueued, IsQueuedFrom, State, counts_of, has_agreed}
 use Rattle.engine.specs.declared.Letter.{Letter}

@@ -5,8 +5,8 @@ use Rattle.std.proofs.lemmas.List.{get_or-set_other, get_or-set_same}
 use Rattle.std.proofs.lemmas.List.Elements.{All-contains}
 use Rattle.std.proofs.lemmas.List.Sums.{count_by-le-length, sum_by-cons, sum_by-le-sum_by}
 use Rattle.listing.specs.Tree.{run_at}
-use Rattle.units.specs.Division.{Division}
-use Rattle.units.proofs.Dependents.{run_listed}
+use Rattle.engine.specs.Division.{Division}
+use Rattle.engine.proofs.Dependents.{run_listed}
 use Rattle.graph.specs.Lists.{list_at, one_if, times}
 use Rattle.graph.specs.Marks.{has_mark}
 use Rattle.graph.specs.Walked.{Walked}

@@ -3,9 +3,9 @@ use Rattle.std.proofs.Common.{◌≡◌, ◌⊎◌, ℕ, Bool, false, List, All,
 use Rattle.std.proofs.lemmas.Bool.{cases_Bool, cases_lt, true≢false}
 use Rattle.std.proofs.lemmas.List.Elements.{All-contains}
 use Rattle.listing.specs.Tree.{Tree}
-use Rattle.units.proofs.Once.{one_unit}
-use Rattle.units.specs.Ignored.{IsIgnored}
-use Rattle.units.specs.Units.{AreUnits, IsUnitOf, Unit, unit_with}
+use Rattle.engine.proofs.Once.{one_unit}
+use Rattle.engine.specs.Ignored.{IsIgnored}
+use Rattle.engine.specs.Units.{AreUnits, IsUnitOf, Unit, unit_with}
 use Rattle.engine.specs.Laws.{EachPackageHasALetter}
 use Rattle.engine.specs.Letters.{CanBeBuilt, IsInstallable, IsLetter}
 use Rattle.engine.specs.declared.Letter.{Letter}

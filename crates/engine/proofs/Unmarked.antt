@@ -2,9 +2,9 @@
 use Rattle.std.proofs.Common.{◌≡◌, ◌<◌, ℕ, Bool, All, refl, sym, ap, subst, ◌∙◌, length, [], ◌∷◌, true, false, arith}
 use mathlib.Core.Bool.{true≢false}
 use Rattle.listing.specs.Tree.{Tree, is_marked_at}
-use Rattle.units.proofs.Once.{one_unit}
-use Rattle.units.specs.Ignored.{IsIgnored}
-use Rattle.units.specs.Units.{IsUnitOf, Unit, unit_with}
+use Rattle.engine.proofs.Once.{one_unit}
+use Rattle.engine.specs.Ignored.{IsIgnored}
+use Rattle.engine.specs.Units.{IsUnitOf, Unit, unit_with}
 use Rattle.engine.specs.Letters.{CanBeBuilt, IsInstallable}
 
 -- nothing is ignored, or nothing is held

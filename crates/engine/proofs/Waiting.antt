@@ -6,15 +6,15 @@ use Rattle.std.proofs.lemmas.List.{get_or-set_other, get_or-set_same, length-set
 use Rattle.std.proofs.lemmas.List.Elements.{All-contains, Contains-get_or}
 use Rattle.std.proofs.lemmas.List.Sums.{sum_by-cons, sum_by-drop_more}
 use Rattle.std.proofs.lemmas.List.Quantifiers.{position-Some}
-use Rattle.units.specs.Division.{Division, no_unit, number_of, unit_at}
-use Rattle.units.specs.Units.{Unit, is_in}
-use Rattle.units.proofs.Lists.{in_contains}
+use Rattle.engine.specs.Division.{Division, no_unit, number_of, unit_at}
+use Rattle.engine.specs.Units.{Unit, is_in}
+use Rattle.engine.proofs.Lists.{in_contains}
 use Rattle.engine.specs.declared.Letter.{Letter}
 use Rattle.engine.specs.declared.Letter.TheVariants.{T, Q, B, I, Ignored}
 use Rattle.graph.specs.Lists.{one_if, times}
 use Rattle.engine.specs.inside.Queueing.{AreFitting, AreQueued, AreQueueing, FitsUnit, needs_of, waited_for}
 use Rattle.engine.specs.inside.Shown.{is_held, is_installed, letter_at}
-use Rattle.units.proofs.WellMade.{one_unit_has}
+use Rattle.engine.proofs.WellMade.{one_unit_has}
 
 -- ---- letters
 

@@ -1,4 +1,8 @@
+pub mod Division
+pub mod Ignored
 pub mod Laws
 pub mod Letters
 pub mod State
+pub mod UnitLaws
+pub mod Units
 pub mod inside

@@ -7,13 +7,12 @@ use crate::first::first_parts;
 use crate::letters::Letters;
 use crate::queueing::install_all;
 use crate::search::{Search, may_all_be_held};
-use crate::{Counts, Letter};
+use crate::{Counts, Letter, Units};
 use faults::Memory;
 use graph::Reversed;
 use listing::Tree;
 use std::alloc::Global;
 use std::marker::Model;
-use units::Units;
 
 /// Which packages of a tree are agreed, and what follows for the letters of all.
 #[derive(Drop)]

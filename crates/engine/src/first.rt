@@ -1,20 +1,19 @@
 //! What an engine keeps where nothing is held.
 ghost use Rattle.std.specs.Prelude.{◌≡◌, ◌<◌, ◌^◌, ℕ, IfOk, OnOk, false, length, slice_index};
 ghost use Rattle.listing.specs.Tree.{run_at};
-ghost use Rattle.units.specs.Division.{IsDivision};
+ghost use Rattle.engine.specs.Division.{IsDivision};
 ghost use Rattle.engine.specs.inside.Queueing.{AreFitting, FitsUnit, needs_of};
 ghost use Rattle.engine.specs.inside.Shown.{is_held};
 ghost use Rattle.engine.specs.inside.Keeping.{AreKept, holds};
 
-use crate::Letter;
 use crate::letters::Letters;
 use crate::search::Search;
 use crate::turned::turned_lists;
+use crate::{Letter, Units};
 use faults::Memory;
 use graph::Reversed;
 use listing::Tree;
 use std::alloc::Global;
-use units::Units;
 
 /// What an engine keeps beside the units where nothing is held: their waits and the letters, the
 /// turned lists of what builds and packages need, and the lacks with the room to search.

@@ -1,16 +1,22 @@
-//! The letters of a tree's packages, as more and more of them are agreed.
+//! Which packages of a tree are ignored, which of the others one build makes, and the letters of
+//! all of them, as more and more are agreed.
 #![tactic(auto)]
 
 mod counting;
 mod engine;
 mod first;
+mod gathering;
+mod ignored;
 mod lacks;
 mod laws;
 mod letters;
+mod making;
 mod queueing;
 mod row;
 mod search;
 mod turned;
+mod unit_laws;
+mod units;
 
 pub use crate::engine::Engine;
 pub use crate::laws::{
@@ -18,6 +24,11 @@ pub use crate::laws::{
     only_one_letter_applies, queued_together, run_closure_is_held, same_held_same_letters,
     stays_installable,
 };
+pub use crate::unit_laws::{
+    ignored_spreads, names_tell_units, only_one_division, paths_are_found, singles_stand_alone,
+    unit_unless_ignored, units_are_well_made,
+};
+pub use crate::units::Units;
 
 /// How far a package is, in the letters of dpb(1)'s status line. One letter applies, and only one.
 #[derive(Clone, Copy, Debug, PartialEq, Eq, Hash)]

@@ -5,10 +5,9 @@ ghost use Rattle.engine.specs.inside.Queueing.{AreFitting, AreQueued, AreQueuein
 ghost use Rattle.engine.specs.inside.Shown.{is_held, is_installed, letter_at};
 ghost use Rattle.engine.specs.declared.Letter.TheVariants.{T, Q, B, I};
 
-use crate::Letter;
 use crate::letters::Letters;
+use crate::{Letter, Units};
 use graph::Reversed;
-use units::Units;
 
 /// Shows those of the packages that wait as queued.
 fn queue(letters: &mut Letters, packages: &[u32])

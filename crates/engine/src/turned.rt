@@ -4,11 +4,11 @@ ghost use Rattle.graph.specs.Lists.{AreReversed};
 ghost use Rattle.listing.specs.Tree.{run_at};
 ghost use Rattle.engine.specs.inside.Queueing.{needs_of};
 
+use crate::Units;
 use faults::Memory;
 use graph::{Naming, Reversed};
 use listing::Tree;
 use std::alloc::Global;
-use units::Units;
 
 /// At each package the units whose build needs it, and the packages that need it to run.
 pub(crate) fn turned_lists(

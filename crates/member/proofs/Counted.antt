@@ -28,7 +28,7 @@ use Rattle.ballots.specs.declared.claimer.Next.TheVariants as next
 use Rattle.ballots.specs.declared.message.Body.{Body}
 use Rattle.ballots.specs.declared.message.Body.TheVariants as bodies
 use Rattle.claims.specs.Claim.{most_members}
-use Rattle.units.proofs.Names.{name_is_found}
+use Rattle.engine.proofs.Names.{name_is_found}
 use Rattle.protocol.specs.Answers.{answered, claim_then, everyone, job_then, message_of, note_at}
 use Rattle.protocol.specs.Answers.{others, sends_of}
 use Rattle.protocol.specs.InTheAgreement.{progress_of, view}

@@ -7,8 +7,8 @@ use Rattle.std.proofs.lemmas.List.Elements.{All-map, All-nil}
 use Rattle.agreement.specs.Member.{Facts, no_facts}
 use Rattle.ballots.specs.Weights.{AreWeights}
 use Rattle.ballots.specs.declared.message.Note.{Note}
-use Rattle.units.specs.Division.{Division, IsDivision, number_named, number_of}
-use Rattle.units.specs.Units.{positions}
+use Rattle.engine.specs.Division.{Division, IsDivision, number_named, number_of}
+use Rattle.engine.specs.Units.{positions}
 use Rattle.protocol.specs.State.{State, Value, fresh, holds_package, is_held_any}
 use Rattle.protocol.specs.Member.{IsMember}
 use Rattle.protocol.proofs.Known.{at_any}

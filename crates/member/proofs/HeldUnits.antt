@@ -16,11 +16,11 @@ use Rattle.ballots.specs.InTheAgreement.{note_of}
 use Rattle.ballots.specs.declared.message.Fact.{Fact}
 use Rattle.ballots.specs.declared.message.Fact.TheVariants.{Opened, Promised, Voted, Held}
 use Rattle.ballots.specs.declared.message.Note.{Note}
-use Rattle.units.specs.Division.{Division, IsDivision, no_unit, number_of, unit_at}
-use Rattle.units.specs.Units.{is_in, positions}
-use Rattle.units.proofs.Lists.{below_in, in_contains, in_kept, not_true, same_answers}
-use Rattle.units.proofs.Kept.{unit_listed}
-use Rattle.units.proofs.WellMade.{one_unit_has}
+use Rattle.engine.specs.Division.{Division, IsDivision, no_unit, number_of, unit_at}
+use Rattle.engine.specs.Units.{is_in, positions}
+use Rattle.engine.proofs.Lists.{below_in, in_contains, in_kept, not_true, same_answers}
+use Rattle.engine.proofs.Kept.{unit_listed}
+use Rattle.engine.proofs.WellMade.{one_unit_has}
 use Rattle.protocol.specs.State.{State, Value, holds_package, is_held_any, noted_at}
 use Rattle.member.specs.inside.Fields.{engine_with}
 use Rattle.member.specs.inside.Units.{agreed_too, is_held_fact, with_all}

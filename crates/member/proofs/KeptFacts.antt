@@ -11,8 +11,8 @@ use Rattle.agreement.specs.Member.{Facts, no_facts, noted}
 use Rattle.ballots.specs.InTheAgreement.{note_of}
 use Rattle.ballots.specs.declared.message.Fact.{Fact}
 use Rattle.ballots.specs.declared.message.Note.{Note}
-use Rattle.units.specs.Division.{Division, no_unit, number_named}
-use Rattle.units.specs.Units.{Unit}
+use Rattle.engine.specs.Division.{Division, no_unit, number_named}
+use Rattle.engine.specs.Units.{Unit}
 use Rattle.protocol.specs.State.{Value, noted_at}
 use Rattle.member.specs.inside.Fields.{facts_of_known}
 use Rattle.member.specs.declared.known.Known.{Known}

@@ -6,7 +6,7 @@ use Rattle.std.specs.List.{range_with_len}
 use Rattle.std.proofs.lemmas.List.{append-nil}
 use Rattle.std.proofs.lemmas.List.FromFn.{length-range_with_len}
 use Rattle.std.proofs.lemmas.List.Sums.{count_by-le-length, length-filter}
-use Rattle.units.proofs.Lists.{filter_next}
+use Rattle.engine.proofs.Lists.{filter_next}
 
 module _ (P : ℕ → Bool) (n : ℕ) (xs : List ℕ) (are : xs ≡ filter P (range_with_len 0 n)) where
   -- they are no more than there are numbers

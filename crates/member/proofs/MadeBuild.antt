@@ -19,7 +19,7 @@ use Rattle.package_record.specs.Making.{build_fault}
 use Rattle.package_record.specs.Packages.{AreOfOneGroup, contents_of}
 use Rattle.package_record.specs.declared.RecordFault.{RecordFault}
 use Rattle.package_record.specs.declared.build.Package.{Package}
-use Rattle.units.specs.Division.{unit_at}
+use Rattle.engine.specs.Division.{unit_at}
 use Rattle.protocol.specs.Given.{Given}
 use Rattle.protocol.specs.State.{OpenClaim, Progress, Gathering, Building, Voting, State, Value}
 use Rattle.protocol.specs.Member.{IsMember, claim_in}

@@ -10,9 +10,9 @@ use Rattle.std.proofs.lemmas.List.Sums.{fails_before_first}
 use Rattle.faults.specs.Answers.{option_or}
 use Rattle.faults.specs.Bytes.{Text}
 use Rattle.listing.specs.Tree.{position_of}
-use Rattle.units.specs.Division.{Division, no_unit, number_found, number_named, number_of, unit_at}
-use Rattle.units.specs.Units.{Unit}
-use Rattle.units.proofs.Places.{equal_bytes, same_bytes}
+use Rattle.engine.specs.Division.{Division, no_unit, number_found, number_named, number_of, unit_at}
+use Rattle.engine.specs.Units.{Unit}
+use Rattle.engine.proofs.Places.{equal_bytes, same_bytes}
 use Rattle.protocol.proofs.Asked.{unit_is_one}
 
 -- where nothing is found, nothing passes

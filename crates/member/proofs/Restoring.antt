@@ -6,7 +6,7 @@ use Rattle.std.proofs.lemmas.List.{length-map}
 use Rattle.std.proofs.lemmas.List.Sums.{fold-append}
 use Rattle.agreement.specs.Member.{Facts}
 use Rattle.ballots.specs.declared.message.Note.{Note}
-use Rattle.units.specs.Division.{Division}
+use Rattle.engine.specs.Division.{Division}
 use Rattle.protocol.specs.State.{State, Value, facts_then}
 use Rattle.protocol.specs.Member.{IsMember}
 use Rattle.protocol.specs.Restoring.{restored}

@@ -6,7 +6,7 @@ use Rattle.std.specs.Option.{ForSome}
 use Rattle.faults.specs.Answers.{option_or}
 use Rattle.agreement.specs.declared.claim.Claim.{Claim}
 use Rattle.claims.specs.Job.{Task}
-use Rattle.units.proofs.Kept.{unit_good}
+use Rattle.engine.proofs.Kept.{unit_good}
 use Rattle.protocol.specs.State.{OpenClaim, Progress, Gathering, Building, Voting, State, name_at}
 use Rattle.protocol.specs.State.{facts_then}
 use Rattle.protocol.specs.Answers.{Answer, after}

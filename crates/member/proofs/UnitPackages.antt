@@ -7,11 +7,11 @@ use Rattle.std.proofs.lemmas.Bool.{false≢true}
 use Rattle.std.proofs.lemmas.List.{take_more}
 use Rattle.std.proofs.lemmas.List.Sums.{fold-append}
 use Rattle.engine.specs.State as engine
-use Rattle.units.specs.Division.{Division, IsDivision, unit_at}
-use Rattle.units.specs.Ignored.{IsIgnored}
-use Rattle.units.specs.Units.{is_in}
-use Rattle.units.proofs.Lists.{in_at, in_contains}
-use Rattle.units.proofs.WellMade.{one_unit_has}
+use Rattle.engine.specs.Division.{Division, IsDivision, unit_at}
+use Rattle.engine.specs.Ignored.{IsIgnored}
+use Rattle.engine.specs.Units.{is_in}
+use Rattle.engine.proofs.Lists.{in_at, in_contains}
+use Rattle.engine.proofs.WellMade.{one_unit_has}
 use Rattle.member.specs.inside.Units.{agreed_too}
 
 -- none of them is ignored

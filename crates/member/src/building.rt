@@ -3,7 +3,7 @@ ghost use Rattle.std.specs.Prelude.{◌≡◌, ◌≢◌, ◌<◌, ◌⊎◌, If
 ghost use Rattle.std.specs.Prelude.{None, Some, false, is_some, length, map, true, ℕ};
 ghost use Rattle.claims.specs.Claim.{IsClaim};
 ghost use Rattle.faults.specs.Answers.{IsRightUnless};
-ghost use Rattle.units.specs.Division.{unit_at};
+ghost use Rattle.engine.specs.Division.{unit_at};
 ghost use Rattle.protocol.specs.Answers.{message_of};
 ghost use Rattle.protocol.specs.Sends.{sent_to};
 ghost use Rattle.protocol.specs.Jobs.{are_given, job_of, paths_at};

@@ -1,6 +1,6 @@
 //! What is noted becomes what is known.
 ghost use Rattle.std.specs.Prelude.{◌≡◌, ◌<◌, length, map};
-ghost use Rattle.units.specs.Division.{IsDivision, number_named, unit_at};
+ghost use Rattle.engine.specs.Division.{IsDivision, number_named, unit_at};
 ghost use Rattle.protocol.specs.State.{noted_at};
 ghost use Rattle.member.specs.inside.Fields.{engine_with, facts_of_known};
 ghost use Rattle.member.specs.inside.Units.{agreed_too, is_held_fact};
@@ -8,9 +8,8 @@ ghost use Rattle.member.specs.inside.Units.{agreed_too, is_held_fact};
 use crate::known::Known;
 use crate::naming::unit_named;
 use ballots::Fact;
-use engine::Engine;
+use engine::{Engine, Units};
 use pkgpath::PkgPath;
-use units::Units;
 
 /// Keeps the fact for the unit that has this name, and agrees its packages, if it is held then. A
 /// path that names no unit changes nothing. It takes no memory.

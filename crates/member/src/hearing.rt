@@ -77,7 +77,7 @@ impl<'a> Member<'a> {
     }
 
     /// Whether the body carries a build that may be kept. What comes again, behind a vote for it or
-    /// once the unit is held, is not.
+    /// once the unit is held, is not; nor is a report that is not greater than those that came.
     fn may_keep(&self, unit: u32, body: &Body) -> bool
         requires { unit < length self.now.division.units }
     {
@@ -88,22 +88,28 @@ impl<'a> Member<'a> {
                 Some((voted, _)) => voted != claim,
                 None => true,
             },
-            Body::Promise(claim, Some(_)) => self.gathers(unit, *claim),
+            Body::Promise(claim, Some((voted, _))) => self.keeps(unit, *claim, *voted),
             Body::Promise(_, None) | Body::Offer(_) | Body::Vote(_) | Body::Ask | Body::Nay(_, _) =>
                 false,
         }
     }
 
-    /// Whether the open claim is this one, for the unit, and waits for promises.
-    fn gathers(&self, unit: u32, claim: Claim) -> bool
-        requires { unit < length self.now.division.units }
-    {
-        match self.claim_for(unit) {
-            Some(open) => match &open.claimer {
-                Claimer::Gathering { claim: offered, .. } => *offered == claim,
-                _ => false,
+    /// Whether the open claim is this one, for the unit, and keeps the report of a vote under
+    /// `voted`: as long as promises come in, one that is greater than the report that it has.
+    fn keeps(&self, unit: u32, claim: Claim, voted: Claim) -> bool {
+        let Some(open) = self.claim_for(unit) else {
+            return false;
+        };
+        match &open.claimer {
+            Claimer::Gathering {
+                claim: offered,
+                report,
+                ..
+            } if *offered == claim => match report {
+                Some((kept, _)) => voted > *kept,
+                None => true,
             },
-            None => false,
+            _ => false,
         }
     }
 

@@ -11,12 +11,12 @@ use crate::known::Known;
 use crate::packages::{in_order, paths_of};
 use ballots::{Body, Claimer, Next};
 use claims::{Claim, Dep, Deps, Job};
+use engine::Units;
 use faults::Memory;
 use listing::Tree;
 use pkgpath::PkgPath;
 use protocol::Input;
 use std::alloc::Global;
-use units::Units;
 
 impl<'a> Member<'a> {
     /// Computes the digests that the job of the open claim needs and that are not kept yet, if the

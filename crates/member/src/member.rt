@@ -8,7 +8,7 @@ ghost use Rattle.std.specs.Option.{option_copied};
 ghost use Rattle.faults.specs.Answers.{map_ok};
 ghost use Rattle.agreement.specs.Votes.{report_of};
 ghost use Rattle.engine.specs.State as engines;
-ghost use Rattle.units.specs.Division.{IsDivision};
+ghost use Rattle.engine.specs.Division.{IsDivision};
 ghost use Rattle.protocol.specs.Answers.{after, tree_digest};
 ghost use Rattle.protocol.specs.Member.{IsMember};
 ghost use Rattle.protocol.specs.Restoring.{AreOnUnits, restored};
@@ -29,7 +29,7 @@ use crate::naming::unit_named;
 use crate::{OpenClaim, Step};
 use ballots::{Claimer, Note, Weights};
 use claims::{Claim, Job};
-use engine::{Counts, Engine, Letter};
+use engine::{Counts, Engine, Letter, Units};
 use faults::Memory;
 use listing::Tree;
 use package_record::{Build, Record};
@@ -37,7 +37,6 @@ use pkgpath::PkgPath;
 use protocol::{Input, Outcome, Refusal};
 use std::alloc::Global;
 use std::marker::Model;
-use units::Units;
 
 /// A member without a disk.
 #[derive(Drop)]

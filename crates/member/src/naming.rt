@@ -1,9 +1,9 @@
 //! How a path names a unit.
 ghost use Rattle.std.specs.Prelude.{◌≡◌};
-ghost use Rattle.units.specs.Division.{number_named};
+ghost use Rattle.engine.specs.Division.{number_named};
 
+use engine::Units;
 use pkgpath::PkgPath;
-use units::Units;
 
 /// The unit with this name, by which messages and notes go.
 pub(crate) fn unit_named(units: &Units<'_>, path: &PkgPath) -> Option<u32>

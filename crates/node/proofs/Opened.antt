@@ -14,9 +14,9 @@ use Rattle.stable_record.specs.Opening.{HasOneAnswer, Opens}
 use Rattle.stable_record.specs.declared.identity.Identity.{Identity}
 use Rattle.stable_record.specs.declared.log_fault.LogFault.{LogFault}
 use Rattle.stable_record.specs.declared.log_fault.LogFault.TheVariants as log
-use Rattle.units.proofs.Once.{one_division}
-use Rattle.units.specs.Division.{Division, IsDivision}
-use Rattle.units.specs.Units.{AreUnits}
+use Rattle.engine.proofs.Once.{one_division}
+use Rattle.engine.specs.Division.{Division, IsDivision}
+use Rattle.engine.specs.Units.{AreUnits}
 use Rattle.wire.specs.Pieces.{IsPiece}
 use Rattle.wire.specs.declared.datagram.Piece.{Piece}
 use Rattle.node.proofs.Sent.{notes_again}

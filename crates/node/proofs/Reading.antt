@@ -13,7 +13,7 @@ use Rattle.package_record.proofs.BuildsRead.{build_is_read}
 use Rattle.protocol.specs.Restoring.{AreOnUnits}
 use Rattle.protocol.specs.State.{Value}
 use Rattle.member.proofs.Named.{named_not, named_so}
-use Rattle.units.specs.Division.{Division, number_found, number_named, unit_at}
+use Rattle.engine.specs.Division.{Division, number_found, number_named, unit_at}
 use Rattle.wire.proofs.NoteTexts.{note_again}
 use Rattle.wire.specs.Messages.{IsNote}
 use Rattle.wire.specs.Reading.{note_of}

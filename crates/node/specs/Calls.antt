@@ -19,7 +19,7 @@ use Rattle.stable_record.specs.declared.log.Log as logs
 use Rattle.stable_record.specs.declared.log_fault.LogFault.{LogFault}
 use Rattle.stable_record.specs.declared.log_fault.LogFault.TheVariants as log
 use Rattle.stable_record.specs.Opening.{Opens}
-use Rattle.units.specs.Division.{Division, IsDivision}
+use Rattle.engine.specs.Division.{Division, IsDivision}
 use Rattle.wire.specs.Messages.{IsNote}
 use Rattle.wire.specs.Spelling.{note_text}
 

@@ -12,7 +12,7 @@ use Rattle.claims.specs.Claim.{IsClaim, IsRound, greatest_round}
 use Rattle.engine.specs.declared.Letter.{Letter}
 use Rattle.ballots.specs.Weights.{AreWeights}
 use Rattle.ballots.specs.declared.message.Note.{Note}
-use Rattle.units.specs.Division.{Division, IsDivision, number_named}
+use Rattle.engine.specs.Division.{Division, IsDivision, number_named}
 use Rattle.protocol.specs.Answers.{Answer}
 use Rattle.protocol.specs.Restoring.{AreOnUnits, restored}
 use Rattle.protocol.specs.Member.{IsMember}

@@ -7,7 +7,7 @@ use Rattle.protocol.specs.State.{State, Value, fresh}
 use Rattle.node.specs.Arrival.{AreLetThrough}
 use Rattle.node.specs.Ranges.{IsClaimOf}
 use Rattle.stable_record.specs.declared.log.Log.{Log}
-use Rattle.units.specs.Division.{Division}
+use Rattle.engine.specs.Division.{Division}
 use Rattle.wire.specs.Joining.{is_numbered}
 use Rattle.wire.specs.Messages.{IsNote}
 use Rattle.wire.specs.Pieces.{IsPiece}

@@ -69,8 +69,8 @@ fn has_with(pieces: &[Piece], piece: &Piece, number: u16) -> bool
 }
 
 /// A build that is known, and may be the one that a message with this header carries. It is shared
-/// with what comes, so it is none that was read from the log, where what comes would be kept with
-/// the tree's texts in its place.
+/// with what comes, which has its texts then. So a vote, which may have been read from the log with
+/// texts of its own, is given only where it stays; a build that is held stays in any case.
 pub(crate) fn known_build<'m>(member: &'m Member<'_>, header: &Header) -> Option<&'m Build> {
     match member.known_build(&header.path) {
         Some(build) => Some(build),

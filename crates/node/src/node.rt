@@ -17,7 +17,7 @@ ghost use Rattle.node.specs.Noted.{notes_in};
 use crate::noted::Noted;
 use ballots::Weights;
 use claims::Claim;
-use engine::{Counts, Letter};
+use engine::{Counts, Letter, Units};
 use listing::Tree;
 use member::{Member, OpenClaim};
 use package_record::{Build, Record};
@@ -26,7 +26,6 @@ use protocol::{Packages, Refusal};
 use stable_record::{Disk, Log};
 use std::alloc::Global;
 use std::marker::Model;
-use units::Units;
 use wire::Piece;
 
 /// A member over its log.

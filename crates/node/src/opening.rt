@@ -9,18 +9,18 @@ ghost use Rattle.stable_record.specs.Log.{gate_place, note_of};
 ghost use Rattle.stable_record.specs.Opening.{HasOneAnswer, Opens, OpensAsLeft};
 ghost use Rattle.node.specs.Calls.{AreNotes, IsOpenFault, IsOpened, IsUntouched, OpensAsOne};
 ghost use Rattle.node.specs.OnLog.{IsOnLog, identity, identity_of, texts_of};
-ghost use Rattle.units.specs.Division.{number_named};
+ghost use Rattle.engine.specs.Division.{number_named};
 ghost use Rattle.node.specs.inside.Opening.{IsNew, IsNoteFault, IsOver, IsReadBy, told_by, unread_by};
 
 use crate::noted::Noted;
 use crate::{Node, NodeFault};
 use arrayvec::ArrayVec;
 use ballots::{Note, Weights};
+use engine::Units;
 use listing::Tree;
 use member::Member;
 use stable_record::{Disk, Identity, Log, LogFault};
 use std::alloc::Global;
-use units::Units;
 use wire::{WireFault, decode_note};
 
 impl<'a, D: Disk> Node<'a, D> {

@@ -24,7 +24,7 @@ use Rattle.protocol.specs.State.{State, Value, facts_at}
 use Rattle.protocol.specs.Step as protocol
 use Rattle.protocol.specs.Step.{facts_named, facts_of_unit, outcome_of, unit_in}
 use Rattle.protocol.specs.declared.refusal.Refusal.{Refusal}
-use Rattle.units.specs.Division.{number_found}
+use Rattle.engine.specs.Division.{number_found}
 use Rattle.wire.specs.declared.datagram.Piece.{Piece}
 
 -- an offer leaves the greater of what was promised and of what was offered

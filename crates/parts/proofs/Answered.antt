@@ -28,8 +28,8 @@ use Rattle.protocol.specs.declared.input.Input.{Input}
 use Rattle.protocol.specs.declared.input.Input.TheVariants as inputs
 use Rattle.protocol.specs.declared.refusal.Refusal.{Refusal}
 use Rattle.protocol.specs.declared.refusal.Refusal.TheVariants as refusals
-use Rattle.units.proofs.Names.{name_is_found}
-use Rattle.units.specs.Division.{number_of}
+use Rattle.engine.proofs.Names.{name_is_found}
+use Rattle.engine.specs.Division.{number_of}
 use Rattle.listing.specs.Tree.{position_of}
 use Rattle.parts.specs.Readied.{IsReadied}
 use Rattle.parts.specs.declared.readied.Readied.{Readied}

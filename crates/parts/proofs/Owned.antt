@@ -4,7 +4,7 @@ use Rattle.std.proofs.lemmas.Bool.{cases_lt, cases_eq}
 use Rattle.choice.specs.Own.{Barred, IsFree, IsLeastFree, is_barred}
 use Rattle.engine.specs.State.{IsQueuedFrom}
 use Rattle.protocol.specs.State.{State, engine_of}
-use Rattle.units.specs.Division.{number_of}
+use Rattle.engine.specs.Division.{number_of}
 
 module _ (s : State) (barred : Barred) where
   -- none before this position is free

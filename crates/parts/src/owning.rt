@@ -5,7 +5,7 @@ ghost use Rattle.choice.specs.Own.{IsLeastFree, IsOwn, claim_of, is_barred, rene
 ghost use Rattle.choice.specs.Pending.{has_failed};
 ghost use Rattle.protocol.specs.State as members;
 ghost use Rattle.protocol.specs.declared.input.Input.{Input as Asks};
-ghost use Rattle.units.specs.Division.{number_of};
+ghost use Rattle.engine.specs.Division.{number_of};
 ghost use Rattle.parts.specs.Readied.{IsNoPart, IsPart};
 
 use crate::Readied;

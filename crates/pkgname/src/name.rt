@@ -15,8 +15,7 @@ ghost use Rattle.pkgname.specs.Pieces.{pieces_behind};
 
 use crate::bytes::{dash_before_version, has_name_bytes};
 use crate::{NameFault, Pieces, Version};
-use faults::{Memory, split_once};
-use shared_bytes::SharedBytes;
+use faults::{Memory, SharedBytes, split_once};
 use std::alloc::Global;
 use std::cmp::Ordering;
 use std::hash::{Hash, Hasher};

@@ -10,8 +10,7 @@ ghost use Rattle.pkgpath.specs.PkgPath.{IsPath, path_of, without_subpackage};
 
 use crate::PathFault;
 use crate::spelling::{canonical_text, len_without_subpackage};
-use faults::Memory;
-use shared_bytes::SharedBytes;
+use faults::{Memory, SharedBytes};
 use std::alloc::Global;
 use std::cmp::Ordering;
 use std::hash::{Hash, Hasher};

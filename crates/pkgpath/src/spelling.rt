@@ -12,8 +12,7 @@ use crate::PathFault;
 use crate::flavors::flavor_set;
 use crate::grammar::is_directory;
 use crate::parts::{Tally, count_parts};
-use faults::split_once;
-use shared_bytes::SharedBytes;
+use faults::{SharedBytes, split_once};
 use std::alloc::{AllocError, Global};
 
 /// The most bytes that the text of a path has.

@@ -27,7 +27,7 @@ use Rattle.ballots.specs.declared.message.Body.{Body}
 use Rattle.ballots.specs.declared.message.Body.TheVariants.{Offer, Promise, Propose, Vote, Agreed}
 use Rattle.ballots.specs.declared.message.Body.TheVariants.{Ask, Nay}
 use Rattle.ballots.specs.declared.message.Message.{Message}
-use Rattle.units.specs.Division.{number_named, unit_at}
+use Rattle.engine.specs.Division.{number_named, unit_at}
 use Rattle.protocol.specs.State.{OpenClaim, Progress, Gathering, Building, Voting, State, Value}
 use Rattle.protocol.specs.State.{facts_at, name_at}
 use Rattle.protocol.specs.InTheAgreement.{body_in, claim_of, members_in, progress_of, stage_of}
@@ -123,7 +123,7 @@ pub named_is : (s : State) (u : ℕ) (path : Text) → number_named s.division p
     → (u < length s.division.units) × (name_at s u ≡ path)
 named_is s u path e =
     let at = position-Some (λ x. bytes_eq x.name path) s.division.units u
-    Rattle.units.specs.Division.no_unit e in
+    Rattle.engine.specs.Division.no_unit e in
     (at.0, (bytes_eq-Decides (name_at s u) path).0 at.1)
 
 -- the sender is a member where the message says who it is

@@ -22,10 +22,10 @@ use Rattle.std.specs.List.{list_all, list_any}
 use Rattle.std.specs.Str.{bytes_eq}
 use Rattle.faults.specs.Answers.{option_or}
 use Rattle.faults.specs.Bytes.{Text}
-use Rattle.units.specs.Division.{no_unit, number_named, number_of}
-use Rattle.units.specs.Units.{is_in}
-use Rattle.units.proofs.Lists.{in_range}
-use Rattle.units.proofs.Names.{name_is_found}
+use Rattle.engine.specs.Division.{no_unit, number_named, number_of}
+use Rattle.engine.specs.Units.{is_in}
+use Rattle.engine.proofs.Lists.{in_range}
+use Rattle.engine.proofs.Names.{name_is_found}
 use Rattle.listing.specs.Tree.{position_of}
 use Rattle.protocol.specs.State.{OpenClaim, Progress, Gathering, Building, Voting, State, Value}
 use Rattle.protocol.specs.State.{name_at, unit_with}

@@ -6,9 +6,9 @@ use Rattle.agreement.specs.Votes.{Ballot}
 use Rattle.agreement.specs.Member.{Facts, no_facts}
 use Rattle.std.proofs.lemmas.Bool.{false≢true}
 use Rattle.listing.specs.Tree.{Tree, is_marked_at}
-use Rattle.units.specs.Division.{Division}
-use Rattle.units.specs.Ignored.{AreTheIgnored}
-use Rattle.units.specs.Units.{AreUnits}
+use Rattle.engine.specs.Division.{Division}
+use Rattle.engine.specs.Ignored.{AreTheIgnored}
+use Rattle.engine.specs.Units.{AreUnits}
 use Rattle.ballots.specs.declared.message.Body.{Body}
 use Rattle.ballots.specs.declared.message.Fact.{Fact}
 use Rattle.ballots.specs.declared.message.Note.{Note}

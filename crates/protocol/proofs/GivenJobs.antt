@@ -9,8 +9,8 @@ use Rattle.agreement.specs.declared.claim.Claim.{Claim}
 use Rattle.ballots.specs.InTheAgreement.{is_building}
 use Rattle.claims.specs.Job.{Task}
 use Rattle.engine.specs.declared.Letter.{Letter}
-use Rattle.units.specs.Division.{number_named}
-use Rattle.units.proofs.Kept.{unit_good}
+use Rattle.engine.specs.Division.{number_named}
+use Rattle.engine.proofs.Kept.{unit_good}
 use Rattle.protocol.specs.State.{OpenClaim, Progress, Gathering, Building, Voting, State, Value}
 use Rattle.protocol.specs.State.{name_at}
 use Rattle.protocol.specs.InTheAgreement.{progress_of, stage_of, view}

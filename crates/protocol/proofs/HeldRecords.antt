@@ -14,8 +14,8 @@ use Rattle.faults.proofs.Sets.{from_set}
 use Rattle.claims.specs.declared.deps.Dep.{Dep}
 use Rattle.listing.specs.Tree.{IsTree, path_at}
 use Rattle.package_record.specs.Content.{Content}
-use Rattle.units.specs.Division.{number_of, unit_at}
-use Rattle.units.proofs.Places.{has_position, same_bytes}
+use Rattle.engine.specs.Division.{number_of, unit_at}
+use Rattle.engine.proofs.Places.{has_position, same_bytes}
 use Rattle.protocol.specs.State.{State, Value, facts_at, held_record, holds_package, is_held_any}
 use Rattle.protocol.specs.State.{record_in, unit_with}
 use Rattle.protocol.specs.Answers.{Answer, after}

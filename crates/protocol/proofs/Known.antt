@@ -13,7 +13,7 @@ use Rattle.agreement.specs.Member.{Facts, first, greater, no_facts, noted}
 use Rattle.ballots.specs.InTheAgreement.{note_of}
 use Rattle.ballots.specs.Pledge.{HasPromised}
 use Rattle.ballots.specs.declared.message.Note.{Note}
-use Rattle.units.specs.Division.{Division, number_named, number_of}
+use Rattle.engine.specs.Division.{Division, number_named, number_of}
 use Rattle.protocol.specs.State.{State, Value, facts_at, facts_then, holds_package, is_held_any}
 use Rattle.protocol.specs.State.{noted_at}
 use Rattle.protocol.specs.Answers.{Answer, after}

@@ -33,9 +33,9 @@ use Rattle.package_record.specs.Laws.{CanBeMade}
 use Rattle.package_record.specs.Making.{build_fault}
 use Rattle.package_record.proofs.BuildsMade.{made_is_build}
 use Rattle.package_record.proofs.Digests.{sha256_bytes}
-use Rattle.units.specs.Division.{unit_at}
-use Rattle.units.specs.Laws.{IsWellMade}
-use Rattle.units.proofs.Kept.{all_listed, unit_good, unit_some}
+use Rattle.engine.specs.Division.{unit_at}
+use Rattle.engine.specs.UnitLaws.{IsWellMade}
+use Rattle.engine.proofs.Kept.{all_listed, unit_good, unit_some}
 use Rattle.protocol.specs.Given.{Given}
 use Rattle.protocol.specs.State.{State, Value, facts_at, held_record, name_at, record_in, unit_with}
 use Rattle.protocol.specs.Member.{IsMember}

@@ -17,7 +17,7 @@ use Rattle.faults.specs.Bytes.{Text}
 use Rattle.ballots.specs.InTheAgreement.{said}
 use Rattle.ballots.specs.Weights.{AreWeights, is_weight}
 use Rattle.ballots.specs.declared.message.Message.{Message}
-use Rattle.units.specs.Division.{number_named, unit_at}
+use Rattle.engine.specs.Division.{number_named, unit_at}
 use Rattle.protocol.specs.Given.{Given}
 use Rattle.protocol.specs.State.{OpenClaim, State, Value, facts_at, holds_package, is_held}
 use Rattle.protocol.specs.InTheAgreement.{view}

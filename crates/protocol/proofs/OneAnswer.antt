@@ -5,7 +5,7 @@ use Rattle.engine.specs.State.{has_agreed}
 use Rattle.engine.specs.declared.Letter.{Letter}
 use Rattle.engine.proofs.OneLetter.{only_one_letter}
 use Rattle.faults.specs.Bytes.{Text}
-use Rattle.units.specs.Division.{unit_at}
+use Rattle.engine.specs.Division.{unit_at}
 use Rattle.protocol.specs.State.{State, engine_of}
 use Rattle.protocol.specs.Laws.{OnlyOneAnswerIsRight}
 use Rattle.protocol.specs.Step.{IsLetterOf, at_unit, claims, stranger, unit_in}

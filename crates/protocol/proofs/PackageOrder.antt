@@ -20,11 +20,11 @@ use Rattle.faults.proofs.Sets.{set_rises}
 use Rattle.claims.specs.Deps.{is_ascending}
 use Rattle.listing.specs.Tree.{Tree, group_at, path_at, position_of}
 use Rattle.pkgpath.specs.PkgPath.{without_subpackage}
-use Rattle.units.specs.Division.{Division, IsDivision, unit_at}
-use Rattle.units.specs.Units.{made_with, positions}
-use Rattle.units.specs.Units as units
-use Rattle.units.proofs.Kept.{unit_good, unit_some}
-use Rattle.units.proofs.WellMade.{one_unit_has}
+use Rattle.engine.specs.Division.{Division, IsDivision, unit_at}
+use Rattle.engine.specs.Units.{made_with, positions}
+use Rattle.engine.specs.Units as units
+use Rattle.engine.proofs.Kept.{unit_good, unit_some}
+use Rattle.engine.proofs.WellMade.{one_unit_has}
 use Rattle.protocol.specs.Jobs.{in_order_of_path}
 
 -- ---- lists that ascend

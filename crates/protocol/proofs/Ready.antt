@@ -10,12 +10,12 @@ use Rattle.engine.specs.Letters.{IsInstallable}
 use Rattle.engine.specs.State.{has_agreed}
 use Rattle.engine.specs.declared.Letter.{Letter}
 use Rattle.engine.specs.declared.Letter.TheVariants as letters
-use Rattle.units.specs.Division.{number_of, unit_at}
-use Rattle.units.specs.Units.{IsUnitOf, is_in, positions}
-use Rattle.units.proofs.Kept.{unit_some}
-use Rattle.units.proofs.Lists.{in_kept}
-use Rattle.units.proofs.Once.{one_unit}
-use Rattle.units.proofs.WellMade.{one_unit_has}
+use Rattle.engine.specs.Division.{number_of, unit_at}
+use Rattle.engine.specs.Units.{IsUnitOf, is_in, positions}
+use Rattle.engine.proofs.Kept.{unit_some}
+use Rattle.engine.proofs.Lists.{in_kept}
+use Rattle.engine.proofs.Once.{one_unit}
+use Rattle.engine.proofs.WellMade.{one_unit_has}
 use Rattle.protocol.specs.State.{HasLetter, State, engine_of, holds_package, is_held, is_held_any}
 use Rattle.protocol.specs.Member.{IsMember}
 use Rattle.protocol.specs.Step.{is_waiting}

@@ -15,9 +15,9 @@ use Rattle.agreement.specs.Member as members
 use Rattle.agreement.specs.Member.{Facts, no_facts, noted}
 use Rattle.ballots.specs.InTheAgreement.{note_of}
 use Rattle.ballots.specs.declared.message.Note.{Note}
-use Rattle.units.specs.Division.{Division, IsDivision, no_unit, number_named, unit_at}
-use Rattle.units.proofs.Names.{name_is_found}
-use Rattle.units.proofs.Places.{equal_bytes, same_bytes}
+use Rattle.engine.specs.Division.{Division, IsDivision, no_unit, number_named, unit_at}
+use Rattle.engine.proofs.Names.{name_is_found}
+use Rattle.engine.proofs.Places.{equal_bytes, same_bytes}
 use Rattle.protocol.specs.State.{Value, facts_then, noted_at}
 use Rattle.protocol.specs.Laws.{NotesRestoreFacts}
 use Rattle.protocol.specs.Restoring.{AreOnUnits}

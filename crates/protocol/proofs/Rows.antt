@@ -8,7 +8,7 @@ use Rattle.ballots.specs.declared.message.Body.TheVariants.{Offer, Promise, Prop
 use Rattle.ballots.specs.declared.message.Body.TheVariants.{Nay}
 use Rattle.ballots.specs.declared.message.Fact.{Fact}
 use Rattle.ballots.specs.declared.message.Fact.TheVariants as fact
-use Rattle.units.specs.Division.{number_named}
+use Rattle.engine.specs.Division.{number_named}
 use Rattle.protocol.specs.State.{Gathering, Building, Voting, State, Value}
 use Rattle.protocol.specs.Jobs.{are_given, build_by, job_of}
 use Rattle.protocol.specs.Answers.{Answer, after}

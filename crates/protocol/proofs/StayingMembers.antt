@@ -16,8 +16,8 @@ use Rattle.agreement.specs.Step.{Outcome}
 use Rattle.agreement.specs.World.{put}
 use Rattle.agreement.specs.declared.claim.Claim.{Claim}
 use Rattle.claims.specs.Claim.{IsClaim}
-use Rattle.units.specs.Division.{unit_at}
-use Rattle.units.proofs.Names.{name_is_found}
+use Rattle.engine.specs.Division.{unit_at}
+use Rattle.engine.proofs.Names.{name_is_found}
 use Rattle.protocol.specs.State.{OpenClaim, Progress, Gathering, Building, Voting, State, Value}
 use Rattle.protocol.specs.State.{facts_at, holds_package}
 use Rattle.protocol.specs.InTheAgreement.{claim_of, members_in, progress_of, stage_of, view}

@@ -20,8 +20,8 @@ use Rattle.agreement.specs.Step.{Outcome}
 use Rattle.agreement.specs.World.{put}
 use Rattle.agreement.specs.Votes.{Ballot, report_of}
 use Rattle.ballots.specs.InTheAgreement.{note_of, said}
-use Rattle.units.specs.Division.{number_named}
-use Rattle.units.proofs.Lists.{in_range}
+use Rattle.engine.specs.Division.{number_named}
+use Rattle.engine.proofs.Lists.{in_range}
 use Rattle.protocol.specs.State.{OpenClaim, State, Value, facts_at, facts_then, name_at, noted_at}
 use Rattle.protocol.specs.InTheAgreement.{body_in, claim_of, fact_in, members_in, node_of, pair_of}
 use Rattle.protocol.specs.InTheAgreement.{progress_of}

@@ -20,7 +20,7 @@ use Rattle.ballots.specs.declared.message.Body.{Body}
 use Rattle.ballots.specs.declared.message.Body.TheVariants as bodies
 use Rattle.ballots.specs.declared.message.Message.{Message}
 use Rattle.engine.specs.declared.Letter.{Letter}
-use Rattle.units.specs.Division.{number_named}
+use Rattle.engine.specs.Division.{number_named}
 use Rattle.protocol.specs.Given.{Given}
 use Rattle.protocol.specs.State.{OpenClaim, Progress, Gathering, Building, Voting, State, Value}
 use Rattle.protocol.specs.InTheAgreement.{claim_of, progress_of, stage_of, view}

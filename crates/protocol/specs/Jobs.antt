@@ -11,7 +11,7 @@ use Rattle.claims.specs.Job.{Task}
 use Rattle.claims.specs.declared.deps.Dep.{Dep}
 use Rattle.listing.specs.Tree as trees
 use Rattle.listing.specs.Tree.{Tree, path_at, run_at}
-use Rattle.units.specs.Division.{unit_at}
+use Rattle.engine.specs.Division.{unit_at}
 use Rattle.package_record.specs.Content.{Content, NamedFile, record_text}
 use Rattle.protocol.specs.Given.{Given}
 use Rattle.protocol.specs.State.{State, Value, held_record, name_at}

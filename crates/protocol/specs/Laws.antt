@@ -18,7 +18,7 @@ use Rattle.listing.specs.Tree.{path_at}
 use Rattle.faults.specs.Pieces.{set_of}
 use Rattle.package_record.specs.Build.{IsBuild, unit_path}
 use Rattle.package_record.specs.Making.{build_fault}
-use Rattle.units.specs.Division.{Division, IsDivision, number_named, unit_at}
+use Rattle.engine.specs.Division.{Division, IsDivision, number_named, unit_at}
 use Rattle.ballots.specs.InTheAgreement.{note_of, said}
 use Rattle.ballots.specs.Weights.{AreWeights}
 use Rattle.ballots.specs.declared.message.Body.TheVariants.{Promise}

@@ -4,7 +4,7 @@ use Rattle.std.specs.Option.{ForSome}
 use Rattle.agreement.specs.Quorums.{is_majority, named_in}
 use Rattle.agreement.specs.declared.claim.Claim.{Claim}
 use Rattle.claims.specs.Claim.{IsClaim}
-use Rattle.units.specs.Division.{IsDivision, unit_at}
+use Rattle.engine.specs.Division.{IsDivision, unit_at}
 use Rattle.ballots.specs.Pledge.{HasPromised}
 use Rattle.ballots.specs.Weights.{AreWeights}
 use Rattle.protocol.specs.State.{OpenClaim, Progress, Gathering, Building, Voting, State, facts_at}

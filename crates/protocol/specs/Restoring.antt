@@ -1,7 +1,7 @@
 -- What a member's notes give back.
 use Rattle.std.specs.Prelude.{◌≡◌, ℕ, List, All, fold, None, Some}
 use Rattle.ballots.specs.declared.message.Note.{Note}
-use Rattle.units.specs.Division.{Division, number_named}
+use Rattle.engine.specs.Division.{Division, number_named}
 use Rattle.protocol.specs.State.{State, Value, facts_then}
 
 -- the member once it noted these too, the first note first; no claim is open then

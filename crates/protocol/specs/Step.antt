@@ -17,7 +17,7 @@ use Rattle.claims.specs.Claim.{greatest_round}
 use Rattle.claims.specs.Job.{Task}
 use Rattle.engine.specs.declared.Letter.{Letter}
 use Rattle.engine.specs.declared.Letter.TheVariants as letters
-use Rattle.units.specs.Division.{number_found, number_named}
+use Rattle.engine.specs.Division.{number_found, number_named}
 use Rattle.listing.specs.Tree.{position_of}
 use Rattle.package_record.specs.Making.{build_fault}
 use Rattle.ballots.specs.InTheAgreement.{said}

@@ -10,7 +10,7 @@ use Rattle.protocol.specs.State.{Value}
 use Rattle.stable_record.specs.Opening.{Opens}
 use Rattle.stable_record.specs.declared.identity.Identity.{Identity}
 use Rattle.stable_record.specs.declared.mem_disk.MemDisk.{MemDisk}
-use Rattle.units.specs.Division.{Division, IsDivision}
+use Rattle.engine.specs.Division.{Division, IsDivision}
 use Rattle.world.specs.World.{World, fresh_node, node_at, start, up_node}
 use Rattle.running.specs.declared.placed.Placed.{Placed}
 use Rattle.running.specs.declared.placed.Placed.TheVariants.{Up, Down}

@@ -12,7 +12,7 @@ use Rattle.datagrams.proofs.Entering as datagrams
 use Rattle.indexmap.specs.IndexSet.{insert_key}
 use Rattle.package_record.specs.Build.{IsBuild, paths_of, unit_path}
 use Rattle.package_record.specs.Content.{Content}
-use Rattle.units.proofs.Places.{same_bytes}
+use Rattle.engine.proofs.Places.{same_bytes}
 use Rattle.world.proofs.Distinct.{build_paths_differ}
 use Rattle.world.specs.Lists.{has_path}
 use Rattle.running.specs.declared.posted.Posted.{Posted}

@@ -1,11 +1,11 @@
 -- What follows for a world from the events that led to it.
 use Rattle.std.proofs.Common.{◌≡◌, [], ◌∷◌, ◌++◌, refl, subst, sym}
 use Rattle.events.specs.Events.{Event}
-use Rattle.headline.proofs.OneList.{each_has_one_list, each_run_is_acts}
-use Rattle.headline.proofs.Runs.{always_alike}
-use Rattle.headline.specs.Laws.{IsSafe}
+use Rattle.world.proofs.OneList.{each_has_one_list, each_run_is_acts}
+use Rattle.world.proofs.Runs.{always_alike}
+use Rattle.world.specs.MatchingLaws.{IsSafe}
 use Rattle.package_record.proofs.BuildsRead.{build_is_read}
-use Rattle.units.specs.Division.{Division}
+use Rattle.engine.specs.Division.{Division}
 use Rattle.world.proofs.Growing.{event_later}
 use Rattle.world.proofs.Leading.{leads_together}
 use Rattle.world.specs.Happening.{Happens, Leads}

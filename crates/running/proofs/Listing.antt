@@ -24,21 +24,21 @@ use Rattle.claims.specs.Claim.{IsClaim}
 use Rattle.events.specs.Events as events
 use Rattle.events.specs.Events.{Event, is_step}
 use Rattle.events.specs.Events.{node_of as whose}
-use Rattle.headline.specs.Local.{AreLocal}
-use Rattle.headline.specs.Matches.{Matches, log_of, name_of, node_of, packages_of}
-use Rattle.headline.specs.Mirrored.{after_all_acts, with_act}
-use Rattle.headline.proofs.Doing.{Acted, IsAct, IsDone, act, matches_then, new, stepped, world}
-use Rattle.headline.proofs.Headers.{in_order}
-use Rattle.headline.proofs.Hearing.{delivery_is_act}
-use Rattle.headline.proofs.Hosting.{set_there}
-use Rattle.headline.proofs.Inputs.{ask_is_act, claim_is_act, failed_is_act, nudged_is_act}
-use Rattle.headline.proofs.Logs.{noted_is_on_log}
-use Rattle.headline.proofs.Making.{build_is_act}
-use Rattle.headline.proofs.OneList.{each_run_is_acts}
-use Rattle.headline.proofs.Safe.{ballot_noted, majority_within}
-use Rattle.headline.proofs.Said.{has_preimage}
-use Rattle.headline.proofs.Speaking.{sent_more, text_comes, text_goes}
-use Rattle.headline.proofs.VoteTexts.{is_that_vote}
+use Rattle.world.specs.Local.{AreLocal}
+use Rattle.world.specs.Matches.{Matches, log_of, name_of, node_of, packages_of}
+use Rattle.world.specs.Mirrored.{after_all_acts, with_act}
+use Rattle.world.proofs.Doing.{Acted, IsAct, IsDone, act, matches_then, new, stepped, world}
+use Rattle.world.proofs.Headers.{in_order}
+use Rattle.world.proofs.Hearing.{delivery_is_act}
+use Rattle.world.proofs.Hosting.{set_there}
+use Rattle.world.proofs.Inputs.{ask_is_act, claim_is_act, failed_is_act, nudged_is_act}
+use Rattle.world.proofs.Logs.{noted_is_on_log}
+use Rattle.world.proofs.Making.{build_is_act}
+use Rattle.world.proofs.OneList.{each_run_is_acts}
+use Rattle.world.proofs.Safe.{ballot_noted, majority_within}
+use Rattle.world.proofs.Said.{has_preimage}
+use Rattle.world.proofs.Speaking.{sent_more, text_comes, text_goes}
+use Rattle.world.proofs.VoteTexts.{is_that_vote}
 use Rattle.node.specs.Parcels.{datagrams_of}
 use Rattle.node.specs.State.{with_note}
 use Rattle.node.specs.Step.{ReadyStep, Taken, after, answer_then, nothing, taken_by}
@@ -50,9 +50,9 @@ use Rattle.protocol.specs.Laws.{Says}
 use Rattle.protocol.specs.State.{State, Value}
 use Rattle.protocol.specs.Step.{facts_of_unit}
 use Rattle.protocol.specs.declared.sends.Send.{Send}
-use Rattle.units.specs.Division.{number_found, number_of}
-use Rattle.units.proofs.Lists.{same_answers}
-use Rattle.units.proofs.Names.{name_is_found}
+use Rattle.engine.specs.Division.{number_found, number_of}
+use Rattle.engine.proofs.Lists.{same_answers}
+use Rattle.engine.proofs.Names.{name_is_found}
 use Rattle.wire.specs.Messages.{IsBody, IsMessage}
 use Rattle.wire.specs.Pieces.{split_of}
 use Rattle.wire.specs.Spelling.{datagram_text}

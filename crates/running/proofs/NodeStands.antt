@@ -3,7 +3,7 @@ use Rattle.std.proofs.Common.{◌≡◌, ℕ, List, [], ◌∷◌, ◌++◌, ◌
 use Rattle.std.proofs.lemmas.List.{drop_all, drop_at}
 use Rattle.faults.specs.Bytes.{Text}
 use Rattle.ballots.specs.declared.message.Note.{Note}
-use Rattle.headline.proofs.Hosting.{after_stands, full_here, full_of_lack, full_there, lack_of_full, whose}
+use Rattle.world.proofs.Hosting.{after_stands, full_here, full_of_lack, full_there, lack_of_full, whose}
 use Rattle.node.specs.OnLog.{IsFull, IsOnLog, LacksRoom, identity, identity_of, texts_of}
 use Rattle.node.specs.State.{LoggedNode, NodeState}
 use Rattle.node.specs.Step.{Taken, after}

@@ -17,7 +17,7 @@ use Rattle.stable_record.specs.Log.{HasNotes}
 use Rattle.stable_record.specs.Opening.{no_more_than_a_gate}
 use Rattle.stable_record.specs.declared.log_fault.LogFault.{LogFault}
 use Rattle.stable_record.specs.declared.log_fault.LogFault.TheVariants as log
-use Rattle.units.specs.Division.{Division, IsDivision, number_named}
+use Rattle.engine.specs.Division.{Division, IsDivision, number_named}
 use Rattle.wire.specs.Messages.{IsNote}
 use Rattle.running.specs.inside.Opening.{HasNode, HasUnits}
 

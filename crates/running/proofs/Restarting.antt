@@ -8,9 +8,9 @@ use Rattle.std.proofs.lemmas.Option.{slice_get_within}
 use Rattle.faults.specs.Bytes.{Text}
 use Rattle.ballots.specs.declared.message.Note.{Note}
 use Rattle.events.specs.Events as events
-use Rattle.headline.proofs.Headers.{some_same}
-use Rattle.headline.proofs.OneList.{each_run_is_acts}
-use Rattle.headline.specs.Local.{AreLocal, IsOfUnit}
+use Rattle.world.proofs.Headers.{some_same}
+use Rattle.world.proofs.OneList.{each_run_is_acts}
+use Rattle.world.specs.Local.{AreLocal, IsOfUnit}
 use Rattle.listing.specs.Tree.{Tree}
 use Rattle.node.proofs.Opened.{one_way}
 use Rattle.node.proofs.Sent.{notes_again}
@@ -23,7 +23,7 @@ use Rattle.stable_record.specs.Opening.{Opens}
 use Rattle.stable_record.specs.declared.identity.Identity.{Identity}
 use Rattle.stable_record.specs.declared.log_fault.LogFault.{LogFault}
 use Rattle.stable_record.specs.declared.mem_disk.MemDisk.{MemDisk}
-use Rattle.units.specs.Division.{Division, number_named}
+use Rattle.engine.specs.Division.{Division, number_named}
 use Rattle.wire.specs.Messages.{IsNote}
 use Rattle.world.proofs.Growing.{leads_later}
 use Rattle.world.specs.Happening.{Restarts, fault_before, is_up, up_of}

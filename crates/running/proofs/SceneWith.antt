@@ -8,7 +8,7 @@ use Rattle.protocol.specs.Restoring.{restored}
 use Rattle.protocol.specs.State.{fresh}
 use Rattle.stable_record.specs.Log.{log_file}
 use Rattle.stable_record.specs.declared.identity.Identity.{Identity}
-use Rattle.units.specs.Division.{Division}
+use Rattle.engine.specs.Division.{Division}
 use Rattle.world.specs.World.{World, node_at, up_node, with_node}
 use Rattle.running.specs.declared.placed.Placed.{Placed}
 use Rattle.running.specs.declared.placed.Placed.TheVariants.{Down, Up}

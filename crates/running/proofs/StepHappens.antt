@@ -9,8 +9,8 @@ use Rattle.events.specs.Events as events
 use Rattle.events.specs.Events.{Event, event_view, is_step}
 use Rattle.events.specs.declared.event.Event as declared
 use Rattle.faults.specs.Bytes.{Text}
-use Rattle.headline.proofs.ByStep.{by_step, note_answered, sends_answered}
-use Rattle.headline.proofs.Hosting.{IsHosted, acts_there, refused_there, runs}
+use Rattle.world.proofs.ByStep.{by_step, note_answered, sends_answered}
+use Rattle.world.proofs.Hosting.{IsHosted, acts_there, refused_there, runs}
 use Rattle.node.specs.Calls.{left_by}
 use Rattle.node.specs.OnLog.{IsOnLog, LacksRoom}
 use Rattle.node.specs.State.{LoggedNode, NodeState}

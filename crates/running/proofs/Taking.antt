@@ -3,7 +3,7 @@ use Rattle.std.proofs.Common.{◌≡◌, ◌⊎◌, inl, inr, ℕ, List, Option,
 use Rattle.faults.specs.Bytes.{Text}
 use Rattle.events.specs.Events.{Event}
 use Rattle.ballots.specs.declared.message.Note.{Note}
-use Rattle.headline.proofs.ByStep.{IsByStep, member_left, notes_left}
+use Rattle.world.proofs.ByStep.{IsByStep, member_left, notes_left}
 use Rattle.node.proofs.Finishing.{note_is}
 use Rattle.node.specs.Calls.{IsLogCause, left_by}
 use Rattle.node.specs.OnLog.{IsOnLog, LacksRoom, identity_of, texts_of}

@@ -6,8 +6,8 @@ use Rattle.agreement.specs.Quorums.{Members, is_majority, named_in, with_member}
 use Rattle.agreement.proofs.Majorities.{named_more}
 use Rattle.ballots.specs.Support.{Support, joined_by, named_with, set_of}
 use Rattle.faults.specs.Bytes.{Text, is_among}
-use Rattle.headline.proofs.Safe.{majority_within}
-use Rattle.units.proofs.Places.{equal_bytes, same_bytes}
+use Rattle.world.proofs.Safe.{majority_within}
+use Rattle.engine.proofs.Places.{equal_bytes, same_bytes}
 use Rattle.running.specs.inside.Deciding.{makes_majority, sender_place}
 
 -- ---- tests

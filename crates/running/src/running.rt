@@ -19,7 +19,7 @@ ghost use Rattle.world.specs.World.{member_at, node_at, start};
 use crate::scene::Scene;
 use ballots::Weights;
 use datagrams::DatagramBytes;
-use engine::{Counts, Letter};
+use engine::{Counts, Letter, Units};
 use events::Event;
 use faults::Memory;
 use indexmap::IndexSet;
@@ -30,7 +30,6 @@ use pkgpath::PkgPath;
 use stable_record::MemDisk;
 use std::alloc::Global;
 use std::marker::Model;
-use units::Units;
 
 /// Nodes on disks in memory, the datagrams that they sent, and the list of what is agreed.
 #[derive(Drop)]

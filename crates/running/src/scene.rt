@@ -13,13 +13,13 @@ use crate::opening::opened;
 use crate::placed::Placed;
 use crate::posted::Posted;
 use ballots::Weights;
+use engine::Units;
 use events::Event;
 use faults::Memory;
 use listing::Tree;
 use node::Node;
 use stable_record::MemDisk;
 use std::alloc::Global;
-use units::Units;
 use world::WorldFault;
 
 /// What stands of a world: its tree, what members weigh, their nodes, and what was sent and agreed.

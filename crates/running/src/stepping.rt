@@ -1,7 +1,7 @@
 //! The steps of a world.
 ghost use Rattle.std.specs.Prelude.{◌≡◌, ◌++◌, ◌∷◌, ◌⊎◌, [], IfErr, None, OnErr, OnOk, true};
 ghost use Rattle.events.specs.Events.{event_view, is_step};
-ghost use Rattle.headline.specs.Laws.{IsSafe};
+ghost use Rattle.world.specs.MatchingLaws.{IsSafe};
 ghost use Rattle.node.specs.OnLog.{IsOnLog, LacksRoom};
 ghost use Rattle.node.specs.Step.{IsReadyFor, note_in, sends_in};
 ghost use Rattle.stable_record.specs.InMemory.{mem_history};

@@ -6,9 +6,9 @@ use Rattle.std.proofs.lemmas.List.Elements.{All-contains}
 use Rattle.graph.specs.Marks.{has_mark}
 use Rattle.listing.specs.Tree.{IsTree, Tree}
 use Rattle.std.specs.List.{AllZip, range_with_len}
-use Rattle.units.specs.Division.{Division, IsDivision, number_of, unit_at}
-use Rattle.units.specs.Units.{Unit}
-use Rattle.units.proofs.Once.{one_unit}
+use Rattle.engine.specs.Division.{Division, IsDivision, number_of, unit_at}
+use Rattle.engine.specs.Units.{Unit}
+use Rattle.engine.proofs.Once.{one_unit}
 use Rattle.engine.specs.Letters.{IsInstallable, IsLetter}
 use Rattle.engine.specs.State.{AreCounts, HasLetter, counts_of, has_agreed}
 use Rattle.engine.specs.declared.Letter.{Letter}

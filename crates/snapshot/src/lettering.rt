@@ -7,11 +7,10 @@ ghost use Rattle.snapshot.specs.inside.Keeping.{AreLettersOf};
 ghost use Rattle.snapshot.specs.inside.Lacking.{AreLacking};
 
 use crate::lacking::lacking_marks;
-use engine::Letter;
+use engine::{Letter, Units};
 use faults::Memory;
 use listing::Tree;
 use std::alloc::Global;
-use units::Units;
 
 /// The letters of all packages, by position.
 pub(crate) fn letters_of(

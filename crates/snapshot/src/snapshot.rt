@@ -5,12 +5,11 @@ ghost use Rattle.graph.specs.Marks.{has_mark};
 
 use crate::counting::counts_of;
 use crate::lettering::letters_of;
-use engine::{Counts, Letter};
+use engine::{Counts, Letter, Units};
 use faults::Memory;
 use listing::Tree;
 use std::alloc::Global;
 use std::marker::Model;
-use units::Units;
 
 /// The letters of a tree's packages where some of them are held. It is made at once and stays as it
 /// is: where packages come to be held one by one, an `Engine` tells their letters.

@@ -1,5 +1,5 @@
 -- Paths are text.
-use Rattle.std.proofs.Common.{◌≡◌, ℕ, zero, suc, ◌<◌, ◌≤◌, [], ◌∷◌, false, eqb, refl, arith, inl, inr, rules}
+use Rattle.std.proofs.Common.{◌≡◌, ℕ, zero, suc, ◌<◌, ◌≤◌, [], ◌∷◌, false, eqb, IsUtf8, refl, arith, inl, inr, rules}
 use Rattle.std.proofs.lemmas.Bool.{cases_lt, eqb-false, lt-leb, ne_eqb, or_parts}
 use Rattle.std.proofs.lemmas.Str.{IsUtf8-from_ascii, utf8_lossy-IsUtf8}
 use Rattle.std.proofs.lemmas.Str.Ascii.{IsAscii-nil}
@@ -21,8 +21,12 @@ all_ascii (b ∷ bs) none (suc i) = all_ascii bs (λ c above. (or_parts (eqb b c
 no_path_byte : (c : ℕ) → 128 ≤ c → is_path_byte c ≡ false
 no_path_byte c above = rw (lt-leb c 0x7e (omega (arith, above))) (search rules)
 
--- a path is ASCII, so it is written as it is
+-- a path is ASCII
+pub path_utf8 : (path : Text) → IsPath path → IsUtf8 path
+path_utf8 path is =
+    IsUtf8-from_ascii path (all_ascii path (λ c above.
+    path_lacks c path (no_path_byte c above) (ne_eqb comma c (λ e. omega (arith, above, e))) (ne_eqb slash c (λ e. omega (arith, above, e))) is))
+
+-- so it is written as it is
 pub path_text : (path : Text) → IsPath path → utf8_lossy path ≡ path
-path_text path is =
-    utf8_lossy-IsUtf8 path (IsUtf8-from_ascii path (all_ascii path (λ c above.
-    path_lacks c path (no_path_byte c above) (ne_eqb comma c (λ e. omega (arith, above, e))) (ne_eqb slash c (λ e. omega (arith, above, e))) is)))
+path_text path is = utf8_lossy-IsUtf8 path (path_utf8 path is)

@@ -37,12 +37,12 @@ weights_again (w ∷ ws) are =
 same_length : (n : ℕ) → (n == n) ≡ true
 same_length n = eq-eqb n n refl
 
-record Parts (ws : List ℕ) : Type 0 where
-  some : nat_le 1 (length ws) ≡ true
-  few : length ws ≤ 9
-  each : list_all is_weight ws ≡ true
+pub record Parts (ws : List ℕ) : Type 0 where
+  pub some : nat_le 1 (length ws) ≡ true
+  pub few : length ws ≤ 9
+  pub each : list_all is_weight ws ≡ true
 
-parts_of : (ws : List ℕ) → AreWeights ws → Parts ws
+pub parts_of : (ws : List ℕ) → AreWeights ws → Parts ws
 parts_of ws are =
     let front = and_parts (nat_le 1 (length ws) && nat_le (length ws) 9) (list_all is_weight ws) are in
     let both = and_parts (nat_le 1 (length ws)) (nat_le (length ws) 9) front.0 in

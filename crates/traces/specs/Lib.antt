@@ -5,4 +5,5 @@ pub mod Builds
 pub mod Written
 pub mod Again
 pub mod Faults
+pub mod Laws
 pub mod inside

@@ -1,7 +1,8 @@
 //! Traces of runs and BUILDS, as JSON.
 #![tactic(auto)]
 
-ghost use Rattle.std.specs.Prelude.{◌≡◌, ◌++◌, ◌⊎◌, None, Some, Ok, IfErr, IfOk, OnErr, OnOk};
+ghost use Rattle.std.specs.Prelude.{◌≡◌, ◌++◌, ◌⊎◌, [], ◌∷◌, None, Some, Ok, IfErr, IfOk, OnErr, OnOk};
+ghost use Rattle.faults.specs.Bytes.{line_feed};
 ghost use Rattle.traces.specs.Again.{IsTextTrace};
 ghost use Rattle.traces.specs.Builds.{builds_of};
 ghost use Rattle.traces.specs.Faults.{IsTraceFault, number_of, place_of, trace_view};
@@ -21,12 +22,15 @@ mod digits;
 mod event;
 mod fields;
 mod files;
+mod laws;
 mod listed;
 mod read_error;
 mod reading;
 mod stream;
 mod tree_event;
 mod writing;
+
+pub use crate::laws::{line_feeds_change_nothing, texts_are_read_again};
 
 /// What each member weighs, and the events of a run, in turn.
 #[derive(Drop)]
@@ -89,12 +93,16 @@ pub fn read_trace(alloc: Global, text: &[u8]) -> Result<Trace, TraceFault>
 }
 
 /// Appends the trace's text, which has no blanks, or nothing. Bytes of a file's name that are no
-/// UTF-8 give way to the replacement character.
+/// UTF-8 give way to the replacement character. Where there are none, and stops are inside steps,
+/// the text is read again as the trace, with a line feed behind it or without.
 pub fn write_trace(trace: &Trace, out: &mut Vec<u8>) -> Result<(), Memory>
     ensures ok { OnOk result
         (out.new.items ≡ out.old.items ++ trace_text (trace_view trace.now)) }
     ensures again { OnOk result (IsTextTrace (trace_view trace.now)
         → trace_of (trace_text (trace_view trace.now)) ≡ Ok (trace_view trace.now)) }
+    ensures line { OnOk result (IsTextTrace (trace_view trace.now)
+        → trace_of (trace_text (trace_view trace.now) ++ line_feed ∷ [])
+        ≡ Ok (trace_view trace.now)) }
     ensures err { OnErr result (out.new.items ≡ out.old.items) }
 {
     let alloc: Global = *out.allocator();

@@ -81,6 +81,7 @@ fn build(
     let unit = value_at(fourth, "path")?;
     test_text(event, "built")?;
     let node = number(node, 255)? as u8;
+    test_files(files)?;
     let path = path(alloc, unit)?;
     let packages = alone(alloc, &path, read_files(alloc, files)?)?;
     Ok(Event::Built {
@@ -127,9 +128,6 @@ fn read_files(alloc: Global, value: &Value<'_>) -> Result<Files, ReadError>
     let Value::Array(items) = value else {
         return Err(ReadError::Bad);
     };
-    if !have_files_form(items.as_slice()) {
-        return Err(ReadError::Bad);
-    }
     let mut files = Vec::with_capacity(alloc, items.len())?;
     for item in items {
         files.push(read_file(alloc, item)?)?;
@@ -137,25 +135,34 @@ fn read_files(alloc: Global, value: &Value<'_>) -> Result<Files, ReadError>
     Ok(Files::new(files))
 }
 
-/// Whether each is an object with the keys of a file in order. So none is read where a later one
-/// has another form.
-fn have_files_form(items: &[Value<'_>]) -> bool {
+/// Whether each item of an array has a file's form. So no memory is asked for, and no file is read,
+/// where one has another.
+fn test_files(value: &Value<'_>) -> Result<(), ReadError> {
+    let Value::Array(items) = value else {
+        return Err(ReadError::Bad);
+    };
     for item in items {
         if !has_file_form(item) {
-            return false;
+            return Err(ReadError::Bad);
         }
     }
-    true
+    Ok(())
 }
 
+/// Whether it is an object of two texts, with the keys of a file in order.
 fn has_file_form(value: &Value<'_>) -> bool {
     let Value::Object(members) = value else {
         return false;
     };
     match members.as_slice() {
-        [hex, name] => hex.0 == "hex" && name.0 == "name",
+        [hex, name] => is_text_at(hex, "hex") && is_text_at(name, "name"),
         _ => false,
     }
+}
+
+/// Whether the member has this key and is a text.
+fn is_text_at(member: &Member<'_>, key: &str) -> bool {
+    member.0 == key && matches!(member.1, Value::String(_))
 }
 
 /// A file.

@@ -6,8 +6,8 @@ use Rattle.std.proofs.lemmas.Bool.{cases_eq}
 use Rattle.events.specs.Events.{Event, StopIn, event_view, is_step, node_of}
 use Rattle.events.specs.declared.event.Left.{Left}
 use Rattle.events.specs.declared.event.Left.TheVariants as left
-use Rattle.headline.proofs.Hosting.{HasStepped, IsHosted, acts_there, set_elsewhere, set_there, steps_there, stops_there}
-use Rattle.headline.proofs.OneList.{each_has_one_list, each_run_is_acts}
+use Rattle.world.proofs.Hosting.{HasStepped, IsHosted, acts_there, set_elsewhere, set_there, steps_there, stops_there}
+use Rattle.world.proofs.OneList.{each_has_one_list, each_run_is_acts}
 use Rattle.node.specs.OnLog.{IsFull}
 use Rattle.node.specs.State.{LoggedNode, NodeState}
 use Rattle.node.specs.Step.{Asked, IsAsked, Taken, Takes, after}

@@ -16,7 +16,7 @@ use Rattle.node.specs.Step.{Asked, Comes, Does}
 use Rattle.protocol.specs.declared.input.Input.{Input}
 use Rattle.protocol.specs.declared.input.Input.TheVariants as inputs
 use Rattle.turns.proofs.OneStep.{one_asked}
-use Rattle.units.proofs.Places.{same_bytes}
+use Rattle.engine.proofs.Places.{same_bytes}
 use Rattle.world.specs.Happening.{Asks, Happens, Steps, fault_before, is_up, leaves_note, up_of}
 use Rattle.world.specs.World.{World, WorldNode}
 use Rattle.world.specs.declared.fault.WorldFault.{WorldFault}

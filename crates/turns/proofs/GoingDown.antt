@@ -4,7 +4,7 @@ use Rattle.std.proofs.lemmas.Bool.{cases_eq}
 use Rattle.events.specs.Events.{Event, StopIn, node_of}
 use Rattle.events.specs.declared.event.Left.{Left}
 use Rattle.events.specs.declared.event.Left.TheVariants as left
-use Rattle.headline.proofs.Hosting.{set_elsewhere, set_there, stops_there}
+use Rattle.world.proofs.Hosting.{set_elsewhere, set_there, stops_there}
 use Rattle.node.specs.OnLog.{IsFull}
 use Rattle.node.specs.State.{LoggedNode, NodeState}
 use Rattle.node.specs.Step.{Asked, IsAsked, Taken, Takes}

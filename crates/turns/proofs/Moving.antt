@@ -8,8 +8,8 @@ use Rattle.choosing.specs.declared.chosen.Chosen.{Chosen as Ready}
 use Rattle.events.specs.Events.{Event, StopIn, node_of}
 use Rattle.events.specs.declared.event.Left.TheVariants as left
 use Rattle.ballots.specs.declared.message.Note.{Note}
-use Rattle.headline.proofs.ByStep.{note_answered, sends_answered}
-use Rattle.headline.proofs.Hosting.{full_is_refused, full_of_lack, lack_of_full}
+use Rattle.world.proofs.ByStep.{note_answered, sends_answered}
+use Rattle.world.proofs.Hosting.{full_is_refused, full_of_lack, lack_of_full}
 use Rattle.node.specs.OnLog.{HasRoomForNote, IsFull, IsOnLog, LacksRoom, LeavesOneMoreAtMost}
 use Rattle.node.specs.Parcels.{datagrams_to}
 use Rattle.node.specs.State.{LoggedNode, NodeState}

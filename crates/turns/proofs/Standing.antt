@@ -2,9 +2,9 @@
 use Rattle.std.proofs.Common.{◌≡◌, ℕ, zero, suc, Bool, true, false, List, [], ◌∷◌, Option, None, Some, map, slice_get, slice_set, refl, sym, ap, subst, ◌∙◌, if◌then◌else◌}
 use Rattle.std.proofs.lemmas.Option.{slice_get-map}
 use Rattle.std.specs.Prelude.{option_map}
-use Rattle.headline.proofs.Hosting.{IsHosted}
-use Rattle.headline.proofs.Members.{node_is_member}
-use Rattle.headline.proofs.OneList.{each_run_is_acts}
+use Rattle.world.proofs.Hosting.{IsHosted}
+use Rattle.world.proofs.Members.{node_is_member}
+use Rattle.world.proofs.OneList.{each_run_is_acts}
 use Rattle.node.specs.State.{LoggedNode, NodeState}
 use Rattle.protocol.specs.Member.{IsMember}
 use Rattle.protocol.specs.State.{State}

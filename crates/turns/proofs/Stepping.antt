@@ -2,7 +2,7 @@
 use Rattle.std.proofs.Common.{◌≡◌, ◌≢◌, ◌++◌, ℕ, false, [], ◌∷◌, Option, Some, Ok, map, slice_get, slice_set, refl, sym, ap, subst, ◌∙◌, inl, inr, if◌then◌else◌}
 use Rattle.std.proofs.lemmas.Bool.{cases_eq}
 use Rattle.events.specs.Events.{Event, node_of}
-use Rattle.headline.proofs.Hosting.{HasStepped, IsHosted, acts_there, set_elsewhere, set_there, steps_there}
+use Rattle.world.proofs.Hosting.{HasStepped, IsHosted, acts_there, set_elsewhere, set_there, steps_there}
 use Rattle.node.specs.OnLog.{IsFull}
 use Rattle.node.specs.State.{LoggedNode, NodeState}
 use Rattle.node.specs.Step.{Asked, IsAsked, Taken, Takes, after}

@@ -3,7 +3,7 @@ use Rattle.std.proofs.Common.{◌≡◌, ◌≢◌, ℕ, zero, suc, false, List,
 use Rattle.std.proofs.lemmas.Bool.{cases_eq}
 use Rattle.std.proofs.lemmas.List.{length-set}
 use Rattle.events.specs.Events.{event_view}
-use Rattle.headline.proofs.Hosting.{set_elsewhere, set_there}
+use Rattle.world.proofs.Hosting.{set_elsewhere, set_there}
 use Rattle.node.specs.OnLog.{IsOnLog}
 use Rattle.node.specs.State.{LoggedNode, NodeState}
 use Rattle.ports.specs.Kept.{Parcel}

@@ -16,10 +16,10 @@ use Rattle.events.specs.Events.{Event, StopIn, event_view, node_of}
 use Rattle.events.specs.declared.event.Event as declared
 use Rattle.events.specs.declared.event.Left.TheVariants as left
 use Rattle.faults.specs.Bytes.{Text}
-use Rattle.headline.proofs.Hosting.{IsHosted, refuses_there}
-use Rattle.headline.proofs.OneList.{each_run_is_acts}
-use Rattle.headline.proofs.Runs.{none_is_foreign}
-use Rattle.headline.proofs.Safe.{few_members}
+use Rattle.world.proofs.Hosting.{IsHosted, refuses_there}
+use Rattle.world.proofs.OneList.{each_run_is_acts}
+use Rattle.world.proofs.Runs.{none_is_foreign}
+use Rattle.world.proofs.Safe.{few_members}
 use Rattle.node.specs.Arrival.{Arrival, Strange, Waits, Whole, arrival_of}
 use Rattle.node.specs.State.{NodeState}
 use Rattle.node.specs.Step.{Asked, Comes, Does, Taken, Takes, heard, nothing, step_on}

@@ -4,7 +4,7 @@ use Rattle.std.specs.List.{AllZip}
 use Rattle.events.specs.Events.{Event, StopIn}
 use Rattle.events.specs.declared.event.Left.{Left}
 use Rattle.events.specs.declared.event.Left.TheVariants as left
-use Rattle.headline.specs.Laws.{IsSafe}
+use Rattle.world.specs.MatchingLaws.{IsSafe}
 use Rattle.node.specs.State.{LoggedNode}
 use Rattle.turns.specs.State.{ClusterState, taken}
 use Rattle.world.specs.Happening.{Leads}

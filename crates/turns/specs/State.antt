@@ -9,7 +9,7 @@ use Rattle.faults.specs.Bytes.{Text}
 use Rattle.node.specs.OnLog.{IsOnLog}
 use Rattle.node.specs.State.{LoggedNode}
 use Rattle.stable_record.specs.History.{History}
-use Rattle.units.specs.Division.{Division}
+use Rattle.engine.specs.Division.{Division}
 use Rattle.world.specs.Happening.{Leads}
 use Rattle.world.specs.World.{IsMade, World, WorldNode, down_node, node_at, start, up_node}
 

@@ -3,7 +3,7 @@
 ghost use Rattle.std.specs.Prelude.{◌≡◌, [], IfErr, IfOk, MatchOption, None, Some, length};
 ghost use Rattle.choice.specs.Pending.{nothing_kept};
 ghost use Rattle.engine.specs.State as engines;
-ghost use Rattle.headline.specs.Laws.{IsSafe};
+ghost use Rattle.world.specs.MatchingLaws.{IsSafe};
 ghost use Rattle.protocol.specs.State as members;
 ghost use Rattle.protocol.specs.State.{engine_of};
 ghost use Rattle.std.specs.List.{AllZip};
@@ -18,7 +18,7 @@ use crate::opening::fresh_nodes;
 use ballots::Weights;
 use choice::{Pending, TurnFault};
 use datagrams::Datagrams;
-use engine::Counts;
+use engine::{Counts, Units};
 use events::Event;
 use listing::Tree;
 use node::Node;
@@ -26,7 +26,6 @@ use ports::Port;
 use stable_record::Disk;
 use std::alloc::Global;
 use std::marker::Model;
-use units::Units;
 
 /// All members' nodes, in one process, each over a disk of its own, and the port by which they hear
 /// each other.

@@ -6,7 +6,7 @@ ghost use Rattle.choosing.specs.Here.{here_in};
 ghost use Rattle.events.specs.Events as values;
 ghost use Rattle.events.specs.declared.event.Left.TheVariants as left;
 ghost use Rattle.events.specs.Events.{event_view};
-ghost use Rattle.headline.specs.Laws.{IsSafe};
+ghost use Rattle.world.specs.MatchingLaws.{IsSafe};
 ghost use Rattle.turns.specs.AnyCase.{IsListedInAnyCase};
 ghost use Rattle.turns.specs.Faults.{IsLeftBy, IsTurnFault};
 ghost use Rattle.turns.specs.State.{AreOnLogs, IsWorldOf, taken};

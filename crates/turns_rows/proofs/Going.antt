@@ -14,7 +14,7 @@ use Rattle.turns.specs.Faults.{IsLeftBy, IsTurnFault}
 use Rattle.turns.specs.State.{ClusterState, IsWorldOf, node_view, taken}
 use Rattle.turns.specs.Turn.{HasHappened, IsSame}
 use Rattle.turns_rows.specs.Going.{GoesOn, GoesOnWith, event_in}
-use Rattle.units.specs.Division.{Division}
+use Rattle.engine.specs.Division.{Division}
 use Rattle.world.proofs.Leading.{leads_together}
 use Rattle.world.specs.Happening.{Leads}
 use Rattle.world.specs.World.{IsMade, World, WorldNode, down_node, node_at, start, up_node}

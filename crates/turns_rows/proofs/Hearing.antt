@@ -22,7 +22,7 @@ use Rattle.turns.specs.Faults.{IsTurnFault}
 use Rattle.turns.specs.State.{ClusterState, here_of}
 use Rattle.turns.specs.Turn.{IsChosen, IsEventChosen}
 use Rattle.turns_rows.specs.Heard.{GaveJust, HearsIt}
-use Rattle.units.proofs.Places.{same_bytes}
+use Rattle.engine.proofs.Places.{same_bytes}
 
 -- what the port gave was looked for, and there was no job
 looked : (job : Bool) (came c : Arrived) → looked_for job came ≡ c ∷ [] → (job ≡ false) × (came ≡ c)

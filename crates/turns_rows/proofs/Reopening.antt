@@ -25,7 +25,7 @@ use Rattle.turns.specs.State.{AreOnLogs, ClusterState, IsWorldOf, node_view, tak
 use Rattle.turns.specs.Turn.{LeavesItsNotes, WentDown}
 use Rattle.turns_rows.proofs.Showing.{stands_so, up_there}
 use Rattle.turns_rows.specs.Reopened.{HasNotesAcross, IsLeftOf}
-use Rattle.units.specs.Division.{Division}
+use Rattle.engine.specs.Division.{Division}
 use Rattle.wire.specs.Spelling.{note_text}
 use Rattle.world.specs.Happening.{StopsIn}
 use Rattle.world.specs.Laws.{EventsLeadToLaterWorlds}

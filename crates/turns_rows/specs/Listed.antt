@@ -4,7 +4,7 @@ use Rattle.events.specs.Events.{Event}
 use Rattle.listing.specs.Tree.{Tree}
 use Rattle.protocol.specs.State.{State}
 use Rattle.turns.specs.State.{ClusterState, here_of}
-use Rattle.units.specs.Division.{Division}
+use Rattle.engine.specs.Division.{Division}
 use Rattle.world.specs.Happening.{Leads}
 use Rattle.world.specs.Headline.{HasOneAPath}
 use Rattle.world.specs.World.{IsMade, World, start}

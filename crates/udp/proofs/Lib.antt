@@ -1,1 +1,3 @@
 pub mod FirstBad
+pub mod Coming
+pub mod Leaving

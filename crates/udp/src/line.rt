@@ -1,5 +1,6 @@
 //! Datagrams that stand in line.
-ghost use Rattle.std.specs.Prelude.{◌≡◌, ◌+◌, ◌≤◌, ◌<◌, ◌++◌, ◌∷◌, IfSome, IsPermutation, length, option_to_list, sum_by, true};
+ghost use Rattle.std.specs.Prelude.{◌≡◌, ◌+◌, ◌≤◌, ◌<◌, ◌++◌, ◌∷◌, ◌↔◌, [], IfSome, IsPermutation, IsTrue, Ok, OnErr, IfNone, false, length, option_to_list, sum_by, true};
+ghost use Rattle.udp.specs.Ways.{in_line};
 
 use faults::Memory;
 use std::alloc::Global;
@@ -30,7 +31,10 @@ pub struct Line<T: Drop> {
 
 impl<T: Drop> Line<T> {
     /// A line for so many datagrams, with none in it.
-    pub fn new(alloc: Global, most: usize) -> Line<T> {
+    pub fn new(alloc: Global, most: usize) -> Line<T>
+        ensures empty { result.waiting.items ≡ [] }
+        ensures most { result.most ≡ most }
+    {
         Line {
             most,
             waiting: VecDeque::new(alloc),
@@ -39,7 +43,9 @@ impl<T: Drop> Line<T> {
     }
 
     /// Whether none stands in it.
-    pub fn is_empty(&self) -> bool {
+    pub fn is_empty(&self) -> bool
+        ensures { IsTrue result ↔ (self.now.waiting.items ≡ []) }
+    {
         self.waiting.is_empty()
     }
 
@@ -59,7 +65,12 @@ impl<T: Drop> Line<T> {
     }
 
     /// Puts equal bytes at its end, if there is room for them, and says whether there was.
-    pub fn put(&mut self, alloc: Global, errand: T, bytes: &[u8]) -> Result<bool, Memory> {
+    pub fn put(&mut self, alloc: Global, errand: T, bytes: &[u8]) -> Result<bool, Memory>
+        ensures put { result ≡ Ok true → in_line self.new.waiting.items
+            ≡ in_line self.old.waiting.items ++ (errand, bytes.now) ∷ [] }
+        ensures full { result ≡ Ok false → self.new.waiting.items ≡ self.old.waiting.items }
+        ensures err { OnErr result (self.new.waiting.items ≡ self.old.waiting.items) }
+    {
         if !self.has_room_for(bytes) {
             return Ok(false);
         }
@@ -72,7 +83,8 @@ impl<T: Drop> Line<T> {
 
     /// Takes the first.
     pub fn take_first(&mut self) -> Option<Waiting<T>>
-        ensures { self.old.waiting.items ≡ option_to_list result ++ self.new.waiting.items }
+        ensures first { self.old.waiting.items ≡ option_to_list result ++ self.new.waiting.items }
+        ensures none { IfNone result (self.old.waiting.items ≡ []) }
     {
         let first = self.waiting.pop_front()?;
         self.size -= first.bytes.len();
@@ -81,8 +93,9 @@ impl<T: Drop> Line<T> {
 
     /// Takes the one at this place, where the first stands then.
     pub fn take_at(&mut self, place: usize) -> Option<Waiting<T>>
-        ensures { IfSome result (λ w. IsPermutation self.old.waiting.items
+        ensures taken { IfSome result (λ w. IsPermutation self.old.waiting.items
             (w ∷ self.new.waiting.items)) }
+        ensures beyond { IfNone result (length self.old.waiting.items ≤ place) }
     {
         let taken = self.waiting.swap_remove_front(place)?;
         self.size -= taken.bytes.len();

@@ -1,11 +1,12 @@
 //! Nodes that hear each other over UDP.
-ghost use Rattle.std.specs.Prelude.{◌≡◌, ◌<◌, ◌≤◌, IfErr, IfOk, None, length};
-ghost use Rattle.ports.specs.Kept.{one_more};
+ghost use Rattle.std.specs.Prelude.{◌≡◌, ◌≢◌, ◌<◌, ◌≤◌, ◌++◌, ◌∷◌, [], Err, IfErr, IfOk, None, Ok, OnErr, OnOk, false, length, true};
+ghost use Rattle.ports.specs.Kept.{counted, one_more};
 ghost use Rattle.udp.specs.Refusals.{CannotStart};
+ghost use Rattle.udp.specs.Ways.{AreInOrder, AreLocal, HasLeft, HasNoSeat, HasWay, IsLocal, IsSeatOf, LeavesBy, in_line};
 
 use crate::line::{Line, Waiting};
 use crate::patience::Patience;
-use crate::sockets::{Seat, address_of, is_whole, take_all, take_seat};
+use crate::sockets::{Seat, Way, address_of, is_whole, seat_of, take_all, take_seat, way_of};
 use faults::Memory;
 use ports::{Port, PortFault};
 use std::alloc::Global;
@@ -24,14 +25,6 @@ const MOST_LEAVING: usize = 2_048;
 /// How many of them leave at each look at the sockets.
 const LEAVE_AT_A_LOOK: usize = 4;
 
-/// How a datagram leaves for a node of another process.
-#[derive(Drop)]
-struct Away {
-    /// The place of its sender's seat.
-    seat: usize,
-    to: SocketAddr,
-}
-
 /// One socket for each node here. None of them blocks.
 ///
 /// A socket keeps only few datagrams that nobody took. So what came is taken off the sockets before
@@ -48,7 +41,7 @@ pub struct UdpPort<'c, C: Clock> {
     buffer: Vec<u8>,
     /// What came, with the node that it came for.
     come: Line<u8>,
-    leaving: Line<Away>,
+    leaving: Line<Way>,
     /// Picks the next one to leave.
     pick: usize,
     patience: Patience,
@@ -67,7 +60,10 @@ impl<'c, C: Clock> UdpPort<'c, C> {
         alloc: Global,
         members: u8,
     ) -> Result<UdpPort<'c, C>, PortFault>
-        ensures { IfErr result CannotStart }
+        ensures seats { IfOk result (λ port. AreInOrder port.seats.items) }
+        ensures each { IfOk result (λ port. (length port.seats.items ≡ members)
+            × (length port.addresses.items ≡ members)) }
+        ensures refused { IfErr result CannotStart }
     {
         let mut seats = Vec::with_capacity(alloc, members as usize)?;
         let mut addresses = Vec::with_capacity(alloc, members as usize)?;
@@ -95,7 +91,10 @@ impl<'c, C: Clock> UdpPort<'c, C> {
         patience: u16,
     ) -> Result<UdpPort<'c, C>, PortFault>
         requires me { me < length addresses.items }
-        ensures { IfErr result CannotStart }
+        ensures seat { IfOk result (λ port. IsSeatOf port.seats.items me 0) }
+        ensures lone { IfOk result (λ port. length port.seats.items ≡ 1) }
+        ensures addresses { IfOk result (λ port. port.addresses ≡ addresses) }
+        ensures refused { IfErr result CannotStart }
     {
         let mut seats = Vec::with_capacity(alloc, 1)?;
         seats.push(take_seat(rt, me, addresses[me as usize])?)?;
@@ -107,9 +106,12 @@ impl<'c, C: Clock> UdpPort<'c, C> {
         port_of(clock, alloc, seats, addresses, patience)
     }
 
-    /// Sends what waits to leave.
-    pub fn flush(&mut self) {
-        for _ in 0..MOST_LEAVING {
+    /// Sends all that waits to leave.
+    pub fn flush(&mut self)
+        ensures left { self.new.leaving.waiting.items ≡ [] }
+        ensures failures { self.new.failures ≡ self.old.failures }
+    {
+        while !self.leaving.is_empty() {
             self.let_one_leave();
         }
     }
@@ -117,7 +119,8 @@ impl<'c, C: Clock> UdpPort<'c, C> {
     /// Takes what came off the sockets, as far as there is memory for it, and says whether one of
     /// them failed.
     fn take_in(&mut self) -> bool
-        ensures { self.new.failures ≡ self.old.failures }
+        ensures failures { self.new.failures ≡ self.old.failures }
+        ensures leaving { self.new.leaving ≡ self.old.leaving }
     {
         let mut has_failed = false;
         for seat in &self.seats {
@@ -128,7 +131,8 @@ impl<'c, C: Clock> UdpPort<'c, C> {
 
     /// Sends one of those that wait to leave, if one does. What the system doesn't take is lost.
     fn let_one_leave(&mut self)
-        ensures { self.new.failures ≡ self.old.failures }
+        ensures left { HasLeft self.old.leaving.waiting.items self.new.leaving.waiting.items }
+        ensures failures { self.new.failures ≡ self.old.failures }
     {
         let count = self.leaving.len();
         if count == 0 {
@@ -169,17 +173,13 @@ impl<'c, C: Clock> UdpPort<'c, C> {
         has_failed
     }
 
-    /// The place of the node's seat, if it has one.
-    fn seat_of(&self, node: u8) -> Option<usize> {
-        self.seats.iter().position(|seat| seat.node == node)
-    }
-
     /// Hands the datagram to the system, and takes in what came.
-    fn send_here(&mut self, seat: usize, to: SocketAddr, bytes: &[u8]) -> bool
-        ensures { self.new.failures ≡ self.old.failures }
+    fn send_here(&mut self, way: Way, bytes: &[u8]) -> bool
+        ensures failures { self.new.failures ≡ self.old.failures }
+        ensures leaving { self.new.leaving ≡ self.old.leaving }
     {
-        let is_sent = match self.seats.get(seat) {
-            Some(seat) => is_whole(&seat.socket, to, bytes),
+        let is_sent = match self.seats.get(way.seat) {
+            Some(seat) => is_whole(&seat.socket, way.to, bytes),
             None => false,
         };
         self.take_in();
@@ -187,36 +187,58 @@ impl<'c, C: Clock> UdpPort<'c, C> {
     }
 
     /// Puts the datagram among those that wait to leave, unless there is no room for it.
-    fn send_away(&mut self, seat: usize, to: SocketAddr, bytes: &[u8]) -> Result<bool, Memory>
-        ensures { self.new.failures ≡ self.old.failures }
+    fn send_away(&mut self, way: Way, bytes: &[u8]) -> Result<bool, Memory>
+        ensures failures { self.new.failures ≡ self.old.failures }
+        ensures put { result ≡ Ok true → in_line self.new.leaving.waiting.items
+            ≡ in_line self.old.leaving.waiting.items ++ (way, bytes.now) ∷ [] }
+        ensures lost { result ≢ Ok true
+            → self.new.leaving.waiting.items ≡ self.old.leaving.waiting.items }
     {
-        let is_put = self.leaving.put(self.alloc, Away { seat, to }, bytes)?;
+        let is_put = self.leaving.put(self.alloc, way, bytes)?;
         self.take_in();
         Ok(is_put)
     }
 
     /// Whether the port took the datagram.
     fn is_taken(&mut self, from: u8, to: u8, bytes: &[u8]) -> Result<bool, Memory>
-        ensures { self.new.failures ≡ self.old.failures }
+        ensures failures { self.new.failures ≡ self.old.failures }
+        ensures way { result ≡ Ok true
+            → HasWay self.old.seats.items self.old.addresses.items from to }
+        ensures away { result ≡ Ok true → HasNoSeat self.old.seats.items to
+            → LeavesBy self.old.seats.items self.old.addresses.items from to bytes.now
+            self.old.leaving.waiting.items self.new.leaving.waiting.items }
+        ensures lost { result ≢ Ok true
+            → self.new.leaving.waiting.items ≡ self.old.leaving.waiting.items }
     {
-        let Some(seat) = self.seat_of(from) else {
+        let Some(way) = way_of(&self.seats, &self.addresses, from, to) else {
             return Ok(false);
         };
-        let Some(address) = self.addresses.get(to as usize) else {
-            return Ok(false);
-        };
-        let address = *address;
-        if self.seat_of(to).is_some() {
-            Ok(self.send_here(seat, address, bytes))
-        } else {
-            self.send_away(seat, address, bytes)
+        match seat_of(&self.seats, to) {
+            Some(_) => Ok(self.send_here(way, bytes)),
+            None => self.send_away(way, bytes),
         }
+    }
+
+    /// Nothing came: that is a failure where a socket failed, and is counted then.
+    fn nothing(&mut self, has_failed: bool) -> Result<Option<(u8, Vec<u8>)>, PortFault>
+        ensures failed { has_failed ≡ true → (result ≡ Err PortFault.Failed)
+            × (self.new.failures ≡ one_more self.old.failures) }
+        ensures none { has_failed ≡ false → (result ≡ Ok None)
+            × (self.new.failures ≡ self.old.failures) }
+    {
+        if has_failed {
+            self.failures = self.failures.saturating_add(1);
+            return Err(PortFault::Failed);
+        }
+        Ok(None)
     }
 }
 
 /// This port of 127.0.0.1.
-fn local(port: u16) -> SocketAddr {
-    SocketAddr::V4(SocketAddrV4::new(Ipv4Addr::LOCALHOST, port))
+fn local(port: u16) -> SocketAddr
+    ensures { IsLocal port result }
+{
+    SocketAddr::V4(SocketAddrV4::new(Ipv4Addr::new(127, 0, 0, 1), port))
 }
 
 /// The addresses of so many members on 127.0.0.1: member K's port is `base + K`.
@@ -224,6 +246,7 @@ pub fn loopback(alloc: Global, members: u8, base: u16) -> Result<Vec<SocketAddr>
     requires base { base ≤ 65526 }
     requires members { members ≤ 9 }
     ensures count { IfOk result (λ addresses. length addresses.items ≡ members) }
+    ensures ports { IfOk result (λ addresses. AreLocal base addresses.items) }
 {
     let mut addresses = Vec::with_capacity(alloc, members as usize)?;
     for member in 0..members {
@@ -241,6 +264,9 @@ fn port_of<'c, C: Clock>(
     patience: Patience,
 ) -> Result<UdpPort<'c, C>, PortFault>
     ensures fresh { IfOk result (λ port. port.failures ≡ 0) }
+    ensures seats { IfOk result (λ port. port.seats ≡ seats) }
+    ensures addresses { IfOk result (λ port. port.addresses ≡ addresses) }
+    ensures leaving { IfOk result (λ port. port.leaving.waiting.items ≡ []) }
     ensures refused { IfErr result CannotStart }
 {
     let buffer = vec![in alloc; 0; ROOM]?;
@@ -269,15 +295,23 @@ impl<'c, C: Clock> Port for UdpPort<'c, C> {
         let has_failed = self.look();
         match self.come.take_first() {
             Some(Waiting { errand, bytes }) => Ok(Some((errand, bytes))),
-            None if has_failed => {
-                self.failures = self.failures.saturating_add(1);
-                Err(PortFault::Failed)
-            }
-            None => Ok(None),
+            None => self.nothing(has_failed),
         }
     }
 
-    fn send(&mut self, from: u8, to: u8, bytes: &[u8]) -> Result<(), PortFault> {
+    fn send(&mut self, from: u8, to: u8, bytes: &[u8]) -> Result<(), PortFault>
+        ensures cause { self.new.failures ≡ counted result self.old.failures }
+
+        // It is from a node here to a member. What is for a node of another process waits to leave
+        // by the way there.
+        ensures way { OnOk result
+            (HasWay self.old.seats.items self.old.addresses.items from to) }
+        ensures away { OnOk result (HasNoSeat self.old.seats.items to
+            → LeavesBy self.old.seats.items self.old.addresses.items from to bytes.now
+            self.old.leaving.waiting.items self.new.leaving.waiting.items) }
+        ensures lost { OnErr result
+            (self.new.leaving.waiting.items ≡ self.old.leaving.waiting.items) }
+    {
         if self.is_taken(from, to, bytes)? {
             Ok(())
         } else {

@@ -22,22 +22,22 @@ use Rattle.protocol.specs.Step.{IsLetterOf, unit_claimed}
 use Rattle.protocol.specs.declared.input.Input.{Input}
 use Rattle.protocol.specs.declared.sends.Send.{Send}
 use Rattle.protocol.proofs.Asked.{IsLocal, asked_is}
-use Rattle.units.specs.Division.{Division}
-use Rattle.units.proofs.Names.{name_is_found}
+use Rattle.engine.specs.Division.{Division}
+use Rattle.engine.proofs.Names.{name_is_found}
 use Rattle.way.specs.Ways.{LeadsTo}
 use Rattle.way.proofs.Reached.{IsReached, goes, its_acts, its_local, its_match, its_own, none_before, reached_then}
 use Rattle.wire.specs.Messages.{IsMessage}
 use Rattle.world.specs.Happening.{Acts, Asks, Happens, Steps, is_bad_stop, is_restart, lacks_datagram, leaves_note, stepped, up_of}
 use Rattle.world.specs.Sent.{with_sends}
 use Rattle.world.specs.World.{IsMade, World, WorldNode, member_at, node_at, up_node}
-use Rattle.headline.specs.Matches.{node_of}
-use Rattle.headline.specs.Mirrored.{after_all_acts}
-use Rattle.headline.proofs.Asking.{answers_with}
-use Rattle.headline.proofs.Cutting as cutting
-use Rattle.headline.proofs.Inputs.{good_input}
-use Rattle.headline.proofs.Members.{facts_there, node_is_member}
-use Rattle.headline.proofs.Ranging.{in_range}
-use Rattle.headline.proofs.Stepping as stepping
+use Rattle.world.specs.Matches.{node_of}
+use Rattle.world.specs.Mirrored.{after_all_acts}
+use Rattle.world.proofs.Asking.{answers_with}
+use Rattle.world.proofs.Cutting as cutting
+use Rattle.world.proofs.Inputs.{good_input}
+use Rattle.world.proofs.Members.{facts_there, node_is_member}
+use Rattle.world.proofs.Ranging.{in_range}
+use Rattle.world.proofs.Stepping as stepping
 
 -- The event asks its node for this, and is a step like any other.
 pub record IsPlain (w : World) (e : Event) (input : Input) : Type 0 where

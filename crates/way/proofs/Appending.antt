@@ -11,7 +11,7 @@ use Rattle.protocol.specs.State.{Value}
 use Rattle.protocol.specs.declared.sends.Send.{Send}
 use Rattle.world.specs.Sent.{with_datagram, with_sends}
 use Rattle.world.proofs.Sending.{among_is, is_found, texts_alone, texts_in}
-use Rattle.headline.proofs.Speaking.{text_comes}
+use Rattle.world.proofs.Speaking.{text_comes}
 
 -- what is in the rest is in the whole
 pub later : {X : Type 0} (y : X) (xs : List X) (x : X) → Contains xs x → Contains (y ∷ xs) x

@@ -21,7 +21,7 @@ use Rattle.protocol.specs.InTheAgreement.{pair_of, view}
 use Rattle.protocol.specs.Restoring.{restored}
 use Rattle.protocol.specs.State.{Value, facts_at, fresh}
 use Rattle.protocol.specs.Step.{host_in, outcome_of}
-use Rattle.units.specs.Division.{Division, unit_at}
+use Rattle.engine.specs.Division.{Division, unit_at}
 use Rattle.way.specs.Ways.{LeadsTo}
 use Rattle.way.specs.inside.Listed.{deliveries}
 use Rattle.way.proofs.Coming.{HasNone, comes_whole}
@@ -42,9 +42,9 @@ use Rattle.protocol.specs.declared.sends.Send.{Send}
 use Rattle.world.specs.Sent.{WasSent, message, with_sends}
 use Rattle.world.specs.World.{IsMade, World, WorldNode, member_at}
 use Rattle.world.proofs.Sending.{is_found}
-use Rattle.headline.specs.Local.{AreKept}
-use Rattle.headline.specs.Matches.{name_of, node_of}
-use Rattle.headline.proofs.Speaking.{passes, sent_more}
+use Rattle.world.specs.Local.{AreKept}
+use Rattle.world.specs.Matches.{name_of, node_of}
+use Rattle.world.proofs.Speaking.{passes, sent_more}
 use Rattle.way.proofs.Polling.{get_left}
 
 -- a vote that is told and read is that vote

@@ -21,7 +21,7 @@ use Rattle.protocol.specs.Step as members
 use Rattle.protocol.specs.Step.{answered_or, at_unit, builds, builds_under, files_refusal, host_in, unless}
 use Rattle.protocol.specs.declared.input.Input.TheVariants as inputs
 use Rattle.protocol.specs.declared.refusal.Refusal.TheVariants as refusals
-use Rattle.units.specs.Division.{Division, number_found, unit_at}
+use Rattle.engine.specs.Division.{Division, number_found, unit_at}
 use Rattle.way.specs.Ways.{LeadsTo}
 use Rattle.way.proofs.Acting.{DidSo, IsPlain, does}
 use Rattle.way.proofs.Asking.{Asks, IsAsked, asked_stays, facts_stay, said_stays}
@@ -34,7 +34,7 @@ use Rattle.way.proofs.Reached.{its_acts, its_match, its_own}
 use Rattle.std.proofs.lemmas.Bool.{cases_eq}
 use Rattle.std.proofs.Common.{⊎_elim}
 use Rattle.world.specs.World.{IsMade, World, WorldNode, member_at}
-use Rattle.headline.proofs.Asking.{answers_with}
+use Rattle.world.proofs.Asking.{answers_with}
 
 -- what is made of the files under the claim, on this host, where this is held of the units
 abbrev pub build_on : Division → ℕ → Claim → Given → ℕ → (ℕ → Option Value) → Value

@@ -31,11 +31,11 @@ use Rattle.protocol.specs.Step as members
 use Rattle.protocol.specs.Step.{answered_or, at_unit, claim_refusal, claims, host_in, stranger, unless}
 use Rattle.protocol.specs.declared.input.Input.TheVariants as inputs
 use Rattle.protocol.specs.declared.refusal.Refusal.TheVariants as refusals
-use Rattle.units.specs.Division.{Division, number_found, unit_at}
-use Rattle.units.specs.Units.{is_in, positions}
-use Rattle.units.proofs.Kept.{unit_listed, unit_some}
-use Rattle.units.proofs.Lists.{below_in, in_kept}
-use Rattle.units.proofs.WellMade.{one_unit_has}
+use Rattle.engine.specs.Division.{Division, number_found, unit_at}
+use Rattle.engine.specs.Units.{is_in, positions}
+use Rattle.engine.proofs.Kept.{unit_listed, unit_some}
+use Rattle.engine.proofs.Lists.{below_in, in_kept}
+use Rattle.engine.proofs.WellMade.{one_unit_has}
 use Rattle.way.specs.Rounds.{last_round, next_claim, seen_at}
 use Rattle.way.specs.Ways.{LeadsTo}
 use Rattle.way.proofs.Acting.{DidSo, IsPlain, does, is_member}
@@ -55,10 +55,10 @@ use Rattle.wire.specs.declared.datagram.Datagram.TheVariants as datagrams
 use Rattle.world.specs.Sent.{WasSent, message}
 use Rattle.world.specs.World.{IsMade, World, WorldNode, member_at}
 use Rattle.world.proofs.Sending.{is_found}
-use Rattle.headline.specs.Matches.{name_of}
-use Rattle.headline.proofs.Asking.{answers_with}
-use Rattle.headline.proofs.Members.{get_within}
-use Rattle.headline.proofs.Speaking.{passes}
+use Rattle.world.specs.Matches.{name_of}
+use Rattle.world.proofs.Asking.{answers_with}
+use Rattle.world.proofs.Members.{get_within}
+use Rattle.world.proofs.Speaking.{passes}
 
 -- ---- a unit that can be built now is not held
 

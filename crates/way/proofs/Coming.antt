@@ -9,7 +9,7 @@ use Rattle.faults.specs.Bytes.{Text}
 use Rattle.node.specs.Parcels.{datagrams_of}
 use Rattle.package_record.specs.Build.{build_text}
 use Rattle.protocol.specs.State.{Value}
-use Rattle.units.specs.Division.{Division}
+use Rattle.engine.specs.Division.{Division}
 use Rattle.way.specs.Ways.{LeadsTo}
 use Rattle.way.specs.inside.Listed.{deliveries}
 use Rattle.way.proofs.Hearing.{HeardBy, whole_heard}

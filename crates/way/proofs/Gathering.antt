@@ -15,7 +15,7 @@ use Rattle.node.specs.Parcels.{datagrams_of}
 use Rattle.protocol.specs.Answers.{tree_digest}
 use Rattle.protocol.specs.InTheAgreement.{pair_of}
 use Rattle.protocol.specs.State.{Value}
-use Rattle.units.specs.Division.{Division, unit_at}
+use Rattle.engine.specs.Division.{Division, unit_at}
 use Rattle.way.specs.Ways.{LeadsTo}
 use Rattle.way.specs.inside.Listed.{deliveries}
 use Rattle.way.proofs.Appending.{later}

@@ -5,12 +5,12 @@ use Rattle.agreement.specs.declared.claim.Claim.{Claim}
 use Rattle.ballots.specs.declared.message.Body.TheVariants as bodies
 use Rattle.events.specs.Events.{Event}
 use Rattle.faults.specs.Bytes.{Text}
-use Rattle.headline.proofs.OneList.{each_run_is_acts, one_answer, one_world}
+use Rattle.world.proofs.OneList.{each_run_is_acts, one_answer, one_world}
 use Rattle.package_record.proofs.BuildsRead.{build_is_read}
 use Rattle.protocol.specs.Given.{Given}
 use Rattle.protocol.specs.State.{State}
 use Rattle.running.specs.History.{History, IsHistory, taken}
-use Rattle.units.specs.Division.{Division, number_found, unit_at}
+use Rattle.engine.specs.Division.{Division, number_found, unit_at}
 use Rattle.way.specs.Asked.{IsGranted, next_build, refusal_at}
 use Rattle.way.specs.Laws.{EachHasAWay, HasWay}
 use Rattle.way.specs.Rounds.{next_claim}

@@ -27,7 +27,7 @@ use Rattle.protocol.specs.declared.input.Input.TheVariants as inputs
 use Rattle.protocol.specs.declared.refusal.Refusal.{Refusal}
 use Rattle.protocol.specs.declared.refusal.Refusal.TheVariants as refusals
 use Rattle.protocol.specs.declared.sends.Send.{Send}
-use Rattle.units.specs.Division.{Division, number_named}
+use Rattle.engine.specs.Division.{Division, number_named}
 use Rattle.way.specs.Ways.{LeadsTo}
 use Rattle.way.proofs.Reached.{IsReached, goes, its_acts, its_local, its_match, its_own, none_before, reached_then}
 use Rattle.wire.specs.Messages.{IsMessage}
@@ -40,15 +40,15 @@ use Rattle.wire.proofs.DatagramTexts.{datagram_again}
 use Rattle.world.specs.Happening.{Acts, lacks_datagram, stepped, up_of}
 use Rattle.world.specs.Sent.{WasSent, with_sends}
 use Rattle.world.specs.World.{IsMade, World, WorldNode, member_at, node_at, up_node}
-use Rattle.headline.specs.Matches.{node_of}
-use Rattle.headline.specs.Mirrored.{after_all_acts}
-use Rattle.headline.proofs.Asking.{answers_with, never_ok, ok_same}
-use Rattle.headline.proofs.Cutting.{made_here}
-use Rattle.headline.proofs.Delivering.{delivered, heard_is, place, theirs}
-use Rattle.headline.proofs.Foreign.{answered}
-use Rattle.headline.proofs.Members.{facts_there, get_within, node_is_member}
-use Rattle.headline.proofs.Ranging.{in_range}
-use Rattle.headline.proofs.Stepping.{is_member}
+use Rattle.world.specs.Matches.{node_of}
+use Rattle.world.specs.Mirrored.{after_all_acts}
+use Rattle.world.proofs.Asking.{answers_with, never_ok, ok_same}
+use Rattle.world.proofs.Cutting.{made_here}
+use Rattle.world.proofs.Delivering.{delivered, heard_is, place, theirs}
+use Rattle.world.proofs.Foreign.{answered}
+use Rattle.world.proofs.Members.{facts_there, get_within, node_is_member}
+use Rattle.world.proofs.Ranging.{in_range}
+use Rattle.world.proofs.Stepping.{is_member}
 
 abbrev refuses_with : Refusal → Result Answer Refusal
 refuses_with f = Err f

@@ -5,18 +5,18 @@ use Rattle.listing.specs.Tree.{path_at}
 use Rattle.protocol.specs.State.{Value, facts_at, holds_package, is_held_any}
 use Rattle.running.specs.History.{History, IsHistory, taken}
 use Rattle.std.proofs.lemmas.List.{length-replicate}
-use Rattle.units.specs.Division.{Division, unit_at}
-use Rattle.units.proofs.Kept.{unit_listed}
-use Rattle.units.proofs.WellMade.{one_unit_has}
+use Rattle.engine.specs.Division.{Division, unit_at}
+use Rattle.engine.proofs.Kept.{unit_listed}
+use Rattle.engine.proofs.WellMade.{one_unit_has}
 use Rattle.way.specs.Ways.{HoldsUnit}
 use Rattle.way.proofs.Deciding.{some_same}
 use Rattle.way.proofs.Reached.{IsReached, its_acts, its_local, its_match, its_own}
 use Rattle.world.specs.Headline.{holds}
 use Rattle.world.proofs.Growing.{leads_later}
 use Rattle.world.specs.World.{IsMade, World, WorldNode, fresh_node, member_at, start}
-use Rattle.headline.proofs.Building.{has_its_record}
-use Rattle.headline.proofs.Cutting.{made_here}
-use Rattle.headline.proofs.Holding.{held_within}
+use Rattle.world.proofs.Building.{has_its_record}
+use Rattle.world.proofs.Cutting.{made_here}
+use Rattle.world.proofs.Holding.{held_within}
 
 module _ (division : Division) (weights : List ℕ) (made : IsMade division weights) (w : World)
     (r : IsReached division weights made w) where

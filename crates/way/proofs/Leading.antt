@@ -24,7 +24,7 @@ use Rattle.protocol.specs.State.{HasLetter, State, Value, facts_at}
 use Rattle.protocol.specs.Step.{IsLetterOf, files_refusal}
 use Rattle.protocol.specs.declared.refusal.Refusal.{Refusal}
 use Rattle.protocol.specs.declared.refusal.Refusal.TheVariants as refusals
-use Rattle.units.specs.Division.{Division, number_found, unit_at}
+use Rattle.engine.specs.Division.{Division, number_found, unit_at}
 use Rattle.way.specs.Asked.{IsGranted, is_majority_up, is_queued, next_build, refusal_at, refusal_for}
 use Rattle.way.specs.Rounds.{is_round_left, last_round, next_claim, seen_at}
 use Rattle.way.specs.Ways.{HoldsUnit, IsWay, LeadsTo}

@@ -14,7 +14,7 @@ use Rattle.node.specs.Step.{Taken, after, nothing, step_on}
 use Rattle.package_record.specs.Build.{build_text}
 use Rattle.package_record.proofs.BuildsRead.{build_is_read}
 use Rattle.protocol.specs.State.{Value}
-use Rattle.units.specs.Division.{Division}
+use Rattle.engine.specs.Division.{Division}
 use Rattle.way.specs.Ways.{LeadsTo}
 use Rattle.way.specs.inside.Listed.{deliveries}
 use Rattle.way.proofs.Going.{leads_also}
@@ -37,8 +37,8 @@ use Rattle.world.specs.Happening.{stepped}
 use Rattle.world.specs.Sent.{WasSent}
 use Rattle.world.specs.World.{IsMade, World, WorldNode, member_at, node_at, up_node}
 use Rattle.protocol.specs.Step as members
-use Rattle.headline.proofs.Arriving.{read_as}
-use Rattle.headline.proofs.Foreign.{get_contains, piece_welcome}
+use Rattle.world.proofs.Arriving.{read_as}
+use Rattle.world.proofs.Foreign.{get_contains, piece_welcome}
 
 -- the place of a list where something was put twice
 put_again : {X : Type 0} (xs : List X) (k : ℕ) (x y : X)

@@ -21,7 +21,7 @@ use Rattle.protocol.specs.InTheAgreement.{pair_of}
 use Rattle.protocol.specs.Sends.{sent_to}
 use Rattle.protocol.specs.State.{Value}
 use Rattle.protocol.specs.declared.sends.Send.{Send}
-use Rattle.units.specs.Division.{Division, unit_at}
+use Rattle.engine.specs.Division.{Division, unit_at}
 use Rattle.way.proofs.Adding.{datagrams_differ}
 use Rattle.way.proofs.Appending.{sends_add}
 use Rattle.way.proofs.Asking.{IsAsked}
@@ -43,11 +43,11 @@ use Rattle.wire.proofs.PieceNumbers.{all_numbers}
 use Rattle.world.specs.Sent.{WasSent, message, with_sends}
 use Rattle.world.specs.World.{IsMade, World, WorldNode}
 use Rattle.world.proofs.Sending.{is_found}
-use Rattle.headline.specs.Matches.{name_of}
-use Rattle.headline.specs.Mirrored.{after_all_acts}
-use Rattle.headline.proofs.Members.{get_within}
-use Rattle.headline.proofs.Said.{has_preimage}
-use Rattle.headline.proofs.Speaking.{passes}
+use Rattle.world.specs.Matches.{name_of}
+use Rattle.world.specs.Mirrored.{after_all_acts}
+use Rattle.world.proofs.Members.{get_within}
+use Rattle.world.proofs.Said.{has_preimage}
+use Rattle.world.proofs.Speaking.{passes}
 
 -- A message to some, none of whose datagrams was sent, adds just its datagrams.
 pub spread : (sent : List Text) (m : Message Value) (to : List ℕ) → 0 < length to

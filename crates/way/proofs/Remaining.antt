@@ -7,7 +7,7 @@ use Rattle.world.specs.Happening.{Happens}
 use Rattle.world.specs.Sent.{WasSent}
 use Rattle.world.specs.World.{World}
 use Rattle.world.proofs.Growing.{by_kind}
-use Rattle.headline.proofs.Speaking.{sent_more}
+use Rattle.world.proofs.Speaking.{sent_more}
 
 pub sent_stays : (m : Message Value) (w v : World) (e : Event) → Happens w e v → WasSent w.sent m
     → WasSent v.sent m

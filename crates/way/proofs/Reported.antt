@@ -16,7 +16,7 @@ use Rattle.node.specs.Parcels.{datagrams_of}
 use Rattle.protocol.specs.Answers.{answered, everyone}
 use Rattle.protocol.specs.State.{State, Value}
 use Rattle.protocol.specs.Step.{host_in, outcome_of}
-use Rattle.units.specs.Division.{Division}
+use Rattle.engine.specs.Division.{Division}
 use Rattle.way.specs.Ways.{LeadsTo}
 use Rattle.way.specs.inside.Listed.{deliveries}
 use Rattle.way.proofs.Asking.{Promised, Stands, hears_promise, in_then, its, member_then, outcome_is, stands_so, theirs, was_asked, weigh_then}
@@ -30,7 +30,7 @@ use Rattle.way.proofs.Replies.{is_quorum}
 use Rattle.wire.specs.Pieces.{split_of}
 use Rattle.wire.specs.Spelling.{datagram_text}
 use Rattle.world.specs.World.{IsMade, World, member_at}
-use Rattle.headline.specs.Matches.{node_of}
+use Rattle.world.specs.Matches.{node_of}
 
 module _ (division : Division) (weights : List ℕ) (made : IsMade division weights)
     (u : ℕ) (c : Claim) (me : ℕ) (at0 : ℕ) (told : ℕ → Option (Ballot Value)) (host : ℕ)

@@ -18,7 +18,7 @@ use Rattle.faults.specs.Bytes.{Text}
 use Rattle.node.specs.State.{NodeState}
 use Rattle.protocol.specs.State.{Value, facts_at}
 use Rattle.protocol.specs.Step.{facts_named, facts_of_unit}
-use Rattle.units.specs.Division.{Division, number_found}
+use Rattle.engine.specs.Division.{Division, number_found}
 use Rattle.way.specs.Asked.{is_majority_up}
 use Rattle.way.specs.Rounds.{last_round, next_claim, round_in, rounds_promised, seen_at, seen_of}
 use Rattle.way.specs.inside.Listed.{asked_of, nodes_up, until_majority}
@@ -27,10 +27,10 @@ use Rattle.way.proofs.Majority.{MakeMajority, joined_by, until_is_enough}
 use Rattle.way.proofs.Reached.{IsReached, its_acts, its_match, its_own}
 use Rattle.world.specs.Happening.{is_up, up_of}
 use Rattle.world.specs.World.{IsMade, World, WorldNode, member_at, node_at}
-use Rattle.headline.specs.Mirrored.{after_all_acts}
-use Rattle.headline.specs.Needs.{may_build}
-use Rattle.headline.proofs.Headers.{in_order}
-use Rattle.headline.proofs.Members.{get_within}
+use Rattle.world.specs.Mirrored.{after_all_acts}
+use Rattle.world.specs.Needs.{may_build}
+use Rattle.world.proofs.Headers.{in_order}
+use Rattle.world.proofs.Members.{get_within}
 
 -- ---- what is seen
 

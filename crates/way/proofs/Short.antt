@@ -24,7 +24,7 @@ use Rattle.package_record.specs.Build.{build_text}
 use Rattle.protocol.specs.Given.{Given}
 use Rattle.protocol.specs.InTheAgreement.{pair_of}
 use Rattle.protocol.specs.State.{State, Value, facts_at}
-use Rattle.units.specs.Division.{Division, unit_at}
+use Rattle.engine.specs.Division.{Division, unit_at}
 use Rattle.way.specs.Asked.{next_build}
 use Rattle.way.specs.Length.{IsShort, MayTake, pieces_in}
 use Rattle.way.specs.Rounds.{last_round, next_claim, seen_at}
@@ -39,9 +39,9 @@ use Rattle.wire.specs.declared.datagram.Datagram.TheVariants as datagrams
 use Rattle.world.specs.Happening.{Leads, is_up}
 use Rattle.world.specs.Sent.{WasSent, message}
 use Rattle.world.specs.World.{IsMade, World, WorldNode, member_at}
-use Rattle.headline.specs.Mirrored.{after_all_acts}
-use Rattle.headline.specs.Needs.{may_build}
-use Rattle.headline.proofs.Headers.{in_order}
+use Rattle.world.specs.Mirrored.{after_all_acts}
+use Rattle.world.specs.Needs.{may_build}
+use Rattle.world.proofs.Headers.{in_order}
 
 -- ---- how many are asked
 

@@ -7,7 +7,7 @@ use Rattle.protocol.specs.Answers.{claim_then}
 use Rattle.protocol.specs.InTheAgreement.{progress_of}
 use Rattle.protocol.specs.State.{OpenClaim, Value, facts_at}
 use Rattle.protocol.specs.Step.{host_in}
-use Rattle.units.specs.Division.{Division}
+use Rattle.engine.specs.Division.{Division}
 use Rattle.way.proofs.Counting.{its_unit}
 use Rattle.way.proofs.Deciding.{stage_here}
 use Rattle.way.proofs.Hearing.{HeardBy}
@@ -15,7 +15,7 @@ use Rattle.way.proofs.Reached.{IsReached}
 use Rattle.wire.specs.declared.datagram.Piece.{Piece}
 use Rattle.world.specs.Sent.{message}
 use Rattle.world.specs.World.{IsMade, World, WorldNode, member_at}
-use Rattle.headline.specs.Matches.{name_of}
+use Rattle.world.specs.Matches.{name_of}
 
 -- A claim is open at this stage.
 abbrev pub IsOpenStage : Stage Value → Type 0

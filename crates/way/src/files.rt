@@ -3,7 +3,7 @@ ghost use Rattle.std.specs.Prelude.{◌≡◌, Some, slice_get, true};
 ghost use Rattle.claims.specs.Claim.{IsClaim};
 ghost use Rattle.faults.specs.Answers.{IsRightUnless};
 ghost use Rattle.protocol.specs.Jobs.{job_of};
-ghost use Rattle.units.specs.Division.{number_found};
+ghost use Rattle.engine.specs.Division.{number_found};
 ghost use Rattle.way.specs.inside.Planned.{made_under};
 ghost use Rattle.world.specs.Happening.{is_up};
 ghost use Rattle.world.specs.World.{member_at};

@@ -2,7 +2,7 @@
 ghost use Rattle.std.specs.Prelude.{◌≡◌, ◌≤◌, IfOk, Some, length, true};
 ghost use Rattle.package_record.specs.Build.{build_text};
 ghost use Rattle.package_record.specs.Content.{most_bytes, record_text};
-ghost use Rattle.units.specs.Division.{number_found};
+ghost use Rattle.engine.specs.Division.{number_found};
 ghost use Rattle.way.specs.Length.{pieces_in};
 ghost use Rattle.way.specs.inside.Listed as listed;
 ghost use Rattle.wire.specs.Pieces.{most_pieces};

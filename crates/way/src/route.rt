@@ -2,7 +2,7 @@
 ghost use Rattle.std.specs.Prelude.{◌≡◌, ◌≤◌, ◌<◌, ◌+◌, ◌*◌, ◌^◌, ◌++◌, All, IfOk, OnOk, Some, length, map, suc, true};
 ghost use Rattle.events.specs.Events.{Built, Claim, event_view};
 ghost use Rattle.running.specs.History.{IsHistory};
-ghost use Rattle.units.specs.Division.{number_found};
+ghost use Rattle.engine.specs.Division.{number_found};
 ghost use Rattle.way.specs.inside.Listed.{asks_from, behind_promises, deliveries, votes_from, way_of};
 ghost use Rattle.way.specs.inside.Planned.{IsPlan};
 ghost use Rattle.wire.specs.Pieces.{most_pieces};

@@ -3,7 +3,7 @@ ghost use Rattle.std.specs.Prelude.{◌≡◌, All, MatchOption, None, Some, fal
 ghost use Rattle.std.specs.Option.{option_copied};
 ghost use Rattle.agreement.specs.Votes.{report_of};
 ghost use Rattle.running.specs.History.{IsHistory};
-ghost use Rattle.units.specs.Division.{number_found};
+ghost use Rattle.engine.specs.Division.{number_found};
 ghost use Rattle.way.specs.Asked.{is_majority_up};
 ghost use Rattle.way.specs.Rounds as rounds;
 ghost use Rattle.way.specs.Rounds.{round_in, seen_at};

@@ -2,7 +2,7 @@
 ghost use Rattle.std.specs.Prelude.{◌≡◌, ◌⊎◌, IfErr, OnOk, Some, map};
 ghost use Rattle.events.specs.Events.{event_view};
 ghost use Rattle.running.specs.History.{IsHistory};
-ghost use Rattle.units.specs.Division.{number_found};
+ghost use Rattle.engine.specs.Division.{number_found};
 ghost use Rattle.way.specs.Ways.{HoldsUnit, IsWay, no_room};
 ghost use Rattle.way_rows.specs.Stops.{StopsSo};
 

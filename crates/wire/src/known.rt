@@ -5,6 +5,7 @@ ghost use Rattle.package_record.specs.BuildReading.{whole_build_of};
 ghost use Rattle.package_record.specs.Content.{record_text};
 ghost use Rattle.wire.specs.Reading.{build_in};
 
+use crate::likely::may_begin_with;
 use package_record::{Build, Record};
 use pkgpath::PkgPath;
 
@@ -15,22 +16,12 @@ fn behind<'a>(front: &[u8], text: &'a [u8]) -> Option<&'a [u8]>
     text.strip_prefix(front)
 }
 
-/// Whether the text has no fewer bytes than the record's header has lines at least, so that what is
-/// spelled for a text that comes is no longer than some times that text.
-fn has_room(own: &Record, text: &[u8]) -> bool {
-    let lines = own
-        .built()
-        .len()
-        .saturating_add(own.run().len())
-        .saturating_add(own.files().len());
-    lines <= text.len()
-}
-
 /// What is behind the record's text, where the text begins with that. Without memory it says no.
+/// The record's header is written only where the text is no shorter than that.
 fn behind_record<'a>(own: &Record, text: &'a [u8]) -> Option<&'a [u8]>
     ensures { IfSome result (λ rest. text.entry.now ≡ record_text own.now ++ rest.now) }
 {
-    if !has_room(own, text) {
+    if !may_begin_with(own, text) {
         return None;
     }
     let Ok(header) = own.header() else {

@@ -25,6 +25,7 @@ mod fault;
 mod fields;
 mod known;
 mod laws;
+mod likely;
 mod notes;
 mod pieces;
 mod writing;

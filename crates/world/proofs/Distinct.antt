@@ -16,8 +16,8 @@ use Rattle.events.specs.Events.{Event}
 use Rattle.package_record.specs.Build.{paths_of}
 use Rattle.package_record.specs.Content.{Content}
 use Rattle.protocol.specs.State.{Value}
-use Rattle.units.proofs.Places.{equal_bytes}
-use Rattle.units.specs.Division.{Division}
+use Rattle.engine.proofs.Places.{equal_bytes}
+use Rattle.engine.specs.Division.{Division}
 use Rattle.wire.specs.Messages.{IsBuildOf}
 use Rattle.world.specs.Happening.{Happens, Leads}
 use Rattle.world.specs.Headline.{AtEachMoment, HasOneAPath}

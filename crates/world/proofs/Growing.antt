@@ -13,7 +13,7 @@ use Rattle.node.specs.State.{with_note}
 use Rattle.node.specs.Step.{after}
 use Rattle.package_record.specs.Content.{Content}
 use Rattle.protocol.specs.State.{Value}
-use Rattle.units.specs.Division.{Division}
+use Rattle.engine.specs.Division.{Division}
 use Rattle.world.specs.Happening.{Happens, Leads, Restarts, Steps, Stops, StopsIn, left_node}
 use Rattle.world.specs.Headline.{AtEachMoment, IsBeginningOf, IsLater}
 use Rattle.world.specs.Lists.{IsListAfter, has_path, with_build}

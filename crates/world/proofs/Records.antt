@@ -7,7 +7,7 @@ use Rattle.std.proofs.lemmas.List.Elements.{All-append, All-nil}
 use Rattle.faults.specs.Bytes.{Text}
 use Rattle.events.specs.Events.{Event}
 use Rattle.package_record.specs.Content.{Content, IsRecord}
-use Rattle.units.specs.Division.{Division}
+use Rattle.engine.specs.Division.{Division}
 use Rattle.world.specs.Happening.{Happens, Leads}
 use Rattle.world.specs.Headline.{AreRecords, AtEachMoment}
 use Rattle.world.specs.Lists.{IsListAfter, has_path}

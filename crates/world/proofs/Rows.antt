@@ -4,7 +4,7 @@ use Rattle.faults.specs.Bytes.{Text}
 use Rattle.agreement.specs.Quorums.{is_majority}
 use Rattle.events.specs.Events.{Claim, Nudge, Deliver, Stop, StopIn, Restart}
 use Rattle.events.specs.declared.event.Left.TheVariants as left
-use Rattle.units.specs.Division.{Division}
+use Rattle.engine.specs.Division.{Division}
 use Rattle.world.specs.Happening.{fault_before}
 use Rattle.world.specs.Sent.{with_datagram}
 use Rattle.world.specs.World.{World, down_node, start, with_node}

@@ -8,7 +8,7 @@ use Rattle.std.proofs.lemmas.List.Elements.{Contains-append_left, Contains-push,
 use Rattle.std.proofs.lemmas.List.Folds.{Any-from_list_any, list_any_at}
 use Rattle.std.proofs.lemmas.List.Quantifiers.{all_pairs_push}
 use Rattle.faults.specs.Bytes.{Text, is_among}
-use Rattle.units.proofs.Places.{equal_bytes, same_bytes}
+use Rattle.engine.proofs.Places.{equal_bytes, same_bytes}
 use Rattle.node.specs.Parcels.{datagrams_to, each_to}
 use Rattle.protocol.specs.declared.sends.Send.{Send}
 use Rattle.world.specs.Sent.{with_datagram, with_sends}

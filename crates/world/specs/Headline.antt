@@ -1,5 +1,5 @@
 -- One agreed list: what stands at each moment of a run.
-use Rattle.units.specs.Division.{Division, number_found, unit_at}
+use Rattle.engine.specs.Division.{Division, number_found, unit_at}
 use Rattle.listing.specs.Tree.{position_of}
 use Rattle.std.specs.Prelude.{◌≡◌, ◌≢◌, ◌++◌, ℕ, Bool, true, List, ◌∷◌, Option, Some, All, AllPairs, Contains, is_some, length, map, slice_get}
 use Rattle.sha2.specs.Sha256.{sha256}

@@ -1,6 +1,6 @@
 -- Why one list stands: what holds of proposals, promises, votes and pieces, unit by unit, in each
 -- world that is reached.
-use Rattle.units.specs.Division.{Division}
+use Rattle.engine.specs.Division.{Division}
 use Rattle.std.specs.Prelude.{◌≡◌, ◌++◌, ◌<◌, ℕ, true, List, ◌∷◌, Option, Some, None, All, Contains, length, slice_get}
 use Rattle.faults.specs.Bytes.{Text}
 use Rattle.agreement.specs.Claims.{AtMost, Below}

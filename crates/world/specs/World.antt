@@ -1,5 +1,5 @@
 -- A world: nodes with what they noted, the datagrams that were sent, and the agreed list.
-use Rattle.units.specs.Division.{Division, IsDivision}
+use Rattle.engine.specs.Division.{Division, IsDivision}
 use Rattle.std.specs.Prelude.{ℕ, Bool, true, false, List, [], Option, None, length, replicate, slice_set}
 use Rattle.faults.specs.Bytes.{Text}
 use Rattle.package_record.specs.Content.{Content}

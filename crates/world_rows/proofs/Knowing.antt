@@ -3,7 +3,7 @@ use Rattle.std.proofs.Common.{◌≡◌, ◌++◌, ◌∷◌, [], ℕ, List, Opt
 use Rattle.std.specs.Prelude.{OnErr, OnOk}
 use Rattle.events.specs.Events.{Event}
 use Rattle.running.specs.History.{History, taken}
-use Rattle.units.specs.Division.{Division}
+use Rattle.engine.specs.Division.{Division}
 use Rattle.world.specs.Happening.{up_of}
 use Rattle.world.specs.Headline.{AtEachMoment}
 use Rattle.world.specs.World.{World, WorldNode}

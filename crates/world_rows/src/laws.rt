@@ -7,12 +7,12 @@ ghost use Rattle.faults.specs.Bytes.{Text};
 ghost use Rattle.listing.specs.Tree.{position_of};
 ghost use Rattle.package_record.specs.Content.{Content};
 ghost use Rattle.protocol.specs.State.{engine_of};
-ghost use Rattle.units.specs.Division.{Division};
+ghost use Rattle.engine.specs.Division.{Division};
 ghost use Rattle.world.specs.Happening.{Leads};
 ghost use Rattle.world.specs.Headline.{HoldAlike, IsInRunClosure, holds};
 ghost use Rattle.world.specs.World.{IsMade, World, WorldNode, member_at, start};
 
-use headline::{events_have_one_answer, worlds_have_one_list};
+use world::{events_have_one_answer, worlds_have_one_list};
 
 /// What a node shows as installable is in the list, with all of its run closure.
 pub fn installable_is_listed()

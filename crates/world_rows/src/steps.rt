@@ -7,11 +7,10 @@ ghost use Rattle.world.specs.Headline.{HeldIsListed, HoldAlike, IsBeginningOf};
 
 use ballots::Weights;
 use events::Event;
-use headline::events_have_one_answer;
 use listing::Tree;
 use running::{World, run};
 use std::alloc::Global;
-use world::WorldFault;
+use world::{WorldFault, events_have_one_answer};
 
 /// Takes two events.
 pub fn take_two(world: &mut World<'_>, first: &Event, second: &Event) -> Result<(), WorldFault>

@@ -3,7 +3,7 @@ use Rattle.std.specs.Prelude.{◌≡◌, ◌<◌, ◌^◌, ℕ, Bool, List, leng
 use Rattle.graph.specs.Lists.{AreReversed}
 use Rattle.graph.specs.Walked.{Walked}
 use Rattle.listing.specs.Tree.{run_at}
-use Rattle.units.specs.Division.{Division}
+use Rattle.engine.specs.Division.{Division}
 use Rattle.engine.specs.declared.Letter.{Letter}
 use Rattle.engine.specs.declared.Letter.TheVariants.{B, I}
 use Rattle.engine.specs.Letters.{IsInstallable}

@@ -1,6 +1,6 @@
 -- Which units wait, and for how many packages.
 use Rattle.std.specs.Prelude.{◌≡◌, ◌<◌, ◌⊎◌, ℕ, not, List, None, Some, count_by, length, slice_index_or}
-use Rattle.units.specs.Division.{Division, IsDivision, number_of, unit_at}
+use Rattle.engine.specs.Division.{Division, IsDivision, number_of, unit_at}
 use Rattle.engine.specs.declared.Letter.{Letter}
 use Rattle.engine.specs.declared.Letter.TheVariants.{T, Q, B, I, Ignored}
 use Rattle.engine.specs.inside.Shown.{is_installed, letter_at}

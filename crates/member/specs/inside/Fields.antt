@@ -5,7 +5,7 @@ use Rattle.agreement.specs.Member.{Facts}
 use Rattle.agreement.specs.Votes.{report_of}
 use Rattle.claims.specs.Job.{Task}
 use Rattle.engine.specs.State as engine
-use Rattle.units.specs.Division.{Division}
+use Rattle.engine.specs.Division.{Division}
 use Rattle.protocol.specs.State.{State, Value, engine_of}
 use Rattle.protocol.specs.Answers.{tree_digest}
 use Rattle.protocol.specs.Member.{IsMember}

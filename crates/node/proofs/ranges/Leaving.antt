@@ -7,7 +7,7 @@ use Rattle.std.proofs.lemmas.List.Elements.{All-append, All-cons, All-nil}
 use Rattle.agreement.specs.Member.{Facts, no_facts}
 use Rattle.ballots.specs.declared.message.Note.{Note}
 use Rattle.engine.specs.declared.Letter.{Letter}
-use Rattle.units.specs.Division.{number_named}
+use Rattle.engine.specs.Division.{number_named}
 use Rattle.protocol.specs.Answers.{Answer, after as member_after}
 use Rattle.protocol.specs.Member.{IsMember}
 use Rattle.protocol.specs.State.{State, Value, facts_then, fresh, name_at}

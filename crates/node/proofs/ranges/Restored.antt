@@ -11,8 +11,8 @@ use Rattle.ballots.specs.InTheAgreement.{note_of}
 use Rattle.ballots.specs.declared.message.Fact.{Fact}
 use Rattle.ballots.specs.declared.message.Fact.TheVariants as facts
 use Rattle.ballots.specs.declared.message.Note.{Note}
-use Rattle.units.specs.Division.{unit_at}
-use Rattle.units.proofs.Places.{same_bytes}
+use Rattle.engine.specs.Division.{unit_at}
+use Rattle.engine.proofs.Places.{same_bytes}
 use Rattle.protocol.specs.State.{Value}
 use Rattle.protocol.proofs.Restored.{notes_restore}
 use Rattle.wire.specs.Messages.{IsFact, IsNote}

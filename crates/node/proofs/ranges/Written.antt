@@ -26,9 +26,9 @@ use Rattle.ballots.specs.Weights.{is_weight}
 use Rattle.ballots.specs.declared.message.Body.{Body}
 use Rattle.ballots.specs.declared.message.Body.TheVariants as bodies
 use Rattle.ballots.specs.declared.message.Message.{Message}
-use Rattle.units.specs.Division.{number_named}
-use Rattle.units.proofs.Kept.{unit_good}
-use Rattle.units.proofs.Names.{name_is_found}
+use Rattle.engine.specs.Division.{number_named}
+use Rattle.engine.proofs.Kept.{unit_good}
+use Rattle.engine.proofs.Names.{name_is_found}
 use Rattle.protocol.specs.Answers.{Answer, answered, dropped, everyone, claim_then, message_of, note_at, others, sends_of}
 use Rattle.protocol.specs.Given.{Given}
 use Rattle.protocol.specs.InTheAgreement.{body_in, claim_of, fact_in, pair_of, progress_of, stage_of, view}

@@ -6,7 +6,7 @@ use Rattle.ballots.specs.declared.message.Note.{Note}
 use Rattle.protocol.specs.State.{State, Value, fresh}
 use Rattle.stable_record.specs.declared.log_fault.LogFault.{LogFault}
 use Rattle.stable_record.specs.declared.log_fault.LogFault.TheVariants as log
-use Rattle.units.specs.Division.{Division, IsDivision, number_named}
+use Rattle.engine.specs.Division.{Division, IsDivision, number_named}
 use Rattle.wire.specs.Messages.{IsNote}
 use Rattle.wire.specs.Spelling.{note_text}
 use Rattle.wire.specs.declared.WireFault.{WireFault}

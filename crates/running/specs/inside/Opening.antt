@@ -8,7 +8,7 @@ use Rattle.node.specs.State.{LoggedNode, NodeState}
 use Rattle.stable_record.specs.InMemory.{mem_history}
 use Rattle.stable_record.specs.Opening.{HasOneAnswer, Opens}
 use Rattle.stable_record.specs.declared.mem_disk.MemDisk.{MemDisk}
-use Rattle.units.specs.Division.{Division, IsDivision}
+use Rattle.engine.specs.Division.{Division, IsDivision}
 
 -- The tree has units.
 abbrev pub HasUnits : Tree → Type 0

@@ -3,7 +3,7 @@ use Rattle.std.specs.Prelude.{◌≡◌, ◌+◌, ◌<◌, length}
 use Rattle.turns.specs.AnyCase.{StandsInAnyCase}
 use Rattle.turns.specs.State.{ClusterState, IsWorldOf}
 use Rattle.turns.specs.declared.cluster.Cluster.TheInside.{Inside}
-use Rattle.units.specs.Division.{IsDivision}
+use Rattle.engine.specs.Division.{IsDivision}
 use Rattle.world.specs.World.{World}
 
 -- the cluster

@@ -10,7 +10,7 @@ use Rattle.protocol.specs.State.{HasLetter, State, Value}
 use Rattle.protocol.specs.Step.{made_by}
 use Rattle.protocol.specs.declared.refusal.Refusal.{Refusal}
 use Rattle.protocol.specs.declared.refusal.Refusal.TheVariants as refusals
-use Rattle.units.specs.Division.{number_found}
+use Rattle.engine.specs.Division.{number_found}
 use Rattle.way.specs.Asked.{is_majority_up, next_build}
 use Rattle.way.specs.Rounds.{last_round}
 use Rattle.way.specs.declared.fault.WayFault.{WayFault}

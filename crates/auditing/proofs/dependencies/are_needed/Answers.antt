@@ -1,7 +1,7 @@
 use Rattle.std.proofs.Common.{◌∙◌, ap, refl, sym}
-use Rattle.units.specs.Division.{unit_at}
-use Rattle.units.specs.Units.{Unit}
-use Rattle.units.proofs.Once.{one_unit}
+use Rattle.engine.specs.Division.{unit_at}
+use Rattle.engine.specs.Units.{Unit}
+use Rattle.engine.proofs.Once.{one_unit}
 use Rattle.auditing.proofs.OfUnit.{unit_missing, unit_there}
 use Rattle.auditing.proofs.Positions.{equal_bytes, same_bytes}
 use Rattle.auditing.proofs.dependencies.are_needed.Goals as goal

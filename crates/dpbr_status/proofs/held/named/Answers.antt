@@ -1,7 +1,7 @@
 use Rattle.std.proofs.Common.{rules, inr, refl, subst, sym, true≢false}
 use Rattle.listing.specs.Tree.{Tree}
 use Rattle.dpbr_status.proofs.Positions.{named_at, not_listed}
-use Rattle.units.specs.Ignored.{IsIgnored}
+use Rattle.engine.specs.Ignored.{IsIgnored}
 use Rattle.dpbr_status.proofs.held.named.Goals as goal
 
 pub returns-in_default-clause-err : goal.returns-in_default-clause-err

@@ -1,5 +1,5 @@
 use Rattle.std.proofs.Common.{ap, subst, ◌∙◌, slice_index_or}
-use Rattle.units.specs.Ignored.{IsIgnored}
+use Rattle.engine.specs.Ignored.{IsIgnored}
 use Rattle.member.proofs.UnitPackages.{not_ignored}
 use Rattle.member.proofs.facts.agree.Goals as goal
 

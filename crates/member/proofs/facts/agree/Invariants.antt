@@ -1,5 +1,5 @@
 use Rattle.std.proofs.Common.{◌≡◌, take}
-use Rattle.units.specs.Division.{unit_at}
+use Rattle.engine.specs.Division.{unit_at}
 use Rattle.member.specs.inside.Units.{agreed_too}
 use Rattle.member.proofs.facts.agree.Given as goal
 

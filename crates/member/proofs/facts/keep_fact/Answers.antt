@@ -8,7 +8,7 @@ use Rattle.member.specs.inside.Units.{agreed_too}
 use Rattle.member.proofs.HeldUnits.{engine_agrees, engine_stays}
 use Rattle.member.proofs.KeptFacts.{at_unit, fact_kept, named_within}
 use Rattle.member.proofs.facts.keep_fact.Goals as goal
-use Rattle.units.specs.Division.{unit_at}
+use Rattle.engine.specs.Division.{unit_at}
 
 pub returns-then-is_held-clause-facts : goal.returns-then-is_held-clause-facts
 returns-then-is_held-clause-facts c =

@@ -1,7 +1,7 @@
 use Rattle.std.proofs.Common.{◌≡◌, ◌∙◌, sym, Some}
 use Rattle.std.proofs.lemmas.Bool.{false≢true}
-use Rattle.units.specs.Division.{number_found}
-use Rattle.units.proofs.Places.{equal_bytes, same_bytes}
+use Rattle.engine.specs.Division.{number_found}
+use Rattle.engine.proofs.Places.{equal_bytes, same_bytes}
 use Rattle.member.proofs.Named.{named_not, named_so}
 use Rattle.member.proofs.naming.unit_named.Goals as goal
 

@@ -1,6 +1,6 @@
 use Rattle.std.proofs.Common.{◌++◌, [], ◌∷◌, arith, length, ap, sym, ◌∙◌}
 use Rattle.std.proofs.lemmas.List.FromFn.{length-range_with_len}
-use Rattle.units.proofs.Lists.{range_next}
+use Rattle.engine.proofs.Lists.{range_next}
 use Rattle.member.proofs.receivers.everyone.Goals as goal
 
 pub push-requires : goal.push-requires

@@ -1,7 +1,7 @@
 use Rattle.std.proofs.lemmas.Grind.{common_steps}
 use Rattle.std.proofs.Common.{◌≡◌, ◌∷◌, ◌∙◌, ap, map, arith}
 use Rattle.events.specs.Events.{event_view}
-use Rattle.units.specs.Division.{Division}
+use Rattle.engine.specs.Division.{Division}
 use Rattle.world.proofs.Growing.{event_later}
 use Rattle.running.proofs.EventByEvent.{one_more}
 use Rattle.running.proofs.runs.world_after.Goals as goal

@@ -1,5 +1,5 @@
 use Rattle.std.proofs.Common.{arith}
-use Rattle.units.proofs.Dependents.{IsMarking-all, IsMarking-more}
+use Rattle.engine.proofs.Dependents.{IsMarking-all, IsMarking-more}
 use Rattle.snapshot.proofs.lacking.marks_of.Goals as goal
 
 pub loop-position-preserved : goal.loop-position-preserved

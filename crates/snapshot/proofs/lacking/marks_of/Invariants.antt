@@ -1,4 +1,4 @@
-use Rattle.units.proofs.Dependents.{IsMarking}
+use Rattle.engine.proofs.Dependents.{IsMarking}
 use Rattle.snapshot.proofs.lacking.marks_of.Given as goal
 
 abbrev pub invariant-loop-position : goal.invariant-loop-position

@@ -1,6 +1,6 @@
 use Rattle.std.proofs.Common.{Err, ap, subst, ◌∙◌}
 use Rattle.std.proofs.lemmas.Result.{err_from_is_err_and}
-use Rattle.headline.proofs.ByStep.{sends_answered}
+use Rattle.world.proofs.ByStep.{sends_answered}
 use Rattle.node.specs.Parcels.{datagrams_to}
 use Rattle.parts.specs.Offered.{parcels_from}
 use Rattle.ports.specs.Kept.{GoesOnBy}

@@ -1,4 +1,4 @@
-use Rattle.std.proofs.Common.{◌≡◌, ℕ, List, [], ◌∷◌, Bor, arith, length, ap, rules, lit<, subst}
+use Rattle.std.proofs.Common.{ℕ, List, [], ◌∷◌, Bor, arith, length, ap, rules, lit<, subst}
 use Rattle.std.proofs.lemmas.Iterator.Consumers.{YieldsList-at, YieldsList-end, YieldsList-so_far, YieldsList-turn}
 use Rattle.std.proofs.lemmas.Iterator.Splits.{YieldsList-from_str_split}
 use Rattle.std.proofs.lemmas.List.{length-append, map_push}

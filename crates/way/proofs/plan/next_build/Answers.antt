@@ -1,6 +1,6 @@
 use Rattle.std.proofs.Common.{◌≡◌, ◌<◌, ◌≤◌, suc, Err, length, sym, ap, ◌∙◌, arith, inl, inr, ⊎_elim}
 use Rattle.std.proofs.lemmas.Bool.{cases_lt}
-use Rattle.headline.proofs.Members.{get_within}
+use Rattle.world.proofs.Members.{get_within}
 use Rattle.running.proofs.Shown.{few_nodes}
 use Rattle.way.proofs.Planning.{next_left}
 use Rattle.way.specs.inside.Planned.{as_way, fault_of}

@@ -3,7 +3,7 @@ use Rattle.engine.specs.State as engines
 use Rattle.engine.specs.declared.Letter.TheVariants as letters
 use Rattle.protocol.specs.State.{engine_of}
 use Rattle.protocol.specs.Step.{IsLetterOf}
-use Rattle.units.specs.Division.{number_found, unit_at}
+use Rattle.engine.specs.Division.{number_found, unit_at}
 use Rattle.way.specs.Asked.{refusal_at}
 use Rattle.way.proofs.Planning.{not_queued, refused_letter}
 use Rattle.way.proofs.Seen.{node_up}

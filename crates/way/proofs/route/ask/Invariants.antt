@@ -1,7 +1,7 @@
 use Rattle.std.proofs.Common.{◌≡◌, ◌≤◌, ◌+◌, ◌*◌, ◌++◌, ℕ, suc, Some, map, take}
 use Rattle.agreement.specs.declared.claim.Claim.{Claim}
 use Rattle.events.specs.Events.{event_view}
-use Rattle.units.specs.Division.{number_found}
+use Rattle.engine.specs.Division.{number_found}
 use Rattle.way.specs.inside.Listed.{asks_from, behind_promises}
 use Rattle.way.proofs.route.ask.Given as goal
 use Rattle.wire.specs.Pieces.{most_pieces}

@@ -1,6 +1,6 @@
 use Rattle.std.proofs.Common.{◌≡◌, ℕ, Some, fold, map, max}
 use Rattle.std.specs.List.{range_with_len}
-use Rattle.units.specs.Division.{number_found}
+use Rattle.engine.specs.Division.{number_found}
 use Rattle.way.specs.Rounds.{round_in, seen_at}
 use Rattle.way.proofs.survey.last_round.Given as goal
 

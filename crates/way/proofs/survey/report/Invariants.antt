@@ -1,7 +1,7 @@
 use Rattle.std.proofs.Common.{◌≡◌, ℕ, None, Some, take}
 use Rattle.std.specs.Option.{option_copied}
 use Rattle.agreement.specs.Votes.{report_of}
-use Rattle.units.specs.Division.{number_found}
+use Rattle.engine.specs.Division.{number_found}
 use Rattle.way.specs.inside.Listed.{report_of_all}
 use Rattle.way.proofs.survey.report.Given as goal
 

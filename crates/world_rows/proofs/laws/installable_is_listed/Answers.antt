@@ -1,7 +1,7 @@
 use Rattle.std.proofs.Common.{◌≡◌, [], ℕ, List, Option, None, Some, true, false, is_some, refl, subst, sym, append-nil}
 use Rattle.events.specs.Events.{Event}
 use Rattle.package_record.specs.Content.{Content}
-use Rattle.units.specs.Division.{Division}
+use Rattle.engine.specs.Division.{Division}
 use Rattle.world.specs.Headline.{AtEachMoment, HeldIsListed, InstallableIsHeld, holds}
 use Rattle.world.specs.World.{World}
 use Rattle.world_rows.proofs.laws.installable_is_listed.Goals as goal

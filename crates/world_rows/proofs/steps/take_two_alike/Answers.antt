@@ -1,7 +1,7 @@
 use Rattle.std.proofs.Common.{◌≡◌, ◌++◌, ◌∙◌, ℕ, List, ap, append_assoc, subst, sym}
 use Rattle.events.specs.Events.{event_view}
 use Rattle.running.specs.History.{taken}
-use Rattle.units.specs.Division.{Division}
+use Rattle.engine.specs.Division.{Division}
 use Rattle.world.specs.Happening.{Leads}
 use Rattle.world.specs.Headline.{HoldAlike}
 use Rattle.world.specs.World.{World, start}

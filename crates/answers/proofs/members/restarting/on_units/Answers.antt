@@ -2,7 +2,7 @@ use Rattle.std.proofs.Common.{◌≡◌, ℕ, [], None, Some, length, not, subst
 use Rattle.std.specs.List.{list_all}
 use Rattle.std.specs.Str.{bytes_eq}
 use Rattle.std.proofs.lemmas.List.Elements.{All-push}
-use Rattle.units.specs.Division.{number_named}
+use Rattle.engine.specs.Division.{number_named}
 use Rattle.protocol.specs.Answers.{tree_digest}
 use Rattle.protocol.specs.Restoring.{AreOnUnits}
 use Rattle.protocol.specs.Step.{header_refusal}

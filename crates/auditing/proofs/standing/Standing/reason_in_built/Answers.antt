@@ -2,8 +2,8 @@ use Rattle.std.proofs.Common.{◌<◌, length, refl, sym, subst, inl, inr}
 use Rattle.std.proofs.lemmas.Bool.{iff_false}
 use Rattle.std.proofs.lemmas.Option.{MatchOption-at_none, MatchOption-at_some}
 use Rattle.listing.specs.Tree.{Tree}
-use Rattle.units.specs.Ignored.{IsIgnored}
-use Rattle.units.proofs.WellMade.{well_made}
+use Rattle.engine.specs.Ignored.{IsIgnored}
+use Rattle.engine.proofs.WellMade.{well_made}
 use Rattle.auditing.specs.inside.Standing.{AreNeeded}
 use Rattle.auditing.proofs.Built.{not_unlisted}
 use Rattle.auditing.proofs.Needed.{its_from_needed, needed_from_its}

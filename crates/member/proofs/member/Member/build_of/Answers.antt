@@ -3,8 +3,8 @@ use Rattle.claims.specs.Claim.{IsClaim}
 use Rattle.claims.specs.Deps.{is_ascending}
 use Rattle.claims.specs.Job.{Task}
 use Rattle.package_record.specs.Packages.{contents_of}
-use Rattle.units.specs.Division.{unit_at}
-use Rattle.units.proofs.Kept.{unit_some}
+use Rattle.engine.specs.Division.{unit_at}
+use Rattle.engine.proofs.Kept.{unit_some}
 use Rattle.protocol.specs.Jobs.{build_by}
 use Rattle.protocol.proofs.PackageOrder.{few_packages, grouped, paths_ascend}
 use Rattle.member.specs.inside.Packages.{files_at}

@@ -4,7 +4,7 @@ use Rattle.std.specs.Prelude.{is_some}
 use Rattle.std.proofs.lemmas.Bool.{false≢true, le-leb, leb-true}
 use Rattle.std.proofs.lemmas.Result.{err_from_is_err_and}
 use Rattle.claims.specs.Claim.{greatest_round}
-use Rattle.units.proofs.Lists.{not_true}
+use Rattle.engine.proofs.Lists.{not_true}
 use Rattle.protocol.specs.Answers.{answered, everyone}
 use Rattle.protocol.specs.InTheAgreement.{view}
 use Rattle.protocol.specs.State.{facts_at, is_held}

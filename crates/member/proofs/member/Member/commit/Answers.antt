@@ -9,7 +9,7 @@ use Rattle.faults.specs.Answers.{option_or}
 use Rattle.ballots.specs.declared.message.Fact.{Fact}
 use Rattle.ballots.specs.declared.message.Note.{Note}
 use Rattle.protocol.specs.State.{State, Value, facts_then, noted_at}
-use Rattle.units.specs.Division.{number_named}
+use Rattle.engine.specs.Division.{number_named}
 use Rattle.member.specs.OpenClaims.{open_of}
 use Rattle.member.specs.inside.Waiting.{waits}
 use Rattle.member.specs.Prepared.{MayBeTaken, Prepared}

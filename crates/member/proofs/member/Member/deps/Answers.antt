@@ -2,7 +2,7 @@ use Rattle.std.proofs.Common.{◌∙◌, Option, ap, map, option_map}
 use Rattle.std.specs.Prelude.{filter_map}
 use Rattle.faults.specs.Bytes.{Text}
 use Rattle.claims.specs.declared.deps.Dep.{Dep}
-use Rattle.units.specs.Division.{unit_at}
+use Rattle.engine.specs.Division.{unit_at}
 use Rattle.protocol.specs.Jobs.{in_order_of_path, signature}
 use Rattle.protocol.specs.State.{State, held_record}
 use Rattle.member.proofs.member.Member.deps.Goals as goal

@@ -1,7 +1,7 @@
 use Rattle.std.proofs.Common.{ap, slice_index_or, subst, ◌∙◌}
 use Rattle.engine.specs.State as engines
 use Rattle.protocol.specs.State.{State, engine_of}
-use Rattle.units.specs.Division.{unit_at}
+use Rattle.engine.specs.Division.{unit_at}
 use Rattle.member.proofs.member.Member.unit_letter.Goals as goal
 
 pub returns : goal.returns

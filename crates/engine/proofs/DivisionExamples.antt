@@ -1,0 +1,102 @@
+-- Units of trees where they are known.
+use Rattle.std.proofs.Common.{◌≡◌, ◌==◌, ◌||◌, ℕ, Bool, true, false, zero, suc, None, Some, refl, sym, codes, List, [], ◌∷◌}
+use mathlib.Core.Bool.{true≢false}
+use Rattle.faults.specs.Bytes.{Text}
+use Rattle.listing.specs.Tree.{Package, Tree, is_marked_at}
+use Rattle.engine.specs.Division.{Division, number_found, number_of}
+use Rattle.engine.specs.Ignored.{AreTheIgnored}
+use Rattle.engine.specs.Units.{AreUnits, Unit, units_with}
+
+abbrev listed : Text → Text → List ℕ → Package
+listed path group build = record { path = path; group = group; name = codes "x-1"; build = build; run = []; is_marked = false }
+
+-- nothing is ignored
+abbrev none : ℕ → Bool
+none p = false
+
+abbrev unit : Text → List ℕ → List ℕ → Unit
+unit name packages build = record { name = name; packages = packages; build = build }
+
+-- ---- two packages of one group, of which the second needs the first to be built
+
+abbrev pair : Tree
+pair = listed (codes "a/b,-x") (codes "a/b") [] ∷ listed (codes "a/b,-y") (codes "a/b") (0 ∷ []) ∷ []
+
+-- one build makes both, and needs neither
+example_pair : units_with pair none ≡ unit (codes "a/b") (0 ∷ 1 ∷ []) [] ∷ []
+example_pair = refl
+
+-- where nothing is marked, nothing is ignored: the empty set holds the marked ones
+free : (tree : Tree) → ((q : ℕ) → is_marked_at tree q ≡ true → ⊥) → AreTheIgnored tree none
+free tree unmarked p = (
+  λ h. absurd (true≢false (sym h)),
+  λ ignored. ignored none (record {
+    marked = λ q _ h. absurd (unmarked q h);
+    build = λ q d _ _ h. h;
+    run = λ q d _ _ h. h;
+  }),
+)
+
+pair_free : (q : ℕ) → is_marked_at pair q ≡ true → ⊥
+pair_free zero h = true≢false (sym h)
+pair_free (suc zero) h = true≢false (sym h)
+pair_free (suc (suc q)) h = true≢false (sym h)
+
+example_pair_units : AreUnits pair (unit (codes "a/b") (0 ∷ 1 ∷ []) [] ∷ [])
+example_pair_units = record { ignored = none; are_ignored = free pair pair_free; are = refl }
+
+abbrev single_pair : Tree
+single_pair = listed (codes "a/b,-x") (codes "a/b,-x") [] ∷ listed (codes "a/b,-y") (codes "a/b,-y") (0 ∷ []) ∷ []
+
+-- each is a unit where each is a group of its own, and the second needs the first
+example_single_pair : units_with single_pair none ≡ unit (codes "a/b,-x") (0 ∷ []) [] ∷ unit (codes "a/b,-y") (1 ∷ []) (0 ∷ []) ∷ []
+example_single_pair = refl
+
+-- ---- two packages of one group, of which the first needs a third to be built
+
+abbrev trio : Tree
+trio = listed (codes "c/d,-p") (codes "c/d") (2 ∷ []) ∷ listed (codes "c/d,-q") (codes "c/d") [] ∷ listed (codes "e/f") (codes "e/f") [] ∷ []
+
+example_trio : units_with trio none ≡ unit (codes "c/d") (0 ∷ 1 ∷ []) (2 ∷ []) ∷ unit (codes "e/f") (2 ∷ []) [] ∷ []
+example_trio = refl
+
+-- ---- units by least position, packages by path, and what is ignored
+
+-- the group's own path is listed and ignored, and one of the others stands before a lone package, one behind it
+abbrev scattered : Tree
+scattered =
+    listed (codes "a/b") (codes "a/b") [] ∷ listed (codes "a/b,-z") (codes "a/b") (2 ∷ 3 ∷ []) ∷ listed (codes "e/f") (codes "e/f") (2 ∷ [])
+    ∷ listed (codes "a/b,-c") (codes "a/b") (3 ∷ []) ∷ []
+
+abbrev first_ignored : ℕ → Bool
+first_ignored p = p == 0
+
+-- a lone package may need itself, two of one unit do not need each other
+example_scattered : units_with scattered first_ignored ≡ unit (codes "a/b") (3 ∷ 1 ∷ []) (2 ∷ []) ∷ unit (codes "e/f") (2 ∷ []) (2 ∷ []) ∷ []
+example_scattered = refl
+
+-- where one of a group is left, it is a unit by itself, and has its own name
+example_one_left : units_with scattered (λ p. p == 0 || p == 3) ≡ unit (codes "a/b,-z") (1 ∷ []) (2 ∷ 3 ∷ []) ∷ unit (codes "e/f") (2 ∷ []) (2 ∷ []) ∷ []
+example_one_left = refl
+
+-- ---- how units are found
+
+abbrev division : Division
+division = record { tree = scattered; units = units_with scattered first_ignored }
+
+-- the unit's name goes before an ignored path of the same text
+example_by_name : number_found division (codes "a/b") ≡ Some 0
+example_by_name = refl
+
+example_by_path : number_found division (codes "a/b,-c") ≡ Some 0
+example_by_path = refl
+
+example_unknown : number_found division (codes "a/b,-q") ≡ None
+example_unknown = refl
+
+example_ignored : number_of division 0 ≡ None
+example_ignored = refl
+
+-- an ignored path that no unit has as its name finds none
+example_ignored_path : number_found (record { tree = scattered; units = units_with scattered (λ p. p == 0 || p == 3) }) (codes "a/b") ≡ None
+example_ignored_path = refl

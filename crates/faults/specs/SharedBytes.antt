@@ -1,0 +1,9 @@
+-- The list that bytes are.
+use Rattle.std.specs.Prelude.{ℕ, List}
+use Rattle.faults.specs.declared.shared_bytes.Bytes.{Bytes}
+use Rattle.faults.specs.declared.shared_bytes.Bytes.TheVariants.{Short, Long}
+
+-- the bytes, wherever they stand
+abbrev pub items_of : Bytes → List ℕ
+items_of (Short bytes) = bytes
+items_of (Long bytes) = bytes.items

@@ -1,0 +1,11 @@
+-- Few bytes, which stand at the front of a table.
+use Rattle.std.specs.Prelude.{ℕ, List, ◌≤◌, take}
+use Rattle.faults.specs.declared.shared_bytes.ShortBytes.TheInside.{Inside}
+
+-- the bytes: as many of the table's as count
+abbrev pub in_table : Inside → List ℕ
+in_table bytes = take bytes.count bytes.table
+
+-- the table has as many
+abbrev pub AreInTable : Inside → Type 0
+AreInTable bytes = bytes.count ≤ 39

@@ -1,0 +1,28 @@
+-- Calls of a port, one after the other.
+use Rattle.std.specs.Prelude.{◌≡◌, ◌++◌, ℕ, List, [], ◌∷◌, Option, None, Some, Result, Ok, Err, Vec}
+use Rattle.std.specs.declared.alloc.Global.{Global}
+use Rattle.ports.specs.Kept.{Arrived, Parcel}
+use Rattle.ports.specs.declared.fault.PortFault.{PortFault}
+
+-- a call, with its answer
+pub data Call : Type 0 where
+  Received : Result Arrived PortFault → Call  -- this came, or nothing, or the call was refused
+  Sent : Parcel → Result (Unit {0}) PortFault → Call  -- this was offered, and taken or refused
+
+-- what a receive answered
+abbrev pub told : Result (Option (ℕ × Vec ℕ Global)) PortFault → Result Arrived PortFault
+told (Ok None) = Ok None
+told (Ok (Some d)) = Ok (Some (d.0, d.1.items))
+told (Err f) = Err f
+
+-- The port went through these calls and no others, in this order, where each does this to it.
+abbrev pub WentThrough : {P : Type 0} → (P → Call → P → Type 0) → P → List Call → P → Type 0
+WentThrough does old [] new = new ≡ old
+WentThrough does old (call ∷ calls) new = (between : _) × does old call between
+    × WentThrough does between calls new
+
+-- Law: what went through these calls, and then through those, went through both.
+abbrev pub CallsGoOn : {P : Type 0} → (P → Call → P → Type 0) → Type 0
+CallsGoOn does = (old between new : _) (calls more : List Call)
+    → WentThrough does old calls between → WentThrough does between more new
+    → WentThrough does old (calls ++ more) new

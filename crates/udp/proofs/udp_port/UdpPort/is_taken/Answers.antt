@@ -1,0 +1,6 @@
+use Rattle.udp.proofs.udp_port.UdpPort.is_taken.Goals as goal
+
+pub returns-in-Some-seat_of-clause-away : goal.returns-in-Some-seat_of-clause-away
+returns-in-Some-seat_of-clause-away g c taken none =
+    let here = rw c.deref-3.ensures.value at c.in-Some-seat_of.ensures in
+    absurd (none c.in-Some-seat_of.field-0 here)

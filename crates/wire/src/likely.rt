@@ -1,0 +1,120 @@
+//! Whether a text may begin with that of a record which is known. All that is asked here costs no
+//! more than what came: a walk ends where the text does, and nothing is written.
+
+use claims::Dep;
+use package_record::{File, Record};
+use pkgpath::PkgPath;
+
+/// The bytes of a dependency's line besides its path and its name.
+const BUILT: usize = 74;
+
+/// The bytes of the line of a path to run besides the path.
+const RUN: usize = 6;
+
+/// The fewest bytes that the three lines of a file have besides its name: those of a size of one
+/// digit.
+const FILE: usize = 79;
+
+/// The most digits that a number has.
+const DIGITS: usize = 20;
+
+/// What is behind these parts, where the text begins with one after the other.
+fn behind_all<'a>(parts: &[&[u8]], text: &'a [u8]) -> Option<&'a [u8]> {
+    let mut rest = text;
+    for part in parts {
+        rest = rest.strip_prefix(*part)?;
+    }
+    Some(rest)
+}
+
+/// What is behind the digits that the text begins with, where they write the number.
+fn behind_number(number: u64, text: &[u8]) -> Option<&[u8]> {
+    let mut value: u64 = 0;
+    let mut rest = text;
+    for _ in 0..DIGITS {
+        match rest.split_first() {
+            Some((digit, behind)) if digit.is_ascii_digit() => {
+                value = value
+                    .saturating_mul(10)
+                    .saturating_add(u64::from(*digit - b'0'));
+                rest = behind;
+            }
+            _ => break,
+        }
+    }
+    if value == number { Some(rest) } else { None }
+}
+
+/// What is behind the record's first five lines, where the text begins with them. An honest build
+/// of another host differs in the fourth, one under another claim in the fifth.
+fn behind_front<'a>(own: &Record, text: &'a [u8]) -> Option<&'a [u8]> {
+    let names = [
+        b"@dpb 1\n@name ".as_slice(),
+        own.name().as_bytes(),
+        b"\n@comment pkgpath=".as_slice(),
+        own.path().as_bytes(),
+        b"\n@host ".as_slice(),
+    ];
+    let claim = own.claim();
+    let rest = behind_all(&names, text)?;
+    let rest = behind_number(u64::from(own.host()), rest)?;
+    let rest = rest.strip_prefix(b"\n@claim ")?;
+    let rest = behind_number(claim.round, rest)?;
+    let rest = rest.strip_prefix(b".")?;
+    let rest = behind_number(u64::from(claim.member), rest)?;
+    rest.strip_prefix(b"\n")
+}
+
+/// What is left of so much room behind the lines of these dependencies.
+fn behind_built(room: usize, deps: &[Dep]) -> Option<usize> {
+    let mut left = room;
+    for dep in deps {
+        left = left
+            .checked_sub(BUILT)?
+            .checked_sub(dep.path.as_bytes().len())?
+            .checked_sub(dep.name.as_bytes().len())?;
+    }
+    Some(left)
+}
+
+/// What is left of so much room behind the lines of these paths to run.
+fn behind_run(room: usize, paths: &[PkgPath]) -> Option<usize> {
+    let mut left = room;
+    for path in paths {
+        left = left.checked_sub(RUN)?.checked_sub(path.as_bytes().len())?;
+    }
+    Some(left)
+}
+
+/// What is left of so much room at most behind the lines and the bytes of these files.
+fn behind_files(room: usize, files: &[File]) -> Option<usize> {
+    let mut left = room;
+    for file in files {
+        left = left
+            .checked_sub(FILE)?
+            .checked_sub(file.name.len())?
+            .checked_sub(file.bytes.len())?;
+    }
+    Some(left)
+}
+
+/// What is left of so much room at most behind all that the record has behind its first five lines,
+/// but for the empty line.
+fn behind_others(room: usize, own: &Record) -> Option<usize> {
+    let left = behind_built(room, own.built())?;
+    let left = behind_run(left, own.run())?;
+    behind_files(left, own.files())
+}
+
+/// Whether the text may begin with the record's: it has its first five lines, and behind them no
+/// fewer bytes than all others take at least. Where it says yes, the record's header is no longer
+/// than the text: the size of a file has no more digits than the file has bytes, or one.
+pub fn may_begin_with(own: &Record, text: &[u8]) -> bool {
+    let Some(rest) = behind_front(own, text) else {
+        return false;
+    };
+    match behind_others(rest.len(), own) {
+        Some(left) => left > 0,
+        None => false,
+    }
+}
