@@ -1,6 +1,6 @@
 """How much memory is asked for where texts that are no build come for a unit of which a long build is known: nothing of that is
-spelled for a text that doesn't begin as it does, or is shorter, and else no more than came. The same texts come for a unit of which
-nothing is known, which shows what reading them takes."""
+spelled for a text that doesn't begin as it does, or is shorter, and else hardly more than came. The same texts come for a unit of
+which nothing is known, which shows what reading them takes."""
 import hashlib
 import os
 import struct
@@ -59,6 +59,8 @@ def row(unit, text, times):
 def asked(folder, given):
     """How many bytes of memory the program asks for, and what it answers to each line."""
     place = f"{folder}/asked"
+    if os.path.exists(place):
+        os.remove(place)
     environment = {**os.environ, "LD_PRELOAD": f"{folder}/refuse.so", "ASKED": place}
     done = subprocess.run([PROBES], input=given, capture_output=True, timeout=120, env=environment)
     if fallen(done.stderr, done.returncode):
@@ -83,9 +85,18 @@ def problem_again(folder):
     return "" if again < read else f"{again} bytes are asked for, and {read} where it is read"
 
 
+def add(tally, name, problem, *given):
+    """Looks for a problem, where one is also that the program didn't end, or told nothing."""
+    try:
+        told = problem(*given)
+    except (OSError, ValueError, subprocess.SubprocessError) as error:
+        told = str(error)
+    tally.add(f"memory beside a known build, {name}", told)
+
+
 def run(tally):
     with tempfile.TemporaryDirectory() as folder:
         if built_shim(tally, folder, "refuse"):
             for name, (text_of, times, may_be_spelled) in TEXTS.items():
-                tally.add(f"memory beside a known build, {name}", problem(folder, text_of, times, may_be_spelled))
-            tally.add("memory beside a known build, itself", problem_again(folder))
+                add(tally, name, problem, folder, text_of, times, may_be_spelled)
+            add(tally, "itself", problem_again, folder)

@@ -4,9 +4,14 @@ import os
 import re
 import resource
 import subprocess
+import sys
 import time
 
 from topics.tally import PROGRAM, TOP
+
+sys.path.insert(0, f"{TOP}/tools")
+
+import sources
 
 # what is noted of what was built: the programs, each by a file of its name, and what `make dist` tells of the gate that they passed
 BUILT = f"{TOP}/.built"
@@ -34,19 +39,18 @@ def lines_in(path):
 
 def judged():
     """How much the gate looks at, in words."""
-    crates = lines_of_code = 0
-    for folder in glob.glob(f"{TOP}/crates/*/src"):
-        crates += 1
-        lines_of_code += sum(lines_in(path) for path in glob.glob(f"{folder}/**/*.rt", recursive=True))
-    wrong_bodies = len(glob.glob(f"{TOP}/crates/*/must-fail/*.edit"))
-    return f"{crates} crates of {lines_of_code:,} lines, {wrong_bodies} wrong bodies"
+    crates = sources.named()
+    lines_of_code = sum(lines_in(path) for crate in crates for path in glob.glob(f"{TOP}/crates/{crate}/src/**/*.rt", recursive=True))
+    wrong_bodies = sum(len(glob.glob(f"{TOP}/crates/{crate}/must-fail/*.edit")) for crate in crates)
+    return f"{len(crates)} crates of {lines_of_code:,} lines, {wrong_bodies} wrong bodies"
 
 
-def note_built(last_lines):
-    """Notes that the programs are those of these sources, so that ./dpbr and ./dpbn need not build them again, and what was told."""
+def note_built(began, last_lines):
+    """Notes that the programs are those of the sources of then, so that ./dpbr and ./dpbn need not build them again, and what was told."""
     os.makedirs(BUILT, exist_ok=True)
     for program in ("dpbr", "dpbn"):
         open(f"{BUILT}/{program}", "w").close()
+        os.utime(f"{BUILT}/{program}", (began, began))
     with open(f"{BUILT}/gate", "w") as file:
         file.writelines(last_lines)
 
@@ -70,4 +74,4 @@ def run(tally):
     if status and not (counts and int(counts[2])):
         tally.add("rt ci", f"it ended with status {status}")
     if not status and os.path.exists(PROGRAM) and not changed_since(began):
-        note_built(lines[-2:])
+        note_built(began, lines[-2:])

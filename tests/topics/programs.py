@@ -268,6 +268,12 @@ def wrapper(tally):
     for program, folder, words in (("./dpbr", TOP, "status examples/listing examples/held"), ("../dpbr", EXAMPLES, "status listing held")):
         done = subprocess.run([program, *words.split()], cwd=folder, capture_output=True)
         tally.add(f"{program} {words}", difference((done.stdout, done.stderr, done.returncode), wanted))
+    with tempfile.TemporaryDirectory() as folder:
+        os.symlink(f"{TOP}/dpbn", f"{folder}/dpbn")
+        for program, place in (("./dpbn", TOP), ("./dpbn", folder)):
+            done = subprocess.run([program, "node", "--help"], cwd=place, capture_output=True)
+            is_help = done.returncode == 2 and not done.stdout and b"--listing" in done.stderr
+            tally.add(f"{program} node --help in {'the checkout' if place == TOP else 'another folder'}", "" if is_help else done.stderr.decode())
 
 
 def run(tally):

@@ -1,5 +1,5 @@
 -- What was chosen is taken.
-use Rattle.std.proofs.Common.{◌≡◌, true, List, [], Option, None, Some, Ok, sym, ap, subst, ◌∙◌, inr}
+use Rattle.std.proofs.Common.{◌≡◌, ◌⊎◌, ℕ, true, false, List, [], Option, None, Some, Ok, sym, ap, subst, ◌∙◌, inr}
 use Rattle.choice.specs.Acts.{asked_by}
 use Rattle.choice.specs.Choice.{Chosen}
 use Rattle.choice.specs.Pending.{kept_after}
@@ -7,7 +7,7 @@ use Rattle.choice.specs.declared.fault.TurnFault.{TurnFault}
 use Rattle.choice.specs.declared.fault.TurnFault.TheVariants as refused
 use Rattle.node.proofs.Finishing.{note_is}
 use Rattle.node.specs.Calls.{HasFilled, HasTried, LeavesItsNoteAtMost, left_by}
-use Rattle.node.specs.OnLog.{HasRoomForNote, IsOnLog, LacksRoom}
+use Rattle.node.specs.OnLog.{HasRoomForNote, IsFull, IsOnLog, LacksRoom}
 use Rattle.node.specs.State.{LoggedNode}
 use Rattle.node.specs.Parcels.{datagrams_to}
 use Rattle.node.specs.Step.{Asked, Takes, after, note_in, taken_by}
@@ -20,7 +20,7 @@ use Rattle.stable_record.specs.History.{History}
 use Rattle.solo.proofs.ByCase.{goes_no_more, goes_on}
 use Rattle.solo.specs.Faults.{IsTurnFault}
 use Rattle.solo.specs.State.{SoloState, me_of}
-use Rattle.solo.specs.Turn.{HasTaken, IsChosen, LeavesAtMost}
+use Rattle.solo.specs.Turn.{HasTaken, IsChosen, IsUntouched, LeavesAtMost}
 use Rattle.solo.specs.inside.Turning.{HasChosen, IsMade, IsTakingFault}
 
 module _ {D : Type 0} (n : LoggedNode D) (r : Readied) where
@@ -58,6 +58,16 @@ moments_so is_kept history old mid new same asked = subst
     (λ n. is_kept new.node.log.disk → IsOnLog history n → LeavesItsNoteAtMost n.node asked
     (history n.log.disk) (history new.node.log.disk)) same
 
+-- and what that leaves untouched was untouched before
+pub untouched_so : {D P : Type 0} (is_kept : D → Type 0) (history : D → History)
+    (old mid new : SoloState D P) → mid.node ≡ old.node → (f : TurnFault)
+    → ((k : ℕ) × (f ≡ refused.Down k)) ⊎ IsUntouched is_kept history mid new
+    → ((k : ℕ) × (f ≡ refused.Down k)) ⊎ IsUntouched is_kept history old new
+untouched_so is_kept history old mid new same f = subst
+    (λ n. ((k : ℕ) × (f ≡ refused.Down k))
+    ⊎ (is_kept new.node.log.disk → (n.node.stopped ≡ false → IsOnLog history n)
+    → history new.node.log.disk ≡ history n.log.disk)) same
+
 module _ {D P : Type 0} (given : P → Option (List Arrived)) (old mid new : SoloState D P)
     (builds : Given) where
   -- nothing more was received
@@ -83,6 +93,7 @@ module _ {D P : Type 0} (given : P → Option (List Arrived)) (old mid new : Sol
     taken_so offered kept silent t = record {
       taken = t.taken;
       takes = subst (λ n. Takes n.node (asked_by r.act) (Ok t.taken)) has.same t.takes;
+      room = subst (λ n. ¬ IsFull n.node t.taken.answer.note) has.same t.room;
       node = t.node ∙ ap (λ n. after n.node t.taken) has.same;
       pending = t.pending ∙ (λ i. kept_after (kept i) ((has.same i).node.member.me)
           ((has.same i).node.member) (asked_by r.act));

@@ -1,9 +1,9 @@
 -- One turn of a node whose peers are elsewhere.
-use Rattle.std.specs.Prelude.{◌≡◌, Bool, List, [], ◌∷◌, Option, Ok, if◌then◌else◌, length}
+use Rattle.std.specs.Prelude.{◌≡◌, Bool, false, List, [], ◌∷◌, Option, Ok, if◌then◌else◌, length}
 use Rattle.choice.specs.Choice.{Chosen, IsChoice, has_job}
 use Rattle.choice.specs.Pending.{kept_after}
 use Rattle.node.specs.Calls.{LeavesItsNoteAtMost}
-use Rattle.node.specs.OnLog.{IsOnLog}
+use Rattle.node.specs.OnLog.{IsFull, IsOnLog}
 use Rattle.node.specs.Parcels.{datagrams_to}
 use Rattle.node.specs.Step.{Asked, Taken, Takes, after}
 use Rattle.parts.specs.Offered.{parcels_from}
@@ -27,12 +27,13 @@ pub record IsChosen {D P : Type 0} (given : P → Option (List Arrived)) (old ne
   pub choice : IsChoice (only old.node.node) (length old.node.node.member.weights) old.pending
       builds came chosen
 
--- The node took its step on what it was asked, what follows is kept, and just the step's sends were
--- offered.
+-- The node took its step on what it was asked, for whose note its log had room, what follows is
+-- kept, and just the step's sends were offered.
 pub record HasTaken {D P : Type 0} (offered : P → Option (List Parcel)) (old new : SoloState D P)
     (asked : Asked) : Type 0 where
   pub taken : Taken
   pub takes : Takes old.node.node asked (Ok taken)
+  pub room : ¬ IsFull old.node.node taken.answer.note
   pub node : new.node.node ≡ after old.node.node taken
   pub pending : new.pending ≡ kept_after old.pending (me_of old) old.node.node.member asked
   pub offers : GoesOnBy (parcels_from (me_of old) (datagrams_to taken.answer.sends))
@@ -51,9 +52,10 @@ LeavesAtMost is_kept history old new asked =
     → LeavesItsNoteAtMost old.node.node asked (history old.node.log.disk)
     (history new.node.log.disk)
 
--- No call came to the disk.
+-- The disk went through nothing, if a node that was up was on its log: no write or cut that did
+-- anything, and no sync that succeeded.
 abbrev pub IsUntouched : {D P : Type 0} → (D → Type 0) → (D → History) → SoloState D P
     → SoloState D P → Type 0
 IsUntouched is_kept history old new =
-    is_kept new.node.log.disk → IsOnLog history old.node
+    is_kept new.node.log.disk → (old.node.node.stopped ≡ false → IsOnLog history old.node)
     → history new.node.log.disk ≡ history old.node.log.disk

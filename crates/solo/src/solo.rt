@@ -140,6 +140,20 @@ impl<'a, D: Disk, P: Port> Solo<'a, D, P> {
         &self.node
     }
 
+    /// The node and the port, as they are.
+    pub fn into_parts(self) -> (Node<'a, D>, P)
+        ensures node { result.0 ≡ self.entry.node }
+        ensures port { result.1 ≡ self.entry.port }
+    {
+        let Solo {
+            node,
+            pending,
+            port,
+        } = self;
+        drop(pending);
+        (node, port)
+    }
+
     /// The port, lent.
     pub fn port(&mut self) -> &mut P
         ensures value { result.now ≡ self.old.port }

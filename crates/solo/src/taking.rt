@@ -2,7 +2,7 @@
 ghost use Rattle.std.specs.Prelude.{◌≡◌, ◌⊎◌, [], IfErr, IfOk, OnOk, OnErr, false};
 ghost use Rattle.choice.specs.Acts.{asked_by};
 ghost use Rattle.choice.specs.declared.fault.TurnFault.TheVariants as refused;
-ghost use Rattle.node.specs.OnLog.{IsOnLog, LeavesOneMoreAtMost};
+ghost use Rattle.node.specs.OnLog.{IsFull, IsLogged, IsOnLog, LeavesOneMoreAtMost};
 ghost use Rattle.node.specs.Parcels.{datagrams_to};
 ghost use Rattle.node.specs.Step.{IsReadyFor, after, note_in, taken_by};
 ghost use Rattle.parts.specs.Offered.{parcels_from};
@@ -79,9 +79,12 @@ fn finish<D: Disk, P: Port>(
     ready: Ready,
 ) -> Result<(), TurnFault>
     requires me { me ≡ node.old.node.member.me }
+    requires logged { IsLogged node.old }
     requires ready { IsReadyFor node.old.node ready }
     ensures taken { OnOk result
         (node.new.node ≡ after node.old.node (taken_by node.old.node ready)) }
+    ensures room { OnOk result
+        (¬ (IsFull node.old.node (taken_by node.old.node ready).answer.note)) }
     ensures offered { OnOk result (GoesOnBy
         (parcels_from me (datagrams_to (taken_by node.old.node ready).answer.sends))
         (P.offered port.old) (P.offered port.new)) }

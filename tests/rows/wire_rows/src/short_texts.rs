@@ -2,6 +2,7 @@
 //! numbers that are written in other ways.
 use crate::joining::{Outcome, joined};
 use crate::made::{Made, PLAIN, build, text};
+use claims::Claim;
 use std::alloc::Global;
 use std::test::Fail;
 use wire::WireFault;
@@ -201,6 +202,41 @@ fn numbers_in_other_ways(rt: HostRuntime) -> Result<(), Fail> {
         ("@comment pkgpath=", "a/bc", false),
         ("@comment pkgpath=", "a/b,x", false),
         ("@comment pkgpath=", "a/", false),
+    ];
+    for (word, line, is_good) in lines {
+        let text = with_line(alloc, right.as_slice(), word, line)?;
+        let outcome = joined(alloc, text.as_slice(), &known)?;
+        let wanted = if is_good {
+            Outcome::Message
+        } else {
+            Outcome::Fault(WireFault::BadField)
+        };
+        assert!(rt; outcome == wanted, "{outcome:?}, {word}{line}");
+    }
+    Ok(())
+}
+
+#[test]
+fn numbers_that_are_nothing(rt: HostRuntime) -> Result<(), Fail> {
+    let alloc = rt.alloc();
+    let made = Made {
+        host: 0,
+        claim: Claim {
+            round: 1,
+            member: 0,
+        },
+        ..PLAIN
+    };
+    let known = build(alloc, &made)?;
+    let right = text(alloc, &made)?;
+    let lines = [
+        ("@host ", "0", true),
+        ("@host ", "", false),
+        ("@host ", "00", false),
+        ("@claim ", "1.0", true),
+        ("@claim ", "1.", false),
+        ("@claim ", "1.00", false),
+        ("@claim ", ".0", false),
     ];
     for (word, line, is_good) in lines {
         let text = with_line(alloc, right.as_slice(), word, line)?;

@@ -1,5 +1,6 @@
 use Rattle.std.proofs.Common.{Err, ap, inl, inr}
 use Rattle.solo.proofs.Refused.{stops_or_runs}
+use Rattle.solo.proofs.Room.{not_full}
 use Rattle.solo.proofs.taking.finish.Goals as goal
 
 pub returns-in-Err-clause-on_log : goal.returns-in-Err-clause-on_log
@@ -9,3 +10,7 @@ returns-in-Err-clause-on_log g c = λ kept on runs.
           (c.in-Err.ensures.stops (ap Err device)) runs)
       | inr still ↦ still.0
     ]
+
+pub returns-in-Ok-clause-room : goal.returns-in-Ok-clause-room
+returns-in-Ok-clause-room g c =
+    not_full c.args.node.now c.requires.logged c.args.ready c.in-Ok.ensures.within

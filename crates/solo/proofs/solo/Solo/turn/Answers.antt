@@ -1,11 +1,13 @@
 use Rattle.std.proofs.Common.{[], Some, ap, subst, sym}
 use Rattle.std.proofs.lemmas.Result.{err_from_is_err_and}
+use Rattle.std.specs.Prelude.{◌≡◌, ◌⊎◌, ℕ}
 use Rattle.choice.specs.Acts.{asked_by}
+use Rattle.choice.specs.declared.fault.TurnFault.TheVariants as refused
 use Rattle.node.specs.Step.{note_in}
 use Rattle.ports.specs.Kept.{GoesOnBy}
-use Rattle.solo.proofs.Turned.{chosen_so, has_now, moments_so, readied_so, refused_so, taken_so}
+use Rattle.solo.proofs.Turned.{chosen_so, has_now, moments_so, readied_so, refused_so, taken_so, untouched_so}
 use Rattle.solo.specs.State.{me_of}
-use Rattle.solo.specs.Turn.{HasTaken, IsChosen, LeavesAtMost}
+use Rattle.solo.specs.Turn.{HasTaken, IsChosen, IsUntouched, LeavesAtMost}
 use Rattle.solo.specs.inside.Turning.{IsTakingFault, solo_of}
 use Rattle.solo.proofs.solo.Solo.turn.Goals as goal
 
@@ -82,3 +84,20 @@ returns-in_err-act-in-Some-clause-refused g c =
     (asked_by c.in-Some.readied.act) c.take.ensures.any_moment) p.0
     (subst (IsTakingFault mid.node new.node (note_in c.in-Some.readied.ready.step)) (sym p.2)
     c.in_err-act-in-Some.ensures.refused))
+
+pub returns-in_err-act-in-Some-clause-untouched :
+    goal.returns-in_err-act-in-Some-clause-untouched
+returns-in_err-act-in-Some-clause-untouched g c =
+    let s = c.self.inside in
+    let now = c.args.self.now in
+    let mid = solo_of c.choose.new.node s.pending c.choose.new.port in
+    let new = solo_of c.take.new.node c.take.new.pending c.take.new.port in
+    let has = has_now g.P.Port.given (solo_of s.node s.pending s.port) now mid c.args.builds.now
+    c.self.view_is c.in_ok-readied.field-0 c.in-Some.readied c.in-Some.is
+    c.in_ok-readied.ensures.chosen in
+    let p = err_from_is_err_and c.from_residual-in_err-act-in-Some.result
+    c.from_residual-in_err-act-in-Some.ensures.1 in
+    rw p.1 (untouched_so g.D.Disk.is_kept g.D.Disk.history now mid new has.same p.0
+    (subst (λ f. ((k : ℕ) × (f ≡ refused.Down k))
+    ⊎ IsUntouched g.D.Disk.is_kept g.D.Disk.history mid new) (sym p.2)
+    c.in_err-act-in-Some.ensures.untouched))

@@ -1,0 +1,174 @@
+-- What a turn chooses, a turn asks of a node.
+use Rattle.std.proofs.Common.{◌≡◌, ◌≤◌, ◌==◌, ℕ, Bool, true, false, List, [], ◌∷◌, Option, None, Some, if◌then◌else◌, refl, sym, subst, arith}
+use Rattle.std.specs.List.{range_with_len}
+use Rattle.std.specs.Prelude.{is_none, option_and_then, option_map}
+use Rattle.agreement.specs.declared.claim.Claim.{Claim}
+use Rattle.choice.specs.Answering.{answer_of, answer_to, built_of, given_for}
+use Rattle.choice.specs.Choice.{Chosen, IsChoice, IsFirstOwn, IsGivenOr, IsOwnIf, barred_at, comes_to, first_job, in_turn, job_at}
+use Rattle.choice.specs.Own.{Barred, IsOwnBy, claim_of, renewed}
+use Rattle.choice.specs.Pending.{Pending, above_at}
+use Rattle.faults.specs.Answers.{first_given, option_or}
+use Rattle.hosts.specs.Hosts.{IsOfATurn}
+use Rattle.node.specs.State.{NodeState}
+use Rattle.node.specs.Step.{Asked, Comes, Does}
+use Rattle.package_record.specs.Making.{build_fault}
+use Rattle.ports.specs.Kept.{Arrived}
+use Rattle.protocol.specs.Given.{Given}
+use Rattle.protocol.specs.Jobs.{build_by, job_of, paths_at}
+use Rattle.protocol.specs.Member.{IsMember}
+use Rattle.protocol.specs.State.{Building, Gathering, OpenClaim, Progress, State, Voting, name_at}
+use Rattle.protocol.specs.declared.input.Input.{Input}
+use Rattle.protocol.specs.declared.input.Input.TheVariants as inputs
+use Rattle.solo.specs.State.{only}
+use Rattle.world.proofs.Safe.{few_members}
+
+-- ---- an answer to a job
+
+built_asks : (s : State) (u host : ℕ) (c : Claim) (given : Option Given)
+    → IsOfATurn (Does (built_of s u host c given))
+built_asks s u host c None = tt
+built_asks s u host c (Some given) =
+    by (is_none (build_fault (build_by s u (job_of s u host c) given)))
+  where
+    by : (b : Bool)
+        → IsOfATurn (Does (if b then inputs.Built (name_at s u) given
+        else inputs.Failed (name_at s u)))
+    by true = tt
+    by false = tt
+
+answer_asks : (s : State) (builds : Given) (o : OpenClaim) (at : Progress) (input : Input)
+    → answer_to s builds o at ≡ Some input → IsOfATurn (Does input)
+answer_asks s builds o (Gathering c joined n) input is =
+    absurd (let no : ◌≡◌ {A = Option Input} None (Some input) = is in cc)
+answer_asks s builds o (Building c) input is =
+    let known : built_of s o.unit o.host c (given_for builds (paths_at s o.unit)) ≡ input = cc in
+    subst (λ i. IsOfATurn (Does i)) known
+    (built_asks s o.unit o.host c (given_for builds (paths_at s o.unit)))
+answer_asks s builds o (Voting b joined) input is =
+    absurd (let no : ◌≡◌ {A = Option Input} None (Some input) = is in cc)
+
+job_asks : (s : State) (builds : Given) (claim : Option OpenClaim) (input : Input)
+    → option_and_then (λ o. answer_to s builds o o.progress) claim ≡ Some input
+    → IsOfATurn (Does input)
+job_asks s builds None input is =
+    absurd (let no : ◌≡◌ {A = Option Input} None (Some input) = is in cc)
+job_asks s builds (Some o) input is = answer_asks s builds o o.progress input is
+
+-- ---- what it does of itself
+
+own_asks : (s : State) → s.me ≤ 65535 → (o : Option OpenClaim) (above : Option ℕ) (barred : Barred)
+    (input : Input) → IsOwnBy s o above barred (Some input) → IsOfATurn (Does input)
+own_asks s small None above barred input (None, least, is) =
+    absurd (let no : ◌≡◌ {A = Option Input} (Some input) None = is in cc)
+own_asks s small None above barred input (Some p, least, is) =
+    let known : ◌≡◌ {A = Option Input} (Some input) (Some (claim_of s p)) = is in
+    let same : input ≡ claim_of s p = cc in
+    subst (λ i. IsOfATurn (Does i)) (sym same) small
+own_asks s small (Some o) above barred input is = by above is
+  where
+    by : (above : Option ℕ) → Some input ≡ Some (renewed s o above) → IsOfATurn (Does input)
+    by None is =
+        let known : ◌≡◌ {A = Option Input} (Some input) (Some inputs.Nudge) = is in
+        let same : input ≡ inputs.Nudge = cc in
+        subst (λ i. IsOfATurn (Does i)) (sym same) tt
+    by (Some round) is =
+        let known : ◌≡◌ {A = Option Input} (Some input)
+        (Some (inputs.Claim (name_at s o.unit) s.me round)) = is in
+        let same : input ≡ inputs.Claim (name_at s o.unit) s.me round = cc in
+        subst (λ i. IsOfATurn (Does i)) (sym same) small
+
+-- ---- the choice of a node that is alone here
+
+module _ (n : NodeState) (small : n.member.me ≤ 65535) where
+  -- who is here is that node
+  here_is : (k : ℕ) (s : State) → only n k ≡ Some s → s.me ≤ 65535
+  here_is k s at = by (k == n.member.me) n.stopped at
+    where
+      by : (b c : Bool) → (if b then (if c then None else Some n.member) else None) ≡ Some s
+          → s.me ≤ 65535
+      by true true at = absurd (let no : ◌≡◌ {A = Option State} None (Some s) = at in cc)
+      by true false at =
+          let known : ◌≡◌ {A = Option State} (Some n.member) (Some s) = at in
+          let same : n.member ≡ s = cc in
+          subst (λ m. m.me ≤ 65535) same small
+      by false c at = absurd (let no : ◌≡◌ {A = Option State} None (Some s) = at in cc)
+
+  jobs_ask : (builds : Given) (ks : List ℕ) (x : ℕ × Asked)
+      → first_given (job_at (only n) builds) ks ≡ Some x → IsOfATurn x.1
+  jobs_ask builds [] x is =
+      absurd (let no : ◌≡◌ {A = Chosen} None (Some x) = is in cc)
+  jobs_ask builds (k ∷ ks) x is = by (only n k) is (jobs_ask builds ks x)
+    where
+      at_job : (s : State) (o : Option Input) → answer_of s builds ≡ o
+          → option_or (option_map (λ (input : Input). (k, Does input)) o)
+          (first_given (job_at (only n) builds) ks) ≡ Some x
+          → (first_given (job_at (only n) builds) ks ≡ Some x → IsOfATurn x.1) → IsOfATurn x.1
+      at_job s None answer is later = later is
+      at_job s (Some input) answer is later =
+          let known : ◌≡◌ {A = Chosen} (Some (k, Does input)) (Some x) = is in
+          let same : ◌≡◌ {A = ℕ × Asked} (k, Does input) x = cc in
+          subst (λ y. IsOfATurn y.1) same (job_asks s builds s.claim input answer)
+
+      by : (o : Option State)
+          → option_or (option_map (λ (input : Input). (k, Does input))
+          (option_and_then (λ s. answer_of s builds) o))
+          (first_given (job_at (only n) builds) ks) ≡ Some x
+          → (first_given (job_at (only n) builds) ks ≡ Some x → IsOfATurn x.1) → IsOfATurn x.1
+      by None is later = later is
+      by (Some s) is later = at_job s (answer_of s builds) refl is later
+
+  owns_ask : (count : ℕ) (p : Pending) (ks : List ℕ) (x : ℕ × Asked)
+      → IsFirstOwn (only n) count p ks (Some x) → IsOfATurn x.1
+  owns_ask count p [] x is =
+      absurd (let no : ◌≡◌ {A = Chosen} (Some x) None = is in cc)
+  owns_ask count p (k ∷ ks) x (None, own, later) = owns_ask count p ks x later
+  owns_ask count p (k ∷ ks) x (Some input, own, done) =
+      let known : ◌≡◌ {A = Chosen} (Some x) (Some (k, Does input)) = done in
+      let same : ◌≡◌ {A = ℕ × Asked} x (k, Does input) = cc in
+      subst (λ y. IsOfATurn y.1) (sym same) (by (only n k) refl own)
+    where
+      by : (o : Option State) → only n k ≡ o → IsOwnIf (only n) count p k o (Some input)
+          → IsOfATurn (Does input)
+      by None at own =
+          absurd (let no : ◌≡◌ {A = Option Input} (Some input) None = own in cc)
+      by (Some s) at own =
+          own_asks s (here_is k s at) s.claim (above_at p k) (barred_at (only n) count p k) input
+          own
+
+  pub choice_asks : (count : ℕ) (p : Pending) (builds : Given) (came : Arrived) (x : ℕ × Asked)
+      → IsChoice (only n) count p builds came (Some x) → IsOfATurn x.1
+  choice_asks count p builds came x is =
+      by_job (first_job (only n) count builds) refl is
+    where
+      by_here : (d : ℕ × List ℕ) (o : Option State)
+          → IsGivenOr (option_map (λ (s : State). (d.0, Comes d.1)) o) (Some x)
+          (IsFirstOwn (only n) count p (in_turn p.next count) (Some x))
+          → IsOfATurn x.1
+      by_here d None is = owns_ask count p (in_turn p.next count) x is
+      by_here d (Some s) is =
+          let known : ◌≡◌ {A = Chosen} (Some x) (Some (d.0, Comes d.1)) = is in
+          let same : ◌≡◌ {A = ℕ × Asked} x (d.0, Comes d.1) = cc in
+          subst (λ y. IsOfATurn y.1) (sym same) tt
+
+      by_came : (came : Arrived) → IsGivenOr (comes_to (only n) came) (Some x)
+          (IsFirstOwn (only n) count p (in_turn p.next count) (Some x))
+          → IsOfATurn x.1
+      by_came None is = owns_ask count p (in_turn p.next count) x is
+      by_came (Some d) is = by_here d (only n d.0) is
+
+      by_job : (o : Chosen) → first_job (only n) count builds ≡ o
+          → IsGivenOr (option_or o (comes_to (only n) came)) (Some x)
+          (IsFirstOwn (only n) count p (in_turn p.next count) (Some x)) → IsOfATurn x.1
+      by_job None job is = by_came came is
+      by_job (Some y) job is =
+          let known : ◌≡◌ {A = Chosen} (Some x) (Some y) = is in
+          let same : x ≡ y = cc in
+          jobs_ask builds (range_with_len 0 count) x
+          (subst (λ z. first_job (only n) count builds ≡ Some z) (sym same) job)
+
+-- a member's number is small
+pub number_is_small : (n : NodeState) → IsMember n.member → n.member.me ≤ 65535
+number_is_small n is =
+    let few = few_members n.member.weights is.weights in
+    let one = is.one_of_them in
+    omega (arith, few, one)

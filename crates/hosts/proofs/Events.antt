@@ -1,0 +1,116 @@
+-- What a turn asks of a node that is up in a world is an event.
+use Rattle.std.proofs.Common.{◌≡◌, ℕ, Bool, true, false, not, ◌&&◌, nat_le, [], ◌∷◌, Option, None, Some, length, slice_get, refl, ap, ◌∙◌}
+use Rattle.std.proofs.lemmas.Bool.{lt-leb}
+use Rattle.std.proofs.lemmas.Option.{slice_get-get_or, slice_get_within}
+use Rattle.events.specs.Events.{Event, Ask, Built, Claim, Deliver, Failed, Nudge, is_step, node_of}
+use Rattle.faults.specs.Answers.{first_that_applies}
+use Rattle.hosts.specs.Hosts.{IsOfATurn, WasOffered}
+use Rattle.node.specs.Step.{Asked, Comes, Does, IsAsked}
+use Rattle.protocol.specs.declared.input.Input.TheVariants as inputs
+use Rattle.world.specs.Happening.{Asks, Happens, Steps, fault_before, is_up, up_of}
+use Rattle.world.specs.World.{World, WorldNode}
+use Rattle.world.specs.declared.fault.WorldFault.{WorldFault}
+use Rattle.world.specs.declared.fault.WorldFault.TheVariants as fault
+
+-- The event is a step of node k, which is asked so by it; nothing but the node may refuse it.
+pub record IsEventOf (w : World) (k : ℕ) (asked : Asked) (e : Event) : Type 0 where
+  pub of_node : node_of e ≡ k
+  pub step : is_step e ≡ true
+  pub asks : Asks w e asked
+  pub happens : (v : World) → Steps w e v → Happens w e v
+  pub passes : fault_before w e ≡ None
+
+-- it can be asked
+pub can_be : (asked : Asked) → IsOfATurn asked → IsAsked asked
+can_be (Comes text) is = tt
+can_be (Does (inputs.Claim path host above)) is = is
+can_be (Does (inputs.Built path packages)) is = tt
+can_be (Does (inputs.Failed path)) is = tt
+can_be (Does inputs.Nudge) is = tt
+can_be (Does (inputs.Ask path)) is = tt
+can_be (Does (inputs.Message m)) is = absurd is
+
+-- the tests before a node is asked for a step
+abbrev tested : Bool → Bool → Bool → Option WorldFault
+tested beyond up lacks = first_that_applies (
+    (false, fault.BadTrace 0)
+    ∷ (beyond, fault.NoSuchNode)
+    ∷ (not false && not up, fault.NodeDown)
+    ∷ (false && up, fault.NodeUp)
+    ∷ (lacks, fault.NoSuchDatagram)
+    ∷ [])
+
+module _ (w : World) (k : ℕ) (x : WorldNode) (stands : slice_get w.nodes k ≡ Some x)
+    (up : x.up ≡ true) where
+  passes_tests : (lacks : Bool) → lacks ≡ false
+      → tested (nat_le (length w.nodes) k) (is_up w k) lacks ≡ None
+  passes_tests lacks none =
+      let beyond : nat_le (length w.nodes) k ≡ false =
+      lt-leb (length w.nodes) k (slice_get_within w.nodes k x stands) in
+      let runs : is_up w k ≡ true = ap up_of stands ∙ up in
+      λ i. tested (beyond i) (runs i) (none i)
+
+  -- there is such an event
+  pub event_of : (asked : Asked) → IsOfATurn asked → WasOffered w.sent asked
+      → (e : Event) × IsEventOf w k asked e
+  event_of (Comes text) is (d, within, same) = (
+    Deliver d k,
+    record {
+      of_node = refl;
+      step = refl;
+      asks = (text, slice_get-get_or w.sent d text within ∙ ap (λ t. Some t) same, refl);
+      happens = λ v h. h;
+      passes = passes_tests (nat_le (length w.sent) d) (lt-leb (length w.sent) d within);
+    },
+  )
+  event_of (Does (inputs.Claim path host above)) is came = (
+    Claim k path host above,
+    record {
+      of_node = refl;
+      step = refl;
+      asks = refl;
+      happens = λ v h. h;
+      passes = passes_tests false refl;
+    },
+  )
+  event_of (Does (inputs.Built path packages)) is came = (
+    Built k path packages,
+    record {
+      of_node = refl;
+      step = refl;
+      asks = refl;
+      happens = λ v h. h;
+      passes = passes_tests false refl;
+    },
+  )
+  event_of (Does (inputs.Failed path)) is came = (
+    Failed k path,
+    record {
+      of_node = refl;
+      step = refl;
+      asks = refl;
+      happens = λ v h. h;
+      passes = passes_tests false refl;
+    },
+  )
+  event_of (Does inputs.Nudge) is came = (
+    Nudge k,
+    record {
+      of_node = refl;
+      step = refl;
+      asks = refl;
+      happens = λ v h. h;
+      passes = passes_tests false refl;
+    },
+  )
+  event_of (Does (inputs.Ask path)) is came = (
+    Ask k path,
+    record {
+      of_node = refl;
+      step = refl;
+      asks = refl;
+      happens = λ v h. h;
+      passes = passes_tests false refl;
+    },
+  )
+  event_of (Does (inputs.Message m)) is came = absurd is

@@ -1,0 +1,10 @@
+pub mod Asking
+pub mod Events
+pub mod Holding
+pub mod Mirrored
+pub mod Moving
+pub mod Places
+pub mod Reopened
+pub mod Running
+pub mod Starting
+pub mod Turning

@@ -1,0 +1,87 @@
+-- Nodes on hosts of their own are one world.
+use Rattle.std.specs.Prelude.{◌≡◌, ◌++◌, ℕ, true, List, Some, Err, Contains, is_some, slice_get}
+use Rattle.engine.specs.Division.{Division}
+use Rattle.engine.specs.State as engine
+use Rattle.engine.specs.declared.Letter.TheVariants as letters
+use Rattle.events.specs.Events.{Event}
+use Rattle.faults.specs.Bytes.{Text}
+use Rattle.hosts.specs.Hosts.{Hosts, Up, at_start}
+use Rattle.hosts.specs.Run.{Run}
+use Rattle.hosts.specs.Worlds.{AreNodesOf, IsWorldOf}
+use Rattle.listing.specs.Tree.{position_of}
+use Rattle.node.specs.State.{NodeState}
+use Rattle.node.specs.Step.{Comes, Takes}
+use Rattle.node.specs.declared.fault.Foreign.{Foreign}
+use Rattle.node.specs.declared.fault.NodeFault.TheVariants as fault
+use Rattle.package_record.specs.Content.{Content}
+use Rattle.protocol.specs.State.{engine_of, held_record}
+use Rattle.world.specs.Happening.{Leads}
+use Rattle.world.specs.Headline.{HasOneList, IsInRunClosure}
+use Rattle.world.specs.MatchingLaws.{IsSafe}
+use Rattle.world.specs.World.{IsMade, World, start}
+
+-- The premises are those that README.md lists: one tree and the same weights for all (`Run`); a
+-- node for each number, which runs once at a time (`Host`); no note and nothing sent at the start
+-- (`at_start`); what comes was sent by a node in this run, and is unaltered (`WasOffered`); a node
+-- that starts opens its own log, which was left so (`HasOpened`, `IsLeft`); and a turn that is
+-- refused is one that did not happen (`HasStayed`, `HasRefused`).
+
+-- Whatever becomes of them, it is events, which lead from the start to a world whose nodes they
+-- are; so one list of packages stands at each moment.
+abbrev pub LoneNodesMakeAWorld : Type 0
+LoneNodesMakeAWorld =
+    (division : Division) (weights : List ℕ) (h : Hosts) → IsMade division weights
+    → Run division.tree weights (at_start weights) h
+    → (events : List Event) × (w : World) × IsWorldOf division weights events w h
+    × HasOneList division weights events w × IsSafe division weights events w
+
+-- And what becomes of them later is more events, which lead on from that world.
+abbrev pub LaterEventsLeadOn : Type 0
+LaterEventsLeadOn =
+    (division : Division) (weights : List ℕ) (early late : Hosts) (events : List Event) (v : World)
+    → IsMade division weights → IsWorldOf division weights events v early
+    → Run division.tree weights early late
+    → (more : List Event) × (w : World) × Leads v more w
+    × IsWorldOf division weights (events ++ more) w late
+
+-- Nor do the premises leave out, or contradict, any run of a world: whatever happens there may
+-- become of such nodes.
+abbrev pub EachRunOfAWorldIsOne : Type 0
+EachRunOfAWorldIsOne =
+    (division : Division) (weights : List ℕ) (events : List Event) (w : World)
+    → IsMade division weights → Leads (start division weights) events w
+    → (h : Hosts) × Run division.tree weights (at_start weights) h × AreNodesOf w h
+
+-- What one of them sent none of them refuses as foreign.
+abbrev pub NothingOfferedIsForeign : Type 0
+NothingOfferedIsForeign =
+    (division : Division) (weights : List ℕ) (h : Hosts) (k : ℕ) (n : NodeState) (text : Text)
+    (f : Foreign) → IsMade division weights → Run division.tree weights (at_start weights) h
+    → slice_get h.hosts k ≡ Some (Up n) → Contains h.offered text
+    → Takes n (Comes text) (Err (fault.Foreign f)) → ⊥
+
+-- Each holds only what is in that one list.
+abbrev pub WhatNodesHoldIsListed : Type 0
+WhatNodesHoldIsListed =
+    (division : Division) (weights : List ℕ) (events : List Event) (w : World) (h : Hosts) (k : ℕ)
+    (n : NodeState) (path : Text) (r : Content) → IsMade division weights
+    → IsWorldOf division weights events w h → slice_get h.hosts k ≡ Some (Up n)
+    → held_record n.member path ≡ Some r → (r.path ≡ path) × Contains w.agreed r
+
+-- Two of them never hold different packages for one path, at one moment or at two.
+abbrev pub NodesHoldAlike : Type 0
+NodesHoldAlike =
+    (division : Division) (weights : List ℕ) (early late : Hosts) (j k : ℕ) (n m : NodeState)
+    (path : Text) (r q : Content) → IsMade division weights
+    → Run division.tree weights (at_start weights) early → Run division.tree weights early late
+    → slice_get early.hosts j ≡ Some (Up n) → slice_get late.hosts k ≡ Some (Up m)
+    → held_record n.member path ≡ Some r → held_record m.member path ≡ Some q → r ≡ q
+
+-- A path that one of them shows as installable has its run closure held there.
+abbrev pub InstallableIsHeldThere : Type 0
+InstallableIsHeldThere =
+    (division : Division) (weights : List ℕ) (h : Hosts) (k p : ℕ) (n : NodeState) (path q : Text)
+    → IsMade division weights → Run division.tree weights (at_start weights) h
+    → slice_get h.hosts k ≡ Some (Up n) → position_of division.tree path ≡ Some p
+    → engine.HasLetter (engine_of n.member) p letters.I
+    → IsInRunClosure (held_record n.member) path q → is_some (held_record n.member q) ≡ true

@@ -1,0 +1,6 @@
+pub mod Hosts
+pub mod Run
+pub mod Worlds
+pub mod Laws
+pub mod Turns
+pub mod Reopening

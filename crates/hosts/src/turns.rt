@@ -1,0 +1,34 @@
+//! A lone node's turn, told as what becomes of its host, over what the contracts say and no more.
+ghost use Rattle.std.specs.Prelude.{◌≡◌, IfErr, IfNone, IfOk, IfSome, None};
+ghost use Rattle.choice.specs.Acts.{asked_by};
+ghost use Rattle.hosts.specs.Turns.{IsRefusedTurn, IsStepTaken};
+ghost use Rattle.solo.specs.Turn.{IsChosen};
+
+use choice::{Act, TurnFault};
+use ports::Port;
+use protocol::Packages;
+use solo::Solo;
+use stable_record::Disk;
+
+/// Takes a turn. Where it answers what the node did, the node took that step, and offered just what
+/// the step sends; where there was nothing to do, or memory or room was wanting, the node is as it
+/// was; where it refused what it was asked, it is left as that refusal leaves it; and where it went
+/// down, that was inside a step.
+///
+/// # Errors
+///
+/// Those of the turn.
+pub fn turn_on_host<D: Disk, P: Port>(
+    solo: &mut Solo<'_, D, P>,
+    builds: &Packages,
+) -> Result<Option<Act>, TurnFault>
+    ensures turned { IfOk result (λ o. IfSome o
+        (λ act. IsStepTaken P.offered solo.old solo.new (asked_by act))) }
+    ensures nothing { IfOk result (λ o. IfNone o
+        (IsChosen P.given solo.old solo.new builds.now None)) }
+    ensures stayed { IfOk result (λ o. IfNone o (solo.new.node ≡ solo.old.node)) }
+    ensures refused { IfErr result (IsRefusedTurn solo.old solo.new) }
+{
+    let _node = solo.node().member();
+    solo.turn(builds)
+}

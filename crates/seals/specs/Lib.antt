@@ -1,0 +1,4 @@
+pub mod Run
+pub mod Sealed
+pub mod KeyText
+pub mod inside

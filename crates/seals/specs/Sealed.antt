@@ -1,0 +1,8 @@
+-- Sealed texts.
+use Rattle.std.specs.Prelude.{◌++◌}
+use Rattle.faults.specs.Bytes.{Text}
+use Rattle.hmac.specs.Hmac.{hmac}
+
+-- the text, with its code under the key behind it
+abbrev pub sealed : Text → Text → Text
+sealed key text = text ++ hmac key text
