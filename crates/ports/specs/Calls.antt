@@ -15,7 +15,8 @@ told (Ok None) = Ok None
 told (Ok (Some d)) = Ok (Some (d.0, d.1.items))
 told (Err f) = Err f
 
--- The port went through these calls and no others, in this order, where each does this to it.
+-- These calls, in this order, lead from one state of the port to the other, where each does this to
+-- it, as far as the port says.
 abbrev pub WentThrough : {P : Type 0} → (P → Call → P → Type 0) → P → List Call → P → Type 0
 WentThrough does old [] new = new ≡ old
 WentThrough does old (call ∷ calls) new = (between : _) × does old call between

@@ -135,8 +135,8 @@ fn read_files(alloc: Global, value: &Value<'_>) -> Result<Files, ReadError>
     Ok(Files::new(files))
 }
 
-/// Whether each item of an array has a file's form. So no memory is asked for, and no file is read,
-/// where one has another.
+/// Refuses an array of which an item has another form than a file's, so that no memory is asked for
+/// and no file is read.
 fn test_files(value: &Value<'_>) -> Result<(), ReadError> {
     let Value::Array(items) = value else {
         return Err(ReadError::Bad);

@@ -42,7 +42,11 @@ fn behind_number(number: u64, text: &[u8]) -> Option<&[u8]> {
             _ => break,
         }
     }
-    if value == number { Some(rest) } else { None }
+    if value == number && rest.len() < text.len() {
+        Some(rest)
+    } else {
+        None
+    }
 }
 
 /// What is behind the record's first five lines, where the text begins with them. An honest build
