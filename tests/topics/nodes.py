@@ -528,8 +528,14 @@ def overheard(folder):
     """A datagram that a node of another listing sends to the next one."""
     put(f"{folder}/other", b"a/c.FULLPKGNAME=c-1.0\n")
     os.mkdir(f"{folder}/more")
-    base = free_ports(3)
-    with taken(base + 1) as ear:
+    base, ear = free_ports(3), None
+    while not ear:
+        try:
+            ear = taken(base + 1)
+        except OSError:
+            # somebody else took it since
+            base = free_ports(3)
+    with ear:
         ear.settimeout(20)
         answer(["node", "--listing", "other", "--builds", "builds", "--dir", "more", "--members", "3", "--me", "0", "--base", str(base),
                 "--turns", "2", "--patience", "0"], folder)
