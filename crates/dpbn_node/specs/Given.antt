@@ -36,5 +36,6 @@ AreTold members (Some text) weights =
 abbrev pub weights_refusal : Refusal
 weights_refusal = record { number = 801; place = None }
 
+-- what is told where none are had: memory was wanting, or they are no weights of so many members
 abbrev pub RefusesWeights : Refusal → Type 0
 RefusesWeights r = (r ≡ memory_refusal) ⊎ (r ≡ weights_refusal)
