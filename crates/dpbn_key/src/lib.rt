@@ -1,0 +1,12 @@
+//! A key in a file: how it is made, and how it is read.
+#![tactic(auto)]
+
+mod fault;
+mod making;
+mod reading;
+#[cfg(test)]
+mod tests;
+
+pub use crate::fault::KeyFault;
+pub use crate::making::{make_key, new_key_text};
+pub use crate::reading::{key_in, key_of_file, test_mode};

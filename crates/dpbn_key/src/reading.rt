@@ -1,0 +1,61 @@
+//! A key that is read from a file.
+ghost use Rattle.std.specs.Prelude.{◌≡◌, IfErr, IfOk, OnErr, OnOk};
+ghost use Rattle.dpbn_key.specs.Keys.{IsExposed, IsWritten, RefusesKey, WritesNoKey};
+ghost use Rattle.seals.specs.KeyText.{WritesKey};
+
+use crate::fault::KeyFault;
+use seals::key_of_text;
+use std::fs::File;
+use std::io::Read;
+use std::os::unix::fs::MetadataExt;
+
+/// How much of a file is read at most: a byte more than the text of a key has.
+const MOST: u64 = 66;
+
+/// What a mode may have of others than the file's owner: nothing.
+const OF_OTHERS: u32 = 0o77;
+
+/// The key in a file, which nobody but the file's owner may read, write or run. The mode is that of
+/// the file that is read, whatever its name stands for by then.
+///
+/// # Errors
+///
+/// What the system refused; else that of the mode; else that of the text.
+pub fn key_of_file(rt: &HostRuntime, file: &str) -> Result<[u8; 32], KeyFault>
+    ensures key { IfOk result IsWritten }
+    ensures refused { IfErr result RefusesKey }
+{
+    let file = File::open(rt, file)?;
+    test_mode(file.metadata()?.mode())?;
+    let mut text = Vec::new(rt.alloc());
+    file.take(MOST).read_to_end(&mut text)?;
+    key_in(text.as_slice())
+}
+
+/// Whether a file with this mode is its owner's alone.
+///
+/// # Errors
+///
+/// `Exposed`, where it isn't.
+pub fn test_mode(mode: u32) -> Result<(), KeyFault>
+    ensures private { OnOk result (¬ IsExposed mode) }
+    ensures exposed { IfErr result (λ f. (f ≡ KeyFault.Exposed) × IsExposed mode) }
+{
+    if mode & OF_OTHERS == 0 {
+        Ok(())
+    } else {
+        Err(KeyFault::Exposed)
+    }
+}
+
+/// The key that a file's bytes write.
+///
+/// # Errors
+///
+/// `NoKey`, where they write none.
+pub fn key_in(text: &[u8]) -> Result<[u8; 32], KeyFault>
+    ensures key { IfOk result (WritesKey text.now) }
+    ensures no_key { IfErr result (λ f. (f ≡ KeyFault.NoKey) × WritesNoKey text.now) }
+{
+    key_of_text(text).ok_or(KeyFault::NoKey)
+}

@@ -1,0 +1,22 @@
+//! The file that tells of which run a member's log is, and what a start does with what it finds.
+#![tactic(auto)]
+
+mod difference;
+mod fault;
+mod files;
+mod found;
+mod judging;
+mod laws;
+mod start;
+#[cfg(test)]
+mod tests;
+mod text;
+
+pub use crate::difference::first_difference;
+pub use crate::fault::{RunFault, StartFault};
+pub use crate::files::{read_run, write_run};
+pub use crate::found::{found_in, is_blank};
+pub use crate::judging::{LogFound, Plan, judge};
+pub use crate::laws::{fresh_logs_have_no_notes, runs_are_told_apart};
+pub use crate::start::{Start, start_on};
+pub use crate::text::run_text;
