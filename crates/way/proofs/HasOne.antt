@@ -14,10 +14,10 @@ use Rattle.engine.specs.Division.{Division, number_found, unit_at}
 use Rattle.way.specs.Asked.{IsGranted, next_build, refusal_at}
 use Rattle.way.specs.Laws.{EachHasAWay, HasWay}
 use Rattle.way.specs.Rounds.{next_claim}
-use Rattle.way.specs.Ways.{HoldsUnit, LeadsTo}
+use Rattle.way.specs.Ways.{HoldsUnit, IsWay, LeadsTo}
 use Rattle.way.specs.inside.Listed.{asked_of, promise_of, proposed_by, report_of_all, way_of}
 use Rattle.way.specs.inside.Planned.{IsShown}
-use Rattle.way.proofs.Arriving.{at_the_end}
+use Rattle.way.proofs.Arriving.{at_the_end, ways_arrive}
 use Rattle.way.proofs.Going.{leads_also}
 use Rattle.way.proofs.Leading.{list_leads}
 use Rattle.protocol.proofs.Asked.{unit_is_one}
@@ -62,11 +62,16 @@ module _ (division : Division) (weights : List ℕ) (made : IsMade division weig
       × WasSent y.sent (message w (unit_at w.division u).name claim.member (bodies.Propose claim
       (proposed_by (report_of_all w u None (asked_of w)) (next_build w member u host given)))))
 
+  list_is_way : LeadsTo Done w list → IsWay w me u list
+  list_is_way leads = leads_also Done (λ y. HoldsUnit y me u) w list leads (λ y d. d.0)
+
   pub has_way : LeadsTo Done w list → HasWay w me path host given list
   has_way leads = record {
     unit = u;
     named = named;
-    is_way = leads_also Done (λ y. HoldsUnit y me u) w list leads (λ y d. d.0);
+    is_way = list_is_way leads;
+    arrives = ways_arrive (one_world each_run_is_acts build_is_read) one_answer division weights
+        r.before w me u list made r.led (list_is_way leads);
     are = are_on_way w me path host given (ap up_of g.stands ∙ g.up) member u refl;
     node = g.node;
     stands = g.stands;

@@ -1,20 +1,38 @@
 -- Events that are taken one after the other.
-use Rattle.std.proofs.Common.{◌≡◌, ◌<◌, ◌+◌, ◌++◌, ℕ, List, [], ◌∷◌, drop, get_or, length, map, take, refl, sym, ap, subst, ◌∙◌}
+use Rattle.std.proofs.Common.{◌≡◌, ◌⊎◌, ◌<◌, ◌+◌, ◌++◌, ℕ, List, [], ◌∷◌, append_assoc, drop, get_or, length, map, take, inl, inr, refl, sym, ap, subst, ◌∙◌}
 use Rattle.std.proofs.lemmas.List.{map-append, take-append-drop, take_more}
-use Rattle.events.specs.Events.{event_view}
+use Rattle.events.specs.Events.{Event, event_view}
 use Rattle.events.specs.declared.event.Event as declared
-use Rattle.world.specs.Happening.{Happens, Leads}
+use Rattle.running.specs.History.{History, taken}
+use Rattle.way.specs.Ways.{no_room}
+use Rattle.way_rows.specs.Stops.{HasTaken}
+use Rattle.world.specs.Happening.{Happens, IsRefused}
 use Rattle.world.specs.World.{World}
+use Rattle.world.specs.declared.fault.WorldFault.{WorldFault}
+use Rattle.world.specs.declared.fault.WorldFault.TheVariants as fault
 use Rattle.world.proofs.Leading.{leads_together}
 
--- after those so far one more happened
-pub one_more : (w v x : World) (es : List declared.Event) (i : ℕ) (e : declared.Event)
-    → i < length es → e ≡ get_or es i e → Leads w (map event_view (take i es)) v
-    → Happens v (event_view e) x → Leads w (map event_view (take (i + 1) es)) x
-one_more w v x es i e lt is led happens =
-    subst (λ l. Leads w l x)
-    (sym (ap (map event_view) (take_more es i e lt ∙ ap (λ y. take i es ++ y ∷ []) (sym is)) ∙ map-append event_view (take i es) (e ∷ [])))
-    (leads_together w v x (map event_view (take i es)) (event_view e ∷ []) led (x, happens, refl))
+-- those so far and one more
+more_taken : (es : List declared.Event) (i : ℕ) (e : declared.Event) → i < length es
+    → e ≡ get_or es i e
+    → map event_view (take (i + 1) es) ≡ map event_view (take i es) ++ event_view e ∷ []
+more_taken es i e lt is =
+    ap (map event_view) (take_more es i e lt ∙ ap (λ y. take i es ++ y ∷ []) (sym is))
+    ∙ map-append event_view (take i es) (e ∷ [])
+
+-- after those so far one more was taken
+pub one_more : (h g k : History) (es : List declared.Event) (i : ℕ) (e : declared.Event)
+    → i < length es → e ≡ get_or es i e → HasTaken h (map event_view (take i es)) g
+    → Happens g.world (event_view e) k.world → taken k ≡ taken g ++ event_view e ∷ []
+    → HasTaken h (map event_view (take (i + 1) es)) k
+one_more h g k es i e lt is before happens kept =
+    subst (λ (l : List Event). HasTaken h l k) (sym (more_taken es i e lt is))
+    (record {
+      led = leads_together h.world g.world k.world (map event_view (take i es))
+          (event_view e ∷ []) before.led (k.world, happens, refl);
+      kept = kept ∙ ap (λ (l : List Event). l ++ event_view e ∷ []) before.kept
+          ∙ append_assoc (taken h) (map event_view (take i es)) (event_view e ∷ []);
+    })
 
 -- those so far, the next one, and those behind it
 pub in_parts : (es : List declared.Event) (i : ℕ) (e : declared.Event) → i < length es → e ≡ get_or es i e
@@ -29,3 +47,11 @@ in_parts es i e lt is =
     again : (xs : List declared.Event) (y : declared.Event) (zs : List declared.Event) → (xs ++ y ∷ []) ++ zs ≡ xs ++ y ∷ zs
     again [] y zs = refl
     again (x ∷ xs) y zs = ap (λ l. x ∷ l) (again xs y zs)
+
+-- why an event is refused, if it can be for want of room alone
+pub for_room : (w : World) (e : Event) (f : WorldFault) → (f ≡ fault.Memory) ⊎ IsRefused w e f
+    → (IsRefused w e f → f ≡ no_room)
+    → (f ≡ fault.Memory) ⊎ ((f ≡ no_room) × IsRefused w e no_room)
+for_room w e f (inl memory) room = inl memory
+for_room w e f (inr refused) room =
+    inr (room refused, subst (λ (g : WorldFault). IsRefused w e g) (room refused) refused)

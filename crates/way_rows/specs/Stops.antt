@@ -1,17 +1,60 @@
--- Why a node does not come to hold a unit.
-use Rattle.std.specs.Prelude.{◌≡◌, ◌⊎◌, ℕ}
+-- What becomes of a world in which a way is asked for and taken.
+use Rattle.std.specs.Prelude.{◌≡◌, ◌⊎◌, ℕ, List, ◌∷◌, ◌++◌}
+use Rattle.events.specs.Events.{Event}
 use Rattle.faults.specs.Bytes.{Text}
 use Rattle.protocol.specs.Given.{Given}
-use Rattle.way.specs.Asked.{HasNoWay}
-use Rattle.way.specs.Ways.{no_room}
+use Rattle.running.specs.History.{History, taken}
+use Rattle.way.specs.Asked.{HasNoWay, IsGranted}
+use Rattle.way.specs.Laws.{HasWay}
+use Rattle.way.specs.Ways.{HoldsUnit, no_room}
+use Rattle.way.specs.declared.fault.WayFault.{WayFault}
 use Rattle.way.specs.declared.fault.WayFault.TheVariants as ways
 use Rattle.way_rows.specs.declared.going.Stopped.{Stopped}
 use Rattle.way_rows.specs.declared.going.Stopped.TheVariants.{NoWay, Refused}
-use Rattle.world.specs.World.{World}
+use Rattle.world.specs.Happening.{IsRefused, Leads}
+use Rattle.world.specs.declared.fault.WorldFault.{WorldFault}
 use Rattle.world.specs.declared.fault.WorldFault.TheVariants as worlds
 
--- no way is told of the world, or an event is refused for want of room on a log; or memory was
--- wanting
-abbrev pub StopsSo : World → ℕ → Text → ℕ → Given → Stopped → Type 0
-StopsSo w k path host given (NoWay f) = (f ≡ ways.Memory) ⊎ HasNoWay w k path host given f
-StopsSo w k path host given (Refused f) = (f ≡ worlds.Memory) ⊎ (f ≡ no_room)
+-- ---- events that are taken
+
+-- These were taken, in turn, and no other: they led from the one world to the other.
+pub record HasTaken (h : History) (events : List Event) (h' : History) : Type 0 where
+  pub led : Leads h.world events h'.world
+  pub kept : taken h' ≡ taken h ++ events
+
+-- Of these events those before one were taken, and no other. That one is refused in the world that
+-- stood then, for want of room on its node's log; or memory was wanting.
+pub record StopsAt (h : History) (events : List Event) (h' : History)
+    (f : WorldFault) : Type 0 where
+  pub before : List Event
+  pub event : Event
+  pub behind : List Event
+  pub among : events ≡ before ++ event ∷ behind
+  pub has_taken : HasTaken h before h'
+  pub refused : (f ≡ worlds.Memory) ⊎ ((f ≡ no_room) × IsRefused h'.world event no_room)
+
+-- ---- a way that is asked for
+
+-- A way was granted and told, and its events were taken. So the node holds the unit.
+pub record HasArrived (h : History) (k : ℕ) (path : Text) (host : ℕ) (given : Given)
+    (h' : History) : Type 0 where
+  pub granted : IsGranted h.world k path host given
+  pub way : List Event
+  pub is_way : HasWay h.world k path host given way
+  pub has_taken : HasTaken h way h'
+  pub holds : HoldsUnit h'.world k is_way.unit
+
+-- A way was granted and told, and stopped at one of its events.
+pub record StopsOnWay (h : History) (k : ℕ) (path : Text) (host : ℕ) (given : Given)
+    (h' : History) (f : WorldFault) : Type 0 where
+  pub granted : IsGranted h.world k path host given
+  pub way : List Event
+  pub is_way : HasWay h.world k path host given way
+  pub stops : StopsAt h way h' f
+
+-- No way is told, for one of its reasons or for want of memory, and all is as it was; or a way
+-- stopped at an event.
+abbrev pub StopsSo : History → ℕ → Text → ℕ → Given → History → Stopped → Type 0
+StopsSo h k path host given h' (NoWay f) =
+    (h' ≡ h) × ((f ≡ ways.Memory) ⊎ HasNoWay h.world k path host given f)
+StopsSo h k path host given h' (Refused f) = StopsOnWay h k path host given h' f

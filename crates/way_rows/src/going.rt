@@ -1,10 +1,10 @@
 //! The events of a way, one after the other.
-ghost use Rattle.std.specs.Prelude.{◌≡◌, ◌⊎◌, IfErr, OnOk, Some, map};
+ghost use Rattle.std.specs.Prelude.{◌≡◌, IfErr, OnOk, Some, map};
 ghost use Rattle.events.specs.Events.{event_view};
 ghost use Rattle.running.specs.History.{IsHistory};
 ghost use Rattle.engine.specs.Division.{number_found};
-ghost use Rattle.way.specs.Ways.{HoldsUnit, IsWay, no_room};
-ghost use Rattle.way_rows.specs.Stops.{StopsSo};
+ghost use Rattle.way.specs.Ways.{HoldsUnit, IsWay};
+ghost use Rattle.way_rows.specs.Stops.{HasArrived, HasTaken, StopsAt, StopsSo};
 
 use events::Event;
 use pkgpath::PkgPath;
@@ -24,8 +24,14 @@ pub enum Stopped {
 }
 
 /// Asks for a way on which the node comes to hold the unit that the path names, and takes its
-/// events. Where that succeeds, the node holds the unit. It fails only where no way is told, for a
-/// reason of those that `way_on` has, for want of memory, or for want of room on a log.
+/// events. Where that succeeds, a way was granted, just its events were taken, and the node holds
+/// the unit.
+///
+/// # Errors
+///
+/// `NoWay`, for a reason of those that `way_on` has or for want of memory, where nothing is
+/// changed; `Refused`, for want of room on a log or of memory, where the events of the way before
+/// that one were taken.
 pub fn arrive(
     alloc: Global,
     world: &mut World<'_>,
@@ -34,9 +40,10 @@ pub fn arrive(
     host: u16,
     packages: Packages,
 ) -> Result<(), Stopped>
+    ensures arrived { OnOk result (HasArrived world.old node path.now host packages world.new) }
     ensures held { OnOk result ((u : _) → number_found world.old.world.division path.now ≡ Some u
         → HoldsUnit world.new.world node u) }
-    ensures stopped { IfErr result (StopsSo world.old.world node path.now host packages) }
+    ensures stopped { IfErr result (StopsSo world.old node path.now host packages world.new) }
 {
     // They led to this world from its start.
     let _events = world.events();
@@ -49,13 +56,15 @@ pub fn arrive(
     }
 }
 
-/// Takes the events of a way, in order.
+/// Takes the events of a way, in order: all, or those before the first that is refused.
 pub fn go(world: &mut World<'_>, node: u8, events: &[Event]) -> Result<(), WorldFault>
     requires history { IsHistory world.old }
     requires way { (u : _) × IsWay world.old.world node u (map event_view events.now) }
+    ensures taken { OnOk result (HasTaken world.old (map event_view events.now) world.new) }
     ensures held { OnOk result ((u : _) → IsWay world.old.world node u (map event_view events.now)
         → HoldsUnit world.new.world node u) }
-    ensures refused { IfErr result (λ f. (f ≡ WorldFault.Memory) ⊎ (f ≡ no_room)) }
+    ensures stopped { IfErr result
+        (StopsAt world.old (map event_view events.now) world.new) }
 {
     ways_arrive();
     for event in events {
