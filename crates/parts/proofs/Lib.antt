@@ -3,3 +3,4 @@ pub mod DoingOwn
 pub mod GivenFiles
 pub mod Owned
 pub mod Waiting
+pub mod Offerings

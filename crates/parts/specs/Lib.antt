@@ -1,3 +1,4 @@
 pub mod Offered
+pub mod Calls
 pub mod Readied
 pub mod inside
