@@ -44,6 +44,13 @@ impl Seal {
         }
     }
 
+    /// The same seal once more.
+    pub fn copied(&self) -> Seal
+        ensures { result ≡ self.now }
+    {
+        seal_under(&self.run_key)
+    }
+
     /// Puts the seal behind the text. Where there is room for it, no memory is wanted.
     pub fn put_on(&self, text: &mut Vec<u8>) -> Result<(), Memory>
         ensures ok { OnOk result (text.new.items ≡ sealed self.now text.old.items) }
@@ -77,6 +84,16 @@ impl Seal {
         ensures { result ≡ hmac self.now text.now }
     {
         self.key.hmac(text)
+    }
+}
+
+/// The seal of the run with this key.
+fn seal_under(run_key: &[u8; SEAL_SIZE]) -> Seal
+    ensures { result ≡ run_key.now }
+{
+    Seal {
+        run_key: *run_key,
+        key: Key::new(run_key),
     }
 }
 

@@ -1,10 +1,13 @@
 -- Where nodes listen, and what comes for them.
-use Rattle.std.proofs.Common.{◌≡◌, ◌+◌, ◌++◌, ◌∙◌, ℕ, Bool, true, false, List, [], ◌∷◌, Result, Ok, Err, inl, inr, map, length, refl, sym, ap, subst, append_assoc, arith}
-use Rattle.std.specs.Prelude.{OnErr}
+use Rattle.std.proofs.Common.{◌≡◌, ◌+◌, ◌++◌, ◌∙◌, ℕ, List, [], ◌∷◌, inl, inr, map, length, refl, sym, ap, subst, append_assoc, arith}
 use Rattle.std.proofs.lemmas.List.{append-nil, length-append, map-append}
 use Rattle.faults.specs.Bytes.{Text}
-use Rattle.udp.specs.Ways.{CountUp, HasCome, IsHeardOrLost, in_line}
-use Rattle.udp.specs.declared.line.Waiting.{Waiting}
+use Rattle.udp.proofs.InboxLemmas.{GoesOn-same, GoesOn-takes}
+use Rattle.udp.specs.Coming.{HasCome, IsHeardOrLost}
+use Rattle.udp.specs.Inbox.{GoesOn, InboxState, Takes, came_as}
+use Rattle.udp.specs.Ways.{CountUp}
+use Rattle.udp.specs.declared.inbox.Came.{Came}
+use Rattle.udp.specs.declared.inbox.Came.TheVariants.{Lost, Unsealed, Waits}
 
 -- one longer
 pub longer : {X : Type 0} (xs ys : List X) (x : X) (n : ℕ) → ys ≡ xs ++ x ∷ [] → length xs ≡ n → length ys ≡ n + 1
@@ -23,28 +26,32 @@ for_node node a b c ts us first second =
     ∙ (append_assoc a (map (λ t. (node, t)) ts) (map (λ t. (node, t)) us)
     ∙ ap (λ l. a ++ l) (sym (map-append (λ (t : Text). (node, t)) ts us))))
 
+-- What became of bytes is one of these.
+module _ (node : ℕ) (bytes : Text) (old new : InboxState) where
+  pub heard_or_lost : (came : Came) → (came ≡ Waits → (text : Text) × Takes old new bytes text × (new.waiting ≡ old.waiting ++ (node, text) ∷ [])) → (came ≡ Lost → (text : Text) × Takes old new bytes text × (new.waiting ≡ old.waiting)) → (came ≡ Unsealed → (new ≡ old) × ((text : Text) → ¬ (bytes ≡ came_as old.key text))) → IsHeardOrLost node bytes old new × GoesOn old new
+  heard_or_lost Waits waits lost unsealed =
+      let it = waits refl in (inl (it.0, it.1.0.is, it.1.1), GoesOn-takes old new bytes it.0 it.1.0)
+  heard_or_lost Lost waits lost unsealed =
+      let it = lost refl in (inr it.1.1, GoesOn-takes old new bytes it.0 it.1.0)
+  heard_or_lost Unsealed waits lost unsealed =
+      let it = unsealed refl in (inr (ap (λ (i : InboxState). i.waiting) it.0), GoesOn-same old new it.0)
+
+  -- nothing was taken
+  pub nothing_taken : new ≡ old → IsHeardOrLost node bytes old new × GoesOn old new
+  nothing_taken same = (inr (ap (λ (i : InboxState). i.waiting) same), GoesOn-same old new same)
+
 module _ (node : ℕ) where
   -- nothing came
-  pub HasCome-none : (line : List (Waiting ℕ)) → HasCome node line line
-  HasCome-none line = ([], sym (append-nil (in_line line)))
-
-  -- and then more
-  HasCome-more : (old between new : List (Waiting ℕ)) → HasCome node old between → HasCome node between new → HasCome node old new
-  HasCome-more old between new (ts, first) (us, second) =
-      (ts ++ us, for_node node (in_line old) (in_line between) (in_line new) ts us first second)
-
-  -- what was put in line is heard, and else it is lost
-  pub IsHeardOrLost-put : {E : Type 0} (old new : List (Waiting ℕ)) (text : Text) (r : Result Bool E) → (r ≡ Ok true → in_line new ≡ in_line old ++ (node, text) ∷ []) → (r ≡ Ok false → new ≡ old) → OnErr r (new ≡ old) → IsHeardOrLost node text old new
-  IsHeardOrLost-put old new text (Ok true) put full err = inl (put refl)
-  IsHeardOrLost-put old new text (Ok false) put full err = inr (full refl)
-  IsHeardOrLost-put old new text (Err e) put full err = inr err
+  pub HasCome-none : (old : InboxState) → HasCome node old old
+  HasCome-none old = ([], sym (append-nil old.waiting))
 
   -- one text came, or none
-  one_at_most : (old new : List (Waiting ℕ)) (text : Text) → IsHeardOrLost node text old new → HasCome node old new
-  one_at_most old new text (inl heard) = (text ∷ [], heard)
-  one_at_most old new text (inr lost) = subst (HasCome node old) (sym lost) (HasCome-none old)
+  one_at_most : (bytes : Text) (old new : InboxState) → IsHeardOrLost node bytes old new → HasCome node old new
+  one_at_most bytes old new (inl heard) = (heard.0 ∷ [], heard.1.1)
+  one_at_most bytes old new (inr lost) = ([], lost ∙ sym (append-nil old.waiting))
 
   -- then one more
-  pub HasCome-one : (old between new : List (Waiting ℕ)) (text : Text) → HasCome node old between → IsHeardOrLost node text between new → HasCome node old new
-  HasCome-one old between new text so_far is =
-      HasCome-more old between new so_far (one_at_most between new text is)
+  pub HasCome-one : (bytes : Text) (old between new : InboxState) → HasCome node old between → IsHeardOrLost node bytes between new → HasCome node old new
+  HasCome-one bytes old between new (ts, first) is =
+      let more = one_at_most bytes between new is in
+      (ts ++ more.0, for_node node old.waiting between.waiting new.waiting ts more.0 first more.1)

@@ -1,3 +1,5 @@
 pub mod FirstBad
+pub mod InboxLemmas
 pub mod Coming
 pub mod Leaving
+pub mod TallyLemmas

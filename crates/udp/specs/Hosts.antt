@@ -2,16 +2,17 @@
 use Rattle.std.specs.Prelude.{◌≡◌, ◌≢◌, ◌<◌, ◌≤◌, ◌⊎◌, ◌+◌, ⊤, ℕ, List, Some, length, slice_get, take}
 use Rattle.std.specs.List.{AllPairs, AllZip, Contains}
 use Rattle.std.specs.Net.Grammar.{IsSocketV4Text}
-use Rattle.std.specs.Net.Socket.{v4_port}
+use Rattle.std.specs.Net.Addr.{IsUnspecifiedV4}
+use Rattle.std.specs.Net.Socket.{v4_ip, v4_port}
 use Rattle.std.specs.declared.net.socket_addr.SocketAddr.{SocketAddr}
 use Rattle.std.specs.declared.net.socket_addr.SocketAddr.TheVariants.{V4, V6}
 use Rattle.faults.specs.Bytes.{Text}
 use Rattle.udp.specs.declared.hosts.HostsFault.{HostsFault}
 use Rattle.udp.specs.declared.hosts.HostsFault.TheVariants.{BadHost, Memory}
 
--- the part writes this address of IPv4, with a port other than 0
+-- the part writes this address of IPv4, other than 0.0.0.0 and with a port other than 0
 abbrev pub IsHostText : Text → SocketAddr → Type 0
-IsHostText part (V4 a) = IsSocketV4Text part a × (0 < v4_port a)
+IsHostText part (V4 a) = IsSocketV4Text part a × (0 < v4_port a) × ¬ (IsUnspecifiedV4 (v4_ip a))
 IsHostText part (V6 a) = ⊥
 
 -- The parts write these hosts, each part the one at its place, and no two are the same.

@@ -1,3 +1,9 @@
 pub mod Refusals
 pub mod Hosts
 pub mod Ways
+pub mod Leaving
+pub mod Inbox
+pub mod Coming
+pub mod Outbox
+pub mod Tallies
+pub mod inside

@@ -1,5 +1,5 @@
 -- Where nodes listen, and by which way datagrams go.
-use Rattle.std.specs.Prelude.{◌≡◌, ◌⊎◌, ◌+◌, ◌++◌, ⊤, ℕ, IsPermutation, List, [], ◌∷◌, None, Some, map, slice_get}
+use Rattle.std.specs.Prelude.{◌≡◌, ◌⊎◌, ◌+◌, ◌++◌, ⊤, ℕ, List, [], ◌∷◌, None, Some, map, slice_get}
 use Rattle.std.specs.Net.Addr.{ipv4_octets}
 use Rattle.std.specs.Net.Socket.{v4_ip, v4_port}
 use Rattle.std.specs.declared.net.socket_addr.SocketAddr.{SocketAddr}
@@ -31,16 +31,6 @@ AreInOrder seats = CountUp (λ node seat. seat.node ≡ node) 0 seats
 abbrev pub in_line : {T : Type 0} → List (Waiting T) → List (T × Text)
 in_line waiting = map (λ w. (w.errand, w.bytes.items)) waiting
 
--- behind what stood in a line for some node stand these texts, for this one
-abbrev pub HasCome : ℕ → List (Waiting ℕ) → List (Waiting ℕ) → Type 0
-HasCome node old new = (texts : List Text)
-    × (in_line new ≡ in_line old ++ map (λ text. (node, text)) texts)
-
--- this text, which came for the node, stands behind what stood in line, or is lost
-abbrev pub IsHeardOrLost : ℕ → Text → List (Waiting ℕ) → List (Waiting ℕ) → Type 0
-IsHeardOrLost node text old new =
-    (in_line new ≡ in_line old ++ (node, text) ∷ []) ⊎ (new ≡ old)
-
 -- the seat at this place is the node's
 abbrev pub IsSeatOf : List Seat → ℕ → ℕ → Type 0
 IsSeatOf seats node place = (seat : Seat) × (slice_get seats place ≡ Some seat)
@@ -53,7 +43,7 @@ HasNoSeat seats node = (place : ℕ) → ¬ (IsSeatOf seats node place)
 -- from the sender's seat to the receiver's address
 abbrev pub IsWay : List Seat → List SocketAddr → ℕ → ℕ → Way → Type 0
 IsWay seats addresses from to way = IsSeatOf seats from way.seat
-    × (slice_get addresses to ≡ Some way.to)
+    × (slice_get addresses to ≡ Some way.to) × (way.member ≡ to)
 
 -- the sender has no seat here, or the receiver no address
 abbrev pub HasNoWay : List Seat → List SocketAddr → ℕ → ℕ → Type 0
@@ -68,8 +58,3 @@ abbrev pub LeavesBy : List Seat → List SocketAddr → ℕ → ℕ → Text →
     → List (Waiting Way) → Type 0
 LeavesBy seats addresses from to text old new = (way : Way) × IsWay seats addresses from to way
     × (in_line new ≡ in_line old ++ (way, text) ∷ [])
-
--- one left of what waited to leave, if something did
-abbrev pub HasLeft : List (Waiting Way) → List (Waiting Way) → Type 0
-HasLeft [] new = new ≡ []
-HasLeft (w ∷ old) new = (gone : Waiting Way) × IsPermutation (w ∷ old) (gone ∷ new)

@@ -14,8 +14,8 @@ use std::net::{SocketAddr, SocketAddrV4};
 use thiserror::Error;
 
 /// Why a text names no hosts for so many members: want of memory, or its first part, counted from
-/// 1, that is no address of IPv4 with a port from 1 on, is that of an earlier member, is lacking or
-/// is too much.
+/// 1, that is no address of IPv4 other than 0.0.0.0 with a port from 1 on, is that of an earlier
+/// member, is lacking or is too much.
 #[derive(Clone, Copy, Debug, PartialEq, Eq, Error)]
 pub enum HostsFault {
     #[error("out of memory")]
@@ -53,7 +53,8 @@ impl Fault for HostsFault {
 }
 
 /// The addresses that the text names, by member: as many as there are members, each once, with
-/// commas between them. None has port 0, at which nobody hears.
+/// commas between them. None has port 0, at which nobody hears, or is 0.0.0.0: what is sent from
+/// there comes from another address, and others take it for a stranger's.
 ///
 /// # Errors
 ///
@@ -108,6 +109,9 @@ fn host(part: &str) -> Option<SocketAddr>
         return None;
     };
     if host.port() == 0 {
+        return None;
+    }
+    if host.ip().is_unspecified() {
         return None;
     }
     Some(SocketAddr::V4(host))

@@ -1,11 +1,20 @@
 //! A port over UDP.
 #![tactic(auto)]
 
+mod guard;
 mod hosts;
+mod inbox;
 mod line;
+mod outbox;
 mod patience;
 mod sockets;
+mod tallies;
+#[cfg(test)]
+mod tests;
+mod told;
 mod udp_port;
 
+pub use crate::guard::Guard;
 pub use crate::hosts::{HostsFault, parse_hosts};
+pub use crate::tallies::{Tallies, Tally};
 pub use crate::udp_port::{UdpPort, loopback};

@@ -1,5 +1,5 @@
 //! Datagrams that stand in line.
-ghost use Rattle.std.specs.Prelude.{◌≡◌, ◌+◌, ◌≤◌, ◌<◌, ◌++◌, ◌∷◌, ◌↔◌, [], IfSome, IsPermutation, IsTrue, Ok, OnErr, IfNone, false, length, option_to_list, sum_by, true};
+ghost use Rattle.std.specs.Prelude.{◌≡◌, ◌+◌, ◌≤◌, ◌<◌, ◌++◌, ◌∷◌, ◌↔◌, [], IfSome, IsPermutation, IsTrue, Ok, OnErr, IfNone, false, length, option_map, option_to_list, slice_get, sum_by, true};
 ghost use Rattle.udp.specs.Ways.{in_line};
 
 use faults::Memory;
@@ -89,6 +89,14 @@ impl<T: Drop> Line<T> {
         let first = self.waiting.pop_front()?;
         self.size -= first.bytes.len();
         Some(first)
+    }
+
+    /// The one at this place.
+    pub fn at(&self, place: usize) -> Option<&Waiting<T>>
+        ensures { slice_get self.now.waiting.items place
+            ≡ option_map (λ waiting. waiting.now) result }
+    {
+        self.waiting.get(place)
     }
 
     /// Takes the one at this place, where the first stands then.

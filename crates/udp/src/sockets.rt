@@ -1,17 +1,21 @@
 //! The sockets of the nodes here.
-ghost use Rattle.std.specs.Prelude.{◌≡◌, ◌≢◌, ◌↔◌, IfErr, IfOk, IsTrue, MatchOption, Ok};
+ghost use Rattle.std.specs.Prelude.{◌≡◌, ◌≢◌, ◌<◌, ◌↔◌, Err, IfErr, IfOk, IsTrue, MatchOption, Ok, false, length};
+ghost use Rattle.udp.specs.Coming.{HasCome, IsAddressOf, IsHeardOrLost, IsStrange};
+ghost use Rattle.udp.specs.Inbox.{GoesOn};
 ghost use Rattle.udp.specs.Refusals.{CannotStart};
-ghost use Rattle.udp.specs.Ways.{HasCome, HasNoSeat, HasNoWay, IsHeardOrLost, IsSeatOf, IsWay};
+ghost use Rattle.udp.specs.Ways.{HasNoSeat, HasNoWay, IsSeatOf, IsWay};
 
-use crate::line::Line;
+use crate::inbox::{Came, Inbox};
+use crate::tallies::Tallies;
 use ports::PortFault;
-use std::alloc::Global;
-use std::io;
 use std::io::ErrorKind;
 use std::net::{Net, SocketAddr, UdpSocket};
 
 /// How many are taken off a socket at each look.
 const TAKEN_AT_A_LOOK: u32 = 1_024;
+
+/// Once this many bytes were taken off a socket the look is over: 4 MiB.
+const BYTES_AT_A_LOOK: usize = 4_194_304;
 
 /// A node here, and its socket.
 #[derive(Drop)]
@@ -27,6 +31,30 @@ pub struct Way {
     pub seat: usize,
     /// Where its receiver listens.
     pub to: SocketAddr,
+    /// Its receiver's number.
+    pub member: u8,
+}
+
+/// Whose datagrams are taken, and how long ones.
+#[derive(Clone, Copy)]
+pub struct Sieve<'a> {
+    /// Where the members' nodes listen, by number.
+    pub members: &'a [SocketAddr],
+    /// Of how many bytes the longest datagram is that is taken.
+    pub most: usize,
+    /// Whether those of others than the members are taken, too.
+    pub is_open: bool,
+}
+
+/// What the system did with a datagram.
+#[derive(Clone, Copy, Debug, PartialEq, Eq)]
+pub enum Sent {
+    /// It took the whole of it.
+    Whole,
+    /// It takes none at the moment.
+    NotNow,
+    /// It took it in part, or failed.
+    Lost,
 }
 
 /// A seat for the node, at this address; at a free port where the port is 0.
@@ -67,28 +95,90 @@ pub fn way_of(seats: &[Seat], addresses: &[SocketAddr], from: u8, to: u8) -> Opt
 {
     let seat = seat_of(seats, from)?;
     let address = addresses.get(to as usize)?;
-    Some(Way { seat, to: *address })
+    Some(Way {
+        seat,
+        to: *address,
+        member: to,
+    })
 }
 
-/// Takes some of what came off the seat's socket, and says whether the socket failed. What finds no
-/// room in the line, or no memory, is lost.
-pub fn take_all(alloc: Global, seat: &Seat, buffer: &mut [u8], come: &mut Line<u8>) -> bool
-    ensures { HasCome seat.now.node come.old.waiting.items come.new.waiting.items }
+/// The member whose address this is, if it is one's.
+fn member_at(members: &[SocketAddr], from: &SocketAddr) -> Option<usize>
+    ensures { MatchOption result (IsStrange members.now from.now)
+        (IsAddressOf members.now from.now) }
 {
+    members.iter().position(|member| *member == *from)
+}
+
+/// Takes some of what came off the seat's socket, and says whether the socket failed. What is no
+/// text of a member's is counted, and nothing else is done with it. What finds no room in the line,
+/// or no memory, is lost.
+pub fn take_all(
+    seat: &Seat,
+    sieve: Sieve<'_>,
+    buffer: &mut [u8],
+    inbox: &mut Inbox,
+    tallies: &mut Tallies,
+) -> bool
+    ensures come { HasCome seat.now.node inbox.old inbox.new }
+    ensures goes_on { GoesOn inbox.old inbox.new }
+{
+    let mut left = BYTES_AT_A_LOOK;
     for _ in 0..TAKEN_AT_A_LOOK {
+        if left == 0 {
+            break;
+        }
         match seat.socket.recv_from(buffer) {
-            Ok((count, _)) => take_one(alloc, seat.node, &buffer[..count], come),
+            Ok((count, from)) => {
+                left = left.saturating_sub(count);
+                take_one(seat.node, &buffer[..count], &from, sieve, inbox, tallies);
+            }
             Err(error) => return is_failure(error.kind()),
         }
     }
     false
 }
 
-/// Puts what came for the node in line, or loses it.
-fn take_one(alloc: Global, node: u8, bytes: &[u8], come: &mut Line<u8>)
-    ensures { IsHeardOrLost node bytes.now come.old.waiting.items come.new.waiting.items }
+/// Takes these bytes, which came from there for the node, if they are no more than a member's
+/// datagram has, and then if they are from a member, and then if they are sealed.
+fn take_one(
+    node: u8,
+    bytes: &[u8],
+    from: &SocketAddr,
+    sieve: Sieve<'_>,
+    inbox: &mut Inbox,
+    tallies: &mut Tallies,
+)
+    ensures heard { IsHeardOrLost node bytes.now inbox.old inbox.new }
+    ensures goes_on { GoesOn inbox.old inbox.new }
+    ensures long { sieve.most < length bytes.now → inbox.new ≡ inbox.old }
+    ensures strange { sieve.is_open ≡ false → IsStrange sieve.members.now from.now
+        → inbox.new ≡ inbox.old }
 {
-    let _ = come.put(alloc, node, bytes);
+    if bytes.len() > sieve.most {
+        tallies.note_strange();
+        return;
+    }
+    match member_at(sieve.members, from) {
+        Some(member) => {
+            let came = take_bytes(node, bytes, inbox);
+            tallies.note(member, came);
+        }
+        None => {
+            tallies.note_strange();
+            if sieve.is_open {
+                let _ = take_bytes(node, bytes, inbox);
+            }
+        }
+    }
+}
+
+/// Takes these bytes, which came for the node, if they are a text of this run.
+fn take_bytes(node: u8, bytes: &[u8], inbox: &mut Inbox) -> Came
+    ensures heard { IsHeardOrLost node bytes.now inbox.old inbox.new }
+    ensures goes_on { GoesOn inbox.old inbox.new }
+{
+    inbox.take(node, bytes)
 }
 
 /// Whether a socket that gave nothing failed. That nothing more came is no failure.
@@ -98,17 +188,43 @@ fn is_failure(kind: ErrorKind) -> bool
     !matches!(kind, ErrorKind::WouldBlock)
 }
 
-/// Whether the system took the whole datagram.
-pub fn is_whole(socket: &UdpSocket, to: SocketAddr, bytes: &[u8]) -> bool {
-    took_all(socket.send_to(bytes, to), bytes.len())
+/// Whether that is the reason for which a system takes nothing at the moment.
+fn is_not_now(kind: ErrorKind) -> bool
+    ensures { IsTrue result ↔ (kind ≡ ErrorKind.WouldBlock) }
+{
+    matches!(kind, ErrorKind::WouldBlock)
 }
 
-/// Whether a send of so many bytes took all of them.
-fn took_all(sent: io::Result<usize>, count: usize) -> bool
-    ensures { IsTrue result ↔ (sent ≡ Ok count) }
+/// Hands the datagram to the system, and says what it did with it.
+pub fn hand_over(seats: &[Seat], way: Way, bytes: &[u8]) -> Sent {
+    let Some(seat) = seats.get(way.seat) else {
+        return Sent::Lost;
+    };
+    match seat.socket.send_to(bytes, way.to) {
+        Ok(taken) => sent_of(Ok(taken), bytes.len()),
+        Err(error) => sent_of(Err(error.kind()), bytes.len()),
+    }
+}
+
+/// What a send of so many bytes did, of which the system took so many, or none for this reason.
+fn sent_of(taken: Result<usize, ErrorKind>, count: usize) -> Sent
+    ensures whole { (result ≡ Sent.Whole) ↔ (taken ≡ Ok count) }
+    ensures later { (result ≡ Sent.NotNow) ↔ (taken ≡ Err ErrorKind.WouldBlock) }
 {
-    match sent {
-        Ok(taken) => taken == count,
-        Err(_) => false,
+    match taken {
+        Ok(taken) => {
+            if taken == count {
+                Sent::Whole
+            } else {
+                Sent::Lost
+            }
+        }
+        Err(kind) => {
+            if is_not_now(kind) {
+                Sent::NotNow
+            } else {
+                Sent::Lost
+            }
+        }
     }
 }

@@ -1,20 +1,28 @@
 //! Nodes that hear each other over UDP.
-ghost use Rattle.std.specs.Prelude.{◌≡◌, ◌≢◌, ◌<◌, ◌≤◌, ◌++◌, ◌∷◌, [], Err, IfErr, IfOk, None, Ok, OnErr, OnOk, false, length, true};
+ghost use Rattle.std.specs.Prelude.{◌≡◌, ◌≢◌, ◌<◌, ◌≤◌, ◌++◌, ◌∷◌, [], Err, IfErr, IfOk, IfSome, None, Ok, OnErr, OnOk, Some, false, length, map, true};
 ghost use Rattle.ports.specs.Kept.{counted, one_more};
+ghost use Rattle.udp.specs.Inbox.{GoesOn, StillVouches, came_as, is_vouched_for};
+ghost use Rattle.udp.specs.Leaving.{HandsOver, HasLeft, IsLeft};
 ghost use Rattle.udp.specs.Refusals.{CannotStart};
-ghost use Rattle.udp.specs.Ways.{AreInOrder, AreLocal, HasLeft, HasNoSeat, HasWay, IsLocal, IsSeatOf, LeavesBy, in_line};
+ghost use Rattle.udp.specs.Ways.{AreInOrder, AreLocal, HasNoSeat, HasWay, IsLocal, IsSeatOf, LeavesBy, in_line};
 
+use crate::guard::Guard;
+use crate::inbox::Inbox;
 use crate::line::{Line, Waiting};
+use crate::outbox::Outbox;
 use crate::patience::Patience;
-use crate::sockets::{Seat, Way, address_of, is_whole, seat_of, take_all, take_seat, way_of};
+use crate::sockets::{
+    Seat, Sent, Sieve, Way, address_of, hand_over, seat_of, take_all, take_seat, way_of,
+};
+use crate::tallies::Tallies;
+use crate::told::Told;
 use faults::Memory;
 use ports::{Port, PortFault};
+use seals::Seal;
 use std::alloc::Global;
 use std::net::{Ipv4Addr, Net, SocketAddr, SocketAddrV4};
-use std::time::Clock;
-
-/// The bytes of the longest datagram that IPv4 takes, and one more.
-const ROOM: usize = 65_508;
+use std::thread;
+use std::time::{Clock, Duration};
 
 /// How many datagrams that came may stand in line. What comes beyond is lost.
 const MOST_COME: usize = 65_536;
@@ -25,12 +33,19 @@ const MOST_LEAVING: usize = 2_048;
 /// How many of them leave at each look at the sockets.
 const LEAVE_AT_A_LOOK: usize = 4;
 
+/// How often a flush naps, in all, while the system takes nothing.
+const NAPS_OF_A_FLUSH: u32 = 2_048;
+
+/// How long such a nap is, in microseconds.
+const NAP_OF_A_FLUSH: u64 = 1_000;
+
 /// One socket for each node here. None of them blocks.
 ///
 /// A socket keeps only few datagrams that nobody took. So what came is taken off the sockets before
 /// and behind each datagram that is sent here, and stands in line till it is asked for. What is for
 /// a node of another process leaves a few at a time, and out of order, so that pieces which are
-/// sent again don't get lost at the same place again.
+/// sent again don't get lost at the same place again. What the system doesn't take at the moment
+/// stays in line.
 #[derive(Drop)]
 pub struct UdpPort<'c, C: Clock> {
     clock: &'c C,
@@ -38,18 +53,26 @@ pub struct UdpPort<'c, C: Clock> {
     seats: Vec<Seat>,
     /// Where the members' nodes listen, by number.
     addresses: Vec<SocketAddr>,
+    /// Of how many bytes the longest datagram is.
+    most: usize,
+    /// Whether datagrams of others than the members are taken, too.
+    is_open: bool,
     buffer: Vec<u8>,
-    /// What came, with the node that it came for.
-    come: Line<u8>,
+    inbox: Inbox,
+    outbox: Outbox,
     leaving: Line<Way>,
+    /// What was handed to the system and left the line.
+    handed: Told,
     /// Picks the next one to leave.
     pick: usize,
     patience: Patience,
+    tallies: Tallies,
     failures: u64,
 }
 
 impl<'c, C: Clock> UdpPort<'c, C> {
-    /// The port of all members' nodes, each at a free port of 127.0.0.1. It never naps.
+    /// The port of all members' nodes, each at a free port of 127.0.0.1. It never naps, and lets
+    /// all in.
     ///
     /// # Errors
     ///
@@ -63,6 +86,33 @@ impl<'c, C: Clock> UdpPort<'c, C> {
         ensures seats { IfOk result (λ port. AreInOrder port.seats.items) }
         ensures each { IfOk result (λ port. (length port.seats.items ≡ members)
             × (length port.addresses.items ≡ members)) }
+        ensures unsealed { IfOk result (λ port. (port.inbox.key ≡ None)
+            × (port.outbox.key ≡ None)) }
+        ensures refused { IfErr result CannotStart }
+    {
+        UdpPort::together_behind(rt, clock, alloc, members, Guard::open())
+    }
+
+    /// The port of all members' nodes, each at a free port of 127.0.0.1, behind a guard. It never
+    /// naps.
+    ///
+    /// # Errors
+    ///
+    /// `Memory`; `NoSocket`.
+    pub fn together_behind<R: Net>(
+        rt: &R,
+        clock: &'c C,
+        alloc: Global,
+        members: u8,
+        guard: Guard,
+    ) -> Result<UdpPort<'c, C>, PortFault>
+        ensures seats { IfOk result (λ port. AreInOrder port.seats.items) }
+        ensures each { IfOk result (λ port. (length port.seats.items ≡ members)
+            × (length port.addresses.items ≡ members)) }
+        ensures sealed { IfOk result (λ port. (port.inbox.key ≡ guard.seal)
+            × (port.outbox.key ≡ guard.seal)) }
+        ensures guard { IfOk result (λ port. (port.most ≡ guard.most)
+            × (port.is_open ≡ guard.is_open)) }
         ensures refused { IfErr result CannotStart }
     {
         let mut seats = Vec::with_capacity(alloc, members as usize)?;
@@ -72,12 +122,12 @@ impl<'c, C: Clock> UdpPort<'c, C> {
             addresses.push(address_of(&seat)?)?;
             seats.push(seat)?;
         }
-        port_of(clock, alloc, seats, addresses, Patience::none())
+        port_of(clock, alloc, seats, addresses, Patience::none(), guard)
     }
 
     /// The port of one member's node, at its own one of these addresses, by member. The others are
-    /// elsewhere. A receive waits so many milliseconds for a datagram, and for each smaller number
-    /// half of that longer; that of a lone member waits for nobody.
+    /// elsewhere. It lets all in. A receive waits so many milliseconds for a datagram, and for each
+    /// smaller number half of that longer; that of a lone member waits for nobody.
     ///
     /// # Errors
     ///
@@ -94,6 +144,35 @@ impl<'c, C: Clock> UdpPort<'c, C> {
         ensures seat { IfOk result (λ port. IsSeatOf port.seats.items me 0) }
         ensures lone { IfOk result (λ port. length port.seats.items ≡ 1) }
         ensures addresses { IfOk result (λ port. port.addresses ≡ addresses) }
+        ensures unsealed { IfOk result (λ port. (port.inbox.key ≡ None)
+            × (port.outbox.key ≡ None)) }
+        ensures refused { IfErr result CannotStart }
+    {
+        UdpPort::alone_behind(rt, clock, alloc, addresses, me, patience, Guard::open())
+    }
+
+    /// The port of one member's node, as `alone` makes it, behind a guard.
+    ///
+    /// # Errors
+    ///
+    /// `Memory`; `NoSocket`, where this address can't be had.
+    pub fn alone_behind<R: Net>(
+        rt: &R,
+        clock: &'c C,
+        alloc: Global,
+        addresses: Vec<SocketAddr>,
+        me: u8,
+        patience: u16,
+        guard: Guard,
+    ) -> Result<UdpPort<'c, C>, PortFault>
+        requires me { me < length addresses.items }
+        ensures seat { IfOk result (λ port. IsSeatOf port.seats.items me 0) }
+        ensures lone { IfOk result (λ port. length port.seats.items ≡ 1) }
+        ensures addresses { IfOk result (λ port. port.addresses ≡ addresses) }
+        ensures sealed { IfOk result (λ port. (port.inbox.key ≡ guard.seal)
+            × (port.outbox.key ≡ guard.seal)) }
+        ensures guard { IfOk result (λ port. (port.most ≡ guard.most)
+            × (port.is_open ≡ guard.is_open)) }
         ensures refused { IfErr result CannotStart }
     {
         let mut seats = Vec::with_capacity(alloc, 1)?;
@@ -103,58 +182,144 @@ impl<'c, C: Clock> UdpPort<'c, C> {
         } else {
             Patience::of_member(patience, me)
         };
-        port_of(clock, alloc, seats, addresses, patience)
+        port_of(clock, alloc, seats, addresses, patience, guard)
     }
 
-    /// Sends all that waits to leave.
+    /// What was seen of the members so far.
+    pub fn tallies(&self) -> &Tallies
+        ensures { result.now ≡ self.now.tallies }
+    {
+        &self.tallies
+    }
+
+    /// Hands all that waits to leave to the system, in the order in which it waits, each once and
+    /// while there are naps left again and again, till the system takes it. What it doesn't take
+    /// then is lost, and is counted.
     pub fn flush(&mut self)
         ensures left { self.new.leaving.waiting.items ≡ [] }
+        ensures handed { self.new.handed.all ≡ self.old.handed.all
+            ++ map (λ w. w.bytes.items) self.old.leaving.waiting.items }
         ensures failures { self.new.failures ≡ self.old.failures }
+        ensures seal_stays { (self.new.inbox ≡ self.old.inbox)
+            × (self.new.outbox ≡ self.old.outbox) }
     {
+        let mut naps = NAPS_OF_A_FLUSH;
         while !self.leaving.is_empty() {
-            self.let_one_leave();
+            naps = self.let_first_leave(naps);
+        }
+    }
+
+    /// Hands the first of those that wait to leave to the system, till it takes it, or until so
+    /// many naps are over, and says how many are left.
+    fn let_first_leave(&mut self, naps: u32) -> u32
+        ensures first { HandsOver self.old.leaving.waiting.items self.old.handed.all
+            self.new.leaving.waiting.items self.new.handed.all }
+        ensures failures { self.new.failures ≡ self.old.failures }
+        ensures seal_stays { (self.new.inbox ≡ self.old.inbox)
+            × (self.new.outbox ≡ self.old.outbox) }
+    {
+        let Some(first) = self.leaving.take_first() else {
+            return naps;
+        };
+        let (sent, left) = hand_over_patiently(self.clock, &self.seats, &first, naps);
+        self.note_handed(&first, sent);
+        left
+    }
+
+    /// One left the line.
+    fn note_handed(&mut self, gone: &Waiting<Way>, sent: Sent)
+        ensures handed { self.new.handed.all ≡ self.old.handed.all ++ gone.now.bytes.items ∷ [] }
+        ensures leaving { self.new.leaving ≡ self.old.leaving }
+        ensures failures { self.new.failures ≡ self.old.failures }
+        ensures seal_stays { (self.new.inbox ≡ self.old.inbox)
+            × (self.new.outbox ≡ self.old.outbox) }
+    {
+        self.handed.note(&gone.bytes);
+        if sent != Sent::Whole {
+            self.tallies.note_unsent(gone.errand.member as usize);
         }
     }
 
     /// Takes what came off the sockets, as far as there is memory for it, and says whether one of
     /// them failed.
     fn take_in(&mut self) -> bool
+        ensures goes_on { GoesOn self.old.inbox self.new.inbox }
         ensures failures { self.new.failures ≡ self.old.failures }
-        ensures leaving { self.new.leaving ≡ self.old.leaving }
+        ensures leaving { (self.new.leaving ≡ self.old.leaving)
+            × (self.new.handed ≡ self.old.handed) }
+        ensures outbox { self.new.outbox ≡ self.old.outbox }
     {
+        let sieve = Sieve {
+            members: self.addresses.as_slice(),
+            most: self.most,
+            is_open: self.is_open,
+        };
         let mut has_failed = false;
         for seat in &self.seats {
-            has_failed = take_all(self.alloc, seat, &mut self.buffer, &mut self.come) || has_failed;
+            has_failed = take_all(
+                seat,
+                sieve,
+                &mut self.buffer,
+                &mut self.inbox,
+                &mut self.tallies,
+            ) || has_failed;
         }
         has_failed
     }
 
-    /// Sends one of those that wait to leave, if one does. What the system doesn't take is lost.
-    fn let_one_leave(&mut self)
-        ensures left { HasLeft self.old.leaving.waiting.items self.new.leaving.waiting.items }
+    /// Hands one of those that wait to leave to the system, if one does, and says whether the
+    /// system may take another. What it doesn't take at the moment stays in line, and else it has
+    /// left.
+    fn let_one_leave(&mut self) -> bool
+        ensures left { HasLeft self.old.leaving.waiting.items self.old.handed.all
+            self.new.leaving.waiting.items self.new.handed.all }
         ensures failures { self.new.failures ≡ self.old.failures }
+        ensures seal_stays { (self.new.inbox ≡ self.old.inbox)
+            × (self.new.outbox ≡ self.old.outbox) }
     {
         let count = self.leaving.len();
         if count == 0 {
-            return;
+            return false;
         }
+        let place = (self.pick >> 16) % count;
+        let sent = match self.leaving.at(place) {
+            Some(waiting) => hand_over(&self.seats, waiting.errand, &waiting.bytes),
+            None => return false,
+        };
+        if sent == Sent::NotNow {
+            return false;
+        }
+        self.take_off(place, sent);
+        true
+    }
+
+    /// Takes the one at this place off the line.
+    fn take_off(&mut self, place: usize, sent: Sent)
+        ensures left { HasLeft self.old.leaving.waiting.items self.old.handed.all
+            self.new.leaving.waiting.items self.new.handed.all }
+        ensures failures { self.new.failures ≡ self.old.failures }
+        ensures seal_stays { (self.new.inbox ≡ self.old.inbox)
+            × (self.new.outbox ≡ self.old.outbox) }
+    {
         self.pick = self.pick.wrapping_mul(25_214_903_917).wrapping_add(11);
-        let Some(leaving) = self.leaving.take_at((self.pick >> 16) % count) else {
+        let Some(gone) = self.leaving.take_at(place) else {
             return;
         };
-        if let Some(seat) = self.seats.get(leaving.errand.seat) {
-            let _ = seat.socket.send_to(&leaving.bytes, leaving.errand.to);
-        }
+        self.note_handed(&gone, sent);
     }
 
     /// Looks at the sockets until something has come, as often as it may, and lets some leave.
     fn look(&mut self) -> bool
-        ensures { self.new.failures ≡ self.old.failures }
+        ensures goes_on { GoesOn self.old.inbox self.new.inbox }
+        ensures outbox { self.new.outbox ≡ self.old.outbox }
+        ensures failures { self.new.failures ≡ self.old.failures }
+        ensures leaving { IsLeft self.old.leaving.waiting.items self.old.handed.all
+            self.new.leaving.waiting.items self.new.handed.all }
     {
         let mut has_failed = false;
         for look in 0..self.patience.looks() {
             has_failed = self.look_once() || has_failed;
-            if !self.come.is_empty() {
+            if !self.inbox.is_empty() {
                 break;
             }
             self.patience.nap(self.clock, look);
@@ -164,48 +329,81 @@ impl<'c, C: Clock> UdpPort<'c, C> {
 
     /// Looks at the sockets, and lets some leave.
     fn look_once(&mut self) -> bool
-        ensures { self.new.failures ≡ self.old.failures }
+        ensures goes_on { GoesOn self.old.inbox self.new.inbox }
+        ensures outbox { self.new.outbox ≡ self.old.outbox }
+        ensures failures { self.new.failures ≡ self.old.failures }
+        ensures leaving { IsLeft self.old.leaving.waiting.items self.old.handed.all
+            self.new.leaving.waiting.items self.new.handed.all }
     {
         let has_failed = self.take_in();
-        for _ in 0..LEAVE_AT_A_LOOK {
-            self.let_one_leave();
-        }
+        self.let_some_leave();
         has_failed
     }
 
-    /// Hands the datagram to the system, and takes in what came.
-    fn send_here(&mut self, way: Way, bytes: &[u8]) -> bool
+    /// Lets some of those that wait leave, as long as the system takes them.
+    fn let_some_leave(&mut self)
+        ensures left { IsLeft self.old.leaving.waiting.items self.old.handed.all
+            self.new.leaving.waiting.items self.new.handed.all }
         ensures failures { self.new.failures ≡ self.old.failures }
-        ensures leaving { self.new.leaving ≡ self.old.leaving }
+        ensures seal_stays { (self.new.inbox ≡ self.old.inbox)
+            × (self.new.outbox ≡ self.old.outbox) }
     {
-        let is_sent = match self.seats.get(way.seat) {
-            Some(seat) => is_whole(&seat.socket, way.to, bytes),
-            None => false,
-        };
-        self.take_in();
-        is_sent
+        for _ in 0..LEAVE_AT_A_LOOK {
+            if !self.let_one_leave() {
+                break;
+            }
+        }
     }
 
-    /// Puts the datagram among those that wait to leave, unless there is no room for it.
-    fn send_away(&mut self, way: Way, bytes: &[u8]) -> Result<bool, Memory>
+    /// Hands the datagram that was made to the system, and takes in what came.
+    fn send_here(&mut self, way: Way) -> bool
+        ensures goes_on { GoesOn self.old.inbox self.new.inbox }
+        ensures outbox { self.new.outbox ≡ self.old.outbox }
         ensures failures { self.new.failures ≡ self.old.failures }
-        ensures put { result ≡ Ok true → in_line self.new.leaving.waiting.items
-            ≡ in_line self.old.leaving.waiting.items ++ (way, bytes.now) ∷ [] }
+        ensures leaving { (self.new.leaving ≡ self.old.leaving)
+            × (self.new.handed ≡ self.old.handed) }
+    {
+        let sent = match self.outbox.bytes() {
+            Some(bytes) => hand_over(&self.seats, way, bytes),
+            None => Sent::Lost,
+        };
+        if sent != Sent::Whole {
+            self.tallies.note_unsent(way.member as usize);
+        }
+        self.take_in();
+        sent == Sent::Whole
+    }
+
+    /// Puts the datagram that was made among those that wait to leave, unless there is no room for
+    /// it.
+    fn send_away(&mut self, way: Way) -> Result<bool, Memory>
+        ensures goes_on { GoesOn self.old.inbox self.new.inbox }
+        ensures outbox { self.new.outbox ≡ self.old.outbox }
+        ensures failures { self.new.failures ≡ self.old.failures }
+        ensures put { result ≡ Ok true → IfSome self.old.outbox.made
+            (λ bytes. in_line self.new.leaving.waiting.items
+            ≡ in_line self.old.leaving.waiting.items ++ (way, bytes) ∷ []) }
         ensures lost { result ≢ Ok true
             → self.new.leaving.waiting.items ≡ self.old.leaving.waiting.items }
     {
-        let is_put = self.leaving.put(self.alloc, way, bytes)?;
+        let is_put = match self.outbox.bytes() {
+            Some(bytes) => self.leaving.put(self.alloc, way, bytes)?,
+            None => false,
+        };
         self.take_in();
         Ok(is_put)
     }
 
     /// Whether the port took the datagram.
     fn is_taken(&mut self, from: u8, to: u8, bytes: &[u8]) -> Result<bool, Memory>
+        ensures goes_on { GoesOn self.old.inbox self.new.inbox }
+        ensures key { self.new.outbox.key ≡ self.old.outbox.key }
         ensures failures { self.new.failures ≡ self.old.failures }
         ensures way { result ≡ Ok true
             → HasWay self.old.seats.items self.old.addresses.items from to }
         ensures away { result ≡ Ok true → HasNoSeat self.old.seats.items to
-            → LeavesBy self.old.seats.items self.old.addresses.items from to bytes.now
+            → LeavesBy self.old.seats.items self.old.addresses.items from to
+            (came_as self.old.outbox.key bytes.now)
             self.old.leaving.waiting.items self.new.leaving.waiting.items }
         ensures lost { result ≢ Ok true
             → self.new.leaving.waiting.items ≡ self.old.leaving.waiting.items }
@@ -213,9 +411,10 @@ impl<'c, C: Clock> UdpPort<'c, C> {
         let Some(way) = way_of(&self.seats, &self.addresses, from, to) else {
             return Ok(false);
         };
+        self.outbox.make(bytes)?;
         match seat_of(&self.seats, to) {
-            Some(_) => Ok(self.send_here(way, bytes)),
-            None => self.send_away(way, bytes),
+            Some(_) => Ok(self.send_here(way)),
+            None => self.send_away(way),
         }
     }
 
@@ -225,6 +424,8 @@ impl<'c, C: Clock> UdpPort<'c, C> {
             × (self.new.failures ≡ one_more self.old.failures) }
         ensures none { has_failed ≡ false → (result ≡ Ok None)
             × (self.new.failures ≡ self.old.failures) }
+        ensures same { (self.new.inbox ≡ self.old.inbox) × (self.new.outbox ≡ self.old.outbox)
+            × (self.new.leaving ≡ self.old.leaving) × (self.new.handed ≡ self.old.handed) }
     {
         if has_failed {
             self.failures = self.failures.saturating_add(1);
@@ -262,26 +463,71 @@ fn port_of<'c, C: Clock>(
     seats: Vec<Seat>,
     addresses: Vec<SocketAddr>,
     patience: Patience,
+    guard: Guard,
 ) -> Result<UdpPort<'c, C>, PortFault>
     ensures fresh { IfOk result (λ port. port.failures ≡ 0) }
     ensures seats { IfOk result (λ port. port.seats ≡ seats) }
     ensures addresses { IfOk result (λ port. port.addresses ≡ addresses) }
     ensures leaving { IfOk result (λ port. port.leaving.waiting.items ≡ []) }
+    ensures sealed { IfOk result (λ port. (port.inbox.key ≡ guard.seal)
+        × (port.outbox.key ≡ guard.seal)) }
+    ensures guard { IfOk result (λ port. (port.most ≡ guard.most)
+        × (port.is_open ≡ guard.is_open)) }
     ensures refused { IfErr result CannotStart }
 {
-    let buffer = vec![in alloc; 0; ROOM]?;
+    let Guard {
+        seal,
+        most,
+        is_open,
+    } = guard;
+    let tallies = Tallies::new(alloc, addresses.len())?;
+    let outbox = Outbox::new(alloc, copy_of(&seal));
     Ok(UdpPort {
         clock,
         alloc,
         seats,
         addresses,
-        buffer,
-        come: Line::new(alloc, MOST_COME),
+        most,
+        is_open,
+        // One byte longer than the longest datagram: what is longer yet is cut to that.
+        buffer: vec![in alloc; 0; most + 1]?,
+        inbox: Inbox::new(alloc, seal, MOST_COME),
+        outbox,
         leaving: Line::new(alloc, MOST_LEAVING),
+        handed: Told::new(),
         pick: 0,
         patience,
+        tallies,
         failures: 0,
     })
+}
+
+/// The same seal once more, if it is one.
+fn copy_of(seal: &Option<Seal>) -> Option<Seal>
+    ensures { result ≡ seal.now }
+{
+    match seal {
+        Some(seal) => Some(seal.copied()),
+        None => None,
+    }
+}
+
+/// Hands the datagram to the system, and again behind each of so many naps as long as it takes
+/// none at the moment. Answers what it did, and how many naps are left.
+fn hand_over_patiently<C: Clock>(
+    clock: &C,
+    seats: &[Seat],
+    waiting: &Waiting<Way>,
+    naps: u32,
+) -> (Sent, u32) {
+    for nap in 0..naps {
+        let sent = hand_over(seats, waiting.errand, &waiting.bytes);
+        if sent != Sent::NotNow {
+            return (sent, naps - nap);
+        }
+        thread::sleep(clock, Duration::from_micros(NAP_OF_A_FLUSH));
+    }
+    (hand_over(seats, waiting.errand, &waiting.bytes), 0)
 }
 
 impl<'c, C: Clock> Port for UdpPort<'c, C> {
@@ -291,23 +537,43 @@ impl<'c, C: Clock> Port for UdpPort<'c, C> {
 
     ghost failures_of = { λ p. p.failures };
 
-    fn receive(&mut self) -> Result<Option<(u8, Vec<u8>)>, PortFault> {
+    ghost vouches = { λ p text. is_vouched_for p.inbox.key p.inbox.came text ≡ true };
+
+    fn receive(&mut self) -> Result<Option<(u8, Vec<u8>)>, PortFault>
+        ensures cause { self.new.failures ≡ counted result self.old.failures }
+
+        // The bytes that came were this text, as it comes under the seal.
+        ensures vouched { IfOk result (λ o. IfSome o
+            (λ d. is_vouched_for self.new.inbox.key self.new.inbox.came d.1.items ≡ true)) }
+        ensures vouches_on { StillVouches self.old.inbox self.new.inbox }
+        ensures seal_stays { (self.new.inbox.key ≡ self.old.inbox.key)
+            × (self.new.outbox.key ≡ self.old.outbox.key) }
+
+        // Each that waited to leave is handed to the system at most once, or waits still.
+        ensures leaving { IsLeft self.old.leaving.waiting.items self.old.handed.all
+            self.new.leaving.waiting.items self.new.handed.all }
+    {
+        self.tallies.begin();
         let has_failed = self.look();
-        match self.come.take_first() {
-            Some(Waiting { errand, bytes }) => Ok(Some((errand, bytes))),
+        match self.inbox.take_first() {
+            Some(first) => Ok(Some(first)),
             None => self.nothing(has_failed),
         }
     }
 
     fn send(&mut self, from: u8, to: u8, bytes: &[u8]) -> Result<(), PortFault>
         ensures cause { self.new.failures ≡ counted result self.old.failures }
+        ensures vouches_on { StillVouches self.old.inbox self.new.inbox }
+        ensures seal_stays { (self.new.inbox.key ≡ self.old.inbox.key)
+            × (self.new.outbox.key ≡ self.old.outbox.key) }
 
         // It is from a node here to a member. What is for a node of another process waits to leave
-        // by the way there.
+        // by the way there, sealed where there is a seal.
         ensures way { OnOk result
             (HasWay self.old.seats.items self.old.addresses.items from to) }
         ensures away { OnOk result (HasNoSeat self.old.seats.items to
-            → LeavesBy self.old.seats.items self.old.addresses.items from to bytes.now
+            → LeavesBy self.old.seats.items self.old.addresses.items from to
+            (came_as self.old.outbox.key bytes.now)
             self.old.leaving.waiting.items self.new.leaving.waiting.items) }
         ensures lost { OnErr result
             (self.new.leaving.waiting.items ≡ self.old.leaving.waiting.items) }

@@ -1,10 +1,16 @@
+use Rattle.std.proofs.Common.{refl}
 use Rattle.udp.proofs.Coming.{HasCome-none, HasCome-one}
+use Rattle.udp.proofs.InboxLemmas.{GoesOn-more, GoesOn-same}
 use Rattle.udp.proofs.sockets.take_all.Goals as goal
 
 pub loop-init : goal.loop-init
-loop-init c = HasCome-none c.args.seat.now.node c.args.come.now.waiting.items
+loop-init c = record {
+  come = HasCome-none c.args.seat.now.node c.args.inbox.now;
+  goes_on = GoesOn-same c.args.inbox.now c.args.inbox.now refl;
+}
 
 pub loop-preserved : goal.loop-preserved
-loop-preserved c =
-    HasCome-one c.args.seat.now.node c.args.come.now.waiting.items c.loop.come.waiting.items
-    c.take_one.new.come.waiting.items _ c.loop.invariant c.take_one.ensures
+loop-preserved c = record {
+  come = HasCome-one c.args.seat.now.node _ c.args.inbox.now c.loop.inbox c.take_one.new.inbox c.loop.invariant.come c.take_one.ensures.heard;
+  goes_on = GoesOn-more c.args.inbox.now c.loop.inbox c.take_one.new.inbox c.loop.invariant.goes_on c.take_one.ensures.goes_on;
+}

@@ -1,5 +1,9 @@
-use Rattle.udp.specs.Ways.{HasCome}
+use Rattle.udp.specs.Coming.{HasCome}
+use Rattle.udp.specs.Inbox.{GoesOn}
 use Rattle.udp.proofs.sockets.take_all.Given as goal
 
 abbrev pub invariant-loop : goal.invariant-loop
-invariant-loop l = HasCome l.seat.node l.initial.come.waiting.items l.come.waiting.items
+invariant-loop l = record {
+  come : HasCome l.seat.node l.initial.inbox l.inbox;
+  goes_on : GoesOn l.initial.inbox l.inbox;
+}

@@ -1,8 +1,14 @@
-use Rattle.std.proofs.Common.{◌≡◌, length}
+use Rattle.std.proofs.Common.{◌≡◌, ◌++◌, length}
+use Rattle.udp.specs.Leaving.{texts_of}
 use Rattle.udp.proofs.udp_port.UdpPort.flush.Given as goal
 
 abbrev pub invariant-loop-self : goal.invariant-loop-self
-invariant-loop-self g l = l.self.failures ≡ l.fn.self.failures
+invariant-loop-self g l = record {
+  all : l.fn.self.handed.all ++ texts_of l.fn.self.leaving.waiting.items ≡ l.self.handed.all ++ texts_of l.self.leaving.waiting.items;
+  failures : l.self.failures ≡ l.fn.self.failures;
+  inbox : l.self.inbox ≡ l.fn.self.inbox;
+  outbox : l.self.outbox ≡ l.fn.self.outbox;
+}
 
 abbrev pub decreases-loop-self : goal.decreases-loop-self
 decreases-loop-self g l = length l.self.leaving.waiting.items

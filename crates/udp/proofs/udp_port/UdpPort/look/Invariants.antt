@@ -1,5 +1,12 @@
 use Rattle.std.proofs.Common.{◌≡◌}
+use Rattle.udp.specs.Inbox.{GoesOn}
+use Rattle.udp.specs.Leaving.{IsLeft}
 use Rattle.udp.proofs.udp_port.UdpPort.look.Given as goal
 
 abbrev pub invariant-loop-look : goal.invariant-loop-look
-invariant-loop-look g l = l.self.failures ≡ l.fn.self.failures
+invariant-loop-look g l = record {
+  goes_on : GoesOn l.fn.self.inbox l.self.inbox;
+  outbox : l.self.outbox ≡ l.fn.self.outbox;
+  failures : l.self.failures ≡ l.fn.self.failures;
+  leaving : IsLeft l.fn.self.leaving.waiting.items l.fn.self.handed.all l.self.leaving.waiting.items l.self.handed.all;
+}

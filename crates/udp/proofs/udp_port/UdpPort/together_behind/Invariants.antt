@@ -1,6 +1,6 @@
 use Rattle.std.proofs.Common.{◌≡◌, ◌≤◌, length}
 use Rattle.udp.specs.Ways.{AreInOrder}
-use Rattle.udp.proofs.udp_port.UdpPort.together.Given as goal
+use Rattle.udp.proofs.udp_port.UdpPort.together_behind.Given as goal
 
 abbrev pub invariant-loop-node : goal.invariant-loop-node
 invariant-loop-node g l = record {

@@ -1,7 +1,7 @@
 use Rattle.std.proofs.Common.{◌≡◌, arith}
 use Rattle.udp.proofs.Coming.{CountUp-more, longer}
 use Rattle.udp.specs.declared.sockets.Seat.{Seat}
-use Rattle.udp.proofs.udp_port.UdpPort.together.Goals as goal
+use Rattle.udp.proofs.udp_port.UdpPort.together_behind.Goals as goal
 
 pub loop-node-preserved : goal.loop-node-preserved
 loop-node-preserved g c =

@@ -1,0 +1,18 @@
+-- What a contract sees of an inbox, and what it doesn't.
+use Rattle.std.specs.Prelude.{◌≡◌, true}
+use Rattle.std.specs.List.{list_all}
+use Rattle.udp.specs.Inbox.{InboxState, is_vouched_for}
+use Rattle.udp.specs.Ways.{in_line}
+use Rattle.udp.specs.declared.inbox.Inbox.TheInside.{Inside}
+
+abbrev pub inbox_view : Inside → InboxState
+inbox_view i = record {
+  key = i.seal;
+  came = i.heard.all;
+  waiting = in_line i.come.waiting.items;
+}
+
+-- Each text that waits came.
+abbrev pub AreVouchedFor : Inside → Type 0
+AreVouchedFor i =
+    list_all (λ w. is_vouched_for i.seal i.heard.all w.1) (in_line i.come.waiting.items) ≡ true

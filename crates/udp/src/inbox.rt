@@ -1,0 +1,108 @@
+//! What came and is a text of this run.
+ghost use Rattle.std.specs.Prelude.{◌≡◌, ◌≢◌, ◌++◌, ◌∷◌, [], IfSome, List, MatchOption, None, option_map, option_to_list, true, ℕ};
+ghost use Rattle.udp.specs.Inbox.{Takes, came_as, is_vouched_for};
+
+use crate::line::{Line, Waiting};
+use crate::told::Told;
+use seals::Seal;
+use std::alloc::Global;
+use std::marker::Model;
+
+/// What became of bytes that came.
+#[derive(Clone, Copy, Debug, PartialEq, Eq)]
+pub enum Came {
+    /// Their text waits.
+    Waits,
+    /// Their text found no room or no memory.
+    Lost,
+    /// They are no sealed text.
+    Unsealed,
+}
+
+/// The texts that came, in order, each with the number of the node that it came for. Where there is
+/// a seal what comes without it takes no memory and no place among them.
+#[derive(Drop)]
+pub struct Inbox {
+    alloc: Global,
+    seal: Option<Seal>,
+    come: Line<u8>,
+    heard: Told,
+}
+
+impl Model for Inbox {
+    ghost use Rattle.udp.specs.Inbox.{InboxState};
+
+    ghost Value = { InboxState };
+
+    ghost use Rattle.udp.specs.inside.Inbox.{AreVouchedFor, inbox_view};
+
+    ghost view = { inbox_view };
+
+    ghost invariant = { AreVouchedFor };
+}
+
+impl Inbox {
+    ghost use Rattle.udp.specs.declared.inbox.Came.TheVariants.{Lost, Unsealed, Waits};
+
+    /// Nothing came yet. So many texts may wait.
+    pub fn new(alloc: Global, seal: Option<Seal>, most: usize) -> Inbox
+        ensures { result ≡ record { key = seal; came = []; waiting = [] } }
+    {
+        Inbox {
+            alloc,
+            seal,
+            come: Line::new(alloc, most),
+            heard: Told::new(),
+        }
+    }
+
+    /// Takes these bytes, which came for the node.
+    pub fn take(&mut self, node: u8, bytes: &[u8]) -> Came
+        ensures waits { result ≡ Waits → (text : List ℕ) × Takes self.old self.new bytes.now text
+            × (self.new.waiting ≡ self.old.waiting ++ (node, text) ∷ []) }
+        ensures lost { result ≡ Lost → (text : List ℕ) × Takes self.old self.new bytes.now text
+            × (self.new.waiting ≡ self.old.waiting) }
+        ensures unsealed { result ≡ Unsealed → (self.new ≡ self.old)
+            × ((text : List ℕ) → bytes.now ≢ came_as self.old.key text) }
+    {
+        let Some(text) = self.opened(bytes) else {
+            return Came::Unsealed;
+        };
+        let is_put = self.come.put(self.alloc, node, text);
+        self.heard.note(bytes);
+        match is_put {
+            Ok(true) => Came::Waits,
+            Ok(false) | Err(_) => Came::Lost,
+        }
+    }
+
+    /// The text, unless it has to be sealed and isn't.
+    fn opened<'b>(&self, bytes: &'b [u8]) -> Option<&'b [u8]>
+        ensures { MatchOption result
+            ((text : List ℕ) → bytes.now ≢ came_as self.now.key text)
+            (λ text. bytes.now ≡ came_as self.now.key text.now) }
+    {
+        match &self.seal {
+            Some(seal) => seal.opened(bytes),
+            None => Some(bytes),
+        }
+    }
+
+    /// Whether no text waits.
+    pub fn is_empty(&self) -> bool {
+        self.come.is_empty()
+    }
+
+    /// The first text, with the node that it came for.
+    pub fn take_first(&mut self) -> Option<(u8, Vec<u8>)>
+        ensures first { self.old.waiting
+            ≡ option_to_list (option_map (λ came. (came.0, came.1.items)) result)
+            ++ self.new.waiting }
+        ensures same { (self.new.key ≡ self.old.key) × (self.new.came ≡ self.old.came) }
+        ensures vouched { IfSome result
+            (λ came. is_vouched_for self.new.key self.new.came came.1.items ≡ true) }
+    {
+        let Waiting { errand, bytes } = self.come.take_first()?;
+        Some((errand, bytes))
+    }
+}
