@@ -12,6 +12,15 @@ use Rattle.udp.specs.declared.sockets.Way.{Way}
 pub HandsOver-taken : (waiting new : List (Waiting Way)) (handed now : List Text) (w : Waiting Way) → waiting ≡ w ∷ new → now ≡ handed ++ w.bytes.items ∷ [] → HandsOver waiting handed new now
 HandsOver-taken waiting new handed now w is noted = rw is (refl, noted)
 
+-- none waited
+pub HandsOver-none : (waiting new : List (Waiting Way)) (handed : List Text) → waiting ≡ [] → waiting ≡ new → HandsOver waiting handed new handed
+HandsOver-none waiting new handed none same = rw none (sym same ∙ none, refl)
+
+-- where none waits any more, all was handed over
+pub all_handed : (waiting : List (Waiting Way)) (now all : List Text) → waiting ≡ [] → all ≡ now ++ texts_of waiting → now ≡ all
+all_handed waiting now all none same =
+    sym (append-nil now) ∙ (ap (λ (w : List (Waiting Way)). now ++ texts_of w) (sym none) ∙ sym same)
+
 -- so fewer wait
 pub HandsOver-fewer : (waiting new : List (Waiting Way)) (handed now : List Text) → HandsOver waiting handed new now → waiting ≢ [] → length new < length waiting
 HandsOver-fewer [] new handed now left some = absurd (some refl)

@@ -222,22 +222,8 @@ impl<'c, C: Clock> UdpPort<'c, C> {
             return naps;
         };
         let (sent, left) = hand_over_patiently(self.clock, &self.seats, &first, naps);
-        self.note_handed(&first, sent);
+        note_handed(&mut self.handed, &mut self.tallies, &first, sent);
         left
-    }
-
-    /// One left the line.
-    fn note_handed(&mut self, gone: &Waiting<Way>, sent: Sent)
-        ensures handed { self.new.handed.all ≡ self.old.handed.all ++ gone.now.bytes.items ∷ [] }
-        ensures leaving { self.new.leaving ≡ self.old.leaving }
-        ensures failures { self.new.failures ≡ self.old.failures }
-        ensures seal_stays { (self.new.inbox ≡ self.old.inbox)
-            × (self.new.outbox ≡ self.old.outbox) }
-    {
-        self.handed.note(&gone.bytes);
-        if sent != Sent::Whole {
-            self.tallies.note_unsent(gone.errand.member as usize);
-        }
     }
 
     /// Takes what came off the sockets, as far as there is memory for it, and says whether one of
@@ -289,23 +275,12 @@ impl<'c, C: Clock> UdpPort<'c, C> {
         if sent == Sent::NotNow {
             return false;
         }
-        self.take_off(place, sent);
-        true
-    }
-
-    /// Takes the one at this place off the line.
-    fn take_off(&mut self, place: usize, sent: Sent)
-        ensures left { HasLeft self.old.leaving.waiting.items self.old.handed.all
-            self.new.leaving.waiting.items self.new.handed.all }
-        ensures failures { self.new.failures ≡ self.old.failures }
-        ensures seal_stays { (self.new.inbox ≡ self.old.inbox)
-            × (self.new.outbox ≡ self.old.outbox) }
-    {
         self.pick = self.pick.wrapping_mul(25_214_903_917).wrapping_add(11);
         let Some(gone) = self.leaving.take_at(place) else {
-            return;
+            return false;
         };
-        self.note_handed(&gone, sent);
+        note_handed(&mut self.handed, &mut self.tallies, &gone, sent);
+        true
     }
 
     /// Looks at the sockets until something has come, as often as it may, and lets some leave.
@@ -509,6 +484,16 @@ fn copy_of(seal: &Option<Seal>) -> Option<Seal>
     match seal {
         Some(seal) => Some(seal.copied()),
         None => None,
+    }
+}
+
+/// One left the line.
+fn note_handed(handed: &mut Told, tallies: &mut Tallies, gone: &Waiting<Way>, sent: Sent)
+    ensures { handed.new.all ≡ handed.old.all ++ gone.now.bytes.items ∷ [] }
+{
+    handed.note(&gone.bytes);
+    if sent != Sent::Whole {
+        tallies.note_unsent(gone.errand.member as usize);
     }
 }
 
