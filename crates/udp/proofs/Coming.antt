@@ -30,15 +30,11 @@ for_node node a b c ts us first second =
 module _ (node : ℕ) (bytes : Text) (old new : InboxState) where
   pub heard_or_lost : (came : Came) → (came ≡ Waits → (text : Text) × Takes old new bytes text × (new.waiting ≡ old.waiting ++ (node, text) ∷ [])) → (came ≡ Lost → (text : Text) × Takes old new bytes text × (new.waiting ≡ old.waiting)) → (came ≡ Unsealed → (new ≡ old) × ((text : Text) → ¬ (bytes ≡ came_as old.key text))) → IsHeardOrLost node bytes old new × GoesOn old new
   heard_or_lost Waits waits lost unsealed =
-      let it = waits refl in (inl (it.0, it.1.0.is, it.1.1), GoesOn-takes old new bytes it.0 it.1.0)
+      let it = waits refl in (inl (it.0, it.1.is, it.2), GoesOn-takes old new bytes it.0 it.1)
   heard_or_lost Lost waits lost unsealed =
-      let it = lost refl in (inr it.1.1, GoesOn-takes old new bytes it.0 it.1.0)
+      let it = lost refl in (inr it.2, GoesOn-takes old new bytes it.0 it.1)
   heard_or_lost Unsealed waits lost unsealed =
       let it = unsealed refl in (inr (ap (λ (i : InboxState). i.waiting) it.0), GoesOn-same old new it.0)
-
-  -- nothing was taken
-  pub nothing_taken : new ≡ old → IsHeardOrLost node bytes old new × GoesOn old new
-  nothing_taken same = (inr (ap (λ (i : InboxState). i.waiting) same), GoesOn-same old new same)
 
 module _ (node : ℕ) where
   -- nothing came
@@ -47,7 +43,7 @@ module _ (node : ℕ) where
 
   -- one text came, or none
   one_at_most : (bytes : Text) (old new : InboxState) → IsHeardOrLost node bytes old new → HasCome node old new
-  one_at_most bytes old new (inl heard) = (heard.0 ∷ [], heard.1.1)
+  one_at_most bytes old new (inl heard) = (heard.0 ∷ [], heard.2)
   one_at_most bytes old new (inr lost) = ([], lost ∙ sym (append-nil old.waiting))
 
   -- then one more

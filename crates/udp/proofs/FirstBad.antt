@@ -25,14 +25,14 @@ no_host-no_address part none (V6 a) h = absurd h
 pub no_host-port_0 : (part : Text) (a : SocketAddrV4) → IsSocketV4Text part a → v4_port a ≡ 0 → (host : SocketAddr) → ¬ (IsHostText part host)
 no_host-port_0 part a written zero (V4 b) h =
     let same : v4_port b ≡ 0 = sym (ap (λ (x : SocketAddrV4). v4_port x) (IsSocketV4Text_unique part a b written h.0)) ∙ zero in
-    let above : 0 < v4_port b = h.1.0 in
+    let above : 0 < v4_port b = h.1 in
     omega arith
 no_host-port_0 part a written zero (V6 b) h = absurd h
 
 -- nor does one that writes 0.0.0.0
 pub no_host-unspecified : (part : Text) (a : SocketAddrV4) → IsSocketV4Text part a → IsUnspecifiedV4 (v4_ip a) → (host : SocketAddr) → ¬ (IsHostText part host)
 no_host-unspecified part a written none (V4 b) h =
-    h.1.1 (subst (λ (x : SocketAddrV4). IsUnspecifiedV4 (v4_ip x)) (IsSocketV4Text_unique part a b written h.0) none)
+    h.2 (subst (λ (x : SocketAddrV4). IsUnspecifiedV4 (v4_ip x)) (IsSocketV4Text_unique part a b written h.0) none)
 no_host-unspecified part a written none (V6 b) h = absurd h
 
 -- a part writes one host at most

@@ -68,6 +68,9 @@ module _ (key : Option Text) (came : List Text) where
 pub GoesOn-same : (old new : InboxState) → new ≡ old → GoesOn old new
 GoesOn-same old new same = rw same (record { key = refl; vouched = λ text h. h })
 
+pub goes_on_still : (inbox : InboxState) → GoesOn inbox inbox
+goes_on_still inbox = record { key = refl; vouched = λ text h. h }
+
 -- and then more
 pub GoesOn-more : (old between new : InboxState) → GoesOn old between → GoesOn between new → GoesOn old new
 GoesOn-more old between new first second = record {

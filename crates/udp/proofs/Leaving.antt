@@ -45,8 +45,8 @@ IsLeft-none waiting handed = ([], IsPermutation-refl waiting, sym (append-nil ha
 pub IsLeft-one : (waiting between new : List (Waiting Way)) (handed between_now now : List Text) → IsLeft waiting handed between between_now → HasLeft between between_now new now → IsLeft waiting handed new now
 IsLeft-one waiting between new handed between_now now so_far (inl (w, is, noted)) = (
   so_far.0 ++ w ∷ [],
-  IsPermutation-pop_more waiting so_far.0 between new w so_far.1.0 is,
-  noted ∙ (ap (λ (t : List Text). t ++ w.bytes.items ∷ []) so_far.1.1
+  IsPermutation-pop_more waiting so_far.0 between new w so_far.1 is,
+  noted ∙ (ap (λ (t : List Text). t ++ w.bytes.items ∷ []) so_far.2
       ∙ (append_assoc handed (texts_of so_far.0) (w.bytes.items ∷ [])
       ∙ ap (λ (t : List Text). handed ++ t) (sym (map-append (λ (v : Waiting Way). v.bytes.items) so_far.0 (w ∷ []))))),
 )
@@ -56,9 +56,9 @@ IsLeft-one waiting between new handed between_now now so_far (inr (same, noted))
 pub IsLeft-more : (waiting between new : List (Waiting Way)) (handed between_now now : List Text) → IsLeft waiting handed between between_now → IsLeft between between_now new now → IsLeft waiting handed new now
 IsLeft-more waiting between new handed between_now now first second = (
   first.0 ++ second.0,
-  rw (append_assoc first.0 second.0 new) (IsPermutation-trans waiting (first.0 ++ between) (first.0 ++ (second.0 ++ new)) first.1.0
-      (IsPermutation-append_right first.0 between (second.0 ++ new) second.1.0)),
-  second.1.1 ∙ (ap (λ (t : List Text). t ++ texts_of second.0) first.1.1
+  rw (append_assoc first.0 second.0 new) (IsPermutation-trans waiting (first.0 ++ between) (first.0 ++ (second.0 ++ new)) first.1
+      (IsPermutation-append_right first.0 between (second.0 ++ new) second.1)),
+  second.2 ∙ (ap (λ (t : List Text). t ++ texts_of second.0) first.2
       ∙ (append_assoc handed (texts_of first.0) (texts_of second.0)
       ∙ ap (λ (t : List Text). handed ++ t) (sym (map-append (λ (v : Waiting Way). v.bytes.items) first.0 second.0)))),
 )

@@ -1,6 +1,6 @@
 //! The sockets of the nodes here.
 ghost use Rattle.std.specs.Prelude.{◌≡◌, ◌≢◌, ◌<◌, ◌↔◌, Err, IfErr, IfOk, IsTrue, MatchOption, Ok, false, length};
-ghost use Rattle.udp.specs.Coming.{HasCome, IsAddressOf, IsHeardOrLost, IsStrange};
+ghost use Rattle.udp.specs.Coming.{HasCome, IsHeardOrLost, IsStrange};
 ghost use Rattle.udp.specs.Inbox.{GoesOn};
 ghost use Rattle.udp.specs.Refusals.{CannotStart};
 ghost use Rattle.udp.specs.Ways.{HasNoSeat, HasNoWay, IsSeatOf, IsWay};
@@ -102,18 +102,40 @@ pub fn way_of(seats: &[Seat], addresses: &[SocketAddr], from: u8, to: u8) -> Opt
     })
 }
 
-/// The member whose address this is, if it is one's.
-fn member_at(members: &[SocketAddr], from: &SocketAddr) -> Option<usize>
-    ensures { MatchOption result (IsStrange members.now from.now)
-        (IsAddressOf members.now from.now) }
+/// Whether what comes from there is taken.
+fn may_come(sieve: Sieve<'_>, from: &SocketAddr) -> bool
+    ensures { sieve.entry.is_open ≡ false → IsStrange sieve.entry.members.now from.now
+        → result ≡ false }
 {
+    sieve.is_open || sieve.members.contains(from)
+}
+
+/// The member at this address, if one is.
+fn member_at(members: &[SocketAddr], from: &SocketAddr) -> Option<usize> {
     members.iter().position(|member| *member == *from)
+}
+
+/// Takes some of what came off the sockets, and says whether one of them failed.
+pub fn take_off(
+    seats: &[Seat],
+    sieve: Sieve<'_>,
+    buffer: &mut [u8],
+    inbox: &mut Inbox,
+    tallies: &mut Tallies,
+) -> bool
+    ensures { GoesOn inbox.old inbox.new }
+{
+    let mut has_failed = false;
+    for seat in seats {
+        has_failed = take_all(seat, sieve, buffer, inbox, tallies) || has_failed;
+    }
+    has_failed
 }
 
 /// Takes some of what came off the seat's socket, and says whether the socket failed. What is no
 /// text of a member's is counted, and nothing else is done with it. What finds no room in the line,
 /// or no memory, is lost.
-pub fn take_all(
+fn take_all(
     seat: &Seat,
     sieve: Sieve<'_>,
     buffer: &mut [u8],
@@ -141,6 +163,7 @@ pub fn take_all(
 
 /// Takes these bytes, which came from there for the node, if they are no more than a member's
 /// datagram has, and then if they are from a member, and then if they are sealed.
+#[tactic(auto, using(crate::proofs::InboxLemmas::goes_on_still))]
 fn take_one(
     node: u8,
     bytes: &[u8],
@@ -151,25 +174,22 @@ fn take_one(
 )
     ensures heard { IsHeardOrLost node bytes.now inbox.old inbox.new }
     ensures goes_on { GoesOn inbox.old inbox.new }
-    ensures long { sieve.most < length bytes.now → inbox.new ≡ inbox.old }
-    ensures strange { sieve.is_open ≡ false → IsStrange sieve.members.now from.now
-        → inbox.new ≡ inbox.old }
+    ensures long { sieve.entry.most < length bytes.now → inbox.new ≡ inbox.old }
+    ensures strange { sieve.entry.is_open ≡ false
+        → IsStrange sieve.entry.members.now from.now → inbox.new ≡ inbox.old }
 {
     if bytes.len() > sieve.most {
         tallies.note_strange();
         return;
     }
+    if !may_come(sieve, from) {
+        tallies.note_strange();
+        return;
+    }
+    let came = take_bytes(node, bytes, inbox);
     match member_at(sieve.members, from) {
-        Some(member) => {
-            let came = take_bytes(node, bytes, inbox);
-            tallies.note(member, came);
-        }
-        None => {
-            tallies.note_strange();
-            if sieve.is_open {
-                let _ = take_bytes(node, bytes, inbox);
-            }
-        }
+        Some(member) => tallies.note(member, came),
+        None => tallies.note_strange(),
     }
 }
 

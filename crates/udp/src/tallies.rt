@@ -88,10 +88,7 @@ impl Tallies {
     {
         if member < self.members.len() {
             let before = self.members[member];
-            self.members[member] = Tally {
-                unsent: before.unsent.saturating_add(1),
-                ..before
-            };
+            self.members[member] = with_one_unsent(before);
         }
     }
 }
@@ -110,5 +107,15 @@ fn seen(tally: Tally, receives: u64, came: Came) -> Tally
             last: receives,
             ..tally
         },
+    }
+}
+
+/// The tally, after one more to the member was lost.
+fn with_one_unsent(tally: Tally) -> Tally
+    ensures { result ≡ unsent_once_more tally }
+{
+    Tally {
+        unsent: tally.unsent.saturating_add(1),
+        ..tally
     }
 }

@@ -12,7 +12,7 @@ use crate::line::{Line, Waiting};
 use crate::outbox::Outbox;
 use crate::patience::Patience;
 use crate::sockets::{
-    Seat, Sent, Sieve, Way, address_of, hand_over, seat_of, take_all, take_seat, way_of,
+    Seat, Sent, Sieve, Way, address_of, hand_over, seat_of, take_off, take_seat, way_of,
 };
 use crate::tallies::Tallies;
 use crate::told::Told;
@@ -240,17 +240,13 @@ impl<'c, C: Clock> UdpPort<'c, C> {
             most: self.most,
             is_open: self.is_open,
         };
-        let mut has_failed = false;
-        for seat in &self.seats {
-            has_failed = take_all(
-                seat,
-                sieve,
-                &mut self.buffer,
-                &mut self.inbox,
-                &mut self.tallies,
-            ) || has_failed;
-        }
-        has_failed
+        take_off(
+            &self.seats,
+            sieve,
+            &mut self.buffer,
+            &mut self.inbox,
+            &mut self.tallies,
+        )
     }
 
     /// Hands one of those that wait to leave to the system, if one does, and says whether the

@@ -5,16 +5,16 @@ use Rattle.udp.proofs.udp_port.UdpPort.flush.Goals as goal
 
 pub loop-self-smaller : goal.loop-self-smaller
 loop-self-smaller g c =
-    HandsOver-fewer c.loop-self.self.leaving.waiting.items c.let_first_leave.new.self.leaving.waiting.items
-    c.loop-self.self.handed.all c.let_first_leave.new.self.handed.all c.let_first_leave.ensures.first
+    HandsOver-fewer c.loop-self.self.leaving.waiting.items c.let_first_leave-naps.new.self.leaving.waiting.items
+    c.loop-self.self.handed.all c.let_first_leave-naps.new.self.handed.all c.let_first_leave-naps.ensures.first
     (λ none. absurd (let bad : false ≡ true = c.loop-self-test.ensures.1 none in cc))
 
 pub loop-self-preserved : goal.loop-self-preserved
 loop-self-preserved g c = record {
-  all = HandsOver-all c.loop-self.self.leaving.waiting.items c.let_first_leave.new.self.leaving.waiting.items
-      c.loop-self.self.handed.all c.let_first_leave.new.self.handed.all
-      (c.args.self.now.handed.all ++ texts_of c.args.self.now.leaving.waiting.items) c.let_first_leave.ensures.first c.loop-self.invariant.all;
-  failures = c.let_first_leave.ensures.failures ∙ c.loop-self.invariant.failures;
-  inbox = c.let_first_leave.ensures.seal_stays.0 ∙ c.loop-self.invariant.inbox;
-  outbox = c.let_first_leave.ensures.seal_stays.1 ∙ c.loop-self.invariant.outbox;
+  all = HandsOver-all c.loop-self.self.leaving.waiting.items c.let_first_leave-naps.new.self.leaving.waiting.items
+      c.loop-self.self.handed.all c.let_first_leave-naps.new.self.handed.all
+      (c.args.self.now.handed.all ++ texts_of c.args.self.now.leaving.waiting.items) c.let_first_leave-naps.ensures.first c.loop-self.invariant.all;
+  failures = c.let_first_leave-naps.ensures.failures ∙ c.loop-self.invariant.failures;
+  inbox = c.let_first_leave-naps.ensures.seal_stays.0 ∙ c.loop-self.invariant.inbox;
+  outbox = c.let_first_leave-naps.ensures.seal_stays.1 ∙ c.loop-self.invariant.outbox;
 }

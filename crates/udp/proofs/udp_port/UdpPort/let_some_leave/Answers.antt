@@ -18,3 +18,8 @@ loop-preserved g c = record {
   inbox = c.let_one_leave.ensures.seal_stays.0 ∙ c.loop.invariant.inbox;
   outbox = c.let_one_leave.ensures.seal_stays.1 ∙ c.loop.invariant.outbox;
 }
+
+pub returns-then-not-let_one_leave-clause-left : goal.returns-then-not-let_one_leave-clause-left
+returns-then-not-let_one_leave-clause-left g c =
+    IsLeft-one c.args.self.now.leaving.waiting.items c.loop.self.leaving.waiting.items c.let_one_leave.new.self.leaving.waiting.items
+    c.args.self.now.handed.all c.loop.self.handed.all c.let_one_leave.new.self.handed.all c.loop.invariant.left c.let_one_leave.ensures.left

@@ -19,3 +19,8 @@ loop-look-preserved g c = record {
   leaving = IsLeft-more c.args.self.now.leaving.waiting.items c.loop-look.self.leaving.waiting.items c.look_once.new.self.leaving.waiting.items
       c.args.self.now.handed.all c.loop-look.self.handed.all c.look_once.new.self.handed.all c.loop-look.invariant.leaving c.look_once.ensures.leaving;
 }
+
+pub returns-then-not-is_empty-clause-leaving : goal.returns-then-not-is_empty-clause-leaving
+returns-then-not-is_empty-clause-leaving g c =
+    IsLeft-more c.args.self.now.leaving.waiting.items c.loop-look.self.leaving.waiting.items c.look_once.new.self.leaving.waiting.items
+    c.args.self.now.handed.all c.loop-look.self.handed.all c.look_once.new.self.handed.all c.loop-look.invariant.leaving c.look_once.ensures.leaving
