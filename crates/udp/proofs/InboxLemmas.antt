@@ -68,6 +68,7 @@ module _ (key : Option Text) (came : List Text) where
 pub GoesOn-same : (old new : InboxState) → new ≡ old → GoesOn old new
 GoesOn-same old new same = rw same (record { key = refl; vouched = λ text h. h })
 
+-- nor does what stays
 pub goes_on_still : (inbox : InboxState) → GoesOn inbox inbox
 goes_on_still inbox = record { key = refl; vouched = λ text h. h }
 
