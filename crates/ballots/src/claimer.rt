@@ -16,7 +16,7 @@ ghost use Rattle.ballots.specs.inside.Steps.{
   quorum_step,
   voting_step,
 };
-ghost use Rattle.ballots.specs.Support.{IsMember};
+ghost use Rattle.ballots.specs.Support.{IsMemberNumber};
 
 use crate::value::copy_of_vote;
 use crate::{Tally, Value, Weights};
@@ -102,7 +102,7 @@ impl<V: Value> Claimer<V> {
         claim: Claim,
         report: Option<&(Claim, V)>,
     ) -> Result<ClaimerStep<V>, Memory>
-        requires { IsMember from }
+        requires { IsMemberNumber from }
         ensures { IfOk result (IsStepOnPromise self.now from claim (option_copied report.entry)) }
     {
         match self {
@@ -123,7 +123,7 @@ impl<V: Value> Claimer<V> {
 
     /// The step for a vote of the member `from`. It fails only for want of memory.
     pub fn vote(&self, from: u8, claim: Claim) -> Result<ClaimerStep<V>, Memory>
-        requires { IsMember from }
+        requires { IsMemberNumber from }
         ensures { IfOk result (IsStepOnVote self.now from claim) }
     {
         match self {

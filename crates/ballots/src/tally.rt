@@ -1,7 +1,7 @@
 //! The members that promised or voted so far.
 ghost use Rattle.std.specs.Prelude.{◌≡◌, IfOk};
 ghost use Rattle.agreement.specs.Quorums.{is_majority};
-ghost use Rattle.ballots.specs.Support.{IsMember, joined_by, of_nobody, set_of};
+ghost use Rattle.ballots.specs.Support.{IsMemberNumber, joined_by, of_nobody, set_of};
 
 use crate::Weights;
 use arrayvec::ArrayVec;
@@ -41,7 +41,7 @@ impl Tally {
 
     /// Adds the member, which counts once, however often it joins.
     pub fn join(&mut self, member: u8)
-        requires { IsMember member }
+        requires { IsMemberNumber member }
         ensures { self.new ≡ joined_by self.old member }
     {
         if !self.joined.contains(&member) {
@@ -51,7 +51,7 @@ impl Tally {
 
     /// The tally with one more member, which counts once.
     pub fn with(&self, member: u8) -> Result<Tally, Memory>
-        requires { IsMember member }
+        requires { IsMemberNumber member }
         ensures { IfOk result (λ tally. tally ≡ joined_by self.now member) }
     {
         let joined = self.joined.clone()?;

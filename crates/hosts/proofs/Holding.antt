@@ -21,7 +21,7 @@ use Rattle.protocol.specs.State.{State, engine_of, held_record}
 use Rattle.world.proofs.Growing.{leads_later}
 use Rattle.world.proofs.OneList.{each_has_one_list, each_run_is_acts, one_world, one_world_at_end}
 use Rattle.world.specs.Happening.{Leads}
-use Rattle.world.specs.Headline.{HeldIsListed, HoldAlike, InstallableIsHeld, IsInRunClosure}
+use Rattle.world.specs.Headline.{HeldIsListed, HoldAlike, InstallableIsHeld, IsInHeldClosure}
 use Rattle.world.specs.World.{IsMade, World, member_at, start, up_node}
 
 -- what was sent is foreign to none
@@ -102,4 +102,4 @@ installable_is_held division weights h k p n path q made run up position letter 
     (r.2.are.nodes k (Up n) up).0 refl
     (ap (λ (d : Division). position_of d.tree path) later.division ∙ position)
     (subst (λ (s : State). engine.HasLetter (engine_of s) p letters.I) same letter)
-    (subst (λ (s : State). IsInRunClosure (held_record s) path q) same closure))
+    (subst (λ (s : State). IsInHeldClosure (held_record s) path q) same closure))

@@ -16,7 +16,7 @@ use Rattle.node.specs.declared.fault.NodeFault.TheVariants as fault
 use Rattle.package_record.specs.Content.{Content}
 use Rattle.protocol.specs.State.{engine_of, held_record}
 use Rattle.world.specs.Happening.{Leads}
-use Rattle.world.specs.Headline.{HasOneList, IsInRunClosure}
+use Rattle.world.specs.Headline.{HasOneList, IsInHeldClosure}
 use Rattle.world.specs.MatchingLaws.{IsSafe}
 use Rattle.world.specs.World.{IsMade, World, start}
 
@@ -84,4 +84,4 @@ InstallableIsHeldThere =
     → IsMade division weights → Run division.tree weights (at_start weights) h
     → slice_get h.hosts k ≡ Some (Up n) → position_of division.tree path ≡ Some p
     → engine.HasLetter (engine_of n.member) p letters.I
-    → IsInRunClosure (held_record n.member) path q → is_some (held_record n.member q) ≡ true
+    → IsInHeldClosure (held_record n.member) path q → is_some (held_record n.member q) ≡ true

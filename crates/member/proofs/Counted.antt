@@ -16,7 +16,7 @@ use Rattle.ballots.specs.InTheAgreement.{IsClaimerStep, IsStepOnPromise, IsStepO
 use Rattle.ballots.specs.InTheAgreement.{claim_of, claimer_then, is_building, noted_next}
 use Rattle.ballots.specs.InTheAgreement.{promise_outcome, said_next, stage_then, weights_of}
 use Rattle.ballots.specs.InTheAgreement.{stage_of as stage_of_claimer}
-use Rattle.ballots.specs.Support.{IsMember as IsNumber}
+use Rattle.ballots.specs.Support.{IsMemberNumber as IsNumber}
 use Rattle.ballots.specs.Weights.{AreWeights, is_weight}
 use Rattle.ballots.specs.declared.claimer.Claimer.{Claimer}
 use Rattle.ballots.specs.declared.claimer.Claimer.TheVariants as claimers

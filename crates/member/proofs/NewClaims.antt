@@ -10,7 +10,7 @@ use Rattle.claims.specs.Claim.{greatest_round}
 use Rattle.engine.specs.declared.Letter.{Letter}
 use Rattle.engine.specs.declared.Letter.TheVariants as letters
 use Rattle.ballots.specs.declared.message.Body.TheVariants as bodies
-use Rattle.protocol.specs.State.{HasLetter, State, Value, facts_at, is_held}
+use Rattle.protocol.specs.State.{HasUnitLetter, State, Value, facts_at, is_held}
 use Rattle.protocol.specs.InTheAgreement.{view}
 use Rattle.protocol.specs.Member.{IsMember}
 use Rattle.protocol.specs.Sends.{sent_to}
@@ -66,7 +66,7 @@ module _ (s : State) (path : Text) where
   -- ---- a unit's
 
   pub unit_claim : (host above u : ℕ) (letter : Letter) (r : Result Prepared Refusal)
-      → unit_in s path ≡ Some u → HasLetter s u letter
+      → unit_in s path ≡ Some u → HasUnitLetter s u letter
       → Prepares s (claims s letter host above u) r
       → IsPrepared s (inputs.Claim path host above) r
   unit_claim host above u letter r found shown made = record {

@@ -3,7 +3,7 @@ ghost use Rattle.std.specs.Prelude.{◌≡◌, ◌<◌, IfErr, IfOk, None, Some,
 ghost use Rattle.protocol.specs.Answers.{answered, everyone, message_of};
 ghost use Rattle.protocol.specs.InTheAgreement.{view};
 ghost use Rattle.protocol.specs.Sends.{sent_to};
-ghost use Rattle.protocol.specs.State.{HasLetter, name_at};
+ghost use Rattle.protocol.specs.State.{HasUnitLetter, name_at};
 ghost use Rattle.protocol.specs.Step.{stranger, unit_in};
 ghost use Rattle.member.specs.inside.Steps.{IsPrepared, Makes, opened_in};
 
@@ -99,7 +99,7 @@ impl<'a> Member<'a> {
     /// The letter of the unit: that of its first package.
     fn unit_letter(&self, unit: u32) -> Letter
         requires { unit < length self.now.division.units }
-        ensures { HasLetter self.now unit result }
+        ensures { HasUnitLetter self.now unit result }
     {
         let packages = self.units.packages(unit);
         self.engine.letter(packages[0])

@@ -1,7 +1,7 @@
 //! What is to be built.
 ghost use Rattle.std.specs.Prelude.{◌≡◌, ◌<◌, ◌++◌, ◌∷◌, [], IfOk, IfSome, OnOk, filter_map, length};
 ghost use Rattle.std.specs.Prelude.{map, option_map};
-ghost use Rattle.ballots.specs.Support.{IsMember};
+ghost use Rattle.ballots.specs.Support.{IsMemberNumber};
 ghost use Rattle.protocol.specs.Jobs.{deps_of, job_of, signature};
 ghost use Rattle.protocol.specs.State.{held_record};
 
@@ -100,7 +100,7 @@ impl<'a> Member<'a> {
 
 /// Whether the claimer has a build made once this member promises the claim and reports nothing.
 fn is_built_after(claimer: &Claimer, from: u8, claim: Claim) -> bool
-    requires { IsMember from }
+    requires { IsMemberNumber from }
 {
     match claimer.promise(from, claim, None) {
         Ok(step) => matches!(step.next, Next::Build),

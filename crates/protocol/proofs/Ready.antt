@@ -16,7 +16,7 @@ use Rattle.engine.proofs.Kept.{unit_some}
 use Rattle.engine.proofs.Lists.{in_kept}
 use Rattle.engine.proofs.Once.{one_unit}
 use Rattle.engine.proofs.WellMade.{one_unit_has}
-use Rattle.protocol.specs.State.{HasLetter, State, engine_of, holds_package, is_held, is_held_any}
+use Rattle.protocol.specs.State.{HasUnitLetter, State, engine_of, holds_package, is_held, is_held_any}
 use Rattle.protocol.specs.Member.{IsMember}
 use Rattle.protocol.specs.Step.{is_waiting}
 
@@ -50,7 +50,7 @@ module _ (s : State) (u : ℕ) (is : IsMember s) (lt : u < length s.division.uni
   not_held_first free held = true≢false (sym held ∙ (ap (is_held_any s) first_is_of_it.0 ∙ free))
 
   -- Where the unit is not held, and does not wait, its build is ready.
-  pub ready_by_letter : (letter : Letter) → HasLetter s u letter → is_held s u ≡ false
+  pub ready_by_letter : (letter : Letter) → HasUnitLetter s u letter → is_held s u ≡ false
       → is_waiting letter ≡ false
       → All (λ p. holds_package s p ≡ true) (unit_at s.division u).build
   ready_by_letter letters.T shown free waits = absurd (true≢false waits)

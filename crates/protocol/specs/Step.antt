@@ -26,7 +26,7 @@ use Rattle.ballots.specs.declared.message.Body.TheVariants.{Offer, Promise, Prop
 use Rattle.ballots.specs.declared.message.Body.TheVariants.{Ask, Nay}
 use Rattle.ballots.specs.declared.message.Message.{Message}
 use Rattle.ballots.specs.declared.message.Note.{Note}
-use Rattle.protocol.specs.State.{HasLetter, OpenClaim, Progress, Gathering, Building, Voting, State}
+use Rattle.protocol.specs.State.{HasUnitLetter, OpenClaim, Progress, Gathering, Building, Voting, State}
 use Rattle.protocol.specs.State.{Value, facts_at, is_held}
 use Rattle.protocol.specs.InTheAgreement.{view}
 use Rattle.protocol.specs.Given.{Given}
@@ -243,7 +243,7 @@ unit_claimed s (inputs.Message m) = None
 -- the letter of the unit, where there is one
 abbrev pub IsLetterOf : State → Option ℕ → Letter → Type 0
 IsLetterOf s None letter = Unit {0}
-IsLetterOf s (Some u) letter = HasLetter s u letter
+IsLetterOf s (Some u) letter = HasUnitLetter s u letter
 
 -- The member answers the input with this, or refuses it so.
 pub record Answers (s : State) (input : Input) (a : Result Answer Refusal) : Type 0 where

@@ -1,4 +1,5 @@
--- A real file, by what it went through.
+-- A real file, by the calls that were noted of it. That each call which is noted is made, no clause
+-- can say.
 use Rattle.std.specs.Prelude.{◌≡◌, ◌^◌, ℕ, List, true}
 use Rattle.stable_record.specs.declared.file_disk.FileDisk.{FileDisk}
 use Rattle.stable_record.specs.Events.{Past, agrees, half_cut, half_written, replay}
@@ -9,7 +10,7 @@ use Rattle.stable_record.specs.Room.{Room}
 abbrev pub file_past : FileDisk → Past
 file_past disk = disk.noted.past
 
--- the calls that touched the file, from its past on
+-- the calls that were noted of the file, from its past on
 abbrev pub file_history : FileDisk → History
 file_history disk = replay disk.noted.past disk.noted.events
 

@@ -1,4 +1,5 @@
-//! A file of the operating system. Each call is noted with its answer, for clauses alone.
+//! A file of the operating system. Each call is noted with its answer, for clauses alone: what they
+//! say is said of the calls that are noted.
 ghost use Rattle.std.specs.Prelude.{◌≡◌, ◌≢◌, ◌≤◌, ◌∷◌, [], length, IfOk, IfSome, IsErrOf};
 ghost use Rattle.std.specs.Path.{path_parent};
 ghost use Rattle.stable_record.specs.Crash.{CutOrNot, Torn};

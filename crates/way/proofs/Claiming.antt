@@ -26,7 +26,7 @@ use Rattle.node.specs.Parcels.{datagrams_of}
 use Rattle.protocol.specs.Answers.{Answer, answered, everyone, tree_digest}
 use Rattle.protocol.specs.InTheAgreement.{view}
 use Rattle.protocol.specs.Member.{IsMember}
-use Rattle.protocol.specs.State.{HasLetter, State, Value, facts_at, holds_package, is_held, is_held_any}
+use Rattle.protocol.specs.State.{HasUnitLetter, State, Value, facts_at, holds_package, is_held, is_held_any}
 use Rattle.protocol.specs.Step as members
 use Rattle.protocol.specs.Step.{answered_or, at_unit, claim_refusal, claims, host_in, stranger, unless}
 use Rattle.protocol.specs.declared.input.Input.TheVariants as inputs
@@ -75,7 +75,7 @@ module _ (s : State) (u : ℕ) (is : IsMember s) (lt : u < length s.division.uni
   first_held held =
       ap (is_held_any s) (one_unit_has s.division u first is.division lt first_there).0 ∙ held
 
-  pub not_held : HasLetter s u Q → is_held s u ≡ false
+  pub not_held : HasUnitLetter s u Q → is_held s u ≡ false
   not_held shown = by (is_held s u) refl
     where
       by : (b : Bool) → is_held s u ≡ b → b ≡ false
@@ -112,7 +112,7 @@ module _ (division : Division) (weights : List ℕ) (made : IsMade division weig
     (stands : slice_get w.nodes me ≡ Some x) (up : x.up ≡ true)
     (u : ℕ) (within : u < length w.division.units)
     (path : Text) (named : number_found w.division path ≡ Some u)
-    (queued : HasLetter (member_at w me x) u Q) (host : ℕ) (few : host ≤ 65535)
+    (queued : HasUnitLetter (member_at w me x) u Q) (host : ℕ) (few : host ≤ 65535)
     (left : last_round w u me < greatest_round) where
   abbrev s : State
   s = member_at w me x

@@ -20,7 +20,7 @@ use Rattle.package_record.specs.Build.{build_text}
 use Rattle.protocol.specs.Answers.{tree_digest}
 use Rattle.protocol.specs.Given.{Given}
 use Rattle.protocol.specs.InTheAgreement.{pair_of}
-use Rattle.protocol.specs.State.{HasLetter, State, Value, facts_at}
+use Rattle.protocol.specs.State.{HasUnitLetter, State, Value, facts_at}
 use Rattle.protocol.specs.Step.{IsLetterOf, files_refusal}
 use Rattle.protocol.specs.declared.refusal.Refusal.{Refusal}
 use Rattle.protocol.specs.declared.refusal.Refusal.TheVariants as refusals
@@ -57,7 +57,7 @@ use Rattle.world.specs.World.{IsMade, World, WorldNode, member_at}
 
 -- Nothing is refused of the unit.
 pub record IsFree (w : World) (s : State) (u host : ℕ) (given : Given) : Type 0 where
-  pub queued : HasLetter s u letters.Q
+  pub queued : HasUnitLetter s u letters.Q
   pub enough : is_majority_up w ≡ true
   pub left : last_round w u s.me < greatest_round
   pub right : files_refusal s u given (next_build w s u host given) ≡ None
@@ -71,8 +71,8 @@ passed : (b : Bool) (f : WayFault) (rest : Option WayFault)
 passed true f rest e = (refl, e)
 passed false f rest e = absurd (no_fault f e)
 
-only_q : (s : State) (u : ℕ) (l : Letter) → is_queued l ≡ true → HasLetter s u l
-    → HasLetter s u letters.Q
+only_q : (s : State) (u : ℕ) (l : Letter) → is_queued l ≡ true → HasUnitLetter s u l
+    → HasUnitLetter s u letters.Q
 only_q s u letters.T e shown = absurd cc
 only_q s u letters.Q e shown = shown
 only_q s u letters.B e shown = absurd cc
@@ -87,7 +87,7 @@ none_mapped : (o : Option Refusal) → option_map fault.Refused o ≡ None → o
 none_mapped None e = refl
 none_mapped (Some f) e = absurd (no_fault (fault.Refused f) e)
 
-free : (w : World) (s : State) (l : Letter) (u host : ℕ) (given : Given) → HasLetter s u l
+free : (w : World) (s : State) (l : Letter) (u host : ℕ) (given : Given) → HasUnitLetter s u l
     → refusal_for w s l host given u ≡ None → IsFree w s u host given
 free w s l u host given shown none =
     let parts = none_first

@@ -17,7 +17,7 @@ use Rattle.node.specs.Step.{Asked, Comes, Does, IsAsked, Taken, Takes}
 use Rattle.node.specs.declared.fault.NodeFault.{NodeFault}
 use Rattle.node.specs.declared.fault.NodeFault.TheVariants as node_fault
 use Rattle.package_record.specs.Content.{Content}
-use Rattle.protocol.specs.State.{HasLetter, Value, engine_of}
+use Rattle.protocol.specs.State.{HasUnitLetter, Value, engine_of}
 use Rattle.protocol.specs.Step.{IsLetterOf}
 use Rattle.protocol.specs.declared.input.Input.TheVariants as inputs
 use Rattle.stable_record.specs.declared.log_fault.LogFault.TheVariants.{Full}
@@ -83,7 +83,7 @@ something_asked w (events.Restart n) is there = absurd (true≢false (sym is))
 module _ (w : World) (units : AreUnits w.division.tree w.division.units) where
   -- each unit shows a letter at each node
   shown : (k : ℕ) (x : WorldNode) (u : ℕ) → (letter : Letter)
-      × HasLetter (member_at w k x) u letter
+      × HasUnitLetter (member_at w k x) u letter
   shown k x u = some_letter w.division.tree w.division.units (has_agreed (engine_of (member_at w k x)))
       (slice_index_or (unit_at w.division u).packages 0 0) units
 

@@ -20,7 +20,7 @@ use Rattle.engine.specs.Units.{is_in, positions}
 use Rattle.engine.proofs.Kept.{unit_listed}
 use Rattle.engine.proofs.Lists.{in_kept}
 use Rattle.engine.proofs.Places.{has_position, listed_at, same_bytes}
-use Rattle.world.specs.Headline.{InstallableIsHeld, IsClosed, holds}
+use Rattle.world.specs.Headline.{InstallableIsHeld, IsClosedUnderRun, holds}
 use Rattle.world.specs.World.{IsMade, World, WorldNode, member_at}
 use Rattle.world.specs.Local.{AreLocal}
 use Rattle.world.specs.Matches.{Matches}
@@ -100,7 +100,7 @@ module _ (division : Division) (weights : List ℕ) (acts : List (Act Value)) (w
           ap (has_any i.among) (has_position tree t d.0 tree_is
           (run_listed tree tree_is q d.0 d.1).1 (sym d.2)) ∙ i.closed q d.0 there d.1
 
-      is_closed : IsClosed (holds w k x) S
+      is_closed : IsClosedUnderRun (holds w k x) S
       is_closed path r there e = by (position_of tree path) refl there
         where
           by : (o : Option ℕ) → position_of tree path ≡ o → has_any i.among o ≡ true

@@ -58,7 +58,8 @@ stepped w k x t list = record (with_node w k (up_node (after (node_at w k x) t))
   agreed = list;
 }
 
--- The whole step: the note stands, the datagrams are sent, and the list goes on.
+-- The whole step: the note stands, the datagrams are sent, and the list goes on. Which list stands
+-- then `list` says; `leaves` takes it from the world that is left, and says all else of that.
 pub record Steps (w : World) (e : Event) (w' : World) : Type 0 where
   pub node : WorldNode
   pub taken : Taken

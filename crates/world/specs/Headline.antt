@@ -49,7 +49,7 @@ its_job w e b = job_of (member_at w b.builder b.node) b.unit b.host b.claim
 -- The event built the package: it is one of the claim's unit, and its record is that of the claim's
 -- job with the event's files. Each package that it was built on stood in the list by that very
 -- signature.
-pub record Builds (w : World) (e : Event) (r : Content) : Type 0 where
+pub record BuildsPackage (w : World) (e : Event) (r : Content) : Type 0 where
   pub takes : TakesBuilt w e
   pub position : ℕ
   pub of_package : position_of w.division.tree r.path ≡ Some position
@@ -69,7 +69,7 @@ pub record WasBuilt (division : Division) (weights : List ℕ) (events : List Ev
   pub led : Leads (start division weights) before world
   pub then : World
   pub happened : Happens world event then
-  pub builds : Builds world event r
+  pub builds : BuildsPackage world event r
 
 -- ---- what a node holds
 
@@ -78,18 +78,18 @@ abbrev pub holds : World → ℕ → WorldNode → Text → Option Content
 holds w k x path = held_record (member_at w k x) path
 
 -- The set has, with each path, the paths that the package held for it names to run.
-abbrev pub IsClosed : (Text → Option Content) → (Text → Bool) → Type 0
-IsClosed held S = (path : Text) (r : Content) → S path ≡ true → held path ≡ Some r
+abbrev pub IsClosedUnderRun : (Text → Option Content) → (Text → Bool) → Type 0
+IsClosedUnderRun held S = (path : Text) (r : Content) → S path ≡ true → held path ≡ Some r
     → All (λ q. S q ≡ true) r.run
 
 -- The second path is in the least such set that has the first: it is in each.
-abbrev pub IsInRunClosure : (Text → Option Content) → Text → Text → Type 0
-IsInRunClosure held p q = (S : Text → Bool) → S p ≡ true → IsClosed held S → S q ≡ true
+abbrev pub IsInHeldClosure : (Text → Option Content) → Text → Text → Type 0
+IsInHeldClosure held p q = (S : Text → Bool) → S p ≡ true → IsClosedUnderRun held S → S q ≡ true
 
 -- ---- at each moment
 
 -- At each moment of the run to the last world, after each beginning of the events, P holds of the
--- world that stands.
+-- world that stands. It is *the* world of that moment: events lead to one (`EventsLeadToOneWorld`).
 abbrev pub AtEachMoment : Division → List ℕ → List Event → World → (List Event → World → Type 0)
     → Type 0
 AtEachMoment division weights events last P =
@@ -143,7 +143,7 @@ InstallableIsHeld w =
     (k p : ℕ) (x : WorldNode) (path q : Text) → slice_get w.nodes k ≡ Some x → x.up ≡ true
     → position_of w.division.tree path ≡ Some p
     → engine.HasLetter (engine_of (member_at w k x)) p letters.I
-    → IsInRunClosure (holds w k x) path q → is_some (holds w k x q) ≡ true
+    → IsInHeldClosure (holds w k x) path q → is_some (holds w k x q) ≡ true
 
 -- a package as an entry of a list that is audited
 abbrev pub entry_of : Content → Entry

@@ -34,7 +34,8 @@ abbrev pub message : World → Text → ℕ → Body Value → Message Value
 message w name m body =
     record { sender = m; tree = tree_digest w.division.tree; path = name; body = body }
 
--- the members from which a vote for the claim of the unit of this name was sent
+-- The members from which a vote for the claim of the unit of this name was sent, a set as its test:
+-- all the bytes of such a message with that member as its sender were sent.
 abbrev pub voters : World → List Text → Text → Claim → Members
 voters w sent name c m = list_all (is_among sent) (datagrams_of (message w name m (Vote c)))
 

@@ -47,7 +47,8 @@ start division weights = record {
   agreed = [];
 }
 
--- the member that runs on node k: what its notes restore, and its open claim
+-- The member that runs on node k: what its notes restore, and its open claim. A node that is down has
+-- no claim: of that it is the member that would start.
 abbrev pub member_at : World → ℕ → WorldNode → State
 member_at w k x = record (restored (fresh w.division w.weights k) x.notes) { claim = x.claim }
 

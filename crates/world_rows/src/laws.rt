@@ -9,7 +9,7 @@ ghost use Rattle.package_record.specs.Content.{Content};
 ghost use Rattle.protocol.specs.State.{engine_of};
 ghost use Rattle.engine.specs.Division.{Division};
 ghost use Rattle.world.specs.Happening.{Leads};
-ghost use Rattle.world.specs.Headline.{HoldAlike, IsInRunClosure, holds};
+ghost use Rattle.world.specs.Headline.{HoldAlike, IsInHeldClosure, holds};
 ghost use Rattle.world.specs.World.{IsMade, World, WorldNode, member_at, start};
 
 use world::{events_have_one_answer, worlds_have_one_list};
@@ -22,7 +22,7 @@ pub fn installable_is_listed()
         → slice_get last.nodes k ≡ Some x → x.up ≡ true
         → position_of last.division.tree path ≡ Some p
         → engine.HasLetter (engine_of (member_at last k x)) p letters.I
-        → IsInRunClosure (holds last k x) path q
+        → IsInHeldClosure (holds last k x) path q
         → (r : Content) × (holds last k x q ≡ Some r) × Contains last.agreed r }
 {
     worlds_have_one_list();

@@ -6,7 +6,7 @@ use Rattle.engine.specs.declared.Letter.TheVariants as letters
 use Rattle.faults.specs.Bytes.{Text}
 use Rattle.protocol.specs.Given.{Given}
 use Rattle.protocol.specs.Jobs.{job_of}
-use Rattle.protocol.specs.State.{HasLetter, State, Value}
+use Rattle.protocol.specs.State.{HasUnitLetter, State, Value}
 use Rattle.protocol.specs.Step.{made_by}
 use Rattle.protocol.specs.declared.refusal.Refusal.{Refusal}
 use Rattle.protocol.specs.declared.refusal.Refusal.TheVariants as refusals
@@ -26,7 +26,7 @@ pub record IsShown (w : World) (k : ℕ) (path : Text) : Type 0 where
   pub up : node.up ≡ true
   pub unit : ℕ
   pub named : number_found w.division path ≡ Some unit
-  pub queued : HasLetter (member_at w k node) unit letters.Q
+  pub queued : HasUnitLetter (member_at w k node) unit letters.Q
 
 -- what member s makes of the files for unit u, under the claim, or why they make none
 abbrev pub made_under : State → ℕ → ℕ → Claim → Given → Result Value Refusal
