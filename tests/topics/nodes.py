@@ -230,7 +230,7 @@ def bad_words(tally):
             tally.add(f"the weights {weights!r}", difference(got, refused(801)))
         here = places(base, 4).split(",")
         for hosts, place in ((here[:3], 4), ([*here, here[0]], 5), ([here[0], here[0], *here[2:]], 2), ([*here[:3], "host:1"], 4),
-                             ([*here[:3], "[::1]:1"], 4), ([""], 1)):
+                             ([*here[:3], "[::1]:1"], 4), ([here[0], "0.0.0.0:1", *here[2:]], 2), ([""], 1)):
             got = answer([*good, f"--hosts={','.join(hosts)}"], folder)
             tally.add(f"the hosts {','.join(hosts)!r}", difference(got, refused(f"1206 at {place}")))
 
