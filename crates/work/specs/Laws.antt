@@ -42,4 +42,5 @@ NameTellsTheTask =
 
 -- A job's text begins with that of its task.
 abbrev pub TaskTextIsFirst : Type 0
-TaskTextIsFirst = (job : jobs.Task) → (rest : Text) × (job_text job ≡ task_text (task_of job) ++ rest)
+TaskTextIsFirst =
+    (job : jobs.Task) → (rest : Text) × (job_text job ≡ task_text (task_of job) ++ rest)
