@@ -295,11 +295,15 @@ LARGE = 134_217_728
 def stored(folder):
     """The files of a store, and whether each has its name for a digest."""
     names = sorted(os.listdir(folder)) if os.path.isdir(folder) else []
-    right = []
-    for name in names:
-        with open(f"{folder}/{name}", "rb") as file:
-            right.append(hashlib.file_digest(file, "sha256").hexdigest() == name)
-    return names, all(right)
+    return names, all(digest_of(f"{folder}/{name}") == name for name in names)
+
+
+def digest_of(path):
+    digest = hashlib.sha256()
+    with open(path, "rb") as file:
+        for part in iter(lambda: file.read(1 << 20), b""):
+            digest.update(part)
+    return digest.hexdigest()
 
 
 def large(tally):
