@@ -255,8 +255,8 @@ def drivers_that_end(tally):
         killed.end(signal.SIGKILL)
         left = os.listdir(f"{node.work}/build")
         add(tally, "a build that outlives it", is_alive(node.folder, "pid") and len(left) == 1, left)
-        for part in ("done", "failed"):
-            with open(f"{node.work}/{part}/.{name}.1", "w") as file:
+        for half in (f"done/.{name}.build-jobs", f"failed/.{name}.build-jobs", f"failed/.{name}.1"):
+            with open(f"{node.work}/{half}", "w") as file:
                 file.write("{")
         again = Driver(node, 'mkdir "$OUT/a:b" && echo again > "$OUT/a:b/x"')
         told = again.tells(re.escape(f"= a build of an earlier run goes on in {os.path.realpath(node.work)}/build/{left[0]}"))
@@ -265,7 +265,8 @@ def drivers_that_end(tally):
         with open(f"{node.folder}/go", "w"):
             until(lambda: not is_alive(node.folder, "pid"))
         add(tally, "what is handed in", made == {"a/b": {"x": b"again\n"}} and node.is_forgotten(name), made)
-        add(tally, "what was half written", not any(os.listdir(f"{node.work}/{part}") for part in ("done", "failed")), os.listdir(f"{node.work}/done"))
+        left = os.listdir(f"{node.work}/done"), os.listdir(f"{node.work}/failed")
+        add(tally, "what was half written, and not by the node", left == ([], [f".{name}.1"]), left)
         again.end()
         last = Driver(node, BUILD)
         add(tally, "what outlived is removed", until(lambda: os.listdir(f"{node.work}/build") == []), os.listdir(f"{node.work}/build"))
