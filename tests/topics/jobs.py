@@ -373,6 +373,23 @@ def unpacked(tally, node, names):
     tally.add("unpack-log with a store that lacks files", "" if right else f"{lines!r:.400}, status {status}, {left}")
 
 
+def stand_ins(tally):
+    """Only what names its own file stands for one, and only where that has a place."""
+    told = {name: f"SHA256 ({name}) = {packages.digest(b'large')}\nSIZE ({name}) = 5\n".encode() for name in ("x", "w/v", "u")}
+    files = [("x", b"x"), ("x.sha256", told["x"]), ("y.sha256", told["x"]), ("w/v.sha256", told["w/v"]), ("u.sha256", told["u"]), ("u/t", b"t")]
+    with tempfile.TemporaryDirectory() as folder:
+        os.mkdir(f"{folder}/store")
+        with open(f"{folder}/store/{packages.digest(b'large')}", "wb") as file:
+            file.write(b"large")
+        with open(f"{folder}/log", "wb") as file:
+            file.write(packages.log([packages.note(4, "a/b", packages.build(packages.record("a/b", "b-1", files)))]))
+        said = packages.tool("unpack-log", "--store", f"{folder}/store", f"{folder}/log", f"{folder}/out")
+        got = packages.files_in(f"{folder}/out/a:b")
+    wanted = {name: text for name, text in files if name != "w/v.sha256"}
+    wanted["w/v"] = b"large"
+    tally.add("unpack-log of what stands for no file", "" if (said, got) == ((b"", b"", 0), wanted) else f"{said} {sorted(got)}")
+
+
 def words(tally):
     """Wrong words are told, and nothing is made."""
     with tempfile.TemporaryDirectory() as folder:
@@ -390,3 +407,4 @@ def run(tally):
     drivers_that_end(tally)
     nodes_that_go_on(tally)
     large(tally)
+    stand_ins(tally)
