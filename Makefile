@@ -3,7 +3,7 @@ PREFIX ?=	/usr/local
 BINDIR ?=	$(PREFIX)/bin
 MANDIR ?=	$(PREFIX)/man
 # what is installed beside the programs; each has a page in man/
-TOOLS =		expand-listing why-ignored unpack-log make-builds
+TOOLS =		expand-listing why-ignored unpack-log make-builds build-jobs
 
 all:
 	./dpbr status /dev/null /dev/null >/dev/null

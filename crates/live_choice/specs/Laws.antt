@@ -1,0 +1,39 @@
+-- What holds of choices where builds are made while nodes run.
+use Rattle.std.specs.Prelude.{◌≡◌, ℕ, Bool, true, false, Option, None, Some}
+use Rattle.node.specs.Step.{Does}
+use Rattle.ports.specs.Kept.{Arrived}
+use Rattle.protocol.specs.Given.{Given}
+use Rattle.protocol.specs.declared.input.Input.{Input}
+use Rattle.protocol.specs.declared.input.Input.TheVariants as inputs
+use Rattle.choice.specs.Choice.{Here, first_job}
+use Rattle.choice.specs.Pending.{Pending}
+use Rattle.live_choice.specs.Live.{Made, first_answer, live_choice}
+use Rattle.live_choice.specs.declared.wish.Wish.{Wish}
+
+-- Where the same is made for each node, the first answer is the first job's of a turn that has all
+-- builds from its start.
+abbrev pub AllMade : Type 0
+AllMade =
+    (here : Here) (count : ℕ) (builds : Given)
+    → first_answer here count (λ k. Some builds) ≡ first_job here count builds
+
+-- Where nothing is made there is no answer, whatever claims wait.
+abbrev pub NothingMade : Type 0
+NothingMade = (here : Here) (count : ℕ) → first_answer here count (λ k. None) ≡ None
+
+-- Whether the input answers a job.
+abbrev pub is_answer : Input → Bool
+is_answer (inputs.Claim path host above) = false
+is_answer (inputs.Built path given) = true
+is_answer (inputs.Failed path) = true
+is_answer inputs.Nudge = false
+is_answer (inputs.Ask path) = false
+is_answer (inputs.Message m) = false
+
+-- A node that answers a job has something made for it, whatever is wished and whatever came.
+abbrev pub AnswersWhatIsMade : Type 0
+AnswersWhatIsMade =
+    (here : Here) (count : ℕ) (p : Pending) (made : Made) (wish : Option (ℕ × Wish))
+    (came : Arrived) (k : ℕ) (input : Input)
+    → live_choice here count p made wish came ≡ Some (k, Does input) → is_answer input ≡ true
+    → (builds : Given) × (made k ≡ Some builds)

@@ -1,0 +1,410 @@
+"""tools/build-jobs beside a node that is played here: it posts jobs in its work folder, takes what is handed in, and holds it on a log
+of its own. What runs are small scripts. And what tools/unpack-log makes of packages whose large files went another way."""
+import contextlib
+import hashlib
+import json
+import os
+import re
+import signal
+import subprocess
+import tempfile
+import time
+
+from topics import packages
+from topics.tally import TOP
+
+LIMIT = 60
+# what each package was built with, as a file of it
+WRITE = 'for p in $PACKAGES; do d="$OUT/$(echo $p | tr / :)"; mkdir "$d" && ls "$DEPS" > "$d/saw" && cat "$DEPS"/*/.signature > "$d/on" 2>/dev/null; done; '
+BUILD = WRITE + "true"
+
+
+def name_of(task):
+    return hashlib.sha256(task.encode()).hexdigest()
+
+
+class Node:
+    """A node: its work folder, and its log."""
+
+    def __init__(self, folder, host=1):
+        self.folder, self.work, self.log, self.host = folder, f"{folder}/work", f"{folder}/log", host
+        for part in ("jobs", "done", "failed"):
+            os.makedirs(f"{self.work}/{part}")
+        self.posted, self.held = {}, {}
+
+    def open(self):
+        with open(self.log, "xb") as file:
+            file.write(packages.log([]))
+
+    def note(self, text, gate=b"\1"):
+        """Writes a note behind the last one, and then opens its gate."""
+        with open(self.log, "r+b") as file:
+            place = file.seek(-1, os.SEEK_END)
+            file.write(b"\0" + len(text).to_bytes(4, "big") + text + b"\0")
+            file.seek(place)
+            file.write(gate)
+
+    def post(self, unit, paths=(), built=(), run=()):
+        """Posts the job of a unit, on what is held of these paths, and answers its name."""
+        paths = paths or (unit,)
+        task = "".join([f"@unit {unit}\n", *(f"@package {path}\n" for path in paths), *(f"@built {self.held[path]}\n" for path in built)])
+        name = name_of(task)
+        self.posted[name] = unit, paths, [self.held[path] for path in built], list(run)
+        with open(f"{self.work}/jobs/.new", "w") as file:
+            file.write(task + f"@host {self.host}\n@claim 1.{self.host}\n")
+        os.rename(f"{self.work}/jobs/.new", f"{self.work}/jobs/{name}")
+        return name
+
+    def hold(self, unit, files, built=(), run=()):
+        """Holds a build, of these files by path."""
+        records = []
+        for path in sorted(files):
+            name = f"p{len(self.held)}-1"
+            own = [other for other in run if other != path]
+            records.append(packages.record(path, name, files[path], built=list(built), run=own, host=self.host, claim=f"1.{self.host}"))
+            self.held[path] = packages.signed(path, name, records[-1])
+        self.note(packages.note(4, unit, packages.build(*records)))
+
+    def files(self, name):
+        """What was handed in under a name, by path."""
+        with open(f"{self.work}/done/{name}", "rb") as file:
+            made = json.load(file)
+        return {path: [(file["name"], bytes.fromhex(file["hex"])) for file in made[path]] for path in made}
+
+    def take(self, name):
+        """Waits for what is handed in under a name, and holds it."""
+        if not until(lambda: os.path.exists(f"{self.work}/done/{name}")):
+            return {}
+        unit, _, built, run = self.posted[name]
+        files = self.files(name)
+        self.hold(unit, files, built, run)
+        return {path: dict(its) for path, its in files.items()}
+
+    def failed(self, name):
+        """Waits for the mark that a build failed, and answers what it says."""
+        return until(lambda: os.path.exists(f"{self.work}/failed/{name}")) and read(f"{self.work}/failed/{name}")
+
+    def is_forgotten(self, name):
+        return until(lambda: not any(os.path.exists(f"{self.work}/{part}/{name}") for part in ("jobs", "done", "failed")))
+
+
+def read(path):
+    with open(path, encoding="utf-8") as file:
+        return file.read()
+
+
+def until(holds, seconds=LIMIT):
+    """Waits until something holds, and answers whether it does."""
+    end = time.monotonic() + seconds
+    while not holds() and time.monotonic() < end:
+        time.sleep(0.02)
+    return holds()
+
+
+class Driver:
+    """build-jobs on a node's folder, with a script for each build."""
+
+    def __init__(self, node, script, *words):
+        self.out = f"{node.folder}/driver.{time.monotonic_ns()}"
+        with open(self.out, "xb") as out:
+            self.process = subprocess.Popen([f"{TOP}/tools/build-jobs", *words, node.work, node.log, "--", "sh", "-c", script],
+                                            stdin=subprocess.DEVNULL, stdout=out, stderr=out, env={**os.environ, "TOP": node.folder})
+
+    def lines(self):
+        """What it told, without the times."""
+        return [re.sub("^[0-9:]{8} ", "", line) for line in read(self.out).splitlines()]
+
+    def tells(self, line):
+        return until(lambda: any(re.fullmatch(line, told) for told in self.lines()))
+
+    def end(self, number=signal.SIGTERM):
+        if self.process.poll() is None:
+            self.process.send_signal(number)
+        return self.process.wait(LIMIT)
+
+
+@contextlib.contextmanager
+def laid(script, *words):
+    """A node that has just opened its log, and a driver that works for it."""
+    with tempfile.TemporaryDirectory() as folder:
+        node = Node(folder)
+        node.open()
+        driver = Driver(node, script, *words)
+        try:
+            yield node, driver
+        finally:
+            driver.end(signal.SIGKILL)
+
+
+def is_alive(folder, word):
+    """Whether the process still runs whose number a build left in this file."""
+    try:
+        os.kill(int(read(f"{folder}/{word}")), 0)
+    except ProcessLookupError:
+        return False
+    return True
+
+
+def add(tally, name, right, told=""):
+    tally.add(f"build-jobs, {name}", "" if right else f"it isn't so: {told!r:.600}")
+
+
+def chain(tally):
+    """Units one on the other: each build sees what it is to be built on, and what that needs to run, and its words."""
+    with laid(BUILD + '; echo "$PKGPATH $PACKAGES $HOST" > "$OUT"/a:b,-main/words 2>/dev/null; ls -A > "$TOP/there"; true') as (node, driver):
+        first = node.post("a/b", ("a/b,-docs", "a/b,-main"), run=["a/b,-docs"])
+        made = node.take(first)
+        add(tally, "a unit of two packages", made.get("a/b,-main", {}).get("words") == b"a/b a/b,-docs a/b,-main 1\n", made)
+        add(tally, "an empty folder to begin in", read(f"{node.folder}/there") == "", read(f"{node.folder}/there"))
+        node.take(node.post("c/d", built=["a/b,-main"], run=["a/b,-main"]))
+        made = node.take(node.post("e/f", built=["c/d"]))["e/f"]
+        add(tally, "what a build sees", made["saw"] == b"a:b,-docs\na:b,-main\nc:d\n", made)
+        add(tally, "their signatures", sorted(made["on"].decode().splitlines()) == sorted(node.held[path] for path in ("a/b,-docs", "a/b,-main", "c/d")), made)
+        add(tally, "what is held is forgotten", node.is_forgotten(first), os.listdir(f"{node.work}/done"))
+        log = read(f"{node.work}/logs/c:d.log").splitlines()
+        add(tally, "a log that begins with its job", log[1:4] == ["@unit c/d", "@package c/d", f"@built {node.held['a/b,-main']}"], log)
+        ended = driver.end()
+        told = driver.lines()
+        wanted = ["> a/b, on 0 packages: 1 of 1", "< a/b 0 s", "> c/d, on 2 packages: 1 of 1", "< c/d 0 s", "> e/f, on 3 packages: 1 of 1", "< e/f 0 s",
+                  "3 built, 0 failed, 0 dropped"]
+        add(tally, "a line a change", (told, ended) == (wanted, 128 + signal.SIGTERM), (told, ended))
+
+
+def side_by_side(tally):
+    """With -j 2 two builds wait for each other, and a third for its turn."""
+    meet = 'touch "$TOP/$(basename $PKGPATH)"; until [ -e "$TOP/x" ] && [ -e "$TOP/y" ]; do sleep 0.05; done; ls "$TOP" > "$TOP/seen.$(basename $PKGPATH)"; '
+    with laid(meet + BUILD, "-j", "2") as (node, driver):
+        names = [node.post(f"a/{word}") for word in ("x", "y", "z")]
+        running = [name for name in names if node.take(name)]
+        begun = [line for line in driver.lines() if line.startswith(">")]
+        add(tally, "two at a time", len(running) == 3 and len(begun) == 3 and sum(line.endswith("2 of 2") for line in begun) >= 1, driver.lines())
+
+
+def failures(tally):
+    """What fails is marked with why and its log, and built again once the mark is gone; each answer that is none fails."""
+    with laid('echo told; [ -e "$TOP/mended" ] || exit 3; ' + BUILD) as (node, driver):
+        name = node.post("a/b")
+        why, log = node.failed(name), f"{os.path.realpath(node.work)}/logs/a:b.log"
+        add(tally, "a build that fails", why == f"a/b: status 3\n{log}\n", why)
+        add(tally, "the same, told", driver.tells(re.escape(f"! a/b failed after 0 s: status 3, see {log}")), driver.lines())
+        add(tally, "the same, its log", read(log).endswith("told\n"), read(log))
+        time.sleep(0.3)
+        add(tally, "a mark that stands", len(driver.lines()) == 2 and not os.listdir(f"{node.work}/done"), driver.lines())
+        with open(f"{node.folder}/mended", "w"):
+            os.unlink(f"{node.work}/failed/{name}")
+        add(tally, "a mark that was taken away", bool(node.take(name)), driver.lines())
+    for what, script, why in (("no package", "true", "it made no a/b"), ("a name that no record takes", 'mkdir "$OUT/a:b" && touch "$OUT/a:b/@x"', "no record takes a file of this name"),
+                              ("a link", 'mkdir "$OUT/a:b" && ln -s /etc/passwd "$OUT/a:b/x"', "it is a symbolic link"),
+                              ("too much", 'mkdir "$OUT/a:b" && head -c 4194304 /dev/zero > "$OUT/a:b/x"', "and may have 4194304")):
+        with laid(script) as (node, driver):
+            told = node.failed(node.post("a/b"))
+            add(tally, f"an answer with {what}", bool(told) and why in told and not os.listdir(f"{node.work}/done"), told)
+    with laid('mkdir "$OUT/a:b" "$OUT/c:d" && head -c 4194304 /dev/zero > "$OUT/c:d/x"') as (node, driver):
+        name = node.post("a/b")
+        add(tally, "an answer with another's package", node.take(name) == {"a/b": {}}, driver.lines())
+
+
+def odd_jobs(tally):
+    """A job that isn't whole, or of another name, is none; one waits for what it is to be built on, and for the log."""
+    with tempfile.TemporaryDirectory() as folder:
+        node = Node(folder)
+        node.held["c/d"] = f"c/d p9-1 {'0' * 64}"
+        waits = node.post("e/f", built=["c/d"])
+        for name in (f".{'0' * 64}.1", "0" * 64, "1" * 63, "README"):
+            with open(f"{node.work}/jobs/{name}", "w") as file:
+                file.write("@unit a/b\n@package a/b\n@host 1\n@claim 1.1\n")
+        driver = Driver(node, BUILD)
+        add(tally, "a job of another name", driver.tells(re.escape(f"? jobs/{'0' * 64} is no job: its name isn't that of its text, or a line is lacking")), driver.lines())
+        node.open()
+        node.hold("a/b", {"a/b": []})
+        node.note(packages.note(4, "c/d", packages.build(packages.record("c/d", "p1-1", []))), gate=b"\0")
+        time.sleep(0.3)
+        told = driver.lines()
+        add(tally, "a job that waits", len(told) == 1, told)
+        os.unlink(node.log)
+        node.open()
+        node.held.clear()
+        node.hold("c/d", {"c/d": []})
+        add(tally, "other dependencies of the same path", len(driver.lines()) == 1 and not os.listdir(f"{node.work}/done"), driver.lines())
+        os.unlink(f"{node.work}/jobs/{waits}")
+        add(tally, "a log that was made anew", bool(node.take(node.post("e/f", built=["c/d"]))), driver.lines())
+        driver.end()
+    with laid(BUILD) as (node, driver):
+        node.note(b"\7bad")
+        status = driver.process.wait(LIMIT)
+        add(tally, "a bad log", status == 1 and driver.lines()[-1].startswith(f"build-jobs: {node.log}: a note's kind is 7 at"), (status, driver.lines()))
+
+
+SLOW = 'echo $$ > "$TOP/pid"; until [ -e "$TOP/go" ]; do sleep 0.05; done; ' + BUILD
+
+
+def drivers_that_end(tally):
+    """By a signal its builds end with it; killed, one runs on, in a folder at which nobody looks. Run again it goes on."""
+    with laid(SLOW) as (node, driver):
+        name = node.post("a/b")
+        until(lambda: os.path.exists(f"{node.folder}/pid"))
+        second = Driver(node, BUILD)
+        told = second.process.wait(LIMIT), second.lines()
+        add(tally, "a second one on the folder", told == (1, [f"build-jobs: another one works on {node.work}"]), told)
+        ended = [driver.end()]
+        add(tally, "a signal", ended == [143] and not is_alive(node.folder, "pid") and os.listdir(f"{node.work}/build") == [], (ended, os.listdir(f"{node.work}/build")))
+        add(tally, "a signal, its job", os.listdir(f"{node.work}/jobs") == [name] and not os.listdir(f"{node.work}/failed"), os.listdir(f"{node.work}/failed"))
+        os.unlink(f"{node.folder}/pid")
+        killed = Driver(node, SLOW)
+        until(lambda: os.path.exists(f"{node.folder}/pid") and read(f"{node.folder}/pid"))
+        killed.end(signal.SIGKILL)
+        left = os.listdir(f"{node.work}/build")
+        add(tally, "a build that outlives it", is_alive(node.folder, "pid") and len(left) == 1, left)
+        for half in (f"done/.{name}.build-jobs", f"failed/.{name}.build-jobs", f"failed/.{name}.1"):
+            with open(f"{node.work}/{half}", "w") as file:
+                file.write("{")
+        again = Driver(node, 'mkdir "$OUT/a:b" && echo again > "$OUT/a:b/x"')
+        told = again.tells(re.escape(f"= a build of an earlier run goes on in {os.path.realpath(node.work)}/build/{left[0]}"))
+        add(tally, "the next one tells it", told, again.lines())
+        made = node.take(name)
+        with open(f"{node.folder}/go", "w"):
+            until(lambda: not is_alive(node.folder, "pid"))
+        add(tally, "what is handed in", made == {"a/b": {"x": b"again\n"}} and node.is_forgotten(name), made)
+        left = os.listdir(f"{node.work}/done"), os.listdir(f"{node.work}/failed")
+        add(tally, "what was half written, and not by the node", left == ([], [f".{name}.1"]), left)
+        again.end()
+        last = Driver(node, BUILD)
+        add(tally, "what outlived is removed", until(lambda: os.listdir(f"{node.work}/build") == []), os.listdir(f"{node.work}/build"))
+        last.end()
+
+
+def nodes_that_go_on(tally):
+    """What another node built meanwhile is dropped, and so is a job that is taken away."""
+    with laid(SLOW) as (node, driver):
+        name = node.post("a/b")
+        until(lambda: os.path.exists(f"{node.folder}/pid") and read(f"{node.folder}/pid"))
+        node.hold("a/b", {"a/b": []})
+        told = driver.tells("- a/b: another node built it")
+        add(tally, "a unit that is held", told and node.is_forgotten(name) and not is_alive(node.folder, "pid"), driver.lines())
+        os.unlink(f"{node.folder}/pid")
+        name = node.post("c/d")
+        until(lambda: os.path.exists(f"{node.folder}/pid") and read(f"{node.folder}/pid"))
+        os.unlink(f"{node.work}/jobs/{name}")
+        add(tally, "a job that is taken away", driver.tells("- c/d: its job was taken away") and not is_alive(node.folder, "pid"), driver.lines())
+        driver.end()
+        add(tally, "what was dropped", driver.lines()[-1] == "0 built, 0 failed, 2 dropped", driver.lines())
+
+
+LARGE = 134_217_728
+
+
+def stored(folder):
+    """The files of a store, and whether each has its name for a digest."""
+    names = sorted(os.listdir(folder)) if os.path.isdir(folder) else []
+    return names, all(digest_of(f"{folder}/{name}") == name for name in names)
+
+
+def digest_of(path):
+    digest = hashlib.sha256()
+    with open(path, "rb") as file:
+        for part in iter(lambda: file.read(1 << 20), b""):
+            digest.update(part)
+    return digest.hexdigest()
+
+
+def large(tally):
+    """Files of hundreds of megabytes go as name, size and digest, from store to store by a command, and are hashed before they are used."""
+    make = f'mkdir "$OUT/$(echo $PKGPATH | tr / :)" && cd "$OUT/$(echo $PKGPATH | tr / :)" && yes $PKGPATH | head -c {LARGE} > big && echo small > small'
+    with tempfile.TemporaryDirectory() as folder:
+        os.mkdir(f"{folder}/0")
+        os.mkdir(f"{folder}/1")
+        nodes = [Node(f"{folder}/{me}", me) for me in range(2)]
+        for node in nodes:
+            node.open()
+        first = Driver(nodes[0], make, "--digests", "1000000")
+        made = [nodes[0].take(nodes[0].post(f"a/{word}")) for word in ("x", "y")]
+        names, right = stored(f"{nodes[0].work}/store")
+        add(tally, "large files", [sorted(its) for it in made for its in it.values()] == [["big.sha256", "small"]] * 2 and len(names) == 2 and right, (made, names))
+        text = next(iter(made[0].values()))["big.sha256"].decode()
+        digest = re.findall("[0-9a-f]{64}", text)[0]
+        add(tally, "a large file, what is told", text == f"SHA256 (big) = {digest}\nSIZE (big) = {LARGE}\n" and digest in names, text)
+        first.end()
+        for path, its in ((path, its) for it in made for path, its in it.items()):
+            nodes[1].hold(path, {path: sorted(its.items())})
+        fetched(tally, nodes, digest)
+        unpacked(tally, nodes[0], names)
+
+
+def fetched(tally, nodes, digest):
+    """Another host has none of them: what comes first is wrong, and isn't used."""
+    see = 'mkdir "$OUT/a:z" && cd "$DEPS" && ls a:x a:y > "$OUT/a:z/saw" && cat a:x/big a:y/big | wc -c > "$OUT/a:z/size"'
+    get = f'echo $HOST $SIZE $NAME >> "{nodes[1].folder}/asked"; if [ -e "{nodes[1].folder}/up" ]; then cp "{nodes[0].work}/store/$SHA256" "$TARGET"; else head -c $SIZE /dev/zero > "$TARGET"; fi'
+    second = Driver(nodes[1], see, "--digests", "1000000", "--fetch", get)
+    name = nodes[1].post("a/z", built=["a/x", "a/y"])
+    told = second.tells(re.escape(f"? a/z waits for big of a/x, {digest}, of host 1"))
+    add(tally, "a file that comes wrong", told and stored(f"{nodes[1].work}/store") == ([], True), (second.lines(), stored(f"{nodes[1].work}/store")))
+    with open(f"{nodes[1].folder}/up", "w"):
+        made = nodes[1].take(name)
+    add(tally, "a file that comes", made == {"a/z": {"saw": b"a:x:\nbig\nsmall\n\na:y:\nbig\nsmall\n", "size": b"%d\n" % (2 * LARGE)}}, made)
+    asked = set(read(f"{nodes[1].folder}/asked").splitlines())
+    add(tally, "what is asked for", asked == {f"1 {LARGE} big"}, asked)
+    second.end()
+    store = f"{nodes[1].work}/store"
+    os.chmod(f"{store}/{digest}", 0o644)
+    with open(f"{store}/{digest}", "r+b") as file:
+        file.write(b"X")
+    third = Driver(nodes[1], see, "--digests", "1000000")
+    nodes[1].post("a/zz", built=["a/x", "a/y"])
+    told = third.tells(re.escape(f"? a/zz waits for big of a/x, {digest}, of host 1"))
+    add(tally, "a file of the store that was changed", told and digest not in os.listdir(store), third.lines())
+    third.end()
+
+
+def unpacked(tally, node, names):
+    """unpack-log with the store makes whole packages; what the store has not, or has otherwise, stays as it was, and is told."""
+    store = f"{node.work}/store"
+    said = packages.tool("unpack-log", "--store", store, node.log, f"{node.folder}/out")
+    whole = {path: sorted(os.listdir(f"{node.folder}/out/{path}")) for path in ("a:x", "a:y")}
+    sizes = {os.path.getsize(f"{node.folder}/out/{path}/big") for path in whole}
+    tally.add("unpack-log with a store", "" if (said, whole, sizes) == ((b"", b"", 0), {path: ["big", "small"] for path in whole}, {LARGE}) else f"{said} {whole} {sizes}")
+    os.unlink(f"{store}/{names[0]}")
+    os.chmod(f"{store}/{names[1]}", 0o644)
+    with open(f"{store}/{names[1]}", "ab") as file:
+        file.write(b"x")
+    out, lines, status = packages.tool("unpack-log", "--store", store, node.log, f"{node.folder}/other")
+    left = {path: sorted(os.listdir(f"{node.folder}/other/{path}")) for path in whole}
+    told = sorted(line.split(b" has no file ")[1].decode() for line in lines.splitlines())
+    right = (out, status, told) == (b"", 0, names) and left == {path: ["big.sha256", "small"] for path in whole}
+    tally.add("unpack-log with a store that lacks files", "" if right else f"{lines!r:.400}, status {status}, {left}")
+
+
+def stand_ins(tally):
+    """Only what names its own file stands for one, and only where that has a place."""
+    told = {name: f"SHA256 ({name}) = {packages.digest(b'large')}\nSIZE ({name}) = 5\n".encode() for name in ("x", "w/v", "u")}
+    files = [("x", b"x"), ("x.sha256", told["x"]), ("y.sha256", told["x"]), ("w/v.sha256", told["w/v"]), ("u.sha256", told["u"]), ("u/t", b"t")]
+    with tempfile.TemporaryDirectory() as folder:
+        os.mkdir(f"{folder}/store")
+        with open(f"{folder}/store/{packages.digest(b'large')}", "wb") as file:
+            file.write(b"large")
+        with open(f"{folder}/log", "wb") as file:
+            file.write(packages.log([packages.note(4, "a/b", packages.build(packages.record("a/b", "b-1", files)))]))
+        said = packages.tool("unpack-log", "--store", f"{folder}/store", f"{folder}/log", f"{folder}/out")
+        got = packages.files_in(f"{folder}/out/a:b")
+    wanted = {name: text for name, text in files if name != "w/v.sha256"}
+    wanted["w/v"] = b"large"
+    tally.add("unpack-log of what stands for no file", "" if (said, got) == ((b"", b"", 0), wanted) else f"{said} {sorted(got)}")
+
+
+def words(tally):
+    """Wrong words are told, and nothing is made."""
+    with tempfile.TemporaryDirectory() as folder:
+        for wrong in (["-j", "0"], ["-j", "65"], ["--digests", "x"], []):
+            said = packages.tool("build-jobs", *wrong, f"{folder}/work", *([f"{folder}/log", "--", "true"] if wrong else []))
+            add(tally, f"the words {' '.join(wrong)}", said[2] == 2 and os.listdir(folder) == [], said)
+
+
+def run(tally):
+    words(tally)
+    chain(tally)
+    side_by_side(tally)
+    failures(tally)
+    odd_jobs(tally)
+    drivers_that_end(tally)
+    nodes_that_go_on(tally)
+    large(tally)
+    stand_ins(tally)
