@@ -1,4 +1,4 @@
-"""Rows of clusters in memory, and texts that are joined with a known build and without one: tests of crates of their own, compiled from
+"""Rows of clusters in memory, texts that are joined with a known build and without one, and a work folder: tests of crates of their own, compiled from
 the sources as they are, before any proof. A proof of them would prove nothing of the program; that of the rows of clusters would take
 the gate twenty minutes of a processor."""
 import os

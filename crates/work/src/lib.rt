@@ -7,8 +7,6 @@ mod fault;
 mod folder;
 mod laws;
 mod name;
-#[cfg(test)]
-mod tests;
 mod text;
 
 pub use crate::answer::Answer;

@@ -1,5 +1,4 @@
 //! A folder of its own, and each way in which those who write there may end.
-use crate::{Answer, Folder, LONGEST_ANSWER, Name, WorkFault, job_text, task_text};
 use claims::{Claim, Dep, Deps, Job};
 use faults::Fault;
 use pkgname::PkgName;
@@ -8,6 +7,7 @@ use std::alloc::Global;
 use std::fs;
 use std::fs::File;
 use std::test::Fail;
+use work::{Answer, Folder, LONGEST_ANSWER, Name, WorkFault, job_text, task_text};
 
 /// The task's text.
 const TASK: &str = "@unit lang/p007\n\
