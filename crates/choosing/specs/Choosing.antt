@@ -1,5 +1,5 @@
 -- What was chosen, with its step ready.
-use Rattle.std.specs.Prelude.{◌≡◌, ℕ, Bool, true, false, List, Option, None, Some, Err, [], ◌∷◌, if◌then◌else◌, is_some, length, slice_get}
+use Rattle.std.specs.Prelude.{◌≡◌, ℕ, Bool, true, false, List, Option, None, Some, Result, Err, [], ◌∷◌, if◌then◌else◌, is_some, length, map, slice_get}
 use Rattle.choice.specs.Choice.{Chosen, Here, IsChoice, has_job}
 use Rattle.choice.specs.Pending.{Pending}
 use Rattle.choice.specs.declared.fault.TurnFault.{TurnFault}
@@ -9,9 +9,12 @@ use Rattle.node.specs.State.{LoggedNode}
 use Rattle.node.specs.Step.{Asked, Comes, Does, Takes}
 use Rattle.node.specs.declared.fault.NodeFault.{NodeFault}
 use Rattle.node.specs.declared.fault.NodeFault.TheVariants as fault
+use Rattle.parts.specs.Calls.{came_by}
 use Rattle.parts.specs.Readied.{IsReadied}
 use Rattle.parts.specs.declared.readied.Readied.{Readied}
+use Rattle.ports.specs.Calls.{Call, Received, WentThrough}
 use Rattle.ports.specs.Kept.{Arrived, GoesOnBy}
+use Rattle.ports.specs.declared.fault.PortFault.{PortFault}
 use Rattle.protocol.specs.Given.{Given}
 use Rattle.protocol.specs.Member.{IsMember}
 use Rattle.protocol.specs.State.{State}
@@ -116,3 +119,11 @@ IsChoosingFault nodes sent p builds old new (refused.Down k) = ⊥
 IsChoosingFault nodes sent p builds old new refused.NotSent =
     HasForeign nodes sent p builds old new
 IsChoosingFault nodes sent p builds old new refused.NotFresh = ⊥
+
+-- The port answered some receives, and nothing else was asked of it; and by what they gave, where
+-- nothing had been given before, this is so.
+pub record ByReceives {P : Type 0} (does : P → Call → P → Type 0) (port then : P)
+    (IsSo : Option (List Arrived) → Option (List Arrived) → Type 0) : Type 0 where
+  pub received : List (Result Arrived PortFault)
+  pub went : WentThrough does port (map Received received) then
+  pub so : IsSo (Some []) (Some (map came_by received))

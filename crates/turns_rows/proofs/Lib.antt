@@ -7,3 +7,4 @@ pub mod Idle
 pub mod Listed
 pub mod Showing
 pub mod Reopening
+pub mod InMemory

@@ -1,5 +1,5 @@
 -- What is made ready in each case of the choice, and why nothing is.
-use Rattle.std.specs.Prelude.{◌≡◌, ◌⊎◌, ℕ, Vec, true, false, List, Option, Some, is_some, length, option_and_then, option_map}
+use Rattle.std.specs.Prelude.{◌≡◌, ◌⊎◌, ℕ, Vec, true, false, List, [], ◌∷◌, Option, Some, Result, is_some, length, option_and_then, option_map}
 use Rattle.std.specs.declared.alloc.Global.{Global}
 use Rattle.choice.specs.Answering.{answer_of}
 use Rattle.choice.specs.Choice.{Chosen, IsFirstOwn, IsOwnIf, comes_to}
@@ -10,8 +10,11 @@ use Rattle.faults.specs.Bytes.{Text, is_among}
 use Rattle.node.specs.State.{LoggedNode}
 use Rattle.node.specs.Step.{Comes, Does}
 use Rattle.node.specs.declared.fault.NodeFault.{NodeFault}
+use Rattle.parts.specs.Calls.{came_by}
 use Rattle.parts.specs.declared.readied.Readied.{Readied}
+use Rattle.ports.specs.Calls.{Call, Received, WentThrough}
 use Rattle.ports.specs.Kept.{Arrived}
+use Rattle.ports.specs.declared.fault.PortFault.{PortFault}
 use Rattle.protocol.specs.Given.{Given}
 use Rattle.protocol.specs.declared.input.Input.{Input}
 use Rattle.choosing.specs.Choosing.{IsChosenAs, IsPartAt, RefusesAt}
@@ -33,6 +36,12 @@ IsWantFor x f = (f ≡ Memory) × (is_some x ≡ true)
 -- what came, as a list of bytes
 abbrev pub arrived : Option (ℕ × Vec ℕ Global) → Arrived
 arrived = option_map (λ d. (d.0, d.1.items))
+
+-- The port answered one receive, which gave this, and nothing else was asked of it.
+abbrev pub WasReceived : {P : Type 0} → (P → Call → P → Type 0) → P → Arrived → P → Type 0
+WasReceived does old came new =
+    (answer : Result Arrived PortFault) × (came ≡ came_by answer)
+    × WentThrough does old (Received answer ∷ []) new
 
 -- What a node takes was sent.
 abbrev pub WasSent : {D : Type 0} → List (LoggedNode D) → List Text → Arrived → Type 0
