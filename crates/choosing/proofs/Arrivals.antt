@@ -60,6 +60,10 @@ module _ {D : Type 0} (nodes : List (LoggedNode D)) (k : ℕ) (text : Text) (cam
   comes : comes_to (here_in nodes) came ≡ Some (k, Comes text)
   comes = ap (comes_to (here_in nodes)) arrived ∙ asked_so nodes k text n stands up
 
+  -- so there is something to take
+  pub some_comes : is_some (comes_to (here_in nodes) came) ≡ true
+  some_comes = ap is_some comes
+
   pub taken_lent : m ≡ n → (r : Ready) → r.node ≡ k → IsReadied m (Comes text) r.readied
       → IsChosenAs nodes (comes_to (here_in nodes) came) (Some r)
   taken_lent same r at readied =

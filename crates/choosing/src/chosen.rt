@@ -20,7 +20,6 @@ ghost use Rattle.choice.specs.Choice.{comes_to, first_job, in_turn, is_elsewhere
 ghost use Rattle.faults.specs.Bytes.{is_among};
 ghost use Rattle.ports.specs.Kept.{GoesOnBy};
 ghost use Rattle.choosing.specs.Choosing.{
-  AreMembers,
   ByReceives,
   HasChosen,
   IsChoosingFault,
@@ -81,7 +80,6 @@ pub fn choose<D: Disk, P: Port>(
     requires few { length nodes.old.items ≤ 9 }
     requires next { pending.now.next ≤ length nodes.old.items }
     requires known { NoneIsForeign nodes.old.items sent.now }
-    requires members { AreMembers (here_in nodes.old.items) }
     ensures same { nodes.new.items ≡ nodes.old.items }
     ensures offered { GoesOnBy [] (P.offered port.old) (P.offered port.new) }
     ensures chosen { IfOk result (HasChosen nodes.new.items sent.now pending.now builds.now

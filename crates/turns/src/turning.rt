@@ -1,8 +1,7 @@
 //! The turns of a cluster.
 ghost use Rattle.std.specs.Prelude.{◌≡◌, ◌≤◌, ◌⊎◌, ◌++◌, ◌∷◌, [], IfErr, IfNone, IfOk, IfSome, None, length};
 ghost use Rattle.choice.specs.declared.fault.TurnFault.TheVariants as refused;
-ghost use Rattle.choosing.specs.Choosing.{AreMembers, NoneIsForeign};
-ghost use Rattle.choosing.specs.Here.{here_in};
+ghost use Rattle.choosing.specs.Choosing.{NoneIsForeign};
 ghost use Rattle.events.specs.Events as values;
 ghost use Rattle.events.specs.declared.event.Left.TheVariants as left;
 ghost use Rattle.events.specs.Events.{event_view};
@@ -118,7 +117,6 @@ fn take_turn<D: Disk, P: Port>(
     requires few { length nodes.old.items ≤ 9 }
     requires next { pending.old.next ≤ length nodes.old.items }
     requires known { NoneIsForeign nodes.old.items sent.old }
-    requires members { AreMembers (here_in nodes.old.items) }
     ensures turn { IsTurn D.is_kept D.history D.failures_of P.given P.offered
         (record {
           nodes = nodes.old.items;

@@ -100,7 +100,7 @@ module _ {D : Type 0} (old new : ClusterState D TurnCalls) (builds : Given) wher
   choice_in : (r : Result (Option declared.Event) TurnFault) → IsByCalls old new builds r → (chosen : Chosen) × IsChosen given_in old new builds chosen
   choice_in (Ok None) t = (None, t.0)
   choice_in (Ok (Some e)) t = (Some t.0.chosen, t.0.is_chosen)
-  choice_in (Err refused.Memory) t = t.0
+  choice_in (Err refused.Memory) t = (Some t.0.0, t.0.1)
   choice_in (Err (refused.Node f)) t = (Some t.0.1.chosen, t.0.1.is_chosen)
   choice_in (Err (refused.Down k)) t = (Some t.0.1.chosen, t.0.1.is_chosen)
   choice_in (Err refused.NotSent) t = (Some (t.0.0, Comes t.0.1), t.0.2)

@@ -49,11 +49,11 @@ WasSent nodes sent came =
     (k : ℕ) (text : Text) → comes_to (here_in nodes) came ≡ Some (k, Comes text)
     → is_among sent text ≡ true
 
--- Memory was wanting, or it came for a node that is up and was not sent.
+-- Memory was wanting for what there is to take, or it came for a node that is up and was not sent.
 abbrev pub IsNotTaken : {D : Type 0} → List (LoggedNode D) → List Text → Arrived → TurnFault
     → Type 0
 IsNotTaken nodes sent came f =
-    (f ≡ Memory) ⊎ ((f ≡ NotSent)
+    ((f ≡ Memory) × (is_some (comes_to (here_in nodes) came) ≡ true)) ⊎ ((f ≡ NotSent)
     × ((k : ℕ) × (text : Text) × (comes_to (here_in nodes) came ≡ Some (k, Comes text))
     × (is_among sent text ≡ false)))
 
@@ -65,10 +65,12 @@ IsOwnPart nodes p k r =
     (own : Option Input) × IsOwnIf (here_in nodes) (length nodes) p k (here_in nodes k) own
     × IsPartAt nodes k own r
 
--- Memory was wanting, or node k takes no step on what it would do of itself.
+-- Memory was wanting for what node k would do of itself, or it takes no step on that.
 abbrev pub IsOwnFault : {D : Type 0} → List (LoggedNode D) → Pending → ℕ → TurnFault → Type 0
 IsOwnFault nodes p k f =
-    (f ≡ Memory) ⊎ ((input : Input) × (g : NodeFault) × (f ≡ Node g)
+    ((f ≡ Memory) × ((input : Input)
+    × IsOwnIf (here_in nodes) (length nodes) p k (here_in nodes k) (Some input)))
+    ⊎ ((input : Input) × (g : NodeFault) × (f ≡ Node g)
     × IsOwnIf (here_in nodes) (length nodes) p k (here_in nodes k) (Some input)
     × RefusesAt nodes k (Does input) g)
 
@@ -79,10 +81,13 @@ IsFirstPart nodes p ks r =
     (chosen : Chosen) × IsFirstOwn (here_in nodes) (length nodes) p ks chosen
     × IsChosenAs nodes chosen r
 
--- Memory was wanting, or the first of these nodes that would do anything takes no step on it.
+-- Memory was wanting for what the first of these nodes would do that would do anything, or it takes
+-- no step on that.
 abbrev pub IsFirstFault : {D : Type 0} → List (LoggedNode D) → Pending → List ℕ → TurnFault
     → Type 0
 IsFirstFault nodes p ks f =
-    (f ≡ Memory) ⊎ ((k : ℕ) × (input : Input) × (g : NodeFault) × (f ≡ Node g)
+    ((f ≡ Memory) × ((k : ℕ) × (input : Input)
+    × IsFirstOwn (here_in nodes) (length nodes) p ks (Some (k, Does input))))
+    ⊎ ((k : ℕ) × (input : Input) × (g : NodeFault) × (f ≡ Node g)
     × IsFirstOwn (here_in nodes) (length nodes) p ks (Some (k, Does input))
     × RefusesAt nodes k (Does input) g)

@@ -1,8 +1,8 @@
 use Rattle.std.proofs.Common.{[], ◌∷◌, Some, refl, subst, sym}
 use Rattle.std.proofs.lemmas.Result.{IfErr-weaker, IfOk-weaker, err_from_is_err_and}
 use Rattle.parts.specs.Calls.{came_by}
-use Rattle.choosing.proofs.Asking.{in_calls}
 use Rattle.choosing.proofs.ByCase.{goes_on}
+use Rattle.choosing.proofs.Asking.{in_calls}
 use Rattle.choosing.proofs.Choosings.{arrival_denied, arrival_taken, job_answered, job_wants, own_denied, own_taken}
 use Rattle.choosing.specs.Choosing.{NoneIsForeign}
 use Rattle.choosing.specs.inside.Cases.{arrived}
@@ -37,7 +37,7 @@ returns-in_err-chosen-2-clause-refused g c =
     c.args.builds.now (g.P.Port.given c.args.port.now) (g.P.Port.given c.received-came.new.port)
     c.answered.new.nodes.items c.answered.ensures.same c.in_ok-chosen.field-0 c.in_default.is
     c.in_ok-chosen.ensures.chosen (arrived c.received-came.result)
-    c.received-came.ensures.given c.requires.members c.in_err-chosen-2.field-0.0
+    c.received-came.ensures.given c.in_err-chosen-2.field-0.0
     c.in_err-chosen-2.ensures.refused)
 
 pub returns-in-Some-2-clause-chosen : goal.returns-in-Some-2-clause-chosen
@@ -69,8 +69,8 @@ returns-clause-refused g c =
     c.answered.new.nodes.items c.answered.ensures.same c.in_ok-chosen.field-0 c.in_default.is
     c.in_ok-chosen.ensures.chosen (arrived c.received-came.result)
     c.received-came.ensures.given c.taken_in.new.nodes.items c.taken_in.ensures.same
-    c.in_ok-chosen-2.field-0 c.in_ok-chosen-2.ensures.chosen c.in_default-2.is
-    c.requires.members) c.own_in_turn.ensures.refused
+    c.in_ok-chosen-2.field-0 c.in_ok-chosen-2.ensures.chosen c.in_default-2.is)
+    c.own_in_turn.ensures.refused
 
 -- ---- the same, by the calls of the port
 
@@ -107,7 +107,7 @@ returns-in_err-chosen-2-clause-calls_refused g c =
       so = arrival_denied c.args.nodes.now.items c.args.sent.now c.args.pending.now
           c.args.builds.now (Some []) (Some (came_by r.0 ∷ [])) c.answered.new.nodes.items
           c.answered.ensures.same c.in_ok-chosen.field-0 c.in_default.is
-          c.in_ok-chosen.ensures.chosen came (in_calls came r.0 r.1) c.requires.members
+          c.in_ok-chosen.ensures.chosen came (in_calls came r.0 r.1)
           c.in_err-chosen-2.field-0.0 c.in_err-chosen-2.ensures.refused;
     })
 
@@ -155,5 +155,5 @@ returns-clause-calls_refused g c =
           c.answered.ensures.same c.in_ok-chosen.field-0 c.in_default.is
           c.in_ok-chosen.ensures.chosen came (in_calls came r.0 r.1) c.taken_in.new.nodes.items
           c.taken_in.ensures.same c.in_ok-chosen-2.field-0 c.in_ok-chosen-2.ensures.chosen
-          c.in_default-2.is c.requires.members f own;
+          c.in_default-2.is f own;
     }) c.own_in_turn.ensures.refused

@@ -1,5 +1,5 @@
 use Rattle.std.proofs.Common.{◌∙◌, ap, inl, refl}
-use Rattle.choosing.proofs.Arrivals.{known_lent, sent_seen, stays_lent, taken_lent, wants_lent}
+use Rattle.choosing.proofs.Arrivals.{known_lent, sent_seen, some_comes, stays_lent, taken_lent, wants_lent}
 use Rattle.choosing.proofs.Places.{up_seen}
 use Rattle.choosing.specs.Choosing.{told}
 use Rattle.choosing.specs.inside.Cases.{arrived}
@@ -54,8 +54,12 @@ returns-in-Err-clause-refused g c =
     let among = sent_seen c.args.sent.now c.in-Some.bytes.items c.as_slice-2.result.now
     c.in_ok-is_sent.field-0 c.as_slice-2.ensures.value c.in_ok-is_sent.ensures
     c.if-not-branch.false in
-    inl (c.told.ensures ∙ ap told (wants_lent nodes to c.in-Some.bytes.items
-    (arrived c.args.came)
-    (ap arrived c.in-Some.is)
-    c.index_mut.result.now c.take_in.new.node c.index_mut.ensures.value some c.args.sent.now among
-    c.requires.known c.in-Err.fault c.in-Err.ensures.refused))
+    inl (
+      c.told.ensures ∙ ap told (wants_lent nodes to c.in-Some.bytes.items
+          (arrived c.args.came)
+          (ap arrived c.in-Some.is)
+          c.index_mut.result.now c.take_in.new.node c.index_mut.ensures.value some c.args.sent.now among
+          c.requires.known c.in-Err.fault c.in-Err.ensures.refused),
+      some_comes nodes to c.in-Some.bytes.items (arrived c.args.came) (ap arrived c.in-Some.is)
+          c.index_mut.result.now c.take_in.new.node c.index_mut.ensures.value some,
+    )

@@ -2,7 +2,6 @@ use Rattle.std.proofs.Common.{refl, subst, ◌∙◌}
 use Rattle.turns.proofs.AnyCase.{listed_in_any}
 use Rattle.turns.proofs.ByCalls.{has_called}
 use Rattle.turns.proofs.Led.{one_list, safe}
-use Rattle.turns.proofs.Standing.{members_there}
 use Rattle.turns.proofs.Turns.{Promises, StandsThen, none_foreign, promises, stands_then}
 use Rattle.turns.specs.Calls.{HasCalled}
 use Rattle.turns.specs.State.{ClusterState}
@@ -14,10 +13,6 @@ use Rattle.turns.proofs.cluster.Cluster.turn.Goals as goal
 pub take_turn-requires-clause-known : goal.take_turn-requires-clause-known
 take_turn-requires-clause-known g c =
     none_foreign (cluster_of c.self.inside) c.self.invariant.0.world c.self.invariant.0.is_world
-
-pub take_turn-requires-clause-members : goal.take_turn-requires-clause-members
-take_turn-requires-clause-members g c =
-    members_there (cluster_of c.self.inside) c.self.invariant.0.world c.self.invariant.0.is_world
 
 -- the cluster after the turn
 abbrev cluster_then : (g : Over) → goal.After-take_turn g
