@@ -117,8 +117,8 @@ IsChoosingFault nodes sent p builds old new refused.NotFresh = ⊥
 
 -- The port answered some receives, and nothing else was asked of it; and by what they gave, where
 -- nothing had been given before, this is so.
-pub record ByReceives {P : Type 0} (does : P → Call → P → Type 0) (port then : P)
+pub record ByReceives {P : Type 0} (does : P → Call → P → Type 0) (port last : P)
     (IsSo : Option (List Arrived) → Option (List Arrived) → Type 0) : Type 0 where
   pub received : List (Result Arrived PortFault)
-  pub went : WentThrough does port (map Received received) then
+  pub went : WentThrough does port (map Received received) last
   pub so : IsSo (Some []) (Some (map came_by received))
