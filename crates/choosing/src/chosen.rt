@@ -89,7 +89,8 @@ pub fn choose<D: Disk, P: Port>(
 
     // The same by its calls, whatever it keeps of them: it was asked to receive, and nothing else.
     ensures calls { IfOk result (λ r. ByReceives P.does port.old port.new
-        (λ before after. HasChosen nodes.new.items sent.now pending.now builds.now before after r)) }
+        (λ before after.
+        HasChosen nodes.new.items sent.now pending.now builds.now before after r)) }
     ensures calls_refused { IfErr result (λ f. ByReceives P.does port.old port.new
         (λ before after.
         IsChoosingFault nodes.old.items sent.now pending.now builds.now before after f)) }

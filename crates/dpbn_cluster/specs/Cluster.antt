@@ -32,8 +32,8 @@ pub record IsShown (division : Division) (weights : List ℕ) (events : List Eve
   pub led : Leads (start division weights) events world
   pub has_lines : HasLines world text
 
--- So it is of the events of as many turns as are told, over the tree that a listing describes, where
--- so many members weigh what is told.
+-- So it is of the events of as many turns as are told, over the tree that a listing describes,
+-- where so many members weigh what is told.
 pub record IsClusterText (files : Files) (text : Text) : Type 0 where
   pub division : Division
   pub described : IsDescribed files.is_single division.tree

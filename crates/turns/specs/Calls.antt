@@ -22,8 +22,8 @@ with_calls c calls = record {
   port = calls;
 }
 
--- Seen by its calls, the turn is this: its choice is by what they gave, and just what its step sends
--- was offered by them, where it took one, and else nothing.
+-- Seen by its calls, the turn is this: its choice is by what they gave, and just what its step
+-- sends was offered by them, where it took one, and else nothing.
 abbrev pub IsByCalls : {D : Type 0} → ClusterState D TurnCalls → ClusterState D TurnCalls → Given
     → Result (Option declared.Event) TurnFault → Type 0
 IsByCalls old new builds (Ok None) =

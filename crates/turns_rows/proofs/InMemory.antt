@@ -277,18 +277,18 @@ module _ {D : Type 0} (old mid new : ClusterState D MemPortState) (first second 
     offered = one.offered;
     sends = one.sends;
     answered = one.answered;
-    hears = λ k text s starts hears idle up.
+    hears = λ k text s took idle up.
         let k' = known w is in
         let texts = ap (λ (l : List Parcel). map (λ (p : Parcel). p.text) l) (one.sends w k'.0 k'.1 is k'.2)
         ∙ texts_from (node_of (event_view e)) (datagrams_to k'.1.answer.sends) in
-        let among = k'.3 text (subst (λ (l : List Text). Contains l text) texts (put_was_offered old.port.orders.is_twice one.offered k text starts)) in
-        other.hears k text s (ap (λ (l : List (ℕ × Text)). first_of l) waits ∙ starts) (listens hears) idle among up;
-    again = λ k text starts hears twice idle.
+        let among = k'.3 text (subst (λ (l : List Text). Contains l text) texts (put_was_offered old.port.orders.is_twice one.offered k text took.0)) in
+        other.hears k text s (ap (λ (l : List (ℕ × Text)). first_of l) waits ∙ took.0) (listens took.1) idle among up;
+    again = λ k text took twice idle.
         let left : new.port.waiting ≡ drop 1 put ++ put_by_all mid.port.orders.is_twice other.offered =
         other.waiting
         ∙ (ap (λ (b : Bool). left_by b mid.port.orders.is_deaf mid.port.waiting ++ put_by_all mid.port.orders.is_twice other.offered) idle
-        ∙ (ap (λ (b : Bool). left_by false b mid.port.waiting ++ put_by_all mid.port.orders.is_twice other.offered) (listens hears)
+        ∙ (ap (λ (b : Bool). left_by false b mid.port.waiting ++ put_by_all mid.port.orders.is_twice other.offered) (listens took.1)
         ∙ ap (λ (l : List (ℕ × Text)). drop 1 l ++ put_by_all mid.port.orders.is_twice other.offered) waits)) in
         ap (λ (l : List (ℕ × Text)). first_of l) left
-        ∙ waits_again old.port.orders.is_twice one.offered (k, text) (put_by_all mid.port.orders.is_twice other.offered) twice starts;
+        ∙ waits_again old.port.orders.is_twice one.offered (k, text) (put_by_all mid.port.orders.is_twice other.offered) twice took.0;
   }

@@ -8,3 +8,4 @@ pub mod Listed
 pub mod Showing
 pub mod Reopening
 pub mod InMemory
+pub mod Crashing

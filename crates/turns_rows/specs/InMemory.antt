@@ -73,8 +73,14 @@ pub record TurnsInMemory {D : Type 0} (old new : ClusterState D MemPortState) (b
       ++ put_by_all old.port.orders.is_twice offered
   pub hears : HearsFirst old builds answer
 
--- Of what the first turn's step was offered, and nothing waited before, the first that the port took
--- the second turn hears; and it waits again, where each datagram is given twice.
+-- Of these the port took this datagram first, and receives from it are not to fail.
+abbrev pub TookFirst : MemPortState → List Answered → ℕ → Text → Type 0
+TookFirst port offered k text =
+    (first_of (put_by_all port.orders.is_twice offered) ≡ Some (k, text))
+    × (port.orders.is_deaf ≡ false)
+
+-- Of what the first turn's step was offered, where nothing waited before, the first that the port
+-- took the second turn hears; and it waits again, where each datagram is given twice.
 pub record HearsOffered {D : Type 0} (old new : ClusterState D MemPortState) (second : Given)
     (first : declared.Event) (answer : Result (Option declared.Event) TurnFault) : Type 0 where
   pub between : ClusterState D MemPortState
@@ -82,11 +88,9 @@ pub record HearsOffered {D : Type 0} (old new : ClusterState D MemPortState) (se
   pub offered : List Answered
   pub sends : AreItsSends old first offered
   pub answered : All (IsAnswered old.port.orders.lost_to) offered
-  pub hears : (k : ℕ) (text : Text) (s : State)
-      → first_of (put_by_all old.port.orders.is_twice offered) ≡ Some (k, text)
-      → old.port.orders.is_deaf ≡ false → waits_for_answer between second ≡ false
-      → here_of between k ≡ Some s → HearsIt between k text answer
-  pub again : (k : ℕ) (text : Text)
-      → first_of (put_by_all old.port.orders.is_twice offered) ≡ Some (k, text)
-      → old.port.orders.is_deaf ≡ false → old.port.orders.is_twice ≡ true
-      → waits_for_answer between second ≡ false → first_of new.port.waiting ≡ Some (k, text)
+  pub hears : (k : ℕ) (text : Text) (s : State) → TookFirst old.port offered k text
+      → waits_for_answer between second ≡ false → here_of between k ≡ Some s
+      → HearsIt between k text answer
+  pub again : (k : ℕ) (text : Text) → TookFirst old.port offered k text
+      → old.port.orders.is_twice ≡ true → waits_for_answer between second ≡ false
+      → first_of new.port.waiting ≡ Some (k, text)

@@ -1,4 +1,4 @@
-use Rattle.std.proofs.Common.{[], ◌++◌, ◌∷◌, ap, refl, slice_get, slice_set, subst, sym, ◌∙◌}
+use Rattle.std.proofs.Common.{[], ◌++◌, ◌∷◌, ap, inl, refl, slice_get, slice_set, subst, sym, ◌∙◌}
 use Rattle.node.specs.State.{LoggedNode}
 use Rattle.node.specs.Step.{IsReadyFor}
 use Rattle.parts.specs.Calls.{offered_in}
@@ -154,4 +154,15 @@ returns-in-Err-finish-clause-calls g c =
     }
 
 pub returns-in-Err-clause-calls : goal.returns-in-Err-clause-calls
-returns-in-Err-clause-calls g c = ?
+returns-in-Err-clause-calls g c =
+    rw c.from.ensures (record {
+      offered = [];
+      went = refl;
+      so = λ received. record {
+        nodes = inl refl;
+        sent = c.in-Err.ensures.same.0;
+        events = c.grown_for.ensures.events;
+        pending = c.in-Err.ensures.same.1;
+        offers = refl;
+      };
+    })
