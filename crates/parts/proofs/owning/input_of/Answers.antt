@@ -19,8 +19,8 @@ returns-in_ok-claim_of-in-Some-least_free-clause-own c =
     c.in-Some-least_free.position c.in-Some-least_free.ensures
     c.in_ok-claim_of-in-Some-least_free.field-0 c.in_ok-claim_of-in-Some-least_free.ensures
 
-pub returns-in_err-renewed-in-Some-clause-due : goal.returns-in_err-renewed-in-Some-clause-due
-returns-in_err-renewed-in-Some-clause-due c =
+pub returns-in_err-renewed-clause-due : goal.returns-in_err-renewed-clause-due
+returns-in_err-renewed-clause-due c =
     let p = err_from_is_err_and c.from_residual.result
     c.from_residual.ensures.1 in
     rw p.1 (renews_some c.args.member.now (open_of c.in-Some.open.now) c.in-Some.ensures.claim
