@@ -1,6 +1,6 @@
 -- The line on a node.
 use Rattle.std.proofs.Common.{◌≡◌, ℕ, Bool, true, false, List, Option, None, Some, MatchOption, sym, ap, subst, ◌∙◌, if◌then◌else◌}
-use Rattle.dpbn_node.specs.Node.{IsOf, IsShown, letters_of}
+use Rattle.dpbn_node.specs.Node.{IsOf, ShowsNode, letters_of}
 use Rattle.engine.specs.State.{AreCounts, State}
 use Rattle.engine.specs.declared.Counts.{Counts}
 use Rattle.faults.specs.Bytes.{Text}
@@ -38,7 +38,7 @@ module _ (tree : Tree) (weights : List ℕ) (me : ℕ) (n : NodeState) where
 
   -- what is told of such a node
   pub shown : IsNode n → IsOf tree weights me n → (line : Text) → IsLineOf me (letters_of n) line
-      → IsShown tree weights me line
+      → ShowsNode tree weights me line
   shown is_node is line told = record {
     node = n;
     is_node = is_node;
