@@ -126,12 +126,15 @@ socket_refusal = record { number = 1204; place = None }
 abbrev pub IsLogRefusal : Refusal → Type 0
 IsLogRefusal r = (f : NodeFault) × (r ≡ record { number = number_of f; place = None })
 
+-- that, or the run file can't be written, or memory was wanting
+abbrev pub RefusesOnLog : Refusal → Type 0
+RefusesOnLog r = IsSystemRefusal r ⊎ IsLogRefusal r
+
 -- what is told of the builds, and then of the weights
 abbrev pub RefusesGiven : Refusal → Type 0
 RefusesGiven r = RefusesBuilds r ⊎ RefusesWeights r
 
--- what is told of the member's number, the start on the log, the socket, and then the log; or that
--- the run file can't be written
+-- what is told of the member's number, the start on the log, the socket, and then the log
 abbrev pub RefusesStart : Files → ℕ → RunOf → Refusal → Type 0
 RefusesStart files me of r =
     IsSystemRefusal r

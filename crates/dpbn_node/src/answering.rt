@@ -8,6 +8,7 @@ ghost use Rattle.dpbn_node.specs.Node.{
   IsOf,
   IsShown,
   RefusesNode,
+  RefusesOnLog,
   RefusesStart,
   ShowsNode,
   is_local,
@@ -151,19 +152,40 @@ fn run_on<E: Write>(
         return Err(not_a_member());
     }
     let identity = identity_of(tree, &given.weights, me);
-    let Start { disk, unwritten } = start_of(
-        rt,
-        files.dir,
-        &identity,
-        &place.sealing,
-        place.is_continued,
-    )?;
+    let start = start_of(rt, files.dir, &identity, &place.sealing, place.is_continued)?;
     let guard = place.sealing.guard(tree, &given.weights);
+    let telling = Telling::new(me, files.progress, place.sealing.is_watched());
     let port = port_of(rt, place.addresses, me, place.patience, guard)?;
+    node_on_log(rt, start, port, tree, given, files, me, telling, err)
+}
+
+/// Opens the member's node on its log, writes its run file if that is still to be written, takes
+/// its turns, and answers the line on it.
+///
+/// # Errors
+///
+/// Why the log opens as no node of the member; else why the run file can't be written; else want of
+/// memory for the line.
+fn node_on_log<E: Write>(
+    rt: &HostRuntime,
+    start: Start,
+    port: UdpPort<'_, HostRuntime>,
+    tree: &Tree,
+    given: &Given,
+    files: &Files<'_>,
+    me: u8,
+    telling: Telling,
+    err: &mut E,
+) -> Result<String, Refusal>
+    requires { me < length given.now.weights }
+    ensures shown { IfOk result (λ text.
+        ShowsNode tree.now given.now.weights me (string_bytes text)) }
+    ensures refused { IfErr result RefusesOnLog }
+{
+    let Start { disk, unwritten } = start;
     let node = open(rt.alloc(), disk, tree, &given.weights, me)?;
     write_unwritten(rt, files.dir, me, unwritten)?;
     let solo = Solo::new(node, port);
-    let telling = Telling::new(me, files.progress, place.sealing.is_watched());
     match line_after(
         rt.alloc(),
         solo,

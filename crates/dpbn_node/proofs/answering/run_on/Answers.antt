@@ -1,8 +1,31 @@
-use Rattle.std.proofs.Common.{subst, sym}
-use Rattle.node.specs.State.{LoggedNode}
-use Rattle.dpbn_node.proofs.Shown.{opened_is}
-use Rattle.dpbn_node.specs.Node.{IsOf}
+use Rattle.std.proofs.Common.{◌∙◌, inl, inr, option_map, string_bytes, subst, ⊎_elim}
+use Rattle.std.proofs.lemmas.Result.{IfOk-weaker, IfErr-weaker}
+use Rattle.dpbn_run.specs.Keys.{shown_of}
+use Rattle.run_file.specs.Starts.{IsStarted}
 use Rattle.dpbn_node.proofs.answering.run_on.Goals as goal
 
-pub returns-in-Ok-clause-shown : goal.returns-in-Ok-clause-shown
-returns-in-Ok-clause-shown g c = ?
+pub returns-clause-shown : goal.returns-clause-shown
+returns-clause-shown g c =
+    let start = c.in_ok-start.start in
+    let port = c.in_ok-port.ensures in
+    IfOk-weaker c.node_on_log.result _ _
+    (λ text shows. record {
+      unwritten = option_map string_bytes start.unwritten;
+      started = subst (λ i. IsStarted i (shown_of c.args.place.sealing.key)
+          c.args.place.is_continued (option_map string_bytes start.unwritten))
+          c.identity_of-identity.ensures c.in_ok-start.ensures.started;
+      port = c.in_ok-port.port;
+      guarded = record {
+        opens = port.sealed.0 ∙ c.guard-guard.ensures.sealed;
+        seals = port.sealed.1 ∙ c.guard-guard.ensures.sealed;
+        sealed = λ some. port.open ∙ c.guard-guard.ensures.closed some;
+        closed = λ no. port.open ∙ c.guard-guard.ensures.members no;
+      };
+      shows = shows;
+    }) c.node_on_log.ensures.shown
+
+pub returns-clause-refused : goal.returns-clause-refused
+returns-clause-refused g c =
+    IfErr-weaker c.node_on_log.result _ _
+    (λ r why. ⊎_elim (λ system. inl system) (λ log. inr (inr (inr (inr log)))) why)
+    c.node_on_log.ensures.refused
