@@ -1,11 +1,12 @@
 //! The answer of `dpbn node` to its words.
-ghost use Rattle.std.specs.Prelude.{◌≡◌, ◌<◌, ◌≤◌, ◌⊎◌, IfErr, IfOk, List, length, option_map, string_bytes, ℕ};
+ghost use Rattle.std.specs.Prelude.{◌≡◌, ◌<◌, ◌≤◌, ◌⊎◌, IfErr, IfOk, length, string_bytes};
 ghost use Rattle.dpbn_node.specs.Node.{
   AreGood,
   IsHostsRefusal,
+  IsLineAfter,
   IsLogRefusal,
+  IsNodeOf,
   IsNodeText,
-  IsOf,
   IsShown,
   RefusesNode,
   RefusesStart,
@@ -13,8 +14,6 @@ ghost use Rattle.dpbn_node.specs.Node.{
   member_refusal,
   socket_refusal,
 };
-ghost use Rattle.listing.specs.Tree.{Tree};
-ghost use Rattle.node.specs.Calls.{IsOpened};
 ghost use Rattle.program.specs.NodeLine.{IsLineOf};
 ghost use Rattle.program.specs.Refusals.{memory_refusal};
 
@@ -103,8 +102,8 @@ fn run_on<E: Write>(
     requires each { length addresses.items ≡ files.now.members }
     requires weights { length given.now.weights ≡ files.now.members }
     ensures member { IfOk result (λ text. me < files.now.members) }
-    ensures shown { IfOk result (λ text.
-        IsShown tree.now given.now.weights me (string_bytes text)) }
+    ensures shown { IfOk result (λ text. IsShown tree.now given.now.weights me given.now.builds
+        files.now.turns (string_bytes text)) }
     ensures refused { IfErr result (RefusesStart files.now me) }
 {
     if me >= files.members {
@@ -129,8 +128,8 @@ fn line_after<E: Write>(
     me: u8,
     err: &mut E,
 ) -> Result<String, AllocError>
-    ensures { (tree : Tree) (weights : List ℕ) → IsOf tree weights me solo.entry.node.node
-        → IfOk result (λ text. IsShown tree weights me (string_bytes text)) }
+    ensures { IfOk result (λ text.
+        IsLineAfter builds.now files.now.turns solo.entry me (string_bytes text)) }
 {
     let mut solo = solo;
     run(
@@ -142,7 +141,6 @@ fn line_after<E: Write>(
         me,
         err,
     );
-    let _len = solo.node().log_len();
     line_of(alloc, &solo, me)
 }
 
@@ -193,7 +191,7 @@ fn open<'a>(
     me: u8,
 ) -> Result<Node<'a, FileDisk>, Refusal>
     requires { me < length weights.now }
-    ensures opened { IfOk result (λ n. IsOpened tree.entry.now weights.now me n.node) }
+    ensures opened { IfOk result (IsNodeOf tree.entry.now weights.now me disk) }
     ensures refused { IfErr result IsLogRefusal }
 {
     match Node::open(alloc, disk, tree, weights, me) {

@@ -1,14 +1,17 @@
-use Rattle.std.proofs.Common.{subst, sym}
-use Rattle.node.specs.State.{LoggedNode}
-use Rattle.stable_record.specs.declared.file_disk.FileDisk.{FileDisk}
-use Rattle.dpbn_node.proofs.Shown.{opened_is}
-use Rattle.dpbn_node.specs.Node.{IsOf}
+use Rattle.std.proofs.Common.{string_bytes, subst}
+use Rattle.dpbn_node.specs.Node.{IsLineAfter}
 use Rattle.dpbn_node.proofs.answering.run_on.Goals as goal
 
 pub returns-in-Ok-clause-shown : goal.returns-in-Ok-clause-shown
 returns-in-Ok-clause-shown g c =
-    let tree = c.args.tree.now in
-    let weights = c.args.given.now.weights in
-    c.in-Ok.ensures tree weights
-    (subst (λ (n : LoggedNode _). IsOf tree weights c.args.me n.node) (sym c.new-solo.ensures.node)
-    (opened_is tree weights c.args.me c.in_ok-node.node.node c.in_ok-node.ensures.opened))
+    let solo = c.new-solo.ensures in
+    record {
+      log = c.in_ok-disk.disk;
+      node = c.in_ok-node.node;
+      is_node = c.in_ok-node.ensures.opened;
+      port = c.in_ok-port.port;
+      is_line = subst (λ s. IsLineAfter c.args.given.now.builds c.args.files.now.turns s
+          c.args.me (string_bytes c.in-Ok.line))
+          (λ i. record { node = solo.node i; pending = solo.pending i; port = solo.port i })
+          c.in-Ok.ensures;
+    }
