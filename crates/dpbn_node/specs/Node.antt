@@ -1,5 +1,5 @@
 -- What `dpbn node` prints, and what is told where it can't run.
-use Rattle.std.specs.Prelude.{◌≡◌, ◌≤◌, ◌<◌, ◌⊎◌, ⊤, ℕ, Bool, List, [], Option, None, Some, Ok, if◌then◌else◌, option_map}
+use Rattle.std.specs.Prelude.{◌≡◌, ◌≤◌, ◌<◌, ◌⊎◌, ◌++◌, ⊤, ℕ, Bool, true, List, [], Option, None, Some, Ok, if◌then◌else◌, option_map}
 use Rattle.std.specs.declared.rt.LibcRuntime.{LibcRuntime}
 use Rattle.choice.specs.Pending.{nothing_kept}
 use Rattle.dpbn_node.specs.Given.{AreBuilds, AreTold, RefusesBuilds, RefusesWeights}
@@ -17,7 +17,7 @@ use Rattle.node.specs.State.{LoggedNode, NodeState}
 use Rattle.node.specs.declared.fault.NodeFault.{NodeFault}
 use Rattle.program.specs.Listings.{IsDescribed, RefusesListingFile}
 use Rattle.program.specs.NodeLine.{IsLineOf}
-use Rattle.program.specs.Refusals.{IsSystemRefusal}
+use Rattle.program.specs.Refusals.{IsSystemRefusal, memory_refusal}
 use Rattle.program.specs.declared.refusal.Refusal.{Refusal}
 use Rattle.protocol.specs.Given.{Given}
 use Rattle.protocol.specs.State.{engine_of}
@@ -29,6 +29,8 @@ use Rattle.stable_record.specs.Opening.{Opens, OpensAsLeft}
 use Rattle.stable_record.specs.RealFile.{file_agrees, file_history}
 use Rattle.stable_record.specs.declared.file_disk.FileDisk.{FileDisk}
 use Rattle.udp.specs.Hosts.{IsFirstBad}
+use Rattle.udp.specs.Inbox.{is_vouched_for}
+use Rattle.udp.specs.Leaving.{texts_of as texts_that_wait}
 use Rattle.udp.specs.declared.udp_port.UdpPort.{UdpPort}
 
 -- ---- what is printed
@@ -41,14 +43,20 @@ letters_of n = if n.stopped then None else Some (engine_of n.member)
 abbrev pub Running : Type 0
 Running = SoloState FileDisk (UdpPort LibcRuntime)
 
+-- the port vouches for this text: the bytes as which it comes are among those that came
+abbrev pub port_vouches : UdpPort LibcRuntime → Text → Type 0
+port_vouches port text = is_vouched_for port.inbox.key port.inbox.came text ≡ true
+
 -- So many turns, each by these builds, led from one state of the node to the other, whose port then
--- let go what waited to leave, and did nothing else.
+-- handed the system all that waited to leave, in order and each once, and nothing else.
 pub record HasRun (builds : Given) (turns : ℕ) (old new : Running) : Type 0 where
   pub last : Running
   pub turned : HaveTurned file_agrees file_history (λ disk. disk.failures) (λ port. None)
-      (λ port. None) (λ port call after. ⊤) (λ port text. ⊤) builds turns old last
+      (λ port. None) (λ port call after. ⊤) port_vouches builds turns old last
   pub same : new ≡ record last { port = new.port }
   pub left : new.port.leaving.waiting.items ≡ []
+  pub handed : new.port.handed.all
+      ≡ last.port.handed.all ++ texts_that_wait last.port.leaving.waiting.items
 
 -- The line says what the node shows after so many turns.
 pub record IsLineAfter (builds : Given) (turns : ℕ) (before : Running) (me : ℕ) (line : Text)
@@ -70,15 +78,19 @@ pub record IsNodeOf (tree : Tree) (weights : List ℕ) (me : ℕ) (log : FileDis
       (OpensAsLeft (identity_of n.node.member) (file_history log)) (file_history log)
       (file_history n.log.disk)
 
--- So it is of the member's node, which was opened on a log, and kept nothing yet.
-pub record IsShown (tree : Tree) (weights : List ℕ) (me : ℕ) (builds : Given) (turns : ℕ)
-    (line : Text) : Type 0 where
-  pub log : FileDisk
+-- So it is of the member's node, which was opened on this log, kept nothing yet, and has this port.
+pub record IsShownOn (log : FileDisk) (port : UdpPort LibcRuntime) (tree : Tree)
+    (weights : List ℕ) (me : ℕ) (builds : Given) (turns : ℕ) (line : Text) : Type 0 where
   pub node : LoggedNode FileDisk
   pub is_node : IsNodeOf tree weights me log node
-  pub port : UdpPort LibcRuntime
   pub is_line : IsLineAfter builds turns
       (record { node = node; pending = nothing_kept; port = port }) me line
+
+-- on some log, by some port
+abbrev pub IsShown : Tree → List ℕ → ℕ → Given → ℕ → Text → Type 0
+IsShown tree weights me builds turns line =
+    (log : FileDisk) × (port : UdpPort LibcRuntime)
+    × IsShownOn log port tree weights me builds turns line
 
 -- The text is the line of the member's node over the tree that a listing describes, where so many
 -- members weigh what is told, after as many turns as are asked for, by the builds that a text has.
@@ -113,6 +125,10 @@ socket_refusal = record { number = 1204; place = None }
 -- the log opens as no node of the member
 abbrev pub IsLogRefusal : Refusal → Type 0
 IsLogRefusal r = (f : NodeFault) × (r ≡ record { number = number_of f; place = None })
+
+-- that, or memory was wanting for its line
+abbrev pub RefusesOnLog : Refusal → Type 0
+RefusesOnLog r = (r ≡ memory_refusal) ⊎ IsLogRefusal r
 
 -- what is told of the builds, and then of the weights
 abbrev pub RefusesGiven : Refusal → Type 0

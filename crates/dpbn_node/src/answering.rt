@@ -8,7 +8,9 @@ ghost use Rattle.dpbn_node.specs.Node.{
   IsNodeOf,
   IsNodeText,
   IsShown,
+  IsShownOn,
   RefusesNode,
+  RefusesOnLog,
   RefusesStart,
   letters_of,
   member_refusal,
@@ -111,9 +113,34 @@ fn run_on<E: Write>(
     }
     let disk = log_of_file(rt, files.dir, me)?;
     let port = port_of(rt, addresses, me, patience.unwrap_or(PATIENCE))?;
-    let node = open(rt.alloc(), disk, tree, &given.weights, me)?;
+    node_on_log(rt.alloc(), disk, port, tree, given, files, me, err)
+}
+
+/// Opens the member's node on its log, takes its turns, and answers the line on it. That is so
+/// whatever is known of the log's file before: what its disk says of it, as long as the file does
+/// what that says.
+///
+/// # Errors
+///
+/// Why the log opens as no node of the member; else want of memory for the line.
+pub fn node_on_log<E: Write>(
+    alloc: Global,
+    disk: FileDisk,
+    port: UdpPort<'_, HostRuntime>,
+    tree: &Tree,
+    given: &Given,
+    files: &Files<'_>,
+    me: u8,
+    err: &mut E,
+) -> Result<String, Refusal>
+    requires { me < length given.now.weights }
+    ensures shown { IfOk result (λ text. IsShownOn disk port tree.now given.now.weights me
+        given.now.builds files.now.turns (string_bytes text)) }
+    ensures refused { IfErr result RefusesOnLog }
+{
+    let node = open(alloc, disk, tree, &given.weights, me)?;
     let solo = Solo::new(node, port);
-    match line_after(rt.alloc(), solo, &given.builds, files, me, err) {
+    match line_after(alloc, solo, &given.builds, files, me, err) {
         Ok(line) => Ok(line),
         Err(_) => Err(Refusal::memory()),
     }

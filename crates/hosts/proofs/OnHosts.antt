@@ -6,14 +6,14 @@ use Rattle.choice.specs.declared.fault.TurnFault.{TurnFault}
 use Rattle.choice.specs.declared.fault.TurnFault.TheVariants as refused
 use Rattle.faults.specs.Bytes.{Text}
 use Rattle.hosts.proofs.Turning.{asks_so, taken_so}
-use Rattle.hosts.specs.Hosts.{Down, Host, Hosts, Up, WasOffered, sends_of}
+use Rattle.hosts.specs.Hosts.{Down, Host, Hosts, IsLeft, Up, WasOffered, sends_of}
 use Rattle.hosts.specs.OnHosts.{HasOffered, HearsOffered, IsAfterTurn, TurnsAreOfARun, VouchedTurnsAreOfARun, VouchesForOffered, host_after}
 use Rattle.hosts.specs.Run as run
 use Rattle.hosts.specs.Run.{Run}
 use Rattle.hosts.specs.Turns.{IsStepTaken}
 use Rattle.listing.specs.Tree.{Tree}
 use Rattle.node.specs.Calls.{left_by}
-use Rattle.node.specs.OnLog.{IsLogged, texts_of}
+use Rattle.node.specs.OnLog.{IsLogged}
 use Rattle.node.specs.State.{LoggedNode, NodeState}
 use Rattle.node.specs.Step.{Asked, Comes, Does, Takes, after}
 use Rattle.node.specs.declared.fault.NodeFault.{NodeFault}
@@ -32,15 +32,16 @@ module _ {D P : Type 0} (is_kept : D → Type 0) (history : D → History) (fail
     (given : P → Option (List Arrived)) (offered : P → Option (List Parcel))
     (does : P → Call → P → Type 0) (vouches : P → Text → Type 0) (tree : Tree)
     (weights : List ℕ) (first h : Hosts) (k : ℕ) (builds : Given) (old new : SoloState D P)
-    (before : Run tree weights first h) (up : slice_get h.hosts k ≡ Some (Up old.node.node))
-    (logged : IsLogged old.node)
+    (left : List Text) (before : Run tree weights first h)
+    (up : slice_get h.hosts k ≡ Some (Up old.node.node))
+    (is_left : IsLeft h.offered old.node.node left) (logged : IsLogged old.node)
     (hears : HearsOffered given does vouches builds h.offered old new) where
   -- what follows for an answer
   abbrev Goes : Outcome → Type 0
-  Goes answer = (g : Hosts) × Run tree weights first g × IsAfterTurn h g k old new answer
+  Goes answer = (g : Hosts) × Run tree weights first g × IsAfterTurn h g k old new left answer
 
   -- nothing becomes of them where the node stays
-  stays : (answer : Outcome) → host_after old new answer ≡ Up new.node.node
+  stays : (answer : Outcome) → host_after new left answer ≡ Up new.node.node
       → HasOffered old answer h.offered h.offered → new.node.node ≡ old.node.node → Goes answer
   stays answer runs silent same = (
     h,
@@ -56,7 +57,7 @@ module _ {D P : Type 0} (is_kept : D → Type 0) (history : D → History) (fail
   abbrev with_host : Host → List _ → Hosts
   with_host x texts = record { hosts = slice_set h.hosts k x; offered = texts }
 
-  becomes : (answer : Outcome) (x : Host) → x ≡ host_after old new answer → (texts : List _)
+  becomes : (answer : Outcome) (x : Host) → x ≡ host_after new left answer → (texts : List _)
       → HasOffered old answer h.offered texts → Run tree weights first (with_host x texts)
       → Goes answer
   becomes answer x is texts sent run_on = (
@@ -114,13 +115,13 @@ module _ {D P : Type 0} (is_kept : D → Type 0) (history : D → History) (fail
       (r.leaves ∙ ap (left_by old.node.node asked) full.0))
       r.cause
   by_fault (refused.Down j) down =
-      becomes (Err (refused.Down j)) (Down (texts_of old.node.node.notes)) refl h.offered refl
-      (run.ended h (with_host (Down (texts_of old.node.node.notes)) h.offered) before (record {
+      becomes (Err (refused.Down j)) (Down left) refl h.offered refl
+      (run.ended h (with_host (Down left) h.offered) before (record {
         number = k;
         node = old.node.node;
         up = up;
-        left = texts_of old.node.node.notes;
-        is_left = inl refl;
+        left = left;
+        is_left = is_left;
         hosts = refl;
         offered = refl;
       }))
@@ -130,20 +131,20 @@ module _ {D P : Type 0} (is_kept : D → Type 0) (history : D → History) (fail
   pub goes_on : (answer : Outcome)
       → IsTurn is_kept history failures_of given offered does vouches builds old new answer
       → Goes answer
-  goes_on (Ok (Some act)) t = took act _ (t.taken).chosen
+  goes_on (Ok (Some act)) t = took act _ (t.done.taken).chosen
       (taken_so given offered does vouches builds (LeavesAtMost is_kept history old new) old new
-      logged (Ok (Some act)) t.taken)
-  goes_on (Ok None) t = stays (Ok None) refl refl (ap (λ (n : LoggedNode D). n.node) (t.same).0)
-  goes_on (Err f) t = by_fault f t.refused
+      logged (Ok (Some act)) t.done.taken)
+  goes_on (Ok None) t = stays (Ok None) refl refl (ap (λ (n : LoggedNode D). n.node) (t.done.same).0)
+  goes_on (Err f) t = by_fault f t.refuses.refused
 
 module _ {D P : Type 0} (is_kept : D → Type 0) (history : D → History) (failures_of : D → ℕ)
     (given : P → Option (List Arrived)) (offered : P → Option (List Parcel))
     (does : P → Call → P → Type 0) (vouches : P → Text → Type 0) where
   pub turns_are_of_a_run :
       TurnsAreOfARun is_kept history failures_of given offered does vouches
-  turns_are_of_a_run tree weights first h k builds old new answer before up turn hears =
+  turns_are_of_a_run tree weights first h k builds old new left answer before up is_left turn hears =
       goes_on is_kept history failures_of given offered does vouches tree weights first h k
-      builds old new before up turn.logged hears answer turn
+      builds old new left before up is_left turn.log.logged hears answer turn
 
   -- what came was vouched for, so it was offered
   was_offered : (texts : List Text) (port : P) → VouchesForOffered vouches port texts
@@ -153,7 +154,8 @@ module _ {D P : Type 0} (is_kept : D → Type 0) (history : D → History) (fail
 
   pub vouched_turns_are_of_a_run :
       VouchedTurnsAreOfARun is_kept history failures_of given offered does vouches
-  vouched_turns_are_of_a_run tree weights first h k builds old new answer before up turn all =
-      turns_are_of_a_run tree weights first h k builds old new answer before up turn
+  vouched_turns_are_of_a_run tree weights first h k builds old new left answer before up is_left turn
+      all =
+      turns_are_of_a_run tree weights first h k builds old new left answer before up is_left turn
       (λ asked parcels chosen. was_offered h.offered new.port all asked
       (choice_heard given does vouches old new builds parcels asked chosen))

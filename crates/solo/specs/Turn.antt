@@ -16,6 +16,10 @@ use Rattle.protocol.specs.Given.{Given}
 use Rattle.stable_record.specs.History.{History}
 use Rattle.solo.specs.State.{SoloState, me_of, only}
 
+-- whether a job of the node waits for its answer
+abbrev pub has_work : {D P : Type 0} → SoloState D P → Given → Bool
+has_work s builds = has_job (only s.node.node) (length s.node.node.member.weights) builds
+
 -- What receives gave in the turn: nothing was asked of the port where a job waited for its answer,
 -- and else it was asked once.
 abbrev pub looked_for : Bool → Arrived → List Arrived
@@ -36,12 +40,10 @@ pub record IsChosen {D P : Type 0} (given : P → Option (List Arrived))
     (does : P → Call → P → Type 0) (vouches : P → Text → Type 0) (old new : SoloState D P)
     (builds : Given) (parcels : List Parcel) (chosen : Chosen) : Type 0 where
   pub answer : Result Arrived PortFault
-  pub looked : GoesOnBy (looked_for
-      (has_job (only old.node.node) (length old.node.node.member.weights) builds)
-      (came_by answer)) (given old.port) (given new.port)
+  pub looked : GoesOnBy (looked_for (has_work old builds) (came_by answer)) (given old.port)
+      (given new.port)
   pub between : P
-  pub received : WentThrough does old.port (received_by
-      (has_job (only old.node.node) (length old.node.node.member.weights) builds) answer) between
+  pub received : WentThrough does old.port (received_by (has_work old builds) answer) between
   pub sent : WasOffered does between parcels new.port
   pub vouched : IsVouchedFor vouches new.port (came_by answer)
   pub choice : IsChoice (only old.node.node) (length old.node.node.member.weights) old.pending

@@ -80,8 +80,8 @@ impl<'a, D: Disk, P: Port> Solo<'a, D, P> {
     ///
     /// `Memory`; `Down`, where the node's device failed; else what the node refuses.
     pub fn turn(&mut self, builds: &Packages) -> Result<Option<Act>, TurnFault>
-        ensures { IsTurn D.is_kept D.history D.failures_of P.given P.offered P.does P.vouches builds.now
-            self.old self.new result }
+        ensures { IsTurn D.is_kept D.history D.failures_of P.given P.offered P.does P.vouches
+            builds.now self.old self.new result }
     {
         self.take_turn(builds)
     }

@@ -52,10 +52,10 @@ module _ {D : Type 0} (is_kept : D → Type 0) (history : D → History) (failur
     puts (Ok None) t = tt
     puts (Err f) t = tt
     puts (Ok (Some act)) t =
-        let chosen = (t.taken).chosen in
+        let chosen = (t.done.taken).chosen in
         let sent = chosen.sent in (
-          (t.taken).taken,
-          (t.taken).takes,
+          (t.done.taken).taken,
+          (t.done.taken).takes,
           record {
             looked = has_job (only n) count builds;
             came = chosen.answer;
@@ -120,21 +120,21 @@ module _ {D : Type 0} (is_kept : D → Type 0) (history : D → History) (failur
           cc
 
       by_fault : (f : TurnFault) → Turn (Err f) → IsAbout old.node new.node text (Err f)
-      by_fault refused.Memory t = (t.refused).2
+      by_fault refused.Memory t = (t.refuses.refused).2
       by_fault (refused.Node f) t =
-          let r = t.refused in
+          let r = t.refuses.refused in
           subst (λ asked. IsRefusedBy old.node new.node asked f) (asks_that r.0 [] r.1) r.2
       by_fault (refused.Down k) t =
-          let r = t.refused in
+          let r = t.refuses.refused in
           subst (HasTried old.node) (asks_that r.0 [] r.1) r.3
-      by_fault refused.NotSent t = t.refused
-      by_fault refused.NotFresh t = t.refused
+      by_fault refused.NotSent t = t.refuses.refused
+      by_fault refused.NotFresh t = t.refuses.refused
 
       is_about : (answer : Outcome) → Turn answer → IsAbout old.node new.node text answer
       is_about (Ok None) t =
           absurd (let no : ◌≡◌ {A = Chosen} None (Some (n.member.me, Comes text)) =
-          is_that None [] t.nothing in cc)
-      is_about (Ok (Some act)) t = asks_that (asked_by act) _ (t.taken).chosen
+          is_that None [] t.done.nothing in cc)
+      is_about (Ok (Some act)) t = asks_that (asked_by act) _ (t.done.taken).chosen
       is_about (Err f) t = by_fault f t
 
     pub hears_first : n.member.claim ≡ None → n.stopped ≡ false → (answer : Outcome)

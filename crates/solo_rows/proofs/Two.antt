@@ -55,4 +55,4 @@ module _ {D P : Type 0} (is_kept : D → Type 0) (history : D → History) (fail
   took_two (Err f) second t u = tt
   took_two (Ok (Some one)) (Ok None) t u = tt
   took_two (Ok (Some one)) (Err f) t u = tt
-  took_two (Ok (Some one)) (Ok (Some other)) t u = both one other t.taken u.taken
+  took_two (Ok (Some one)) (Ok (Some other)) t u = both one other t.done.taken u.done.taken

@@ -1,17 +1,14 @@
-use Rattle.std.proofs.Common.{string_bytes, subst}
-use Rattle.dpbn_node.specs.Node.{IsLineAfter}
+use Rattle.std.proofs.Common.{inl, inr, ⊎_elim}
+use Rattle.std.proofs.lemmas.Result.{IfOk-weaker, IfErr-weaker}
 use Rattle.dpbn_node.proofs.answering.run_on.Goals as goal
 
-pub returns-in-Ok-clause-shown : goal.returns-in-Ok-clause-shown
-returns-in-Ok-clause-shown g c =
-    let solo = c.new-solo.ensures in
-    record {
-      log = c.in_ok-disk.disk;
-      node = c.in_ok-node.node;
-      is_node = c.in_ok-node.ensures.opened;
-      port = c.in_ok-port.port;
-      is_line = subst (λ s. IsLineAfter c.args.given.now.builds c.args.files.now.turns s
-          c.args.me (string_bytes c.in-Ok.line))
-          (λ i. record { node = solo.node i; pending = solo.pending i; port = solo.port i })
-          c.in-Ok.ensures;
-    }
+pub returns-clause-shown : goal.returns-clause-shown
+returns-clause-shown g c =
+    IfOk-weaker c.node_on_log.result _ _
+    (λ text shown. (c.in_ok-disk.disk, c.in_ok-port.port, shown)) c.node_on_log.ensures.shown
+
+pub returns-clause-refused : goal.returns-clause-refused
+returns-clause-refused g c =
+    IfErr-weaker c.node_on_log.result _ _
+    (λ r why. ⊎_elim (λ memory. inl (inl memory)) (λ log. inr (inr (inr log))) why)
+    c.node_on_log.ensures.refused

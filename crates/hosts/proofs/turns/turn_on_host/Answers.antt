@@ -10,7 +10,7 @@ returns-clause-turned g c =
     (LeavesAtMost g.D.Disk.is_kept g.D.Disk.history c.args.solo.now c.turn.new.self)
     c.args.solo.now c.turn.new.self
     (subst IsLogged c.node.ensures c.member-node.ensures.node)
-    c.turn.result c.turn.ensures.taken
+    c.turn.result c.turn.ensures.done.taken
 
 pub returns-clause-refused : goal.returns-clause-refused
 returns-clause-refused g c =
@@ -18,4 +18,4 @@ returns-clause-refused g c =
     (LeavesAtMost g.D.Disk.is_kept g.D.Disk.history c.args.solo.now c.turn.new.self)
     c.args.solo.now c.turn.new.self
     (subst IsLogged c.node.ensures c.member-node.ensures.node)
-    c.turn.result c.turn.ensures.refused
+    c.turn.result c.turn.ensures.refuses.refused
