@@ -13,7 +13,7 @@ use Rattle.program.specs.Printing.{AppendsBeginning}
 -- what a call prints
 abbrev pub IsOutputOf : Call → Text → Type 0
 IsOutputOf (Cluster files trace) text = IsClusterText files text
-IsOutputOf (Node files me peers patience run) text = IsNodeText files me text
+IsOutputOf (Node files me peers patience run) text = IsNodeText files me peers run text
 IsOutputOf (Key file) text = text ≡ []
 
 -- what was written since, where it is known, is one such text

@@ -23,7 +23,7 @@ IsGood (Key file) = ⊤
 -- what is told of what a call is given
 abbrev pub RefusesCall : Call → Refusal → Type 0
 RefusesCall (Cluster files trace) r = RefusesCluster files r
-RefusesCall (Node files me peers patience run) r = RefusesNode files me peers r
+RefusesCall (Node files me peers patience run) r = RefusesNode files me peers run r
 RefusesCall (Key file) r = IsSystemRefusal r
 
 -- A refusal comes before anything was written, but for one that is told as fault 2: then a

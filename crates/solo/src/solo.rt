@@ -119,6 +119,13 @@ impl<'a, D: Disk, P: Port> Solo<'a, D, P> {
         (node, port)
     }
 
+    /// The port, to be read.
+    pub fn port_seen(&self) -> &P
+        ensures { result.now ≡ self.now.port }
+    {
+        &self.port
+    }
+
     /// The port, lent.
     pub fn port(&mut self) -> &mut P
         ensures value { result.now ≡ self.old.port }
