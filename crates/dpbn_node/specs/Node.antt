@@ -1,10 +1,11 @@
 -- What `dpbn node` prints, and what is told where it can't run.
-use Rattle.std.specs.Prelude.{◌≡◌, ◌≢◌, ◌≤◌, ◌<◌, ◌⊎◌, ◌++◌, ⊤, ℕ, true, false, List, [], Option, None, Some, Ok, if◌then◌else◌, option_map}
+use Rattle.std.specs.Prelude.{◌≡◌, ◌≢◌, ◌≤◌, ◌<◌, ◌⊎◌, ◌++◌, ⊤, ℕ, Bool, true, false, List, [], Option, None, Some, Ok, if◌then◌else◌, option_map}
 use Rattle.std.specs.declared.rt.LibcRuntime.{LibcRuntime}
 use Rattle.choice.specs.Pending.{nothing_kept}
-use Rattle.dpbn_node.specs.Given.{AreBuilds, RefusesBuilds, RefusesWeights}
-use Rattle.dpbn_node.specs.Run.{IsRunOf, IsStartRefusal, RefusesKeyFile, RunOf, seal_of, shown_of}
+use Rattle.dpbn_node.specs.Given.{AreBuilds, AreTold, RefusesBuilds, RefusesWeights}
 use Rattle.dpbn_node.specs.declared.answering.Place.{Place}
+use Rattle.dpbn_run.specs.Keys.{IsKeyOf, RefusesKeyFile, seal_of, shown_of}
+use Rattle.dpbn_run.specs.Starts.{IsStartRefusal, owner}
 use Rattle.dpbn_words.specs.declared.Files.{Files}
 use Rattle.dpbn_words.specs.declared.Peers.{Peers}
 use Rattle.dpbn_words.specs.declared.Peers.TheVariants.{Base, Hosts}
@@ -14,11 +15,11 @@ use Rattle.faults.specs.Bytes.{Text, comma}
 use Rattle.faults.specs.Pieces.{pieces_at}
 use Rattle.listing.specs.Tree.{Tree}
 use Rattle.node.specs.Calls.{IsOpened}
-use Rattle.node.specs.OnLog.{IsOnLog, identity, identity_of, texts_of}
+use Rattle.node.specs.OnLog.{IsOnLog, identity_of, texts_of}
 use Rattle.node.specs.Refusals.{number_of}
 use Rattle.node.specs.State.{LoggedNode, NodeState}
 use Rattle.node.specs.declared.fault.NodeFault.{NodeFault}
-use Rattle.program.specs.Listings.{RefusesListingFile}
+use Rattle.program.specs.Listings.{IsDescribed, RefusesListingFile}
 use Rattle.program.specs.NodeLine.{IsLineOf}
 use Rattle.program.specs.Refusals.{IsSystemRefusal}
 use Rattle.program.specs.declared.refusal.Refusal.{Refusal}
@@ -90,6 +91,41 @@ pub record IsShownOn (log : FileDisk) (port : UdpPort LibcRuntime) (tree : Tree)
   pub is_line : IsLineAfter builds turns
       (record { node = node; pending = nothing_kept; port = port }) me line
 
+-- ---- runs
+
+-- Of which run a node is: over which tree, what its members weigh, and its key, if it has one; then
+-- whether all who send are heard where it has none, and whether a log of it has to be there.
+pub record RunOf : Type 0 where
+  pub tree : Tree
+  pub weights : List ℕ
+  pub key : Option Text
+  pub is_open : Bool
+  pub is_continued : Bool
+
+-- all members are on one host
+abbrev pub is_local : Peers → Bool
+is_local (Base port) = true
+is_local (Hosts text) = false
+
+-- So the words say: a listing describes the tree, so many members weigh what is told, and the key
+-- is that of the file. Strangers are heard where all members are on one host alone.
+pub record IsRunOf (files : Files) (peers : Peers) (run : Run) (of : RunOf) : Type 0 where
+  pub described : IsDescribed files.is_single of.tree
+  pub told : AreTold files.members (option_map (λ t. t.now) files.weights) of.weights
+  pub has_key : IsKeyOf (option_map (λ t. t.now) run.key) of.key
+  pub open_to : of.is_open ≡ is_local peers
+  pub continued : of.is_continued ≡ run.is_continued
+
+-- the run that a node is of at this place
+abbrev pub run_at : Tree → List ℕ → Place → RunOf
+run_at tree weights place = record {
+  tree = tree;
+  weights = weights;
+  key = place.sealing.key;
+  is_open = place.sealing.is_open;
+  is_continued = place.is_continued;
+}
+
 -- The port seals what leaves it, and opens what comes, under the run's key, if there is one; and
 -- then it hears no strangers, nor where they are not to be heard.
 pub record IsGuarded (of : RunOf) (port : UdpPort LibcRuntime) : Type 0 where
@@ -102,7 +138,7 @@ pub record IsGuarded (of : RunOf) (port : UdpPort LibcRuntime) : Type 0 where
 pub record IsShown (of : RunOf) (me : ℕ) (builds : Given) (turns : ℕ) (line : Text) : Type 0 where
   pub log : FileDisk
   pub unwritten : Option Text
-  pub started : IsStarted (identity of.tree of.weights me) (shown_of of.key) of.is_continued
+  pub started : IsStarted (owner of.tree of.weights me) (shown_of of.key) of.is_continued
       unwritten
   pub port : UdpPort LibcRuntime
   pub guarded : IsGuarded of port
@@ -118,16 +154,6 @@ pub record IsNodeText (files : Files) (me : ℕ) (peers : Peers) (run : Run) (te
   pub read : AreBuilds builds
   pub member : me < files.members
   pub shown : IsShown of me builds files.turns text
-
--- the run that a node is of at this place
-abbrev pub run_at : Tree → List ℕ → Place → RunOf
-run_at tree weights place = record {
-  tree = tree;
-  weights = weights;
-  key = place.sealing.key;
-  is_open = place.sealing.is_open;
-  is_continued = place.is_continued;
-}
 
 -- ---- refusals
 
@@ -164,7 +190,7 @@ abbrev pub RefusesStart : Files → ℕ → RunOf → Refusal → Type 0
 RefusesStart files me of r =
     IsSystemRefusal r
     ⊎ (((r ≡ member_refusal) × (files.members ≤ me))
-    ⊎ (IsStartRefusal (identity of.tree of.weights me) (shown_of of.key) of.is_continued r
+    ⊎ (IsStartRefusal (owner of.tree of.weights me) (shown_of of.key) of.is_continued r
     ⊎ ((r ≡ socket_refusal) ⊎ IsLogRefusal r)))
 
 -- what is told before the first turn: of the listing, of what is given, of the key's file, of the

@@ -12,21 +12,19 @@ ghost use Rattle.dpbn_node.specs.Node.{
   RefusesNode,
   RefusesOnLog,
   RefusesStart,
+  is_local,
   letters_of,
   member_refusal,
   run_at,
   socket_refusal,
 };
-ghost use Rattle.dpbn_node.specs.Run.{is_local};
 ghost use Rattle.program.specs.NodeLine.{IsLineOf};
 ghost use Rattle.program.specs.Refusals.{memory_refusal};
 
 use crate::given::{Given, given_of_words};
-use crate::sealing::{Sealing, key_of_words};
-use crate::starting::{identity_of, start_of, write_unwritten};
-use crate::telling::Telling;
 use crate::turning::run;
 use ballots::Weights;
+use dpbn_run::{Sealing, Telling, identity_of, key_of_words, start_of, write_unwritten};
 use dpbn_words::{Files, Peers, Run};
 use listing::Tree;
 use node::Node;

@@ -3,9 +3,6 @@
 
 mod answering;
 mod given;
-mod sealing;
-mod starting;
-mod telling;
 mod turning;
 
 pub use crate::answering::{Place, node_of_words, node_on_log};

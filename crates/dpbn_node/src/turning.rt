@@ -3,7 +3,7 @@ ghost use Rattle.std.specs.Prelude.{None, ⊤};
 ghost use Rattle.dpbn_node.specs.Node.{HasRun, port_vouches};
 ghost use Rattle.solo.specs.Turns.{HaveTurned, IsTurn, Outcome};
 
-use crate::telling::Telling;
+use dpbn_run::Telling;
 use ports::Port;
 use program::Refusal;
 use protocol::Packages;
@@ -27,7 +27,7 @@ pub fn run<E: Write>(
 {
     take_turns(alloc, solo, builds, turns, telling, err);
     solo.port().flush();
-    telling.at_end(solo, err);
+    telling.tell_members(solo.port_seen().tallies(), err);
 }
 
 /// Takes so many turns.
@@ -44,7 +44,7 @@ fn take_turns<D: Disk, E: Write>(
 {
     for _ in 0..turns {
         take_turn(solo, builds, telling, err);
-        telling.after_turn(alloc, solo, err);
+        tell_turn(alloc, solo, telling, err);
     }
 }
 
@@ -61,5 +61,19 @@ fn take_turn<D: Disk, P: Port, E: Write>(
     match solo.turn(builds) {
         Ok(done) => drop(done),
         Err(fault) => telling.refused(Refusal::of(&fault), err),
+    }
+}
+
+/// Tells what is due behind a turn.
+fn tell_turn<D: Disk, E: Write>(
+    alloc: Global,
+    solo: &Solo<'_, D, UdpPort<'_, HostRuntime>>,
+    telling: &mut Telling,
+    err: &mut E,
+) {
+    let tallies = solo.port_seen().tallies();
+    telling.tell_otherwise(tallies, err);
+    if telling.is_due() {
+        telling.tell_line(alloc, solo.counts(), tallies, err);
     }
 }

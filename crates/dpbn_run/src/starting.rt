@@ -1,7 +1,7 @@
 //! How a node comes to its log.
 ghost use Rattle.std.specs.Prelude.{◌≡◌, IfErr, IfOk, option_map, string_bytes};
-ghost use Rattle.dpbn_node.specs.Run.{IsStartRefusal, shown_of};
-ghost use Rattle.node.specs.OnLog.{identity};
+ghost use Rattle.dpbn_run.specs.Keys.{shown_of};
+ghost use Rattle.dpbn_run.specs.Starts.{IsStartRefusal, owner};
 ghost use Rattle.program.specs.Refusals.{IsSystemRefusal};
 ghost use Rattle.run_file.specs.Starts.{IsStarted};
 
@@ -41,7 +41,7 @@ pub fn start_of(
 
 /// Whose log it is: that of this member, of members that weigh so, over the tree.
 pub fn identity_of(tree: &Tree, weights: &Weights, me: u8) -> Identity
-    ensures { result ≡ identity tree.now weights.now me }
+    ensures { result ≡ owner tree.now weights.now me }
 {
     let _count = weights.len();
     let mut table = ArrayVec::new();

@@ -1,7 +1,6 @@
 //! The key of a node's run, and what its port lets in.
 ghost use Rattle.std.specs.Prelude.{◌≡◌, ◌≢◌, IfErr, IfOk, None, false, option_map, true};
-ghost use Rattle.dpbn_node.specs.Run.{IsKeyOf, RefusesKeyFile, seal_of, shown_of};
-ghost use Rattle.protocol.specs.Answers.{tree_digest};
+ghost use Rattle.dpbn_run.specs.Keys.{IsKeyOf, RefusesKeyFile, seal_of, shown_of};
 
 use ballots::Weights;
 use dpbn_key::key_of_file;
