@@ -149,9 +149,10 @@ fn tell_member<E: Write>(member: usize, tally: Tally, receives: u64, err: &mut E
         unsealed,
         unsent,
     } = tally;
-    let ago = receives.saturating_sub(last);
-    let _ = writeln!(
-        err,
-        "dpbn: member {member}: heard {heard}, last {ago} looks ago, sealed otherwise {unsealed}, unsent {unsent}"
-    );
+    let _ = write!(err, "dpbn: member {member}: heard {heard}");
+    if heard > 0 {
+        let ago = receives.saturating_sub(last);
+        let _ = write!(err, ", last {ago} looks ago");
+    }
+    let _ = writeln!(err, ", sealed otherwise {unsealed}, unsent {unsent}");
 }
