@@ -325,7 +325,7 @@ def forged(tally):
         print(f"tests/run: {FORGED:,} forged datagrams in {took:.1f} s: {came:,} were read, {strangers:,} of a stranger; {used:.1f} s of processor", flush=True)
         tally.add("forged datagrams that were read", "" if came > FORGED / 2 else f"{came}")
         tally.add("forged datagrams that are heard", "" if all(it[0] == 0 for it in tallies.values()) else f"{tallies}")
-        wanted = [b"dpbn: member %d seals otherwise: by another key, listing, weights or members" % me for me in (1, 2)]
+        wanted = [b"dpbn: member %d seals otherwise: another key, listing, weights or members" % me for me in (1, 2)]
         told = sorted(line for line in lines_of(folder, 0) if others(line))
         tally.add("what is told of forged datagrams", "" if told == wanted else f"{told[:5]}")
         tally.add("the log behind forged datagrams", "" if contents(f"{folder}/logs/node-0.log") == before else "it changed")
@@ -381,7 +381,7 @@ def strangers_of_the_run(tally):
             words += ["--weights", "1,1,2"] if name == "weights" else []
             third = begun(folder, 2, words, files=["other" if it == "listing" else it for it in SHARED] if files else SHARED)
             held = [has_told(folder, me, node_line(me, i=1)[:-1]) for me in (0, 1)]
-            line = b"dpbn: member 2 seals otherwise: by another key, listing, weights or members"
+            line = b"dpbn: member 2 seals otherwise: another key, listing, weights or members"
             named = [has_told(folder, me, line) for me in (0, 1)]
             back = has_told(folder, 2, line.replace(b"member 2", b"member 0"))
             for node in (*two, third):

@@ -84,7 +84,7 @@ impl Telling {
                 self.otherwise[member] = true;
                 let _ = writeln!(
                     err,
-                    "dpbn: member {member} seals otherwise: by another key, listing, weights or members"
+                    "dpbn: member {member} seals otherwise: another key, listing, weights or members"
                 );
             }
         }
