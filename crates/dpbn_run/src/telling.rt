@@ -82,10 +82,7 @@ impl Telling {
         for member in 0..9 {
             if !self.otherwise[member] && is_otherwise(tallies, member) {
                 self.otherwise[member] = true;
-                let _ = writeln!(
-                    err,
-                    "dpbn: member {member} seals otherwise: another key, listing, weights or members"
-                );
+                tell_otherwise_sealed(member, err);
             }
         }
     }
@@ -131,6 +128,14 @@ impl Telling {
         }
         self.repeats = 0;
     }
+}
+
+/// Tells that the member is none of this run.
+fn tell_otherwise_sealed<E: Write>(member: usize, err: &mut E) {
+    let _ = writeln!(
+        err,
+        "dpbn: member {member} seals otherwise: another key, listing, weights or members"
+    );
 }
 
 /// Whether something came from the member's address that is sealed otherwise.
