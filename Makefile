@@ -33,5 +33,6 @@ bench: all
 	-bench/traces
 	./dpbn node --help 2>/dev/null; [ $$? -eq 2 ]
 	-bench/nodes
+	-bench/seals
 
 .PHONY: all check install dist bench
