@@ -1,5 +1,5 @@
 -- When a node's line is told.
-use Rattle.std.specs.Prelude.{ℕ, Bool, false, true, Option, None, Some, ◌-◌, if◌then◌else◌, nat_le}
+use Rattle.std.specs.Prelude.{ℕ, Bool, false, Option, None, Some, ◌-◌, if◌then◌else◌, nat_le}
 
 -- the line is due after a turn, where it is told after each so many and is due in so many
 abbrev pub is_due : Option ℕ → ℕ → Bool
