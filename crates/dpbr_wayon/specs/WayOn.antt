@@ -34,7 +34,8 @@ handed_over d path builds = given_at d builds (number_found d path)
 
 -- ---- what is printed
 
--- The text is the trace of the events that were taken and then those of a way, and a line feed.
+-- The text is the trace of the events that were taken and then those of a way, and a line feed. It
+-- is read again as just that trace.
 pub record IsWritten (h : History) (weights : List ℕ) (node : ℕ) (path : Text) (host : ℕ)
     (given : Given) (text : Text) : Type 0 where
   pub way : List Event
@@ -42,6 +43,7 @@ pub record IsWritten (h : History) (weights : List ℕ) (node : ℕ) (path : Tex
   pub granted : IsGranted h.world node path host given
   pub written : text
       ≡ trace_text (record { weights = weights; events = taken h ++ way }) ++ line_feed ∷ []
+  pub again : trace_of text ≡ Ok (record { weights = weights; events = taken h ++ way })
 
 -- The trace's events lead from the start over the tree to a world, and the text is written of that.
 pub record IsAfter (tree : Tree) (trace : Trace) (node : ℕ) (path : Text) (host : ℕ)
