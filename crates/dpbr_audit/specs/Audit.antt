@@ -80,4 +80,5 @@ RefusesAudit rules listing list r = RefusesTexts rules listing (RefusesList list
 
 -- one of the two can't be read, or this is told of what reads of these names gave
 abbrev pub RefusesAuditFiles : (Text → Text → Type 0) → Text → Text → Bool → Refusal → Type 0
-RefusesAuditFiles Gave listing list is_single r = RefusesBoth Gave is_single listing list RefusesList r
+RefusesAuditFiles Gave listing list is_single r =
+    RefusesBoth Gave is_single listing list RefusesList r

@@ -82,4 +82,5 @@ pub record IsRun (Gave : Text → Text → Type 0) (listing_name trace_name : Te
 
 -- one of the two can't be read, or this is told of what reads of these names gave
 abbrev pub RefusesRunFiles : (Text → Text → Type 0) → Text → Text → Bool → Refusal → Type 0
-RefusesRunFiles Gave listing trace is_single r = RefusesBoth Gave is_single listing trace RefusesTrace r
+RefusesRunFiles Gave listing trace is_single r =
+    RefusesBoth Gave is_single listing trace RefusesTrace r

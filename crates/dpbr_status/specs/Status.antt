@@ -76,4 +76,5 @@ RefusesStatus rules listing held r = RefusesTexts rules listing (RefusesHeld hel
 
 -- one of the two can't be read, or this is told of what reads of these names gave
 abbrev pub RefusesStatusFiles : (Text → Text → Type 0) → Text → Text → Bool → Refusal → Type 0
-RefusesStatusFiles Gave listing held is_single r = RefusesBoth Gave is_single listing held RefusesHeld r
+RefusesStatusFiles Gave listing held is_single r =
+    RefusesBoth Gave is_single listing held RefusesHeld r

@@ -26,7 +26,8 @@ IsOutputOf Gave (Wayon listing trace node path host builds is_single) status tex
 
 -- what was written since, where it is known, is one such text, and the status is the one that goes
 -- with it
-pub record HasPrinted (Gave : Text → Text → Type 0) (call : Call) (status : ℕ) (before after : Option (List ℕ)) : Type 0 where
+pub record HasPrinted (Gave : Text → Text → Type 0) (call : Call) (status : ℕ)
+    (before after : Option (List ℕ)) : Type 0 where
   pub text : Text
   pub is_output : IsOutputOf Gave call status text
   pub appended : Appends before after text
@@ -40,7 +41,8 @@ pub record HasCarriedOut (Gave : Text → Text → Type 0) (words : List Word) (
   pub printed : HasPrinted Gave call status before after
 
 -- what was written since, where it is known, is a beginning of one text that the call prints
-pub record HasBegun (Gave : Text → Text → Type 0) (call : Call) (before after : Option (List ℕ)) : Type 0 where
+pub record HasBegun (Gave : Text → Text → Type 0) (call : Call)
+    (before after : Option (List ℕ)) : Type 0 where
   pub status : ℕ
   pub text : Text
   pub is_output : IsOutputOf Gave call status text

@@ -17,8 +17,8 @@ use words::{Call, dpbr_words};
 
 /// Carries out the call that the words make, and gives the status with which the program ends: 0; 3
 /// after an audit that answers no; 1 after a fault, of which it writes one line to `err`, `dpbr:
-/// fault N` or `dpbr: fault N at K`, and nothing else; 2 where the words make no call, or ask for help, after clap's
-/// text on `err`.
+/// fault N` or `dpbr: fault N at K`, and nothing else; 2 where the words make no call, or ask for
+/// help, after clap's text on `err`.
 ///
 /// The first word is the program's name. The whole output is made before any of it is written to
 /// `out`; output that can't be written is fault 2.
