@@ -1,5 +1,5 @@
 //! Why the program stops before its answer is printed.
-ghost use Rattle.std.specs.Prelude.{◌≡◌, ◌⊎◌, OnOk};
+ghost use Rattle.std.specs.Prelude.{◌≡◌, ◌⊎◌, IfSome, OnOk};
 ghost use Rattle.std.specs.Io.KnownBytes.{Appends};
 ghost use Rattle.program.specs.Printing.{AppendsBeginning};
 ghost use Rattle.program.specs.Stops.{IsBegun, IsTold, StopsBy, refusal_line, status_after};
@@ -56,19 +56,29 @@ impl Stop {
     }
 }
 
-/// Writes the line that tells a refusal. It is put together first, without asking for memory; a
-/// name for which it has no room is told of nothing.
+/// Writes the line that tells a refusal, for which no memory is asked. Of a name for which it has no
+/// room nothing is told.
 fn tell_refusal<E: Write>(program: &str, refusal: Refusal, err: &mut E) -> io::Result<()>
     ensures told { OnOk result (Appends (E.contents err.old) (E.contents err.new)
         (refusal_line program.now refusal)) }
     ensures begun { AppendsBeginning (E.contents err.old) (E.contents err.new)
         (refusal_line program.now refusal) }
 {
-    let mut line = ArrayString::<MOST_IN_LINE>::new();
-    if writeln!(line, "{program}: {refusal}").is_err() {
-        return Err(io::Error::from(io::ErrorKind::WriteZero));
+    match line_of(program, refusal) {
+        Some(line) => print(err, line.as_str().as_bytes()),
+        None => Err(io::Error::from(io::ErrorKind::WriteZero)),
     }
-    print(err, line.as_str().as_bytes())
+}
+
+/// The line that tells a refusal, if there is room for it.
+fn line_of(program: &str, refusal: Refusal) -> Option<ArrayString<MOST_IN_LINE>>
+    ensures { IfSome result (λ line. line.bytes ≡ refusal_line program.now refusal) }
+{
+    let mut line = ArrayString::new();
+    match writeln!(line, "{program}: {refusal}") {
+        Ok(()) => Some(line),
+        Err(_) => None,
+    }
 }
 
 impl From<Error> for Stop {

@@ -8,4 +8,4 @@ pub returns-in_err-verdict-clause-refused : goal.returns-in_err-verdict-clause-r
 returns-in_err-verdict-clause-refused g c =
     let p = err_from_is_err_and c.from_residual-in_err-verdict.result c.from_residual-in_err-verdict.ensures.1 in
     let tree = c.args.tree.now in
-    rw (p.1, p.2) (text_read _ _ (λ text. RefusesList text tree) _ c.in_ok-list.ensures.gave _ (list_told _ tree _ c.in_err-verdict.ensures.refused))
+    rw (p.1, p.2) (text_read (g.T.NamedTexts.gave c.args.texts.now) c.args.list.now (λ text. RefusesList text tree) _ c.in_ok-list.ensures.gave _ (list_told _ tree _ c.in_err-verdict.ensures.refused))

@@ -13,21 +13,21 @@ pub returns-in_err-path-clause-refused : goal.returns-in_err-path-clause-refused
 returns-in_err-path-clause-refused g c =
     let p = err_from_is_err_and c.from_residual-in_err-path.result c.from_residual-in_err-path.ensures.1 in
     let target = c.args.target.now in
-    rw (p.1, p.2) (path_refused _ c.args.trace.now c.args.builds.now c.args.tree.now target.node target.path.now target.host _
+    rw (p.1, p.2) (path_refused (g.T.NamedTexts.gave c.args.texts.now) c.args.trace.now c.args.builds.now c.args.tree.now target.node target.path.now target.host _
     (trace_view c.in_ok-trace.trace) c.in_ok-trace.ensures.ok c.in_err-path.ensures.refused)
 
 pub returns-in_err-builds-clause-refused : goal.returns-in_err-builds-clause-refused
 returns-in_err-builds-clause-refused g c =
     let p = err_from_is_err_and c.from_residual-in_err-builds.result c.from_residual-in_err-builds.ensures.1 in
     let target = c.args.target.now in
-    rw (p.1, p.2) (builds_refused _ c.args.trace.now c.args.builds.now c.args.tree.now target.node target.path.now target.host _
+    rw (p.1, p.2) (builds_refused (g.T.NamedTexts.gave c.args.texts.now) c.args.trace.now c.args.builds.now c.args.tree.now target.node target.path.now target.host _
     (trace_view c.in_ok-trace.trace) c.in_ok-trace.ensures.ok c.in_ok-path.path c.in_ok-path.ensures.ok c.in_err-builds.ensures.refused)
 
 pub returns-in_err-text-clause-refused : goal.returns-in_err-text-clause-refused
 returns-in_err-text-clause-refused g c =
     let p = err_from_is_err_and c.from_residual-in_err-text.result c.from_residual-in_err-text.ensures.1 in
     let target = c.args.target.now in
-    rw (p.1, p.2) (taken_refused _ c.args.trace.now c.args.builds.now c.args.tree.now target.node target.path.now target.host _
+    rw (p.1, p.2) (taken_refused (g.T.NamedTexts.gave c.args.texts.now) c.args.trace.now c.args.builds.now c.args.tree.now target.node target.path.now target.host _
     (trace_view c.in_ok-trace.trace) c.in_ok-trace.ensures.ok c.in_ok-path.path c.in_ok-path.ensures.ok
     c.in_ok-builds.builds c.in_ok-builds.ensures.ok c.in_err-text.ensures.refused)
 

@@ -5,4 +5,4 @@ use Rattle.program.proofs.tree.tree_of_name.Goals as goal
 pub returns-in_err-tree-clause-refused : goal.returns-in_err-tree-clause-refused
 returns-in_err-tree-clause-refused g c =
     let p = err_from_is_err_and c.from_residual-in_err-tree.result c.from_residual-in_err-tree.ensures.1 in
-    rw (p.1, p.2) (listing_read _ _ c.args.is_single _ c.in_ok-listing.ensures.gave _ c.in_err-tree.ensures)
+    rw (p.1, p.2) (listing_read (g.T.NamedTexts.gave c.args.texts.now) c.args.listing.now c.args.is_single _ c.in_ok-listing.ensures.gave _ c.in_err-tree.ensures)
