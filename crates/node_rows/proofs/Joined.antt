@@ -1,5 +1,5 @@
 -- The last piece of a message.
-use Rattle.std.proofs.Common.{◌≡◌, ◌∙◌, ◌∷◌, ◌||◌, [], ℕ, Bool, true, false, List, Option, None, Some, Result, Ok, Err, IfOk, if◌then◌else◌, filter, sym, subst, ap, refl}
+use Rattle.std.proofs.Common.{◌≡◌, ◌∙◌, ◌∷◌, ◌||◌, [], ℕ, Bool, true, false, List, Option, None, Some, Result, Ok, Err, IfOk, if◌then◌else◌, filter, get_or, sym, subst, ap, refl}
 use Rattle.std.specs.List.{list_any}
 use Rattle.std.proofs.lemmas.List.Sums.{list_all-from_AllPass}
 use Rattle.ballots.specs.declared.message.Message.{Message}
@@ -33,30 +33,24 @@ use Rattle.wire.specs.declared.datagram.Piece.{Piece}
 -- what a filter leaves alone is there
 any_left : {A : Type 0} (P : A → Bool) (xs : List A) (x : A) → filter P xs ≡ x ∷ [] → list_any P xs ≡ true
 any_left P [] x e = absurd (let no : [] ≡ x ∷ [] = e in cc)
-any_left P (y ∷ ys) x e = by (P y) refl
+any_left P (y ∷ ys) x e = by (P y) refl (λ rest. any_left P ys x rest)
   where
-    by : (b : Bool) → P y ≡ b → list_any P (y ∷ ys) ≡ true
-    by true is = ap (λ (b : Bool). b || list_any P ys) is
-    by false is =
+    by : (b : Bool) → P y ≡ b → (filter P ys ≡ x ∷ [] → list_any P ys ≡ true) → list_any P (y ∷ ys) ≡ true
+    by true is later = ap (λ (b : Bool). b || list_any P ys) is
+    by false is later =
         ap (λ (b : Bool). b || list_any P ys) is
-        ∙ any_left P ys x (sym (ap (λ (b : Bool). if b then y ∷ filter P ys else filter P ys) is) ∙ e)
+        ∙ later (sym (ap (λ (b : Bool). if b then y ∷ filter P ys else filter P ys) is) ∙ e)
 
 -- where each piece stands once, all are there
 are_there : (h : Header) (text : Text) (pieces : List Piece) → AreAllThere h text pieces → are_all h pieces ≡ true
 are_there h text pieces once =
     list_all-from_AllPass (has_number h pieces) (numbers_of h.length)
-    (λ k d lt. any_left (is_numbered h _) pieces (piece_at h text _) (once k d lt))
+    (λ k d lt. any_left (is_numbered h (get_or (numbers_of h.length) k d)) pieces (piece_at h text (get_or (numbers_of h.length) k d)) (once k d lt))
 
 module _ (old new : NodeState) (m : Message Value) (h : Header) (text : Text) (p : Piece) (out : Out)
     (again : datagram_of (datagram_text (datagram.Piece p)) ≡ Ok (datagram.Piece p)) (runs : old.stopped ≡ false)
     (last : IsLastPiece old.pieces p h text) (joins : joined h (bytes_of h (with_piece old.pieces p)) ≡ Ok m)
     (handled : HasHandled old new (Comes (datagram_text (datagram.Piece p))) out) where
-  bytes : Text
-  bytes = datagram_text (datagram.Piece p)
-
-  all : List Piece
-  all = with_piece old.pieces p
-
   -- what they join to is the message
   is_whole : arrival_of_piece old.pieces p None ≡ Whole m (without h old.pieces)
   is_whole =
@@ -87,13 +81,13 @@ module _ (old new : NodeState) (m : Message Value) (h : Header) (text : Text) (p
       }
 
 -- and so it is of what a call answers
-pub if_joined : (r : Result Out NodeFault) (old new : NodeState) (bytes : Text) (p : Piece) → bytes ≡ datagram_text (datagram.Piece p)
+pub if_joined : (r : Result Out NodeFault) (old new : NodeState) (came : Text) (p : Piece) → came ≡ datagram_text (datagram.Piece p)
     → datagram_of (datagram_text (datagram.Piece p)) ≡ Ok (datagram.Piece p) → OnlyRunningNodesTake → PiecesJoinInAnyOrder
-    → IfOk r (HasHandled old new (Comes bytes)) → IfOk r (TookWithLast old new p)
-if_joined (Ok out) old new bytes p same again runs joins handled = λ m carrier build is_message carried last.
+    → IfOk r (HasHandled old new (Comes came)) → IfOk r (TookWithLast old new p)
+if_joined (Ok out) old new came p same again runs joins handled = λ m carrier build is_message carried last.
     let text : Text = datagram_text (datagram.Piece p) in
     let h : Header = header_with m carrier build in
     let as_read : HasHandled old new (Comes text) out = subst (λ (t : Text). HasHandled old new (Comes t) out) same handled in
     took_joined old new m h (build_text build) p out again (runs old (Comes text) as_read.step as_read.takes) last
     (joins m carrier build (with_piece old.pieces p) is_message carried last.all_there) as_read
-if_joined (Err f) old new bytes p same again runs joins handled = tt
+if_joined (Err f) old new came p same again runs joins handled = tt

@@ -1,4 +1,5 @@
-use Rattle.std.proofs.Common.{◌≡◌, ◌≤◌, ◌<◌, ℕ, List, true, ap, arith, length, subst, sym, and_parts, leb-true, nat_le, ◌&&◌}
+use Rattle.std.proofs.Common.{◌≡◌, ◌≤◌, ◌&&◌, ℕ, List, true, ap, arith, length, nat_le, subst, sym}
+use Rattle.std.proofs.lemmas.Bool.{and_parts, leb-true}
 use Rattle.std.specs.List.{list_all}
 use Rattle.agreement.specs.Quorums.{is_majority}
 use Rattle.ballots.specs.Weights.{AreWeights, is_weight}
