@@ -1,20 +1,21 @@
 //! The answer of `dpbn node` to its words.
-ghost use Rattle.std.specs.Prelude.{◌≡◌, ◌<◌, ◌≤◌, ◌⊎◌, IfErr, IfOk, List, length, option_map, string_bytes, ℕ};
+ghost use Rattle.std.specs.Prelude.{◌≡◌, ◌<◌, ◌≤◌, ◌⊎◌, IfErr, IfOk, length, string_bytes};
 ghost use Rattle.dpbn_node.specs.Node.{
   AreGood,
   IsHostsRefusal,
+  IsLineAfter,
   IsLogRefusal,
+  IsNodeOf,
   IsNodeText,
-  IsOf,
   IsShown,
+  IsShownOn,
   RefusesNode,
+  RefusesOnLog,
   RefusesStart,
   letters_of,
   member_refusal,
   socket_refusal,
 };
-ghost use Rattle.listing.specs.Tree.{Tree};
-ghost use Rattle.node.specs.Calls.{IsOpened};
 ghost use Rattle.program.specs.NodeLine.{IsLineOf};
 ghost use Rattle.program.specs.Refusals.{memory_refusal};
 
@@ -103,8 +104,8 @@ fn run_on<E: Write>(
     requires each { length addresses.items ≡ files.now.members }
     requires weights { length given.now.weights ≡ files.now.members }
     ensures member { IfOk result (λ text. me < files.now.members) }
-    ensures shown { IfOk result (λ text.
-        IsShown tree.now given.now.weights me (string_bytes text)) }
+    ensures shown { IfOk result (λ text. IsShown tree.now given.now.weights me given.now.builds
+        files.now.turns (string_bytes text)) }
     ensures refused { IfErr result (RefusesStart files.now me) }
 {
     if me >= files.members {
@@ -112,9 +113,34 @@ fn run_on<E: Write>(
     }
     let disk = log_of_file(rt, files.dir, me)?;
     let port = port_of(rt, addresses, me, patience.unwrap_or(PATIENCE))?;
-    let node = open(rt.alloc(), disk, tree, &given.weights, me)?;
+    node_on_log(rt.alloc(), disk, port, tree, given, files, me, err)
+}
+
+/// Opens the member's node on its log, takes its turns, and answers the line on it. That is so
+/// whatever is known of the log's file before: what its disk says of it, as long as the file does
+/// what that says.
+///
+/// # Errors
+///
+/// Why the log opens as no node of the member; else want of memory for the line.
+pub fn node_on_log<E: Write>(
+    alloc: Global,
+    disk: FileDisk,
+    port: UdpPort<'_, HostRuntime>,
+    tree: &Tree,
+    given: &Given,
+    files: &Files<'_>,
+    me: u8,
+    err: &mut E,
+) -> Result<String, Refusal>
+    requires { me < length given.now.weights }
+    ensures shown { IfOk result (λ text. IsShownOn disk port tree.now given.now.weights me
+        given.now.builds files.now.turns (string_bytes text)) }
+    ensures refused { IfErr result RefusesOnLog }
+{
+    let node = open(alloc, disk, tree, &given.weights, me)?;
     let solo = Solo::new(node, port);
-    match line_after(rt.alloc(), solo, &given.builds, files, me, err) {
+    match line_after(alloc, solo, &given.builds, files, me, err) {
         Ok(line) => Ok(line),
         Err(_) => Err(Refusal::memory()),
     }
@@ -129,8 +155,8 @@ fn line_after<E: Write>(
     me: u8,
     err: &mut E,
 ) -> Result<String, AllocError>
-    ensures { (tree : Tree) (weights : List ℕ) → IsOf tree weights me solo.entry.node.node
-        → IfOk result (λ text. IsShown tree weights me (string_bytes text)) }
+    ensures { IfOk result (λ text.
+        IsLineAfter builds.now files.now.turns solo.entry me (string_bytes text)) }
 {
     let mut solo = solo;
     run(
@@ -142,7 +168,6 @@ fn line_after<E: Write>(
         me,
         err,
     );
-    let _len = solo.node().log_len();
     line_of(alloc, &solo, me)
 }
 
@@ -193,7 +218,7 @@ fn open<'a>(
     me: u8,
 ) -> Result<Node<'a, FileDisk>, Refusal>
     requires { me < length weights.now }
-    ensures opened { IfOk result (λ n. IsOpened tree.entry.now weights.now me n.node) }
+    ensures opened { IfOk result (IsNodeOf tree.entry.now weights.now me disk) }
     ensures refused { IfErr result IsLogRefusal }
 {
     match Node::open(alloc, disk, tree, weights, me) {

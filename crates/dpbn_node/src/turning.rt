@@ -1,45 +1,57 @@
 //! The turns of a node.
-ghost use Rattle.dpbn_node.specs.Node.{IsOf};
-ghost use Rattle.listing.specs.Tree.{Tree};
-ghost use Rattle.std.specs.Prelude.{List, ℕ};
+ghost use Rattle.dpbn_node.specs.Node.{HasRun};
+ghost use Rattle.solo.specs.Turns.{HaveTurned, IsTurn, Outcome};
 
 use ports::Port;
 use program::{Refusal, node_text};
 use protocol::Packages;
 use solo::Solo;
-use stable_record::Disk;
+use stable_record::{Disk, FileDisk};
 use std::alloc::Global;
 use std::io::Write;
-use std::time::Clock;
 use udp::UdpPort;
 
 /// Takes so many turns, and then sends what waits to leave. What a turn refuses is told on `err`;
 /// and after each so many turns, if that is wanted, the node's line.
-pub fn run<D: Disk, C: Clock, E: Write>(
+pub fn run<E: Write>(
     alloc: Global,
-    solo: &mut Solo<'_, D, UdpPort<'_, C>>,
+    solo: &mut Solo<'_, FileDisk, UdpPort<'_, HostRuntime>>,
     builds: &Packages,
     turns: u32,
     progress: Option<u32>,
     me: u8,
     err: &mut E,
 )
-    ensures { (tree : Tree) (weights : List ℕ) (k : ℕ) → IsOf tree weights k solo.old.node.node
-        → IsOf tree weights k solo.new.node.node }
+    ensures { HasRun builds.now turns solo.old solo.new }
+{
+    take_turns(alloc, solo, builds, turns, progress, me, err);
+    solo.port().flush();
+}
+
+/// Takes so many turns.
+fn take_turns<D: Disk, P: Port, E: Write>(
+    alloc: Global,
+    solo: &mut Solo<'_, D, P>,
+    builds: &Packages,
+    turns: u32,
+    progress: Option<u32>,
+    me: u8,
+    err: &mut E,
+)
+    ensures { HaveTurned D.is_kept D.history D.failures_of P.given P.offered P.does P.vouches
+        builds.now turns solo.old solo.new }
 {
     let mut left = progress.unwrap_or(0);
     for _ in 0..turns {
         take_turn(solo, builds, err);
         left = next_line(alloc, solo, progress, left, me, err);
     }
-    solo.port().flush();
 }
 
 /// Takes a turn, and tells why it is refused, if it is.
-#[tactic(auto, using(crate::proofs::Staying::turned))]
 fn take_turn<D: Disk, P: Port, E: Write>(solo: &mut Solo<'_, D, P>, builds: &Packages, err: &mut E)
-    ensures { (tree : Tree) (weights : List ℕ) (k : ℕ) → IsOf tree weights k solo.old.node.node
-        → IsOf tree weights k solo.new.node.node }
+    ensures { (answer : Outcome) × IsTurn D.is_kept D.history D.failures_of P.given P.offered
+        P.does P.vouches builds.now solo.old solo.new answer }
 {
     match solo.turn(builds) {
         Ok(done) => drop(done),
@@ -50,9 +62,9 @@ fn take_turn<D: Disk, P: Port, E: Write>(solo: &mut Solo<'_, D, P>, builds: &Pac
 }
 
 /// Tells the node's line where it is due, and answers in how many turns the next one is.
-fn next_line<D: Disk, C: Clock, E: Write>(
+fn next_line<D: Disk, P: Port, E: Write>(
     alloc: Global,
-    solo: &Solo<'_, D, UdpPort<'_, C>>,
+    solo: &Solo<'_, D, P>,
     progress: Option<u32>,
     left: u32,
     me: u8,

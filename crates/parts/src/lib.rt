@@ -2,6 +2,7 @@
 #![tactic(auto)]
 
 mod answering;
+mod handed;
 mod offering;
 mod owning;
 mod readied;

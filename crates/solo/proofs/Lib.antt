@@ -1,7 +1,10 @@
 pub mod ByCase
 pub mod Chosen
+pub mod Coming
 pub mod Done
+pub mod Left
 pub mod Only
 pub mod Refused
 pub mod Room
 pub mod Turned
+pub mod Turns

@@ -239,8 +239,12 @@ module _ {D P : Type 0} (is_kept : D → Type 0) (history : D → History) (fail
   -- ---- refusals
 
   fault_is : (f : TurnFault) → IsTurnOf (Err f) → IsTurnFault given old new builds f
-  fault_is refused.Memory (inl t) = (t.0.0, chosen_is t.0.0 t.0.1)
-  fault_is refused.Memory (inr t) = (t.1.chosen, chosen_is t.1.chosen t.1.is_chosen)
+  fault_is refused.Memory (inl t) = (t.0.0, chosen_is (Some t.0.0) t.0.1)
+  fault_is refused.Memory (inr t) = (
+    (t.0.node, asked_by t.0.readied.act),
+    subst (IsChosen given old new builds) (chosen_some t.1.chosen t.0 t.1.readied)
+        (chosen_is t.1.chosen t.1.is_chosen),
+  )
   fault_is (refused.Node f) (inl (refuses, still)) =
       let e = some_of (event_of old.sent (refuses.0, Does refuses.1)) refuses.3 in (
         e.0,

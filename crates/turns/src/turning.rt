@@ -1,16 +1,16 @@
 //! The turns of a cluster.
 ghost use Rattle.std.specs.Prelude.{◌≡◌, ◌≤◌, ◌⊎◌, ◌++◌, ◌∷◌, [], IfErr, IfNone, IfOk, IfSome, None, length};
 ghost use Rattle.choice.specs.declared.fault.TurnFault.TheVariants as refused;
-ghost use Rattle.choosing.specs.Choosing.{AreMembers, NoneIsForeign};
-ghost use Rattle.choosing.specs.Here.{here_in};
+ghost use Rattle.choosing.specs.Choosing.{NoneIsForeign};
 ghost use Rattle.events.specs.Events as values;
 ghost use Rattle.events.specs.declared.event.Left.TheVariants as left;
 ghost use Rattle.events.specs.Events.{event_view};
 ghost use Rattle.world.specs.MatchingLaws.{IsSafe};
 ghost use Rattle.turns.specs.AnyCase.{IsListedInAnyCase};
+ghost use Rattle.turns.specs.Calls.{HasCalled};
 ghost use Rattle.turns.specs.Faults.{IsLeftBy, IsTurnFault};
 ghost use Rattle.turns.specs.State.{AreOnLogs, IsWorldOf, taken};
-ghost use Rattle.turns.specs.inside.Turning.{IsTurn};
+ghost use Rattle.turns.specs.inside.Turning.{IsTurn, IsTurnByCalls};
 ghost use Rattle.turns.specs.Turn.{AreUntouched, HasFailedAt, HasHappened, IsChosen, IsEventChosen, IsSame, KeepsWith, LeavesItsNotes, OffersItsSends, OffersNothing, OthersStay, WereKept};
 ghost use Rattle.world.specs.Headline.{HasOneList};
 ghost use Rattle.world.specs.World as worlds;
@@ -76,6 +76,10 @@ impl<'a, D: Disk, P: Port> Cluster<'a, D, P> {
         ensures device { IfErr result (λ f. (k : _) → f ≡ refused.Down k
             → HasFailedAt D.failures_of self.old self.new k) }
 
+        // The same by the calls of the port, whatever it keeps of them: a receive, if any, and then
+        // the sends.
+        ensures calls { HasCalled P.does self.old self.new builds.now result }
+
         // Whichever it was.
         ensures fixed { (self.new.division ≡ self.old.division)
             × (self.new.weights ≡ self.old.weights) }
@@ -113,8 +117,22 @@ fn take_turn<D: Disk, P: Port>(
     requires few { length nodes.old.items ≤ 9 }
     requires next { pending.old.next ≤ length nodes.old.items }
     requires known { NoneIsForeign nodes.old.items sent.old }
-    requires members { AreMembers (here_in nodes.old.items) }
-    ensures { IsTurn D.is_kept D.history D.failures_of P.given P.offered
+    ensures turn { IsTurn D.is_kept D.history D.failures_of P.given P.offered
+        (record {
+          nodes = nodes.old.items;
+          sent = sent.old;
+          events = events.old.items;
+          pending = pending.old;
+          port = port.old;
+        })
+        (record {
+          nodes = nodes.new.items;
+          sent = sent.new;
+          events = events.new.items;
+          pending = pending.new;
+          port = port.new;
+        }) builds.now result }
+    ensures calls { IsTurnByCalls D.is_kept D.history D.failures_of P.does
         (record {
           nodes = nodes.old.items;
           sent = sent.old;

@@ -7,3 +7,5 @@ pub mod Idle
 pub mod Listed
 pub mod Showing
 pub mod Reopening
+pub mod InMemory
+pub mod Crashing

@@ -1,14 +1,14 @@
-use Rattle.std.proofs.Common.{subst, sym}
-use Rattle.node.specs.State.{LoggedNode}
-use Rattle.stable_record.specs.declared.file_disk.FileDisk.{FileDisk}
-use Rattle.dpbn_node.proofs.Shown.{opened_is}
-use Rattle.dpbn_node.specs.Node.{IsOf}
+use Rattle.std.proofs.Common.{inl, inr, ⊎_elim}
+use Rattle.std.proofs.lemmas.Result.{IfOk-weaker, IfErr-weaker}
 use Rattle.dpbn_node.proofs.answering.run_on.Goals as goal
 
-pub returns-in-Ok-clause-shown : goal.returns-in-Ok-clause-shown
-returns-in-Ok-clause-shown g c =
-    let tree = c.args.tree.now in
-    let weights = c.args.given.now.weights in
-    c.in-Ok.ensures tree weights
-    (subst (λ (n : LoggedNode _). IsOf tree weights c.args.me n.node) (sym c.new-solo.ensures.node)
-    (opened_is tree weights c.args.me c.in_ok-node.node.node c.in_ok-node.ensures.opened))
+pub returns-clause-shown : goal.returns-clause-shown
+returns-clause-shown g c =
+    IfOk-weaker c.node_on_log.result _ _
+    (λ text shown. (c.in_ok-disk.disk, c.in_ok-port.port, shown)) c.node_on_log.ensures.shown
+
+pub returns-clause-refused : goal.returns-clause-refused
+returns-clause-refused g c =
+    IfErr-weaker c.node_on_log.result _ _
+    (λ r why. ⊎_elim (λ memory. inl (inl memory)) (λ log. inr (inr (inr log))) why)
+    c.node_on_log.ensures.refused

@@ -6,16 +6,16 @@ use Rattle.hosts.proofs.turns.turn_on_host.Goals as goal
 
 pub returns-clause-turned : goal.returns-clause-turned
 returns-clause-turned g c =
-    taken_so g.P.Port.given g.P.Port.offered c.args.builds.now
+    taken_so g.P.Port.given g.P.Port.offered g.P.Port.does g.P.Port.vouches c.args.builds.now
     (LeavesAtMost g.D.Disk.is_kept g.D.Disk.history c.args.solo.now c.turn.new.self)
     c.args.solo.now c.turn.new.self
     (subst IsLogged c.node.ensures c.member-node.ensures.node)
-    c.turn.result c.turn.ensures.chosen c.turn.ensures.taken
+    c.turn.result c.turn.ensures.done.taken
 
 pub returns-clause-refused : goal.returns-clause-refused
 returns-clause-refused g c =
-    refusals_so g.P.Port.given g.P.Port.offered c.args.builds.now
+    refusals_so g.P.Port.given g.P.Port.offered g.P.Port.does g.P.Port.vouches c.args.builds.now
     (LeavesAtMost g.D.Disk.is_kept g.D.Disk.history c.args.solo.now c.turn.new.self)
     c.args.solo.now c.turn.new.self
     (subst IsLogged c.node.ensures c.member-node.ensures.node)
-    c.turn.result c.turn.ensures.refused
+    c.turn.result c.turn.ensures.refuses.refused

@@ -1,8 +1,9 @@
 use Rattle.std.proofs.Common.{refl, subst, ◌∙◌}
 use Rattle.turns.proofs.AnyCase.{listed_in_any}
+use Rattle.turns.proofs.ByCalls.{has_called}
 use Rattle.turns.proofs.Led.{one_list, safe}
-use Rattle.turns.proofs.Standing.{members_there}
 use Rattle.turns.proofs.Turns.{Promises, StandsThen, none_foreign, promises, stands_then}
+use Rattle.turns.specs.Calls.{HasCalled}
 use Rattle.turns.specs.State.{ClusterState}
 use Rattle.turns.specs.Turn.{WereKept}
 use Rattle.turns.specs.inside.Standing.{cluster_of}
@@ -12,10 +13,6 @@ use Rattle.turns.proofs.cluster.Cluster.turn.Goals as goal
 pub take_turn-requires-clause-known : goal.take_turn-requires-clause-known
 take_turn-requires-clause-known g c =
     none_foreign (cluster_of c.self.inside) c.self.invariant.0.world c.self.invariant.0.is_world
-
-pub take_turn-requires-clause-members : goal.take_turn-requires-clause-members
-take_turn-requires-clause-members g c =
-    members_there (cluster_of c.self.inside) c.self.invariant.0.world c.self.invariant.0.is_world
 
 -- the cluster after the turn
 abbrev cluster_then : (g : Over) → goal.After-take_turn g
@@ -40,7 +37,7 @@ promised g c =
     g.P.Port.offered old (cluster_then g c) c.args.builds.now c.take_turn.result) c.self.view_is
     (promises g.D.Disk.is_kept g.D.Disk.history g.D.Disk.failures_of g.P.Port.given
     g.P.Port.offered (cluster_of c.self.inside) (cluster_then g c) c.args.builds.now refl refl
-    i.count i.world i.is_world c.self.invariant.1 c.take_turn.result c.take_turn.ensures)
+    i.count i.world i.is_world c.self.invariant.1 c.take_turn.result c.take_turn.ensures.turn)
 
 -- and what stands then
 standing : (g : Over) (c : goal.After-take_turn g)
@@ -49,7 +46,7 @@ standing g c =
     let i = c.self.invariant.0 in
     stands_then g.D.Disk.is_kept g.D.Disk.history g.D.Disk.failures_of g.P.Port.given
     g.P.Port.offered (cluster_of c.self.inside) (cluster_then g c) c.args.builds.now refl refl
-    i.count i.world i.is_world c.self.invariant.1 c.take_turn.result c.take_turn.ensures
+    i.count i.world i.is_world c.self.invariant.1 c.take_turn.result c.take_turn.ensures.turn
 
 pub invariant_of-self : goal.invariant_of-self
 invariant_of-self g c =
@@ -108,6 +105,15 @@ returns-clause-device g c = (promised g c).device
 
 pub returns-clause-left : goal.returns-clause-left
 returns-clause-left g c = (promised g c).leaves
+
+pub returns-clause-calls : goal.returns-clause-calls
+returns-clause-calls g c =
+    let i = c.self.invariant.0 in
+    subst (λ old. HasCalled g.P.Port.does old (cluster_then g c) c.args.builds.now c.take_turn.result)
+    c.self.view_is
+    (has_called g.D.Disk.is_kept g.D.Disk.history g.D.Disk.failures_of g.P.Port.does
+    (cluster_of c.self.inside) (cluster_then g c) c.args.builds.now refl refl i.count i.world
+    i.is_world c.self.invariant.1 c.take_turn.result c.take_turn.ensures.calls)
 
 pub returns-clause-on_logs : goal.returns-clause-on_logs
 returns-clause-on_logs g c = (standing g c).on_logs

@@ -1,0 +1,15 @@
+use Rattle.std.proofs.Common.{string_bytes, subst}
+use Rattle.dpbn_node.specs.Node.{IsLineAfter}
+use Rattle.dpbn_node.proofs.answering.node_on_log.Goals as goal
+
+pub returns-in-Ok-clause-shown : goal.returns-in-Ok-clause-shown
+returns-in-Ok-clause-shown g c =
+    let solo = c.new-solo.ensures in
+    record {
+      node = c.in_ok-node.node;
+      is_node = c.in_ok-node.ensures.opened;
+      is_line = subst (λ s. IsLineAfter c.args.given.now.builds c.args.files.now.turns s
+          c.args.me (string_bytes c.in-Ok.line))
+          (λ i. record { node = solo.node i; pending = solo.pending i; port = solo.port i })
+          c.in-Ok.ensures;
+    }
