@@ -34,5 +34,6 @@ bench: all
 	./dpbn node --help 2>/dev/null; [ $$? -eq 2 ]
 	-bench/nodes
 	-bench/link
+	-bench/seals
 
 .PHONY: all check install dist bench

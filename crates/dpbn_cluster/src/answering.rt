@@ -17,6 +17,7 @@ ghost use Rattle.world.specs.World.{World, start};
 
 use crate::turning::{lines_of, run};
 use ballots::Weights;
+use choice::TurnFault;
 use dpbn_node::{Given, given_of_words, log_of_file};
 use dpbn_words::Files;
 use events::Event;
@@ -24,6 +25,7 @@ use listing::Tree;
 use ports::Port;
 use program::{Answer, Refusal, tree_of_file};
 use protocol::Packages;
+use run_file::read_run;
 use stable_record::{Disk, FileDisk};
 use std::alloc::{AllocError, Global};
 use std::fs;
@@ -37,7 +39,8 @@ use udp::UdpPort;
 /// the trace, if one is named.
 ///
 /// All that can be wrong is looked at before the first turn, in this order: the listing, the
-/// builds, the weights, the logs' files, the sockets, the logs.
+/// builds, the weights, the logs' files, whether run files stand beside them, the sockets, the
+/// logs.
 ///
 /// # Errors
 ///
@@ -132,6 +135,7 @@ fn cluster_of<'a>(
     ensures refused { IfErr result RefusesStart }
 {
     let disks = logs_of_files(rt, files.dir, files.members)?;
+    refuse_runs(rt, files.dir, files.members)?;
     let port = port_of(rt, files.members)?;
     match Cluster::new(rt.alloc(), tree, weights, disks, port) {
         Ok(cluster) => Ok(cluster),
@@ -153,6 +157,20 @@ fn logs_of_files(rt: &HostRuntime, folder: &str, members: u8) -> Result<Vec<File
         }
     }
     Ok(disks)
+}
+
+/// Refuses logs of which one has a run file beside it: a node runs on it, or did.
+fn refuse_runs(rt: &HostRuntime, folder: &str, members: u8) -> Result<(), Refusal>
+    ensures { IfErr result (λ r. IsSystemRefusal r ⊎ IsClusterRefusal r) }
+{
+    for member in 0..members {
+        match read_run(rt, folder, member) {
+            Ok(None) => {}
+            Ok(Some(_)) => return Err(Refusal::of(&TurnFault::NotFresh)),
+            Err(fault) => return Err(Refusal::of(&fault)),
+        }
+    }
+    Ok(())
 }
 
 /// The port of all of them.

@@ -1,11 +1,15 @@
 -- What `dpbn node` prints, and what is told where it can't run.
-use Rattle.std.specs.Prelude.{◌≡◌, ◌≤◌, ◌<◌, ◌⊎◌, ◌++◌, ⊤, ℕ, Bool, true, List, [], Option, None, Some, Ok, if◌then◌else◌, option_map}
+use Rattle.std.specs.Prelude.{◌≡◌, ◌≢◌, ◌≤◌, ◌<◌, ◌⊎◌, ◌++◌, ⊤, ℕ, Bool, true, false, List, [], Option, None, Some, Ok, if◌then◌else◌, option_map}
 use Rattle.std.specs.declared.rt.LibcRuntime.{LibcRuntime}
 use Rattle.choice.specs.Pending.{nothing_kept}
 use Rattle.dpbn_node.specs.Given.{AreBuilds, AreTold, RefusesBuilds, RefusesWeights}
+use Rattle.dpbn_node.specs.declared.answering.Place.{Place}
+use Rattle.dpbn_run.specs.Keys.{IsKeyOf, RefusesKeyFile, seal_of, shown_of}
+use Rattle.dpbn_run.specs.Starts.{IsStartRefusal, owner}
 use Rattle.dpbn_words.specs.declared.Files.{Files}
 use Rattle.dpbn_words.specs.declared.Peers.{Peers}
 use Rattle.dpbn_words.specs.declared.Peers.TheVariants.{Base, Hosts}
+use Rattle.dpbn_words.specs.declared.Run.{Run}
 use Rattle.engine.specs.State.{State}
 use Rattle.faults.specs.Bytes.{Text, comma}
 use Rattle.faults.specs.Pieces.{pieces_at}
@@ -21,6 +25,7 @@ use Rattle.program.specs.Refusals.{IsSystemRefusal, memory_refusal}
 use Rattle.program.specs.declared.refusal.Refusal.{Refusal}
 use Rattle.protocol.specs.Given.{Given}
 use Rattle.protocol.specs.State.{engine_of}
+use Rattle.run_file.specs.Starts.{IsStarted}
 use Rattle.solo.specs.State.{SoloState}
 use Rattle.solo.specs.Turns.{HaveTurned}
 use Rattle.stable_record.specs.Crash.{AllAlong}
@@ -86,23 +91,69 @@ pub record IsShownOn (log : FileDisk) (port : UdpPort LibcRuntime) (tree : Tree)
   pub is_line : IsLineAfter builds turns
       (record { node = node; pending = nothing_kept; port = port }) me line
 
--- on some log, by some port
-abbrev pub IsShown : Tree → List ℕ → ℕ → Given → ℕ → Text → Type 0
-IsShown tree weights me builds turns line =
-    (log : FileDisk) × (port : UdpPort LibcRuntime)
-    × IsShownOn log port tree weights me builds turns line
+-- ---- runs
 
--- The text is the line of the member's node over the tree that a listing describes, where so many
--- members weigh what is told, after as many turns as are asked for, by the builds that a text has.
-pub record IsNodeText (files : Files) (me : ℕ) (text : Text) : Type 0 where
+-- Of which run a node is: over which tree, what its members weigh, and its key, if it has one; then
+-- whether all who send are heard where it has none, and whether a log of it has to be there.
+pub record RunOf : Type 0 where
   pub tree : Tree
-  pub described : IsDescribed files.is_single tree
+  pub weights : List ℕ
+  pub key : Option Text
+  pub is_open : Bool
+  pub is_continued : Bool
+
+-- all members are on one host
+abbrev pub is_local : Peers → Bool
+is_local (Base port) = true
+is_local (Hosts text) = false
+
+-- So the words say: a listing describes the tree, so many members weigh what is told, and the key
+-- is that of the file. Strangers are heard where all members are on one host alone.
+pub record IsRunOf (files : Files) (peers : Peers) (run : Run) (of : RunOf) : Type 0 where
+  pub described : IsDescribed files.is_single of.tree
+  pub told : AreTold files.members (option_map (λ t. t.now) files.weights) of.weights
+  pub has_key : IsKeyOf (option_map (λ t. t.now) run.key) of.key
+  pub open_to : of.is_open ≡ is_local peers
+  pub continued : of.is_continued ≡ run.is_continued
+
+-- the run that a node is of at this place
+abbrev pub run_at : Tree → List ℕ → Place → RunOf
+run_at tree weights place = record {
+  tree = tree;
+  weights = weights;
+  key = place.sealing.key;
+  is_open = place.sealing.is_open;
+  is_continued = place.is_continued;
+}
+
+-- The port seals what leaves it, and opens what comes, under the run's key, if there is one; and
+-- then it hears no strangers, nor where they are not to be heard.
+pub record IsGuarded (of : RunOf) (port : UdpPort LibcRuntime) : Type 0 where
+  pub opens : port.inbox.key ≡ seal_of of.tree of.weights of.key
+  pub seals : port.outbox.key ≡ seal_of of.tree of.weights of.key
+  pub sealed : of.key ≢ None → port.is_open ≡ false
+  pub closed : of.is_open ≡ false → port.is_open ≡ false
+
+-- It was opened on the log on which a start in the run is made, behind a port that guards the run.
+pub record IsShown (of : RunOf) (me : ℕ) (builds : Given) (turns : ℕ) (line : Text) : Type 0 where
+  pub log : FileDisk
+  pub unwritten : Option Text
+  pub started : IsStarted (owner of.tree of.weights me) (shown_of of.key) of.is_continued
+      unwritten
+  pub port : UdpPort LibcRuntime
+  pub guarded : IsGuarded of port
+  pub shows : IsShownOn log port of.tree of.weights me builds turns line
+
+-- The text is the line of the member's node of the run that the words tell, after as many turns as
+-- are asked for, by the builds that a text has.
+pub record IsNodeText (files : Files) (me : ℕ) (peers : Peers) (run : Run) (text : Text)
+    : Type 0 where
+  pub of : RunOf
+  pub is_of : IsRunOf files peers run of
   pub builds : Given
   pub read : AreBuilds builds
-  pub weights : List ℕ
-  pub told : AreTold files.members (option_map (λ t. t.now) files.weights) weights
   pub member : me < files.members
-  pub shown : IsShown tree weights me builds files.turns text
+  pub shown : IsShown of me builds files.turns text
 
 -- ---- refusals
 
@@ -126,27 +177,31 @@ socket_refusal = record { number = 1204; place = None }
 abbrev pub IsLogRefusal : Refusal → Type 0
 IsLogRefusal r = (f : NodeFault) × (r ≡ record { number = number_of f; place = None })
 
--- that, or memory was wanting for its line
+-- that, or the run file can't be written, or memory was wanting
 abbrev pub RefusesOnLog : Refusal → Type 0
-RefusesOnLog r = (r ≡ memory_refusal) ⊎ IsLogRefusal r
+RefusesOnLog r = IsSystemRefusal r ⊎ IsLogRefusal r
 
 -- what is told of the builds, and then of the weights
 abbrev pub RefusesGiven : Refusal → Type 0
 RefusesGiven r = RefusesBuilds r ⊎ RefusesWeights r
 
--- what is told of the member's number, the log's file, the socket, and then the log
-abbrev pub RefusesStart : Files → ℕ → Refusal → Type 0
-RefusesStart files me r =
+-- what is told of the member's number, the start on the log, the socket, and then the log
+abbrev pub RefusesStart : Files → ℕ → RunOf → Refusal → Type 0
+RefusesStart files me of r =
     IsSystemRefusal r
-    ⊎ (((r ≡ member_refusal) × (files.members ≤ me)) ⊎ ((r ≡ socket_refusal) ⊎ IsLogRefusal r))
+    ⊎ (((r ≡ member_refusal) × (files.members ≤ me))
+    ⊎ (IsStartRefusal (owner of.tree of.weights me) (shown_of of.key) of.is_continued r
+    ⊎ ((r ≡ socket_refusal) ⊎ IsLogRefusal r)))
 
--- what is told before the first turn: of the listing, of what is given, of the hosts, or of the
--- start
-abbrev pub RefusesNode : Files → ℕ → Peers → Refusal → Type 0
-RefusesNode files me peers r =
+-- what is told before the first turn: of the listing, of what is given, of the key's file, of the
+-- hosts, or of the start in the run that the words tell
+abbrev pub RefusesNode : Files → ℕ → Peers → Run → Refusal → Type 0
+RefusesNode files me peers run r =
     RefusesListingFile files.is_single r
     ⊎ (RefusesGiven r
-    ⊎ (IsHostsRefusal files.members peers r ⊎ RefusesStart files me r))
+    ⊎ (RefusesKeyFile (option_map (λ t. t.now) run.key) r
+    ⊎ (IsHostsRefusal files.members peers r
+    ⊎ ((of : RunOf) × IsRunOf files peers run of × RefusesStart files me of r))))
 
 -- the first port is low enough for all members
 abbrev pub AreGood : Peers → Type 0
