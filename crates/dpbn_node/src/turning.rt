@@ -1,6 +1,6 @@
 //! The turns of a node.
-ghost use Rattle.std.specs.Prelude.{None, ⊤};
-ghost use Rattle.dpbn_node.specs.Node.{HasRun, port_vouches};
+ghost use Rattle.std.specs.Prelude.{◌≡◌};
+ghost use Rattle.dpbn_node.specs.Node.{HasRun};
 ghost use Rattle.solo.specs.Turns.{HaveTurned, IsTurn, Outcome};
 
 use dpbn_run::Telling;
@@ -11,7 +11,20 @@ use solo::Solo;
 use stable_record::{Disk, FileDisk};
 use std::alloc::Global;
 use std::io::Write;
-use udp::UdpPort;
+use std::time::Clock;
+use udp::{Tallies, UdpPort};
+
+/// A port that counts what it sees of the members.
+pub(crate) trait Counting {
+    /// What it saw of them.
+    fn seen(&self) -> &Tallies;
+}
+
+impl<'c, C: Clock> Counting for UdpPort<'c, C> {
+    fn seen(&self) -> &Tallies {
+        self.tallies()
+    }
+}
 
 /// Takes so many turns, and then sends what waits to leave. What a turn refuses is told on `err`,
 /// and so is what else is to be told as it goes.
@@ -27,20 +40,20 @@ pub fn run<E: Write>(
 {
     take_turns(alloc, solo, builds, turns, telling, err);
     solo.port().flush();
-    telling.tell_members(solo.port_seen().tallies(), err);
+    telling.tell_members(solo.port().seen(), err);
 }
 
 /// Takes so many turns.
-fn take_turns<D: Disk, E: Write>(
+fn take_turns<D: Disk, P: Port + Counting, E: Write>(
     alloc: Global,
-    solo: &mut Solo<'_, D, UdpPort<'_, HostRuntime>>,
+    solo: &mut Solo<'_, D, P>,
     builds: &Packages,
     turns: u32,
     telling: &mut Telling,
     err: &mut E,
 )
-    ensures { HaveTurned D.is_kept D.history D.failures_of (λ port. None) (λ port. None)
-        (λ port call after. ⊤) port_vouches builds.now turns solo.old solo.new }
+    ensures { HaveTurned D.is_kept D.history D.failures_of P.given P.offered P.does P.vouches
+        builds.now turns solo.old solo.new }
 {
     for _ in 0..turns {
         take_turn(solo, builds, telling, err);
@@ -65,15 +78,17 @@ fn take_turn<D: Disk, P: Port, E: Write>(
 }
 
 /// Tells what is due behind a turn.
-fn tell_turn<D: Disk, E: Write>(
+fn tell_turn<D: Disk, P: Port + Counting, E: Write>(
     alloc: Global,
-    solo: &Solo<'_, D, UdpPort<'_, HostRuntime>>,
+    solo: &mut Solo<'_, D, P>,
     telling: &mut Telling,
     err: &mut E,
-) {
-    let tallies = solo.port_seen().tallies();
-    telling.tell_otherwise(tallies, err);
+)
+    ensures { solo.new ≡ solo.old }
+{
+    telling.tell_otherwise(solo.port().seen(), err);
     if telling.is_due() {
-        telling.tell_line(alloc, solo.counts(), tallies, err);
+        let counts = solo.counts();
+        telling.tell_line(alloc, counts, solo.port().seen(), err);
     }
 }
