@@ -177,8 +177,8 @@ pub fn node_on_log<E: Write>(
     err: &mut E,
 ) -> Result<String, Refusal>
     requires { me < length given.now.weights }
-    ensures shown { IfOk result (λ text. IsShownOn start.disk port.entry tree.now given.now.weights me
-        given.now.builds files.now.turns (string_bytes text)) }
+    ensures shown { IfOk result (λ text. IsShownOn start.disk port.entry tree.now
+        given.now.weights me given.now.builds files.now.turns (string_bytes text)) }
     ensures refused { IfErr result RefusesOnLog }
 {
     let Start { disk, unwritten } = start;
