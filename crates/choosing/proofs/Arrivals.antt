@@ -54,8 +54,8 @@ some_came here k text came is some =
   where
     by : (o : Option State) → is_some o ≡ true
         → is_some (option_map {U = ℕ × Asked} (λ (s : State). (k, Comes text)) o) ≡ true
-    by None no = absurd (let bad : false ≡ true = no in cc)
-    by (Some s) yes = refl
+    by None none = absurd (let bad : false ≡ true = none in cc)
+    by (Some s) here_is = refl
 
 -- ---- the same, told of a node that is lent
 

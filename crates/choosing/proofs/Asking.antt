@@ -1,5 +1,5 @@
 -- What a receive answered, and what it gave.
-use Rattle.std.proofs.Common.{◌≡◌, ℕ, List, [], ◌∷◌, Option, None, Some, Result, Ok, Vec, ap, refl, sym}
+use Rattle.std.proofs.Common.{◌≡◌, ℕ, [], ◌∷◌, Option, None, Some, Result, Ok, Vec, ap, refl, sym}
 use Rattle.std.specs.declared.alloc.Global.{Global}
 use Rattle.choosing.specs.inside.Cases.{arrived}
 use Rattle.parts.specs.Calls.{came_by}

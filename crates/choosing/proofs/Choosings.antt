@@ -114,7 +114,8 @@ module _ {D : Type 0} (nodes : List (LoggedNode D)) (sent : List Text) (p : Pend
           event = λ y e. same_event x y e (arrived_event known x is);
         }
 
-    wants_arrival : (c : Chosen) → comes_to here came ≡ c → is_some c ≡ true → IsFault refused.Memory
+    wants_arrival : (c : Chosen) → comes_to here came ≡ c → is_some c ≡ true
+        → IsFault refused.Memory
     wants_arrival None is some = absurd (let no : false ≡ true = some in cc)
     wants_arrival (Some x) is some = (x, by_arrival here count p builds old new none came goes x is)
 

@@ -185,7 +185,7 @@ impl<'a, D: Disk, P: Port> Cluster<'a, D, P> {
 
 /// The disks on which these nodes stand.
 fn disks_of<D: Disk>(alloc: Global, nodes: Vec<Node<'_, D>>) -> Result<Vec<D>, Memory>
-    ensures { IfOk result (λ disks. disks.items ≡ map (λ n. n.log.disk) nodes.items) }
+    ensures { IfOk result (λ disks. disks.items ≡ map (λ n. n.log.disk) nodes.entry.items) }
 {
     let mut disks = Vec::with_capacity(alloc, nodes.len())?;
     for node in nodes {

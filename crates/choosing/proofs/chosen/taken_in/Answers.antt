@@ -73,8 +73,8 @@ returns-in-Err-clause-refused g c =
       c.told.ensures ∙ ap told (wants_lent nodes to c.in-Some.bytes.items
           (arrived c.args.came)
           (ap arrived c.in-Some.is)
-          c.index_mut.result.now c.take_in.new.node c.index_mut.ensures.value some c.args.sent.now among
-          c.requires.known c.in-Err.fault c.in-Err.ensures.refused),
+          c.index_mut.result.now c.take_in.new.node c.index_mut.ensures.value some c.args.sent.now
+          among c.requires.known c.in-Err.fault c.in-Err.ensures.refused),
       some_comes nodes to c.in-Some.bytes.items (arrived c.args.came) (ap arrived c.in-Some.is)
           c.index_mut.result.now c.take_in.new.node c.index_mut.ensures.value some,
     )

@@ -111,7 +111,8 @@ returns-in-Ok-finish-clause-calls g c =
           (subst (λ n. HasTaken g.D.Disk.is_kept g.D.Disk.history n c.finish.new.node
           c.args.chosen.readied.ready) (sym here) c.in-Ok-finish.ensures.taken)
           c.in-Ok.ensures.sent (c.in-Ok.ensures.pending at.node there)
-          (c.keep.ensures.kept ∙ ap (λ l. l ++ c.in-Ok.grown.recorded.kept ∷ []) c.in-Ok.ensures.events)
+          (c.keep.ensures.kept
+          ∙ ap (λ l. l ++ c.in-Ok.grown.recorded.kept ∷ []) c.in-Ok.ensures.events)
           offered.1 c.keep.result c.keep.ensures.answered;
     }
 
@@ -149,8 +150,8 @@ returns-in-Err-finish-clause-calls g c =
           (subst (λ l. StopsAs c.args.chosen.node c.in-Ok.grown.recorded.stop l
           c.stopped.new.events.items c.in-Err-finish.fault c.stopped.result) c.in-Ok.ensures.events
           c.stopped.ensures)
-          (c.cut_back.ensures ∙ c.in-Ok.ensures.count) (c.put_back.ensures ∙ c.in-Ok.ensures.before.0)
-          refl;
+          (c.cut_back.ensures ∙ c.in-Ok.ensures.count)
+          (c.put_back.ensures ∙ c.in-Ok.ensures.before.0) refl;
     }
 
 pub returns-in-Err-clause-calls : goal.returns-in-Err-clause-calls

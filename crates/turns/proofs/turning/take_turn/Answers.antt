@@ -98,7 +98,8 @@ returns-in_err-event-in-Some-clause-calls g c =
             port = record { received = asked.received; offered = offered.offered };
           })
           no_calls refl c.in-Some.chosen c.args.builds.now
-          c.args.nodes.now.items c.choose.ensures.same made (goes_on (Some (map came_by asked.received)))
+          c.args.nodes.now.items c.choose.ensures.same made
+          (goes_on (Some (map came_by asked.received)))
           c.in_err-event-in-Some.field-0.0 (offered.so asked.received);
     })
 
@@ -128,7 +129,8 @@ returns-in_ok-event-in-Some-clause-calls g c =
             port = record { received = asked.received; offered = offered.offered };
           })
           no_calls refl c.in-Some.chosen c.args.builds.now
-          c.args.nodes.now.items c.choose.ensures.same made (goes_on (Some (map came_by asked.received)))
+          c.args.nodes.now.items c.choose.ensures.same made
+          (goes_on (Some (map came_by asked.received)))
           c.in_ok-event-in-Some.event (offered.so asked.received);
     }
 

@@ -1,7 +1,8 @@
 use Rattle.std.proofs.Common.{Ok, Some}
 use Rattle.events.specs.Events.{event_view}
 use Rattle.turns_rows.proofs.Going.{one_happened}
-use Rattle.turns_rows.proofs.InMemory.{hears_offered, turns_in_memory}
+use Rattle.turns_rows.proofs.InMemory.{turns_in_memory}
+use Rattle.turns_rows.proofs.Offered.{hears_offered}
 use Rattle.turns_rows.proofs.Sending.{event_steps, sends_known}
 use Rattle.turns_rows.proofs.in_memory.hear_what_was_offered.Goals as goal
 

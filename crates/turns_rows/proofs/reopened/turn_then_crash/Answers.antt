@@ -1,4 +1,4 @@
-use Rattle.std.proofs.Common.{◌∙◌, Ok, ap, refl, subst}
+use Rattle.std.proofs.Common.{◌≡◌, ◌<◌, ◌∙◌, Ok, ap, arith, length, refl, slice_index_or, subst}
 use Rattle.std.specs.Prelude.{⊤}
 use Rattle.node.specs.OnLog.{identity_of, texts_of}
 use Rattle.stable_record.specs.Failing.{history_of}
@@ -17,12 +17,16 @@ returns-in-Ok g c =
     let new = c.turn.new.self in
     let arm = c.in-Err-Down in
     let down = fell g.P.Port.given (λ _. ⊤) history_of old new c.args.builds.now arm.field-0
-    arm.number arm.number arm.field-0-is refl arm.ensures.refused arm.ensures.any_moment in
+    arm.number arm.number arm.field-0-is refl arm.ensures.refused arm.ensures.disks.any_moment in
     let w = c.events-events.ensures.history in
     let inner = c.into_inner.result in
     let file = left_file c.args.left (mem_history inner) in
-    let gone = left_in_memory old new down.0 arm.number down.1 c.swap_remove-node.result ?
-    ? inner (c.into_inner.ensures ∙ ap (λ (d : FaultDisk). d.inner) c.into_disk.ensures)
+    let below : arm.number < length c.into_parts-nodes.result.0.items =
+    omega (arith, c.if-number-len.false, c.len.ensures) in
+    let gone = left_in_memory old new down.0 arm.number down.1 c.swap_remove-node.result
+    (subst (λ ns. c.swap_remove-node.result ≡ slice_index_or ns arm.number c.swap_remove-node.result)
+    c.into_parts-nodes.ensures.nodes c.swap_remove-node.ensures.value)
+    (subst (λ ns. arm.number < length ns) c.into_parts-nodes.ensures.nodes below) inner (c.into_inner.ensures ∙ ap (λ (d : FaultDisk). d.inner) c.into_disk.ensures)
     c.args.left c.crash-disk.ensures.possible in
     let m = c.in-Ok.node.node in (
       new,
