@@ -1,2 +1,5 @@
 mod GivenFiles
+mod Growing
+mod JustGiven
+mod Sound
 pub mod Refusing

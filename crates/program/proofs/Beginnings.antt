@@ -32,3 +32,7 @@ module _ (a b : Option (List ℕ)) (text rest : Text) (taken : HasTaken a b text
 
   pub all_taken : rest ≡ [] → Appends a b text
   all_taken none = subst (Appends a b) (sym (taken.1 ∙ ap (λ l. taken.0 ++ l) none ∙ append-nil taken.0)) taken.2
+
+-- the whole is a beginning
+pub whole_begins : (a b : Option (List ℕ)) (text : Text) → Appends a b text → AppendsBeginning a b text
+whole_begins a b text all = (length text, subst (Appends a b) (sym (take_of_length-le text {i = length text} (search rules))) all)
