@@ -52,11 +52,7 @@ fn run_in_file<T: NamedTexts>(
 /// # Errors
 ///
 /// What the system refused; else the trace's fault.
-pub fn trace_of_name<T: NamedTexts>(
-    texts: &T,
-    alloc: Global,
-    trace: &str,
-) -> Result<Trace, Refusal>
+pub fn trace_of_name<T: NamedTexts>(texts: &T, alloc: Global, trace: &str) -> Result<Trace, Refusal>
     ensures ok { IfOk result
         (λ read. IsSpelledAt (T.gave texts.now) trace.now (trace_view read)) }
     ensures refused { IfErr result (RefusesTraceAt (T.gave texts.now) trace.now) }

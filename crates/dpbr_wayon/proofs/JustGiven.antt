@@ -15,6 +15,7 @@ use Rattle.faults.specs.Pieces.{text_cmp}
 use Rattle.package_record.specs.Content.{NamedFile}
 use Rattle.protocol.specs.Given.{Given}
 use Rattle.protocol.specs.Jobs.{files_for}
+
 -- of these paths none stands twice
 abbrev pub AreApart : List Text → Type 0
 AreApart [] = Prim.Unit {0}

@@ -52,15 +52,7 @@ fn wayon_in_files<T: NamedTexts>(
     let trace = trace_of_name(texts, alloc, trace)?;
     let path = path_of_text(alloc, target.path)?;
     let builds = builds_of_name(texts, alloc, builds)?;
-    let text = way_of_events(
-        alloc,
-        tree,
-        trace,
-        target.node,
-        &path,
-        target.host,
-        &builds,
-    )?;
+    let text = way_of_events(alloc, tree, trace, target.node, &path, target.host, &builds)?;
     Ok(Answer { text, status: 0 })
 }
 

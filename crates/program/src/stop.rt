@@ -56,8 +56,8 @@ impl Stop {
     }
 }
 
-/// Writes the line that tells a refusal, for which no memory is asked. Of a name for which it has no
-/// room nothing is told.
+/// Writes the line that tells a refusal, for which no memory is asked. Of a name for which it has
+/// no room nothing is told.
 fn tell_refusal<E: Write>(program: &str, refusal: Refusal, err: &mut E) -> io::Result<()>
     ensures told { OnOk result (Appends (E.contents err.old) (E.contents err.new)
         (refusal_line program.now refusal)) }
