@@ -38,16 +38,16 @@ returns-clause-ok g c =
       refl,
       record {
         trace = spelled.0;
-        from_trace = spelled.1.0;
+        from_trace = spelled.1;
         builds = given.0;
-        from_builds = given.1.0;
+        from_builds = given.1;
         is_way_on = record {
           read = trace_view c.in_ok-trace.trace;
-          is_trace = spelled.1.1;
+          is_trace = spelled.2;
           named = c.in_ok-path.path;
           is_path = c.in_ok-path.ensures.ok;
           given = c.in_ok-builds.builds;
-          are_builds = given.1.1;
+          are_builds = given.2;
           after = c.in_ok-text.ensures.ok;
         };
       },

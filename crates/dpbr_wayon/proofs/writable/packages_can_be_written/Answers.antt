@@ -1,4 +1,4 @@
-use Rattle.std.proofs.Common.{List, subst, arith}
+use Rattle.std.proofs.Common.{arith, subst, sym}
 use Rattle.std.proofs.lemmas.List.{take_all}
 use Rattle.std.proofs.lemmas.List.Elements.{All-get_or, All-nil}
 use Rattle.std.specs.Prelude.{All}
@@ -26,4 +26,4 @@ returns c = λ text.
     (subst (λ (l : Given). All IsTextPackage l)
     (take_all c.loop-package.package-index c.as_slice-given.result.now
     (omega (arith, c.loop-package-test.false)))
-    (c.loop-package.invariant (subst AreTextFiles (c.as_slice-given.ensures) text)))
+    (c.loop-package.invariant (subst AreTextFiles (sym c.as_slice-given.ensures) text)))
