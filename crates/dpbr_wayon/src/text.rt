@@ -67,7 +67,7 @@ fn way_text(
     host: u16,
     packages: Packages,
 ) -> Result<Vec<u8>, Refusal>
-    requires { weights ≡ world.entry.world.weights }
+    requires { weights ≡ world.world.weights }
     ensures ok { IfOk result (λ text.
         IsWritten world.entry weights node path.now host packages text.items) }
     ensures refused { IfErr result (λ r. (r ≡ memory_refusal)

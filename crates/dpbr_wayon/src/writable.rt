@@ -103,10 +103,10 @@ fn packages_can_be_written(packages: &Packages)
     }
 }
 
-fn package_can_be_written(package: &(PkgPath, Files))
-    ensures { HaveTextNames package.now.1 → IsTextPackage package.now }
+fn package_can_be_written(one: &(PkgPath, Files))
+    ensures { HaveTextNames one.now.1 → IsTextPackage one.now }
 {
-    let (path, files) = package;
+    let (path, files) = one;
     let _text = path.as_bytes();
     files_are_bytes(files.as_slice());
 }
