@@ -33,7 +33,7 @@ IsReadAgain weights way text es =
 
 -- the text that is written of such a trace with a line feed behind it is read so
 module _ (weights : List ℕ) (es way both : List declared.Event) (are : both ≡ es ++ way) (text : Text) where
-  abbrev whole : Trace
+  abbrev pub whole : Trace
   whole = record { weights = weights; events = map event_view both }
 
   pub line_again : text ≡ trace_text whole ++ line_feed ∷ [] → (IsTextTrace whole → trace_of (trace_text whole ++ line_feed ∷ []) ≡ Ok whole)
