@@ -8,4 +8,4 @@ returns-in_ok-text-in-Ok-clause-ok c =
     c.into_events.result.items c.in-Ok.way.items c.into_events.ensures c.in-Ok.ensures.way c.in-Ok.ensures.granted
     c.in_ok-text-in-Ok.text.items c.in_ok-text-in-Ok.ensures.text c.in_ok-text-in-Ok.ensures.again
     (subst CanBeWritten c.events.ensures.events c.can_be_written.ensures)
-    (subst CanBeWritten c.as_slice.ensures.value c.can_be_written-2.ensures)
+    (subst CanBeWritten c.as_slice.ensures.value c.can_be_written-in-Ok.ensures)
