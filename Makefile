@@ -31,6 +31,7 @@ bench: all
 	-bench/member
 	-bench/node
 	-bench/traces
+	-bench/way
 	./dpbn node --help 2>/dev/null; [ $$? -eq 2 ]
 	-bench/nodes
 	-bench/link
