@@ -70,8 +70,8 @@ fn input_of(
 }
 
 /// A new claim for the unit above this round, where a greater claim stands in the way of the open
-/// one; and else a nudge.
-fn renewed(member: &Member<'_>, unit: u32, above: Option<u64>) -> Result<Input, Memory>
+/// one; and else a nudge. It fails only for want of memory.
+pub fn renewed(member: &Member<'_>, unit: u32, above: Option<u64>) -> Result<Input, Memory>
     requires { unit < length member.now.division.units }
     ensures { IfOk result (λ input. (o : members.OpenClaim) → o.unit ≡ unit
         → input ≡ renewed member.now o above) }
