@@ -54,10 +54,10 @@ module _ {D P : Type 0} (is_kept : D → Type 0) (history : D → History) (fail
   )
 
   -- the hosts with another one in its place
-  abbrev with_host : Host → List _ → Hosts
+  abbrev with_host : Host → List Text → Hosts
   with_host x texts = record { hosts = slice_set h.hosts k x; offered = texts }
 
-  becomes : (answer : Outcome) (x : Host) → x ≡ host_after new left answer → (texts : List _)
+  becomes : (answer : Outcome) (x : Host) → x ≡ host_after new left answer → (texts : List Text)
       → HasOffered old answer h.offered texts → Run tree weights first (with_host x texts)
       → Goes answer
   becomes answer x is texts sent run_on = (

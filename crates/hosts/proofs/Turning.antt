@@ -1,6 +1,6 @@
 -- What a turn that is answered so is on its host.
-use Rattle.std.proofs.Common.{List, [], Option, None, Some, Result, Ok, Err, IfErr, IfOk, ap, ◌∙◌, inl, inr, ⊎_elim}
-use Rattle.std.specs.Prelude.{IfSome}
+use Rattle.std.proofs.Common.{◌≡◌, List, [], Option, None, Some, Result, Ok, Err, IfErr, IfOk, ap, ◌∙◌, inl, inr, ⊎_elim}
+use Rattle.std.specs.Prelude.{IfNone, IfSome}
 use Rattle.ballots.specs.declared.message.Note.{Note}
 use Rattle.choice.specs.Acts.{asked_by}
 use Rattle.choice.specs.declared.act.Act.{Act}
@@ -20,7 +20,7 @@ use Rattle.protocol.specs.Given.{Given}
 use Rattle.protocol.specs.State.{Value}
 use Rattle.solo.specs.Faults.{IsTurnFault}
 use Rattle.solo.specs.State.{SoloState, me_of}
-use Rattle.solo.specs.Turn.{HasTaken, IsChosen}
+use Rattle.solo.specs.Turn.{HasTaken, IsChosen, OffersNothing}
 use Rattle.world.proofs.Hosting.{lack_of_full}
 
 module _ {D P : Type 0} (given : P → Option (List Arrived)) (offered : P → Option (List Parcel))
@@ -52,6 +52,15 @@ module _ {D P : Type 0} (given : P → Option (List Arrived)) (offered : P → O
   }
   taken_so (Ok None) t = tt
   taken_so (Err f) t = tt
+
+  -- where there was nothing to do, the node stayed
+  pub stayed_so : (r : Result (Option Act) TurnFault)
+      → IfOk r (λ o. IfNone o ((new.node ≡ old.node) × (new.pending ≡ old.pending)
+      × OffersNothing offered old new))
+      → IfOk r (λ o. IfNone o (new.node ≡ old.node))
+  stayed_so (Ok (Some act)) same = tt
+  stayed_so (Ok None) same = same.0
+  stayed_so (Err f) same = tt
 
   -- where there was room on the log, it is not lacking
   pub has_room : (o : Option (Note Value)) → HasRoomForNote old.node.log o

@@ -1,5 +1,5 @@
 -- Turns, one after the other.
-use Rattle.std.proofs.Common.{◌≡◌, ◌+◌, ◌++◌, ◌∙◌, ℕ, List, [], ◌∷◌, Option, refl, ap, subst, length-append}
+use Rattle.std.proofs.Common.{◌+◌, ◌++◌, ◌∙◌, ℕ, List, [], ◌∷◌, Option, refl, ap, subst, length-append}
 use Rattle.faults.specs.Bytes.{Text}
 use Rattle.ports.specs.Calls.{Call}
 use Rattle.ports.specs.Kept.{Arrived, Parcel}

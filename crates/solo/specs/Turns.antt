@@ -1,5 +1,5 @@
 -- Turns of a node, one after the other.
-use Rattle.std.specs.Prelude.{◌≡◌, ◌⊎◌, ℕ, false, List, [], ◌∷◌, Option, None, Some, Result, IfErr, IfNone, IfOk, IfSome, MatchResult, length}
+use Rattle.std.specs.Prelude.{◌≡◌, ◌⊎◌, ℕ, false, List, [], ◌∷◌, Option, None, Result, IfErr, IfNone, IfOk, IfSome, MatchResult, length}
 use Rattle.choice.specs.Acts.{asked_by}
 use Rattle.choice.specs.declared.act.Act.{Act}
 use Rattle.choice.specs.declared.fault.TurnFault.{TurnFault}
@@ -12,7 +12,7 @@ use Rattle.solo.specs.Handed.{Handed}
 use Rattle.stable_record.specs.Faults.{HasRisen}
 use Rattle.stable_record.specs.History.{History}
 use Rattle.solo.specs.Faults.{IsTurnFault}
-use Rattle.solo.specs.State.{SoloState, me_of}
+use Rattle.solo.specs.State.{SoloState}
 use Rattle.solo.specs.Turn.{HasTaken, IsChosen, IsHeard, IsUntouched, LeavesAtMost, OffersNothing}
 
 -- what a turn answers

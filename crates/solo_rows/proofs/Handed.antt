@@ -91,8 +91,8 @@ module _ {D : Type 0} (is_kept : D → Type 0) (history : D → History) (failur
       gave : (answer : Result Arrived PortFault) (between : MemPortState)
           → WentThrough DoesInMemory old.port (Received answer ∷ []) between
           → came_by answer ≡ Some (n.member.me, text)
-      gave (Ok came) between (next, (kept, not_deaf, is, left, count), same) = is ∙ first
-      gave (Err f) between (next, (kept, deaf, failed, left, count), same) =
+      gave (Ok came) between (next, (kept, not_deaf, is, left, _), same) = is ∙ first
+      gave (Err f) between (next, (kept, deaf, failed, left, _), same) =
           absurd (true≢false (sym deaf ∙ hears))
 
       abbrev later : Chosen → Type 0
@@ -117,7 +117,8 @@ module _ {D : Type 0} (is_kept : D → Type 0) (history : D → History) (failur
       asks_that asked parcels is =
           let known : ◌≡◌ {A = Chosen} (Some (n.member.me, asked)) (Some (n.member.me, Comes text))
           = is_that (Some (n.member.me, asked)) parcels is in
-          cc
+          let same : ◌≡◌ {A = ℕ × Asked} (n.member.me, asked) (n.member.me, Comes text) = cc in
+          ap (λ (x : ℕ × Asked). x.1) same
 
       by_fault : (f : TurnFault) → Turn (Err f) → IsAbout old.node new.node text (Err f)
       by_fault refused.Memory t = (t.refuses.refused).2

@@ -1,5 +1,5 @@
 use Rattle.std.proofs.Common.{subst}
-use Rattle.hosts.proofs.Turning.{refusals_so, taken_so}
+use Rattle.hosts.proofs.Turning.{refusals_so, stayed_so, taken_so}
 use Rattle.node.specs.OnLog.{IsLogged}
 use Rattle.solo.specs.Turn.{LeavesAtMost}
 use Rattle.hosts.proofs.turns.turn_on_host.Goals as goal
@@ -19,3 +19,14 @@ returns-clause-refused g c =
     c.args.solo.now c.turn.new.self
     (subst IsLogged c.node.ensures c.member-node.ensures.node)
     c.turn.result c.turn.ensures.refuses.refused
+
+pub returns-clause-nothing : goal.returns-clause-nothing
+returns-clause-nothing g c = c.turn.ensures.done.nothing
+
+pub returns-clause-stayed : goal.returns-clause-stayed
+returns-clause-stayed g c =
+    stayed_so g.P.Port.given g.P.Port.offered g.P.Port.does g.P.Port.vouches c.args.builds.now
+    (LeavesAtMost g.D.Disk.is_kept g.D.Disk.history c.args.solo.now c.turn.new.self)
+    c.args.solo.now c.turn.new.self
+    (subst IsLogged c.node.ensures c.member-node.ensures.node)
+    c.turn.result c.turn.ensures.done.same

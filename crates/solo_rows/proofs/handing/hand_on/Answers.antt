@@ -7,7 +7,7 @@ use Rattle.solo_rows.proofs.handing.hand_on.Goals as goal
 pub returns : goal.returns
 returns g c =
     let fresh = c.new-second.ensures in
-    let port = fresh.port ∙ c.into_parts.ensures.port in
+    let port = fresh.port ∙ c.into_parts-node.ensures.port in
     record {
       between = c.turn-one.new.self;
       sends = puts g.D.Disk.is_kept g.D.Disk.history g.D.Disk.failures_of _ _ _ c.args.builds.now

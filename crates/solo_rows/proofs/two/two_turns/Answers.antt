@@ -1,5 +1,5 @@
 use Rattle.std.proofs.Common.{refl}
-use Rattle.solo_rows.proofs.Two.{took_two}
+use Rattle.solo_rows.proofs.TwoTurns.{took_two}
 use Rattle.solo_rows.proofs.two.two_turns.Goals as goal
 
 pub returns-clause-led : goal.returns-clause-led

@@ -1,4 +1,4 @@
-use Rattle.std.proofs.Common.{[], Some, ap, subst, sym}
+use Rattle.std.proofs.Common.{[], ap, subst, sym}
 use Rattle.std.proofs.lemmas.Result.{err_from_is_err_and}
 use Rattle.std.specs.Prelude.{◌≡◌, ◌⊎◌, ℕ}
 use Rattle.choice.specs.Acts.{asked_by}
