@@ -19,9 +19,9 @@ use Rattle.node.specs.Step.{Asked, Comes, Does, Takes, after}
 use Rattle.node.specs.declared.fault.NodeFault.{NodeFault}
 use Rattle.ports.specs.Calls.{Call}
 use Rattle.ports.specs.Kept.{Arrived, Parcel}
-use Rattle.protocol.specs.Given.{Given}
 use Rattle.solo.proofs.Coming.{choice_heard}
 use Rattle.solo.specs.Faults.{IsTurnFault}
+use Rattle.solo.specs.Handed.{Handed}
 use Rattle.solo.specs.State.{SoloState, me_of}
 use Rattle.solo.specs.Turn.{IsChosen, IsHeard, LeavesAtMost}
 use Rattle.solo.specs.Turns.{IsTurn, Outcome}
@@ -31,11 +31,11 @@ use Rattle.world.proofs.Hosting.{set_elsewhere, set_there}
 module _ {D P : Type 0} (is_kept : D → Type 0) (history : D → History) (failures_of : D → ℕ)
     (given : P → Option (List Arrived)) (offered : P → Option (List Parcel))
     (does : P → Call → P → Type 0) (vouches : P → Text → Type 0) (tree : Tree)
-    (weights : List ℕ) (first h : Hosts) (k : ℕ) (builds : Given) (old new : SoloState D P)
+    (weights : List ℕ) (first h : Hosts) (k : ℕ) (handed : Handed) (old new : SoloState D P)
     (left : List Text) (before : Run tree weights first h)
     (up : slice_get h.hosts k ≡ Some (Up old.node.node))
     (is_left : IsLeft h.offered old.node.node left) (logged : IsLogged old.node)
-    (hears : HearsOffered given does vouches builds h.offered old new) where
+    (hears : HearsOffered given does vouches handed h.offered old new) where
   -- what follows for an answer
   abbrev Goes : Outcome → Type 0
   Goes answer = (g : Hosts) × Run tree weights first g × IsAfterTurn h g k old new left answer
@@ -72,7 +72,7 @@ module _ {D P : Type 0} (is_kept : D → Type 0) (history : D → History) (fail
 
   -- the node took its step
   took : (act : Act) (parcels : List Parcel)
-      → IsChosen given does vouches old new builds parcels (Some (me_of old, asked_by act))
+      → IsChosen given does vouches old new handed parcels (Some (me_of old, asked_by act))
       → IsStepTaken offered old new (asked_by act) → Goes (Ok (Some act))
   took act parcels chosen s =
       let step = s.step h.offered (hears (asked_by act) parcels chosen) in
@@ -92,7 +92,7 @@ module _ {D P : Type 0} (is_kept : D → Type 0) (history : D → History) (fail
 
   -- or it was refused
   by_fault : (f : TurnFault)
-      → IsTurnFault given does vouches old new builds (LeavesAtMost is_kept history old new) f
+      → IsTurnFault given does vouches old new handed (LeavesAtMost is_kept history old new) f
       → Goes (Err f)
   by_fault refused.Memory (chosen, is_chosen, same) = stays (Err refused.Memory) refl refl same
   by_fault (refused.Node f) (asked, is_chosen, r) = ⊎_elim
@@ -104,7 +104,7 @@ module _ {D P : Type 0} (is_kept : D → Type 0) (history : D → History) (fail
         up = up;
         asked = asked;
         fault = f;
-        asks = asks_so given offered does vouches builds (LeavesAtMost is_kept history old new) old
+        asks = asks_so given offered does vouches handed (LeavesAtMost is_kept history old new) old
             new logged asked [] is_chosen;
         came = hears asked [] is_chosen;
         refuses = takes;
@@ -129,10 +129,10 @@ module _ {D P : Type 0} (is_kept : D → Type 0) (history : D → History) (fail
   by_fault refused.NotFresh bad = absurd bad
 
   pub goes_on : (answer : Outcome)
-      → IsTurn is_kept history failures_of given offered does vouches builds old new answer
+      → IsTurn is_kept history failures_of given offered does vouches handed old new answer
       → Goes answer
   goes_on (Ok (Some act)) t = took act _ (t.done.taken).chosen
-      (taken_so given offered does vouches builds (LeavesAtMost is_kept history old new) old new
+      (taken_so given offered does vouches handed (LeavesAtMost is_kept history old new) old new
       logged (Ok (Some act)) t.done.taken)
   goes_on (Ok None) t = stays (Ok None) refl refl (ap (λ (n : LoggedNode D). n.node) (t.done.same).0)
   goes_on (Err f) t = by_fault f t.refuses.refused
@@ -142,9 +142,9 @@ module _ {D P : Type 0} (is_kept : D → Type 0) (history : D → History) (fail
     (does : P → Call → P → Type 0) (vouches : P → Text → Type 0) where
   pub turns_are_of_a_run :
       TurnsAreOfARun is_kept history failures_of given offered does vouches
-  turns_are_of_a_run tree weights first h k builds old new left answer before up is_left turn hears =
+  turns_are_of_a_run tree weights first h k handed old new left answer before up is_left turn hears =
       goes_on is_kept history failures_of given offered does vouches tree weights first h k
-      builds old new left before up is_left turn.log.logged hears answer turn
+      handed old new left before up is_left turn.log.logged hears answer turn
 
   -- what came was vouched for, so it was offered
   was_offered : (texts : List Text) (port : P) → VouchesForOffered vouches port texts
@@ -154,8 +154,8 @@ module _ {D P : Type 0} (is_kept : D → Type 0) (history : D → History) (fail
 
   pub vouched_turns_are_of_a_run :
       VouchedTurnsAreOfARun is_kept history failures_of given offered does vouches
-  vouched_turns_are_of_a_run tree weights first h k builds old new left answer before up is_left turn
+  vouched_turns_are_of_a_run tree weights first h k handed old new left answer before up is_left turn
       all =
-      turns_are_of_a_run tree weights first h k builds old new left answer before up is_left turn
+      turns_are_of_a_run tree weights first h k handed old new left answer before up is_left turn
       (λ asked parcels chosen. was_offered h.offered new.port all asked
-      (choice_heard given does vouches old new builds parcels asked chosen))
+      (choice_heard given does vouches old new handed parcels asked chosen))

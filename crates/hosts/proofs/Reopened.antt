@@ -20,9 +20,9 @@ use Rattle.node.specs.Step.{Asked, Taken, Takes}
 use Rattle.node.specs.declared.fault.NodeFault.{NodeFault}
 use Rattle.ports.specs.Calls.{Call}
 use Rattle.ports.specs.Kept.{Arrived, Parcel}
-use Rattle.protocol.specs.Given.{Given}
 use Rattle.protocol.specs.State.{Value}
 use Rattle.solo.specs.Faults.{IsTurnFault}
+use Rattle.solo.specs.Handed.{Handed}
 use Rattle.solo.specs.State.{SoloState}
 use Rattle.solo.specs.Turn.{HasTaken, IsUntouched, LeavesAtMost}
 use Rattle.stable_record.specs.Crash.{AllAlong, Leaves, MayLeave, and_then, at_first}
@@ -121,7 +121,7 @@ opened_with tree weights me own file ts m mine has one opened opens =
 
 module _ {D P : Type 0} (is_kept : D → Type 0) (history : D → History)
     (given : P → Option (List Arrived)) (offered : P → Option (List Parcel))
-    (does : P → Call → P → Type 0) (vouches : P → Text → Type 0) (builds : Given)
+    (does : P → Call → P → Type 0) (vouches : P → Text → Type 0) (handed : Handed)
     (old new : SoloState D P) (logged : IsLogged old.node) (on : IsOnLog history old.node)
     (kept : is_kept new.node.log.disk) where
   abbrev n : NodeState
@@ -154,41 +154,41 @@ module _ {D P : Type 0} (is_kept : D → Type 0) (history : D → History)
       )
 
   went_down : (k : ℕ)
-      → IsTurnFault given does vouches old new builds (LeavesAtMost is_kept history old new) (refused.Down k)
+      → IsTurnFault given does vouches old new handed (LeavesAtMost is_kept history old new) (refused.Down k)
       → HasWritten
   went_down k (asked, is_chosen, me, tried, down, leaves) =
       written_of asked
-      (asks_so given offered does vouches builds (LeavesAtMost is_kept history old new) old new
+      (asks_so given offered does vouches handed (LeavesAtMost is_kept history old new) old new
       logged asked [] is_chosen) tried.step tried.takes
-      (has_room given offered does vouches builds (LeavesAtMost is_kept history old new) old new logged
+      (has_room given offered does vouches handed (LeavesAtMost is_kept history old new) old new logged
       tried.step.answer.note tried.room)
       (leaves kept on)
 
   written : (r : Result (Option Act) TurnFault)
       → IfOk r (λ o. IfSome o
-      (λ act. HasTaken given offered does vouches old new builds (asked_by act)))
+      (λ act. HasTaken given offered does vouches old new handed (asked_by act)))
       → IfOk r (λ o. IfSome o (λ act. LeavesAtMost is_kept history old new (asked_by act)))
-      → IfErr r (IsTurnFault given does vouches old new builds (LeavesAtMost is_kept history old new))
+      → IfErr r (IsTurnFault given does vouches old new handed (LeavesAtMost is_kept history old new))
       → MatchResult r (λ o. IfNone o (IsUntouched is_kept history old new))
       (λ f. ((k : ℕ) × (f ≡ refused.Down k)) ⊎ IsUntouched is_kept history old new)
       → HasWritten
   written (Ok None) t leaves fault untouched = inl (untouched kept (λ up. on))
   written (Ok (Some act)) t leaves fault untouched =
       written_of (asked_by act)
-      (asks_so given offered does vouches builds (LeavesAtMost is_kept history old new) old new
+      (asks_so given offered does vouches handed (LeavesAtMost is_kept history old new) old new
       logged (asked_by act) _ t.chosen) t.taken t.takes t.room (leaves kept on)
   written (Err f) t leaves fault untouched = ⊎_elim
       (λ down. went_down down.0
-      (subst (IsTurnFault given does vouches old new builds (LeavesAtMost is_kept history old new)) down.1
+      (subst (IsTurnFault given does vouches old new handed (LeavesAtMost is_kept history old new)) down.1
       fault))
       (λ same. inl (same kept (λ up. on))) untouched
 
   -- what is opened again has the notes from before, or these and that of the step
   pub opened_again : (r : Result (Option Act) TurnFault)
       → IfOk r (λ o. IfSome o
-      (λ act. HasTaken given offered does vouches old new builds (asked_by act)))
+      (λ act. HasTaken given offered does vouches old new handed (asked_by act)))
       → IfOk r (λ o. IfSome o (λ act. LeavesAtMost is_kept history old new (asked_by act)))
-      → IfErr r (IsTurnFault given does vouches old new builds (LeavesAtMost is_kept history old new))
+      → IfErr r (IsTurnFault given does vouches old new handed (LeavesAtMost is_kept history old new))
       → MatchResult r (λ o. IfNone o (IsUntouched is_kept history old new))
       (λ f. ((k : ℕ) × (f ≡ refused.Down k)) ⊎ IsUntouched is_kept history old new)
       → (tree : Tree) (weights : List ℕ) (me : ℕ) → identity_of n.member ≡ identity tree weights me

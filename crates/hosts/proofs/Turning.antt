@@ -7,7 +7,7 @@ use Rattle.choice.specs.declared.act.Act.{Act}
 use Rattle.choice.specs.declared.fault.TurnFault.{TurnFault}
 use Rattle.choice.specs.declared.fault.TurnFault.TheVariants as refused
 use Rattle.faults.specs.Bytes.{Text}
-use Rattle.hosts.proofs.Asking.{choice_asks, number_is_small}
+use Rattle.hosts.proofs.Asking.{chosen_asks, number_is_small}
 use Rattle.hosts.specs.Hosts.{IsOfATurn}
 use Rattle.hosts.specs.Turns.{IsRefusedTurn, IsStepTaken}
 use Rattle.node.specs.Calls.{left_by}
@@ -16,28 +16,28 @@ use Rattle.node.specs.Step.{Asked}
 use Rattle.parts.specs.Calls.{came_by}
 use Rattle.ports.specs.Calls.{Call}
 use Rattle.ports.specs.Kept.{Arrived, Parcel}
-use Rattle.protocol.specs.Given.{Given}
 use Rattle.protocol.specs.State.{Value}
 use Rattle.solo.specs.Faults.{IsTurnFault}
+use Rattle.solo.specs.Handed.{Handed}
 use Rattle.solo.specs.State.{SoloState, me_of}
 use Rattle.solo.specs.Turn.{HasTaken, IsChosen, OffersNothing}
 use Rattle.world.proofs.Hosting.{lack_of_full}
 
 module _ {D P : Type 0} (given : P → Option (List Arrived)) (offered : P → Option (List Parcel))
-    (does : P → Call → P → Type 0) (vouches : P → Text → Type 0) (builds : Given)
+    (does : P → Call → P → Type 0) (vouches : P → Text → Type 0) (handed : Handed)
     (leaves : Asked → Type 0) (old new : SoloState D P) (logged : IsLogged old.node) where
   -- what was chosen, a turn asks
   pub asks_so : (asked : Asked) (parcels : List Parcel)
-      → IsChosen given does vouches old new builds parcels (Some (me_of old, asked))
+      → IsChosen given does vouches old new handed parcels (Some (me_of old, asked))
       → IsOfATurn asked
   asks_so asked parcels c =
-      choice_asks old.node.node (number_is_small old.node.node logged.node.member) _ old.pending
-      builds (came_by c.answer) (me_of old, asked) c.choice
+      chosen_asks old.node.node (number_is_small old.node.node logged.node.member) _ old.pending
+      handed (me_of old) (came_by c.answer) (me_of old, asked) c.choice
 
   -- a turn that answers what it did took that step
   pub taken_so : (r : Result (Option Act) TurnFault)
       → IfOk r (λ o. IfSome o
-      (λ act. HasTaken given offered does vouches old new builds (asked_by act)))
+      (λ act. HasTaken given offered does vouches old new handed (asked_by act)))
       → IfOk r (λ o. IfSome o (λ act. IsStepTaken offered old new (asked_by act)))
   taken_so (Ok (Some act)) t = record {
     taken = t.taken;
@@ -69,7 +69,7 @@ module _ {D P : Type 0} (given : P → Option (List Arrived)) (offered : P → O
   has_room (Some note) room = λ full. room (lack_of_full old.node logged.end (Some note) full)
 
   -- and what one that is refused is
-  pub refused_so : (f : TurnFault) → IsTurnFault given does vouches old new builds leaves f
+  pub refused_so : (f : TurnFault) → IsTurnFault given does vouches old new handed leaves f
       → IsRefusedTurn old new f
   refused_so refused.Memory (chosen, is_chosen, same) = same
   refused_so (refused.Node f) (asked, is_chosen, r) = ⊎_elim
@@ -96,6 +96,6 @@ module _ {D P : Type 0} (given : P → Option (List Arrived)) (offered : P → O
   refused_so refused.NotFresh none = absurd none
 
   pub refusals_so : (r : Result (Option Act) TurnFault)
-      → IfErr r (IsTurnFault given does vouches old new builds leaves) → IfErr r (IsRefusedTurn old new)
+      → IfErr r (IsTurnFault given does vouches old new handed leaves) → IfErr r (IsRefusedTurn old new)
   refusals_so (Ok o) why = tt
   refusals_so (Err f) why = refused_so f why

@@ -10,7 +10,7 @@ use Rattle.listing.specs.Tree.{Tree}
 use Rattle.node.specs.Step.{Asked, Taken, Takes}
 use Rattle.ports.specs.Calls.{Call}
 use Rattle.ports.specs.Kept.{Arrived, Parcel}
-use Rattle.protocol.specs.Given.{Given}
+use Rattle.solo.specs.Handed.{Handed}
 use Rattle.solo.specs.State.{SoloState, me_of}
 use Rattle.solo.specs.Turn.{IsChosen}
 use Rattle.solo.specs.Turns.{IsTurn, Outcome}
@@ -18,11 +18,11 @@ use Rattle.stable_record.specs.History.{History}
 
 -- Bytes that the turn's choice takes were offered before.
 abbrev pub HearsOffered : {D P : Type 0} → (P → Option (List Arrived))
-    → (P → Call → P → Type 0) → (P → Text → Type 0) → Given → List Text → SoloState D P
+    → (P → Call → P → Type 0) → (P → Text → Type 0) → Handed → List Text → SoloState D P
     → SoloState D P → Type 0
-HearsOffered given does vouches builds offered old new =
+HearsOffered given does vouches handed offered old new =
     (asked : Asked) (parcels : List Parcel)
-    → IsChosen given does vouches old new builds parcels (Some (me_of old, asked))
+    → IsChosen given does vouches old new handed parcels (Some (me_of old, asked))
     → WasOffered offered asked
 
 -- What the port vouches for was offered before: who heard it is sure that it was sent in this run.
@@ -61,11 +61,11 @@ abbrev pub TurnsAreOfARun : {D P : Type 0} → (D → Type 0) → (D → History
     → (P → Option (List Arrived)) → (P → Option (List Parcel)) → (P → Call → P → Type 0)
     → (P → Text → Type 0) → Type 0
 TurnsAreOfARun {D} {P} is_kept history failures_of given offered does vouches =
-    (tree : Tree) (weights : List ℕ) (first h : Hosts) (k : ℕ) (builds : Given)
+    (tree : Tree) (weights : List ℕ) (first h : Hosts) (k : ℕ) (handed : Handed)
     (old new : SoloState D P) (left : List Text) (answer : Outcome) → Run tree weights first h
     → slice_get h.hosts k ≡ Some (Up old.node.node) → IsLeft h.offered old.node.node left
-    → IsTurn is_kept history failures_of given offered does vouches builds old new answer
-    → HearsOffered given does vouches builds h.offered old new
+    → IsTurn is_kept history failures_of given offered does vouches handed old new answer
+    → HearsOffered given does vouches handed h.offered old new
     → (g : Hosts) × Run tree weights first g × IsAfterTurn h g k old new left answer
 
 -- Law: so it is where all that the port vouches for was offered before.
@@ -73,9 +73,9 @@ abbrev pub VouchedTurnsAreOfARun : {D P : Type 0} → (D → Type 0) → (D → 
     → (P → Option (List Arrived)) → (P → Option (List Parcel)) → (P → Call → P → Type 0)
     → (P → Text → Type 0) → Type 0
 VouchedTurnsAreOfARun {D} {P} is_kept history failures_of given offered does vouches =
-    (tree : Tree) (weights : List ℕ) (first h : Hosts) (k : ℕ) (builds : Given)
+    (tree : Tree) (weights : List ℕ) (first h : Hosts) (k : ℕ) (handed : Handed)
     (old new : SoloState D P) (left : List Text) (answer : Outcome) → Run tree weights first h
     → slice_get h.hosts k ≡ Some (Up old.node.node) → IsLeft h.offered old.node.node left
-    → IsTurn is_kept history failures_of given offered does vouches builds old new answer
+    → IsTurn is_kept history failures_of given offered does vouches handed old new answer
     → VouchesForOffered vouches new.port h.offered
     → (g : Hosts) × Run tree weights first g × IsAfterTurn h g k old new left answer

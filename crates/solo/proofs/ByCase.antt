@@ -13,6 +13,7 @@ use Rattle.ports.specs.Kept.{Arrived, GoesOnBy}
 use Rattle.protocol.specs.Given.{Given}
 use Rattle.protocol.specs.Member.{IsMember}
 use Rattle.protocol.specs.State.{State}
+use Rattle.solo.specs.Handed.{AllBuilds}
 use Rattle.solo.specs.State.{SoloState, only}
 use Rattle.solo.specs.Turn.{IsChosen, IsVouchedFor, looked_for, received_by}
 use Rattle.solo.specs.inside.Turning.{HasCome}
@@ -49,7 +50,7 @@ module _ {D P : Type 0} (given : P → Option (List Arrived)) (does : P → Call
 
   -- It is the choice, and nothing was offered yet.
   abbrev pub Chooses : Chosen → Type 0
-  Chooses = IsChosen given does vouches old new builds []
+  Chooses = IsChosen given does vouches old new (AllBuilds builds) []
 
   -- a job's answer
   pub by_job : (x : ℕ × Asked) → first_job here count builds ≡ Some x

@@ -24,12 +24,13 @@ use Rattle.solo.proofs.ByCase.{by_arrival, by_job, by_own, by_some}
 use Rattle.solo.proofs.Only.{in_range, in_turns, none_among, none_does, own_answer, some_among, this_one_does}
 use Rattle.solo.proofs.Refused.{stays, told_is}
 use Rattle.solo.specs.Faults.{IsTurnFault}
+use Rattle.solo.specs.Handed.{AllBuilds}
 use Rattle.solo.specs.State.{SoloState, member_up, only}
 use Rattle.solo.specs.Turn.{IsChosen}
 use Rattle.solo.specs.inside.Turning.{HasChosen, HasCome, IsMade, IsNotTaken, told}
 
 -- the one that is here is a member
-members_here : (n : NodeState) → IsMember n.member → (k : ℕ) (s : State) → only n k ≡ Some s
+pub members_here : (n : NodeState) → IsMember n.member → (k : ℕ) (s : State) → only n k ≡ Some s
     → IsMember s
 members_here n is k s at = by (k == n.member.me) n.stopped at
   where
@@ -75,10 +76,10 @@ module _ {D P : Type 0} (given : P → Option (List Arrived)) (does : P → Call
   count = length n.member.weights
 
   abbrev HasMade : Option Readied → Type 0
-  HasMade = HasChosen given does vouches old new builds
+  HasMade = HasChosen given does vouches old new (AllBuilds builds)
 
   abbrev IsFault : TurnFault → Type 0
-  IsFault = IsTurnFault given does vouches old new builds (λ asked. ⊥)
+  IsFault = IsTurnFault given does vouches old new (AllBuilds builds) (λ asked. ⊥)
 
   -- ---- its job
 
@@ -184,7 +185,7 @@ module _ {D P : Type 0} (given : P → Option (List Arrived)) (does : P → Call
       DoesOwn own = IsOwnIf (only n) count old.pending me (member_up n) own
 
       own_chosen : (input : Input) → DoesOwn (Some input)
-          → IsChosen given does vouches old new builds [] (Some (me, Does input))
+          → IsChosen given does vouches old new (AllBuilds builds) [] (Some (me, Does input))
       own_chosen input own =
           by_own given does vouches old new builds (no_job none) came goes (Some (me, Does input))
           (nothing_came nothing)

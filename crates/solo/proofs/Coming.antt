@@ -5,7 +5,7 @@ use Rattle.std.specs.Prelude.{option_and_then, option_map}
 use Rattle.std.specs.declared.alloc.Global.{Global}
 use Rattle.choice.specs.Answering.{answer_of}
 use Rattle.choice.specs.Choice.{Chosen, Here, IsChoice, IsFirstOwn, IsGivenOr, comes_to, first_job, in_turn, job_at}
-use Rattle.choice.specs.Pending.{Pending}
+use Rattle.choice.specs.Pending.{Pending, above_at}
 use Rattle.faults.specs.Answers.{first_given, option_or}
 use Rattle.faults.specs.Bytes.{Text}
 use Rattle.node.specs.Step.{Asked, Comes, Does}
@@ -16,6 +16,9 @@ use Rattle.ports.specs.declared.fault.PortFault.{PortFault}
 use Rattle.protocol.specs.Given.{Given}
 use Rattle.protocol.specs.State.{State}
 use Rattle.protocol.specs.declared.input.Input.{Input}
+use Rattle.live_choice.specs.Live.{answer_if, asked_for, first_answer, first_going, going_on, left_to_do, live_choice, wished}
+use Rattle.live_choice.specs.declared.wish.Wish.{Wish}
+use Rattle.solo.specs.Handed.{AllBuilds, Handed, IsChoiceBy, SoFar}
 use Rattle.solo.specs.State.{SoloState, me_of, only}
 use Rattle.solo.specs.Turn.{IsChosen, IsHeard, IsVouchedFor}
 use Rattle.solo.specs.inside.Turning.{HasCome}
@@ -93,22 +96,28 @@ is_heard vouches port came (Comes text) (k, is) vouched =
 is_heard vouches port came (Does input) is vouched = tt
 
 module _ (here : Here) (came : Arrived) where
-  jobs : (builds : Given) (ks : List ℕ) (x : ℕ × Asked)
-      → first_given (job_at here builds) ks ≡ Some x → FromCame came x.1
-  jobs builds [] x is = absurd (let no : ◌≡◌ {A = Chosen} None (Some x) = is in cc)
-  jobs builds (k ∷ ks) x is =
-      by (option_and_then (λ s. answer_of s builds) (here k)) is (jobs builds ks x)
+  -- what the first of these gives is an input of its own
+  each_does : (f : ℕ → Option Input) (ks : List ℕ) (x : ℕ × Asked)
+      → first_given (λ k. option_map (λ input. (k, Does input)) (f k)) ks ≡ Some x
+      → FromCame came x.1
+  each_does f [] x is = absurd (let no : ◌≡◌ {A = Chosen} None (Some x) = is in cc)
+  each_does f (k ∷ ks) x is = by (f k) is (each_does f ks x)
     where
       by : (o : Option Input)
           → option_or (option_map (λ (input : Input). (k, Does input)) o)
-          (first_given (job_at here builds) ks) ≡ Some x
-          → (first_given (job_at here builds) ks ≡ Some x → FromCame came x.1)
+          (first_given (λ k. option_map (λ input. (k, Does input)) (f k)) ks) ≡ Some x
+          → (first_given (λ k. option_map (λ input. (k, Does input)) (f k)) ks ≡ Some x
+          → FromCame came x.1)
           → FromCame came x.1
       by None is later = later is
       by (Some input) is later =
           let known : ◌≡◌ {A = Chosen} (Some (k, Does input)) (Some x) = is in
           let same : ◌≡◌ {A = ℕ × Asked} (k, Does input) x = cc in
           subst (λ y. FromCame came y.1) same tt
+
+  jobs : (builds : Given) (ks : List ℕ) (x : ℕ × Asked)
+      → first_given (job_at here builds) ks ≡ Some x → FromCame came x.1
+  jobs builds = each_does (λ k. option_and_then (λ s. answer_of s builds) (here k))
 
   owns : (count : ℕ) (p : Pending) (ks : List ℕ) (x : ℕ × Asked)
       → IsFirstOwn here count p ks (Some x) → FromCame came x.1
@@ -150,14 +159,77 @@ module _ (here : Here) (came : Arrived) where
           jobs builds (range_with_len 0 count) x
           (subst (λ z. first_job here count builds ≡ Some z) (sym same) job)
 
+  module _ (made : Option Given) (v : Option (ℕ × Wish)) (count : ℕ) (p : Pending)
+      (x : ℕ × Asked) where
+    going : Some x ≡ first_going here count p → FromCame came x.1
+    going is = each_does (λ k. option_and_then (going_on (above_at p k)) (here k))
+        (in_turn p.next count) x (sym is)
+
+    by_wish : (k : ℕ) (w : Wish) (o : Option State)
+        → Some x ≡ option_or (option_map (λ (s : State). (k, Does (asked_for w s))) o)
+        (first_going here count p)
+        → FromCame came x.1
+    by_wish k w None is = going is
+    by_wish k w (Some s) is =
+        let known : ◌≡◌ {A = Chosen} (Some x) (Some (k, Does (asked_for w s))) = is in
+        let same : ◌≡◌ {A = ℕ × Asked} x (k, Does (asked_for w s)) = cc in
+        subst (λ y. FromCame came y.1) (sym same) tt
+
+    by_left : (u : Option (ℕ × Wish))
+        → Some x ≡ option_or (wished here u) (first_going here count p) → FromCame came x.1
+    by_left None is = going is
+    by_left (Some (k, w)) is = by_wish k w (here k) is
+
+    comes_here : (d : ℕ × Text) → came ≡ Some d → (o : Option State)
+        → Some x ≡ option_or (option_map (λ (s : State). (d.0, Comes d.1)) o)
+        (left_to_do here count p v)
+        → FromCame came x.1
+    comes_here d e None is = by_left v is
+    comes_here d e (Some s) is =
+        let known : ◌≡◌ {A = Chosen} (Some x) (Some (d.0, Comes d.1)) = is in
+        let same : ◌≡◌ {A = ℕ × Asked} x (d.0, Comes d.1) = cc in
+        subst (λ y. FromCame came y.1) (sym same) (d.0, e)
+
+    comes_in : (a : Arrived) → came ≡ a
+        → Some x ≡ option_or (comes_to here a) (left_to_do here count p v) → FromCame came x.1
+    comes_in None e is = by_left v is
+    comes_in (Some d) e is = comes_here d e (here d.0) is
+
+    answers : (o : Chosen) → first_answer here count (λ k. made) ≡ o
+        → Some x ≡ option_or o (option_or (comes_to here came) (left_to_do here count p v))
+        → FromCame came x.1
+    answers None none is = comes_in came refl is
+    answers (Some y) some is =
+        let known : ◌≡◌ {A = Chosen} (Some x) (Some y) = is in
+        let same : x ≡ y = cc in
+        each_does (λ k. option_and_then (answer_if made) (here k)) (range_with_len 0 count) x
+        (subst (λ z. first_answer here count (λ k. made) ≡ Some z) (sym same) some)
+
+    pub live_from_came : Some x ≡ live_choice here count p (λ k. made) v came
+        → FromCame came x.1
+    live_from_came is = answers (first_answer here count (λ k. made)) refl is
+
 -- what a turn chooses of bytes is vouched for
 pub choice_heard : {D P : Type 0} (given : P → Option (List Arrived))
     (does : P → Call → P → Type 0) (vouches : P → Text → Type 0) (old new : SoloState D P)
-    (builds : Given) (parcels : List Parcel) (asked : Asked)
-    → IsChosen given does vouches old new builds parcels (Some (me_of old, asked))
+    (handed : Handed) (parcels : List Parcel) (asked : Asked)
+    → IsChosen given does vouches old new handed parcels (Some (me_of old, asked))
     → IsHeard vouches new.port asked
-choice_heard given does vouches old new builds parcels asked is =
-    is_heard vouches new.port (came_by is.answer) asked
-    (from_came (only old.node.node) (came_by is.answer) (length old.node.node.member.weights)
-    old.pending builds (me_of old, asked) is.choice)
-    is.vouched
+choice_heard given does vouches old new handed parcels asked is =
+    is_heard vouches new.port came asked (by handed is.choice) is.vouched
+  where
+    came : Arrived
+    came = came_by is.answer
+
+    here : Here
+    here = only old.node.node
+
+    count : ℕ
+    count = length old.node.node.member.weights
+
+    by : (h : Handed)
+        → IsChoiceBy h here count old.pending (me_of old) came (Some (me_of old, asked))
+        → FromCame came asked
+    by (AllBuilds builds) c = from_came here came count old.pending builds (me_of old, asked) c
+    by (SoFar made wish) c = live_from_came here came made (option_map (λ w. (me_of old, w)) wish)
+        count old.pending (me_of old, asked) c

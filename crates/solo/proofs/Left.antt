@@ -11,7 +11,7 @@ use Rattle.node.specs.declared.fault.NodeFault.{NodeFault}
 use Rattle.node.specs.declared.fault.NodeFault.TheVariants as fault
 use Rattle.ports.specs.Calls.{Call}
 use Rattle.ports.specs.Kept.{Arrived}
-use Rattle.protocol.specs.Given.{Given}
+use Rattle.solo.specs.Handed.{Handed}
 use Rattle.solo.specs.Faults.{IsTurnFault}
 use Rattle.solo.specs.State.{SoloState}
 use Rattle.stable_record.specs.History.{History}
@@ -43,8 +43,8 @@ left_is n asked fault.Stopped = record { member = refl; notes = refl }
 left_is n asked (fault.Foreign f) = record { member = refl; notes = refl }
 
 module _ {D P : Type 0} (given : P → Option (List Arrived)) (does : P → Call → P → Type 0)
-    (vouches : P → Text → Type 0) (old new : SoloState D P) (builds : Given) where
-  pub alike : (f : TurnFault) → IsTurnFault given does vouches old new builds (λ asked. ⊥) f
+    (vouches : P → Text → Type 0) (old new : SoloState D P) (handed : Handed) where
+  pub alike : (f : TurnFault) → IsTurnFault given does vouches old new handed (λ asked. ⊥) f
       → IsAlike old.node.node new.node.node
   alike refused.Memory (chosen, is_chosen, same) = same_is old.node.node new.node.node same
   alike (refused.Node f) (asked, is_chosen, r) =

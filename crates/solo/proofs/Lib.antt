@@ -8,3 +8,6 @@ pub mod Refused
 pub mod Room
 pub mod Turned
 pub mod Turns
+pub mod Each
+pub mod LiveCase
+pub mod LiveChosen

@@ -18,7 +18,7 @@ use Rattle.parts.specs.Readied.{IsReadied}
 use Rattle.parts.specs.declared.readied.Readied.{Readied}
 use Rattle.ports.specs.Calls.{Call}
 use Rattle.ports.specs.Kept.{Arrived, GoesOnBy, KeepsVouching, Parcel}
-use Rattle.protocol.specs.Given.{Given}
+use Rattle.solo.specs.Handed.{Handed}
 use Rattle.stable_record.specs.History.{History}
 use Rattle.solo.proofs.ByCase.{goes_no_more, goes_on}
 use Rattle.solo.specs.Faults.{IsTurnFault}
@@ -40,19 +40,19 @@ module _ {D : Type 0} (n : LoggedNode D) (r : Readied) where
 
 -- what was made ready of this node was made ready of the same node
 pub has_now : {D P : Type 0} (given : P → Option (List Arrived)) (does : P → Call → P → Type 0)
-    (vouches : P → Text → Type 0) (old now mid : SoloState D P) (builds : Given) → old ≡ now
+    (vouches : P → Text → Type 0) (old now mid : SoloState D P) (handed : Handed) → old ≡ now
     → (o : Option Readied) (r : Readied) → o ≡ Some r
-    → HasChosen given does vouches old mid builds o
-    → HasChosen given does vouches now mid builds (Some r)
-has_now given does vouches old now mid builds same o r is has =
-    subst (λ x. HasChosen given does vouches x mid builds (Some r)) same
-    (subst (HasChosen given does vouches old mid builds) is has)
+    → HasChosen given does vouches old mid handed o
+    → HasChosen given does vouches now mid handed (Some r)
+has_now given does vouches old now mid handed same o r is has =
+    subst (λ x. HasChosen given does vouches x mid handed (Some r)) same
+    (subst (HasChosen given does vouches old mid handed) is has)
 
 -- where that is the turn's choice, and the node stayed
 pub readied_so : {D P : Type 0} (given : P → Option (List Arrived)) (does : P → Call → P → Type 0)
-    (vouches : P → Text → Type 0) (old mid : SoloState D P) (builds : Given) (r : Readied)
-    → HasChosen given does vouches old mid builds (Some r) → IsReadied mid.node (asked_by r.act) r
-readied_so given does vouches old mid builds r has = subst (λ n. IsReadied n (asked_by r.act) r)
+    (vouches : P → Text → Type 0) (old mid : SoloState D P) (handed : Handed) (r : Readied)
+    → HasChosen given does vouches old mid handed (Some r) → IsReadied mid.node (asked_by r.act) r
+readied_so given does vouches old mid handed r has = subst (λ n. IsReadied n (asked_by r.act) r)
     (sym has.same) (readied_is old.node r has.chosen has.made)
 
 -- a crash in what follows leaves what it leaves of the node before
@@ -88,13 +88,13 @@ vouched_on vouches old new None keeps is = tt
 vouched_on vouches old new (Some d) keeps is = keeps d.1 is
 
 module _ {D P : Type 0} (given : P → Option (List Arrived)) (does : P → Call → P → Type 0)
-    (vouches : P → Text → Type 0) (old mid new : SoloState D P) (builds : Given) where
+    (vouches : P → Text → Type 0) (old mid new : SoloState D P) (handed : Handed) where
   -- nothing more was received, and then these were offered
   pub chosen_then : (c : Chosen) (parcels : List Parcel)
-      → IsChosen given does vouches old mid builds [] c
+      → IsChosen given does vouches old mid handed [] c
       → GoesOnBy [] (given mid.port) (given new.port) → WasOffered does mid.port parcels new.port
       → KeepsVouching vouches mid.port new.port
-      → IsChosen given does vouches old new builds parcels c
+      → IsChosen given does vouches old new handed parcels c
   chosen_then c parcels is nothing sent keeps = record {
     answer = is.answer;
     looked = goes_no_more _ (given old.port) (given mid.port) (given new.port) is.looked nothing;
@@ -106,12 +106,12 @@ module _ {D P : Type 0} (given : P → Option (List Arrived)) (does : P → Call
     choice = is.choice;
   }
 
-  module _ (r : Readied) (has : HasChosen given does vouches old mid builds (Some r))
+  module _ (r : Readied) (has : HasChosen given does vouches old mid handed (Some r))
       (nothing : GoesOnBy [] (given mid.port) (given new.port))
       (keeps : KeepsVouching vouches mid.port new.port) where
     pub chosen_so : (parcels : List Parcel) → WasOffered does mid.port parcels new.port
-        → IsChosen given does vouches old new builds parcels (Some (me_of old, asked_by r.act))
-    chosen_so parcels sent = subst (λ c. IsChosen given does vouches old new builds parcels c)
+        → IsChosen given does vouches old new handed parcels (Some (me_of old, asked_by r.act))
+    chosen_so parcels sent = subst (λ c. IsChosen given does vouches old new handed parcels c)
         (chosen_is old.node r has.chosen has.made)
         (chosen_then has.chosen parcels has.is_chosen nothing sent keeps)
 
@@ -119,7 +119,7 @@ module _ {D P : Type 0} (given : P → Option (List Arrived)) (does : P → Call
     pub taken_so : (offered : P → Option (List Parcel)) → mid.pending ≡ old.pending
         → GoesOnBy [] (offered old.port) (offered mid.port)
         → TookStep offered does mid new (asked_by r.act)
-        → HasTaken given offered does vouches old new builds (asked_by r.act)
+        → HasTaken given offered does vouches old new handed (asked_by r.act)
     taken_so offered kept silent t =
         let sends = λ (n : LoggedNode D). parcels_from n.node.member.me
         (datagrams_to t.taken.answer.sends) in
@@ -156,12 +156,12 @@ module _ {D P : Type 0} (given : P → Option (List Arrived)) (does : P → Call
 
     -- or it was not
     chosen_still : new.port ≡ mid.port
-        → IsChosen given does vouches old new builds [] (Some (me_of old, asked_by r.act))
+        → IsChosen given does vouches old new handed [] (Some (me_of old, asked_by r.act))
     chosen_still still = chosen_so [] ([], refl, still)
 
     pub refused_so : new.port ≡ mid.port → (leaves : Asked → Type 0) → leaves (asked_by r.act)
         → (f : TurnFault) → IsTakingFault mid.node new.node (note_in r.ready.step) f
-        → IsTurnFault given does vouches old new builds leaves f
+        → IsTurnFault given does vouches old new handed leaves f
     refused_so still leaves left refused.Memory same =
         (Some (me_of old, asked_by r.act), chosen_still still, same ∙ ap (λ n. n.node) has.same)
     refused_so still leaves left (refused.Node g) (full, lacks, same) = (

@@ -3,23 +3,23 @@ use Rattle.std.proofs.Common.{◌+◌, ◌++◌, ◌∙◌, ℕ, List, [], ◌�
 use Rattle.faults.specs.Bytes.{Text}
 use Rattle.ports.specs.Calls.{Call}
 use Rattle.ports.specs.Kept.{Arrived, Parcel}
-use Rattle.protocol.specs.Given.{Given}
+use Rattle.solo.specs.Handed.{Handed}
 use Rattle.solo.specs.State.{SoloState}
 use Rattle.solo.specs.Turns.{HaveTurned, IsTurn, Outcome, TurnsLead}
 use Rattle.stable_record.specs.History.{History}
 
 module _ {D P : Type 0} (is_kept : D → Type 0) (history : D → History) (failures_of : D → ℕ)
     (given : P → Option (List Arrived)) (offered : P → Option (List Parcel))
-    (does : P → Call → P → Type 0) (vouches : P → Text → Type 0) (builds : Given)
+    (does : P → Call → P → Type 0) (vouches : P → Text → Type 0) (handed : Handed)
   where
     abbrev Turn : SoloState D P → SoloState D P → Outcome → Type 0
-    Turn = IsTurn is_kept history failures_of given offered does vouches builds
+    Turn = IsTurn is_kept history failures_of given offered does vouches handed
 
     abbrev Lead : SoloState D P → List Outcome → SoloState D P → Type 0
-    Lead = TurnsLead is_kept history failures_of given offered does vouches builds
+    Lead = TurnsLead is_kept history failures_of given offered does vouches handed
 
     abbrev Have : ℕ → SoloState D P → SoloState D P → Type 0
-    Have = HaveTurned is_kept history failures_of given offered does vouches builds
+    Have = HaveTurned is_kept history failures_of given offered does vouches handed
 
     -- one more turn behind these
     pub TurnsLead-append : (old between new : SoloState D P) (answers : List Outcome)

@@ -1,6 +1,6 @@
 -- One turn of a node whose peers are elsewhere.
 use Rattle.std.specs.Prelude.{◌≡◌, ⊤, Bool, false, List, [], ◌∷◌, Option, None, Some, Result, Ok, if◌then◌else◌, length}
-use Rattle.choice.specs.Choice.{Chosen, IsChoice, has_job}
+use Rattle.choice.specs.Choice.{Chosen}
 use Rattle.choice.specs.Pending.{kept_after}
 use Rattle.faults.specs.Bytes.{Text}
 use Rattle.node.specs.Calls.{LeavesItsNoteAtMost}
@@ -12,13 +12,13 @@ use Rattle.parts.specs.Offered.{WasOffered, parcels_from}
 use Rattle.ports.specs.Calls.{Call, Received, WentThrough}
 use Rattle.ports.specs.Kept.{Arrived, GoesOnBy, Parcel}
 use Rattle.ports.specs.declared.fault.PortFault.{PortFault}
-use Rattle.protocol.specs.Given.{Given}
 use Rattle.stable_record.specs.History.{History}
+use Rattle.solo.specs.Handed.{Handed, IsChoiceBy, answers_first}
 use Rattle.solo.specs.State.{SoloState, me_of, only}
 
--- whether a job of the node waits for its answer
-abbrev pub has_work : {D P : Type 0} → SoloState D P → Given → Bool
-has_work s builds = has_job (only s.node.node) (length s.node.node.member.weights) builds
+-- whether a job of the node is answered before all else
+abbrev pub has_work : {D P : Type 0} → SoloState D P → Handed → Bool
+has_work s handed = answers_first handed (only s.node.node) (length s.node.node.member.weights)
 
 -- What receives gave in the turn: nothing was asked of the port where a job waited for its answer,
 -- and else it was asked once.
@@ -38,22 +38,22 @@ IsVouchedFor vouches port (Some d) = vouches port d.1
 -- through just these calls, in order: it was asked once, or never, and then these were offered.
 pub record IsChosen {D P : Type 0} (given : P → Option (List Arrived))
     (does : P → Call → P → Type 0) (vouches : P → Text → Type 0) (old new : SoloState D P)
-    (builds : Given) (parcels : List Parcel) (chosen : Chosen) : Type 0 where
+    (handed : Handed) (parcels : List Parcel) (chosen : Chosen) : Type 0 where
   pub answer : Result Arrived PortFault
-  pub looked : GoesOnBy (looked_for (has_work old builds) (came_by answer)) (given old.port)
+  pub looked : GoesOnBy (looked_for (has_work old handed) (came_by answer)) (given old.port)
       (given new.port)
   pub between : P
-  pub received : WentThrough does old.port (received_by (has_work old builds) answer) between
+  pub received : WentThrough does old.port (received_by (has_work old handed) answer) between
   pub sent : WasOffered does between parcels new.port
   pub vouched : IsVouchedFor vouches new.port (came_by answer)
-  pub choice : IsChoice (only old.node.node) (length old.node.node.member.weights) old.pending
-      builds (came_by answer) chosen
+  pub choice : IsChoiceBy handed (only old.node.node) (length old.node.node.member.weights)
+      old.pending (me_of old) (came_by answer) chosen
 
 -- The node took its step on what it was asked, for whose note its log had room, what follows is
 -- kept, and just the step's sends were offered.
 pub record HasTaken {D P : Type 0} (given : P → Option (List Arrived))
     (offered : P → Option (List Parcel)) (does : P → Call → P → Type 0)
-    (vouches : P → Text → Type 0) (old new : SoloState D P) (builds : Given) (asked : Asked)
+    (vouches : P → Text → Type 0) (old new : SoloState D P) (handed : Handed) (asked : Asked)
     : Type 0 where
   pub taken : Taken
   pub takes : Takes old.node.node asked (Ok taken)
@@ -62,7 +62,7 @@ pub record HasTaken {D P : Type 0} (given : P → Option (List Arrived))
   pub pending : new.pending ≡ kept_after old.pending (me_of old) old.node.node.member asked
   pub offers : GoesOnBy (parcels_from (me_of old) (datagrams_to taken.answer.sends))
       (offered old.port) (offered new.port)
-  pub chosen : IsChosen given does vouches old new builds
+  pub chosen : IsChosen given does vouches old new handed
       (parcels_from (me_of old) (datagrams_to taken.answer.sends)) (Some (me_of old, asked))
 
 -- What the node is asked, if it is to take bytes, the port vouches for.

@@ -8,7 +8,7 @@ use Rattle.faults.specs.Bytes.{Text}
 use Rattle.node.specs.OnLog.{IsLogged, IsOnLog}
 use Rattle.ports.specs.Calls.{Call}
 use Rattle.ports.specs.Kept.{Arrived, KeepsVouching, Parcel}
-use Rattle.protocol.specs.Given.{Given}
+use Rattle.solo.specs.Handed.{Handed}
 use Rattle.stable_record.specs.Faults.{HasRisen}
 use Rattle.stable_record.specs.History.{History}
 use Rattle.solo.specs.Faults.{IsTurnFault}
@@ -25,12 +25,12 @@ Outcome = Result (Option Act) TurnFault
 -- nothing to do, and nothing changed but the port, which was asked the same.
 pub record HasDone {D P : Type 0} (given : P → Option (List Arrived))
     (offered : P → Option (List Parcel)) (does : P → Call → P → Type 0)
-    (vouches : P → Text → Type 0) (builds : Given) (old new : SoloState D P) (answer : Outcome)
+    (vouches : P → Text → Type 0) (handed : Handed) (old new : SoloState D P) (answer : Outcome)
     : Type 0 where
   pub taken : IfOk answer (λ o. IfSome o
-      (λ act. HasTaken given offered does vouches old new builds (asked_by act)))
+      (λ act. HasTaken given offered does vouches old new handed (asked_by act)))
   pub heard : IfOk answer (λ o. IfSome o (λ act. IsHeard vouches new.port (asked_by act)))
-  pub nothing : IfOk answer (λ o. IfNone o (IsChosen given does vouches old new builds [] None))
+  pub nothing : IfOk answer (λ o. IfNone o (IsChosen given does vouches old new handed [] None))
   pub same : IfOk answer (λ o. IfNone o
       ((new.node ≡ old.node) × (new.pending ≡ old.pending) × OffersNothing offered old new))
 
@@ -38,10 +38,10 @@ pub record HasDone {D P : Type 0} (given : P → Option (List Arrived))
 -- nothing.
 pub record RefusesSo {D P : Type 0} (is_kept : D → Type 0) (history : D → History)
     (failures_of : D → ℕ) (given : P → Option (List Arrived)) (offered : P → Option (List Parcel))
-    (does : P → Call → P → Type 0) (vouches : P → Text → Type 0) (builds : Given)
+    (does : P → Call → P → Type 0) (vouches : P → Text → Type 0) (handed : Handed)
     (old new : SoloState D P) (answer : Outcome) : Type 0 where
   pub refused : IfErr answer
-      (IsTurnFault given does vouches old new builds (LeavesAtMost is_kept history old new))
+      (IsTurnFault given does vouches old new handed (LeavesAtMost is_kept history old new))
   pub left : IfErr answer (λ f. (new.pending ≡ old.pending) × OffersNothing offered old new)
   pub device : IfErr answer (λ f. (k : ℕ) → f ≡ Down k
       → HasRisen (failures_of old.node.log.disk) (failures_of new.node.log.disk))
@@ -61,10 +61,10 @@ pub record KeepsLog {D P : Type 0} (is_kept : D → Type 0) (history : D → His
 -- A turn that was answered so. What the port vouched for it still vouches for.
 pub record IsTurn {D P : Type 0} (is_kept : D → Type 0) (history : D → History)
     (failures_of : D → ℕ) (given : P → Option (List Arrived)) (offered : P → Option (List Parcel))
-    (does : P → Call → P → Type 0) (vouches : P → Text → Type 0) (builds : Given)
+    (does : P → Call → P → Type 0) (vouches : P → Text → Type 0) (handed : Handed)
     (old new : SoloState D P) (answer : Outcome) : Type 0 where
-  pub done : HasDone given offered does vouches builds old new answer
-  pub refuses : RefusesSo is_kept history failures_of given offered does vouches builds old new
+  pub done : HasDone given offered does vouches handed old new answer
+  pub refuses : RefusesSo is_kept history failures_of given offered does vouches handed old new
       answer
   pub log : KeepsLog is_kept history old new answer
   pub vouches_on : KeepsVouching vouches old.port new.port
@@ -73,18 +73,18 @@ pub record IsTurn {D P : Type 0} (is_kept : D → Type 0) (history : D → Histo
 -- of the state that the one before left, and nothing else happened in between.
 abbrev pub TurnsLead : {D P : Type 0} → (D → Type 0) → (D → History) → (D → ℕ)
     → (P → Option (List Arrived)) → (P → Option (List Parcel)) → (P → Call → P → Type 0)
-    → (P → Text → Type 0) → Given → SoloState D P → List Outcome → SoloState D P → Type 0
-TurnsLead is_kept history failures_of given offered does vouches builds old [] new = new ≡ old
-TurnsLead is_kept history failures_of given offered does vouches builds old (answer ∷ more) new =
+    → (P → Text → Type 0) → Handed → SoloState D P → List Outcome → SoloState D P → Type 0
+TurnsLead is_kept history failures_of given offered does vouches handed old [] new = new ≡ old
+TurnsLead is_kept history failures_of given offered does vouches handed old (answer ∷ more) new =
     (between : _)
-    × IsTurn is_kept history failures_of given offered does vouches builds old between answer
-    × TurnsLead is_kept history failures_of given offered does vouches builds between more new
+    × IsTurn is_kept history failures_of given offered does vouches handed old between answer
+    × TurnsLead is_kept history failures_of given offered does vouches handed between more new
 
 -- So many turns led from one state to the other.
 pub record HaveTurned {D P : Type 0} (is_kept : D → Type 0) (history : D → History)
     (failures_of : D → ℕ) (given : P → Option (List Arrived)) (offered : P → Option (List Parcel))
-    (does : P → Call → P → Type 0) (vouches : P → Text → Type 0) (builds : Given) (count : ℕ)
+    (does : P → Call → P → Type 0) (vouches : P → Text → Type 0) (handed : Handed) (count : ℕ)
     (old new : SoloState D P) : Type 0 where
   pub answers : List Outcome
   pub counted : length answers ≡ count
-  pub led : TurnsLead is_kept history failures_of given offered does vouches builds old answers new
+  pub led : TurnsLead is_kept history failures_of given offered does vouches handed old answers new

@@ -25,6 +25,7 @@ ghost use Rattle.ports.specs.Kept.{GoesOnBy, KeepsVouching};
 ghost use Rattle.protocol.specs.declared.input.Input.{Input as Asks};
 ghost use Rattle.parts.specs.Readied.{IsNoPart, IsPart};
 ghost use Rattle.solo.specs.Faults.{IsTurnFault};
+ghost use Rattle.solo.specs.Handed.{AllBuilds};
 ghost use Rattle.solo.specs.State.{member_up, only};
 ghost use Rattle.solo.specs.inside.Turning.{HasChosen, HasCome, IsMade, IsNotTaken, solo_of, told};
 
@@ -54,10 +55,10 @@ pub(crate) fn choose<D: Disk, P: Port>(
     ensures offered { GoesOnBy [] (P.offered port.old) (P.offered port.new) }
     ensures chosen { IfOk result (HasChosen P.given P.does P.vouches
         (solo_of node.old pending.now port.old) (solo_of node.new pending.now port.new)
-        builds.now) }
+        (AllBuilds builds.now)) }
     ensures refused { IfErr result (IsTurnFault P.given P.does P.vouches
         (solo_of node.old pending.now port.old) (solo_of node.new pending.now port.new)
-        builds.now (λ asked. ⊥)) }
+        (AllBuilds builds.now) (λ asked. ⊥)) }
     ensures vouches_on { KeepsVouching P.vouches port.old port.new }
 {
     let me = node.member().me();
@@ -92,7 +93,7 @@ fn answered<D: Disk>(
 }
 
 /// What came. A receive that fails gave nothing.
-fn received<P: Port>(port: &mut P) -> Option<(u8, Vec<u8>)>
+pub(crate) fn received<P: Port>(port: &mut P) -> Option<(u8, Vec<u8>)>
     ensures came { HasCome P.given P.does P.vouches port.old port.new
         (option_map (λ d. (d.0, d.1.items)) result) }
     ensures offered { GoesOnBy [] (P.offered port.old) (P.offered port.new) }
@@ -105,7 +106,7 @@ fn received<P: Port>(port: &mut P) -> Option<(u8, Vec<u8>)>
 }
 
 /// That the node, which has this number, takes what came, if that came for it and it is up.
-fn taken_in<D: Disk>(
+pub(crate) fn taken_in<D: Disk>(
     node: &mut Node<'_, D>,
     me: u8,
     came: Option<(u8, Vec<u8>)>,

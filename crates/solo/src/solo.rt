@@ -23,6 +23,7 @@ ghost use Rattle.ports.specs.Kept.{KeepsVouching};
 ghost use Rattle.protocol.specs.State.{engine_of};
 ghost use Rattle.stable_record.specs.Faults.{HasRisen};
 ghost use Rattle.solo.specs.Faults.{IsTurnFault};
+ghost use Rattle.solo.specs.Handed.{AllBuilds};
 ghost use Rattle.solo.specs.Turns.{IsTurn};
 ghost use Rattle.solo.specs.Turn.{HasTaken, IsChosen, IsHeard, IsUntouched, LeavesAtMost, OffersNothing};
 
@@ -39,9 +40,9 @@ use std::marker::Model;
 /// One node, whose peers are elsewhere, and the port by which they hear each other.
 #[derive(Drop)]
 pub struct Solo<'a, D: Disk, P: Port> {
-    node: Node<'a, D>,
-    pending: Pending,
-    port: P,
+    pub(crate) node: Node<'a, D>,
+    pub(crate) pending: Pending,
+    pub(crate) port: P,
 }
 
 impl<'a, D: Disk, P: Port> Model for Solo<'a, D, P> {
@@ -81,7 +82,7 @@ impl<'a, D: Disk, P: Port> Solo<'a, D, P> {
     /// `Memory`; `Down`, where the node's device failed; else what the node refuses.
     pub fn turn(&mut self, builds: &Packages) -> Result<Option<Act>, TurnFault>
         ensures { IsTurn D.is_kept D.history D.failures_of P.given P.offered P.does P.vouches
-            builds.now self.old self.new result }
+            (AllBuilds builds.now) self.old self.new result }
     {
         self.take_turn(builds)
     }
@@ -135,20 +136,21 @@ impl<'a, D: Disk, P: Port> Solo<'a, D, P> {
         // order: it was asked once, unless a job waited for its answer, and then the step's sends
         // were offered. What the node takes for a datagram the port vouches for.
         ensures taken { IfOk result (λ o. IfSome o (λ act. HasTaken P.given P.offered P.does
-            P.vouches self.old self.new builds.now (asked_by act))) }
+            P.vouches self.old self.new (AllBuilds builds.now) (asked_by act))) }
         ensures heard { IfOk result (λ o. IfSome o
             (λ act. IsHeard P.vouches self.new.port (asked_by act))) }
 
         // There was nothing to do, and nothing was offered.
         ensures nothing { IfOk result (λ o. IfNone o
-            (IsChosen P.given P.does P.vouches self.old self.new builds.now [] None)) }
+            (IsChosen P.given P.does P.vouches self.old self.new (AllBuilds builds.now) []
+            None)) }
         ensures same { IfOk result (λ o. IfNone o
             ((self.new.node ≡ self.old.node) × (self.new.pending ≡ self.old.pending)
             × OffersNothing P.offered self.old self.new)) }
 
         // Refusals, and what they leave.
         ensures refused { IfErr result (IsTurnFault P.given P.does P.vouches self.old self.new
-            builds.now (LeavesAtMost D.is_kept D.history self.old self.new)) }
+            (AllBuilds builds.now) (LeavesAtMost D.is_kept D.history self.old self.new)) }
         ensures left { IfErr result (λ f. (self.new.pending ≡ self.old.pending)
             × OffersNothing P.offered self.old self.new) }
         ensures device { IfErr result (λ f. (k : _) → f ≡ refused.Down k

@@ -27,6 +27,7 @@ use Rattle.protocol.specs.State.{State}
 use Rattle.protocol.specs.declared.input.Input.{Input}
 use Rattle.solo.proofs.Only.{none_among, own_answer}
 use Rattle.solo.specs.Faults.{IsRefusedBy}
+use Rattle.solo.specs.Handed.{AllBuilds}
 use Rattle.solo.specs.State.{SoloState, me_of, member_up, only}
 use Rattle.solo.specs.Turn.{IsChosen, received_by}
 use Rattle.solo.specs.Turns.{IsTurn, Outcome}
@@ -38,7 +39,7 @@ module _ {D : Type 0} (is_kept : D → Type 0) (history : D → History) (failur
     (vouches : MemPortState → Text → Type 0) (builds : Given) (old new : SoloState D MemPortState)
   where
     abbrev Turn : Outcome → Type 0
-    Turn = IsTurn is_kept history failures_of given offered DoesInMemory vouches builds old new
+    Turn = IsTurn is_kept history failures_of given offered DoesInMemory vouches (AllBuilds builds) old new
 
     abbrev n : NodeState
     n = old.node.node
@@ -100,7 +101,7 @@ module _ {D : Type 0} (is_kept : D → Type 0) (history : D → History) (failur
 
       -- so that is chosen
       is_that : (c : Chosen) (parcels : List Parcel)
-          → IsChosen given DoesInMemory vouches old new builds parcels c
+          → IsChosen given DoesInMemory vouches old new (AllBuilds builds) parcels c
           → c ≡ Some (n.member.me, Comes text)
       is_that c parcels is = subst (λ g. IsGivenOr g c (later c))
           (ap (λ j. option_or j (comes_to (only n) (came_by is.answer))) no_job
@@ -112,7 +113,7 @@ module _ {D : Type 0} (is_kept : D → Type 0) (history : D → History) (failur
           is.choice
 
       asks_that : (asked : Asked) (parcels : List Parcel)
-          → IsChosen given DoesInMemory vouches old new builds parcels
+          → IsChosen given DoesInMemory vouches old new (AllBuilds builds) parcels
           (Some (n.member.me, asked)) → asked ≡ Comes text
       asks_that asked parcels is =
           let known : ◌≡◌ {A = Chosen} (Some (n.member.me, asked)) (Some (n.member.me, Comes text))

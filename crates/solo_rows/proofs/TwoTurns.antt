@@ -9,7 +9,7 @@ use Rattle.node.specs.Step.{Takes, after}
 use Rattle.parts.specs.Offered.{parcels_from}
 use Rattle.ports.specs.Calls.{Call}
 use Rattle.ports.specs.Kept.{Arrived, GoesOnBy, Parcel}
-use Rattle.protocol.specs.Given.{Given}
+use Rattle.solo.specs.Handed.{Handed}
 use Rattle.solo.specs.State.{SoloState}
 use Rattle.solo.specs.Turn.{HasTaken}
 use Rattle.solo.specs.Turns.{IsTurn, Outcome}
@@ -27,14 +27,14 @@ goes_then xs ys (Some j) (Some k) (Some l) first next =
 
 module _ {D P : Type 0} (is_kept : D → Type 0) (history : D → History) (failures_of : D → ℕ)
     (given : P → Option (List Arrived)) (offered : P → Option (List Parcel))
-    (does : P → Call → P → Type 0) (vouches : P → Text → Type 0) (builds : Given)
+    (does : P → Call → P → Type 0) (vouches : P → Text → Type 0) (handed : Handed)
     (old between new : SoloState D P) where
   abbrev Turn : SoloState D P → SoloState D P → Outcome → Type 0
-  Turn = IsTurn is_kept history failures_of given offered does vouches builds
+  Turn = IsTurn is_kept history failures_of given offered does vouches handed
 
   both : (one other : Act)
-      → HasTaken given offered does vouches old between builds (asked_by one)
-      → HasTaken given offered does vouches between new builds (asked_by other)
+      → HasTaken given offered does vouches old between handed (asked_by one)
+      → HasTaken given offered does vouches between new handed (asked_by other)
       → HasTakenTwo offered old new (asked_by one) (asked_by other)
   both one other t u = record {
     one = t.taken;

@@ -1,5 +1,6 @@
 //! Two turns in a row.
 ghost use Rattle.std.specs.Prelude.{[], ◌∷◌};
+ghost use Rattle.solo.specs.Handed.{AllBuilds};
 ghost use Rattle.solo.specs.Turns.{TurnsLead};
 ghost use Rattle.solo_rows.specs.Two.{TookTwo};
 
@@ -19,7 +20,7 @@ pub fn two_turns<D: Disk, P: Port>(
     builds: &Packages,
 ) -> (Outcome, Outcome)
     ensures led { TurnsLead D.is_kept D.history D.failures_of P.given P.offered P.does P.vouches
-        builds.now solo.old (result.0 ∷ result.1 ∷ []) solo.new }
+        (AllBuilds builds.now) solo.old (result.0 ∷ result.1 ∷ []) solo.new }
     ensures took { TookTwo P.offered solo.old solo.new result.0 result.1 }
 {
     let one = solo.turn(builds);

@@ -20,7 +20,7 @@ use Rattle.parts.specs.declared.readied.Readied.{Readied}
 use Rattle.ports.specs.Calls.{Call, Received}
 use Rattle.ports.specs.Kept.{Arrived, GoesOnBy, Parcel}
 use Rattle.ports.specs.declared.fault.PortFault.{PortFault}
-use Rattle.protocol.specs.Given.{Given}
+use Rattle.solo.specs.Handed.{Handed}
 use Rattle.protocol.specs.State.{Value}
 use Rattle.stable_record.specs.declared.log_fault.LogFault.TheVariants as log
 use Rattle.solo.specs.State.{SoloState, me_of}
@@ -49,9 +49,9 @@ pub record HasCome {P : Type 0} (given : P → Option (List Arrived)) (does : P 
 -- What was made ready is the turn's choice, nothing was offered yet, and the node stays.
 pub record HasChosen {D P : Type 0} (given : P → Option (List Arrived))
     (does : P → Call → P → Type 0) (vouches : P → Text → Type 0) (old new : SoloState D P)
-    (builds : Given) (r : Option Readied) : Type 0 where
+    (handed : Handed) (r : Option Readied) : Type 0 where
   pub chosen : Chosen
-  pub is_chosen : IsChosen given does vouches old new builds [] chosen
+  pub is_chosen : IsChosen given does vouches old new handed [] chosen
   pub made : IsMade old.node chosen r
   pub same : new.node ≡ old.node
 

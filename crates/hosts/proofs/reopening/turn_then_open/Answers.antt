@@ -1,4 +1,5 @@
 use Rattle.std.proofs.Common.{subst}
+use Rattle.solo.specs.Handed.{AllBuilds}
 use Rattle.hosts.proofs.Reopened.{opened_again}
 use Rattle.node.specs.OnLog.{IsLogged}
 use Rattle.stable_record.specs.History.{seen}
@@ -11,7 +12,7 @@ returns-in-Ok-clause-left g c = λ kept kept_then on gone.
     let e = c.turn-answer.ensures in
     opened_again g.D.Disk.is_kept g.D.Disk.history g.P.Port.given g.P.Port.offered
     g.P.Port.does g.P.Port.vouches
-    c.args.builds.now old new (subst IsLogged c.node.ensures c.member-node.ensures.node)
+    (AllBuilds c.args.builds.now) old new (subst IsLogged c.node.ensures c.member-node.ensures.node)
     on kept_then c.turn-answer.result e.done.taken e.log.any_moment
     e.refuses.refused e.log.untouched c.args.tree.now c.args.weights.now c.args.me c.requires.own
     c.in-Ok.ensures.one_answer (seen (g.E.Disk.history c.args.left)) gone c.in-Ok.node.node

@@ -1,4 +1,5 @@
 use Rattle.std.proofs.Common.{subst}
+use Rattle.solo.specs.Handed.{AllBuilds}
 use Rattle.hosts.proofs.Turning.{refusals_so, stayed_so, taken_so}
 use Rattle.node.specs.OnLog.{IsLogged}
 use Rattle.solo.specs.Turn.{LeavesAtMost}
@@ -6,7 +7,7 @@ use Rattle.hosts.proofs.turns.turn_on_host.Goals as goal
 
 pub returns-clause-turned : goal.returns-clause-turned
 returns-clause-turned g c =
-    taken_so g.P.Port.given g.P.Port.offered g.P.Port.does g.P.Port.vouches c.args.builds.now
+    taken_so g.P.Port.given g.P.Port.offered g.P.Port.does g.P.Port.vouches (AllBuilds c.args.builds.now)
     (LeavesAtMost g.D.Disk.is_kept g.D.Disk.history c.args.solo.now c.turn.new.self)
     c.args.solo.now c.turn.new.self
     (subst IsLogged c.node.ensures c.member-node.ensures.node)
@@ -14,7 +15,7 @@ returns-clause-turned g c =
 
 pub returns-clause-refused : goal.returns-clause-refused
 returns-clause-refused g c =
-    refusals_so g.P.Port.given g.P.Port.offered g.P.Port.does g.P.Port.vouches c.args.builds.now
+    refusals_so g.P.Port.given g.P.Port.offered g.P.Port.does g.P.Port.vouches (AllBuilds c.args.builds.now)
     (LeavesAtMost g.D.Disk.is_kept g.D.Disk.history c.args.solo.now c.turn.new.self)
     c.args.solo.now c.turn.new.self
     (subst IsLogged c.node.ensures c.member-node.ensures.node)
@@ -25,7 +26,7 @@ returns-clause-nothing g c = c.turn.ensures.done.nothing
 
 pub returns-clause-stayed : goal.returns-clause-stayed
 returns-clause-stayed g c =
-    stayed_so g.P.Port.given g.P.Port.offered g.P.Port.does g.P.Port.vouches c.args.builds.now
+    stayed_so g.P.Port.given g.P.Port.offered g.P.Port.does g.P.Port.vouches (AllBuilds c.args.builds.now)
     (LeavesAtMost g.D.Disk.is_kept g.D.Disk.history c.args.solo.now c.turn.new.self)
     c.args.solo.now c.turn.new.self
     (subst IsLogged c.node.ensures c.member-node.ensures.node)
