@@ -26,6 +26,7 @@ use Rattle.program.specs.declared.refusal.Refusal.{Refusal}
 use Rattle.protocol.specs.Given.{Given}
 use Rattle.protocol.specs.State.{engine_of}
 use Rattle.run_file.specs.Starts.{IsStarted}
+use Rattle.solo.specs.Handed.{AllBuilds}
 use Rattle.solo.specs.State.{SoloState}
 use Rattle.solo.specs.Turns.{HaveTurned}
 use Rattle.stable_record.specs.Crash.{AllAlong}
@@ -57,7 +58,7 @@ port_vouches port text = is_vouched_for port.inbox.key port.inbox.came text ≡ 
 pub record HasRun (builds : Given) (turns : ℕ) (old new : Running) : Type 0 where
   pub last : Running
   pub turned : HaveTurned file_agrees file_history (λ disk. disk.failures) (λ port. None)
-      (λ port. None) (λ port call after. ⊤) port_vouches builds turns old last
+      (λ port. None) (λ port call after. ⊤) port_vouches (AllBuilds builds) turns old last
   pub same : new ≡ record last { port = new.port }
   pub left : new.port.leaving.waiting.items ≡ []
   pub handed : new.port.handed.all

@@ -1,6 +1,7 @@
 //! The turns of a node.
 ghost use Rattle.std.specs.Prelude.{◌≡◌};
 ghost use Rattle.dpbn_node.specs.Node.{HasRun};
+ghost use Rattle.solo.specs.Handed.{AllBuilds};
 ghost use Rattle.solo.specs.Turns.{HaveTurned, IsTurn, Outcome};
 
 use dpbn_run::Telling;
@@ -53,7 +54,7 @@ fn take_turns<D: Disk, P: Port + Counting, E: Write>(
     err: &mut E,
 )
     ensures { HaveTurned D.is_kept D.history D.failures_of P.given P.offered P.does P.vouches
-        builds.now turns solo.old solo.new }
+        (AllBuilds builds.now) turns solo.old solo.new }
 {
     for _ in 0..turns {
         take_turn(solo, builds, telling, err);
@@ -69,7 +70,7 @@ fn take_turn<D: Disk, P: Port, E: Write>(
     err: &mut E,
 )
     ensures { (answer : Outcome) × IsTurn D.is_kept D.history D.failures_of P.given P.offered
-        P.does P.vouches builds.now solo.old solo.new answer }
+        P.does P.vouches (AllBuilds builds.now) solo.old solo.new answer }
 {
     match solo.turn(builds) {
         Ok(done) => drop(done),
