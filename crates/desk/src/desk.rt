@@ -1,4 +1,8 @@
 //! What is known here of builds: which are under way, which failed, and who was asked for what.
+ghost use Rattle.std.specs.List.{list_any};
+ghost use Rattle.std.specs.Prelude.{◌≡◌, ◌==◌, IfOk, IfSome, Some, map, true};
+ghost use Rattle.desk.specs.Wishing.{IsNewClaim, IsWishOf};
+ghost use Rattle.live_choice.specs.Wishes.{IsNextAsk};
 
 use crate::away::{Away, away_for, seen_away};
 use crate::out::{Posted, forget_held, is_among, is_held, push, taken, units_of};
@@ -122,7 +126,10 @@ impl<'f> Desk<'f> {
         member: &Member<'_>,
         gives_way: bool,
         now: Instant,
-    ) -> Result<Option<Wish>, WorkFault> {
+    ) -> Result<Option<Wish>, WorkFault>
+        ensures { IfOk result (λ o. IfSome o (IsWishOf member.now
+            (map (λ p. p.unit) self.now.out.items) (map (λ p. p.unit) self.now.failed.items))) }
+    {
         if may_claim(member, gives_way) {
             if let Some(wish) = self.claim(rt, member, now)? {
                 return Ok(Some(wish));
@@ -137,7 +144,10 @@ impl<'f> Desk<'f> {
         rt: &HostRuntime,
         member: &Member<'_>,
         now: Instant,
-    ) -> Result<Option<Wish>, WorkFault> {
+    ) -> Result<Option<Wish>, WorkFault>
+        ensures { IfOk result (λ o. IfSome o (IsWishOf member.now
+            (map (λ p. p.unit) self.now.out.items) (map (λ p. p.unit) self.now.failed.items))) }
+    {
         if let Some(unit) = self.answered(rt, member)? {
             return Ok(claim_of(member, unit)?);
         }
@@ -148,7 +158,10 @@ impl<'f> Desk<'f> {
     }
 
     /// The wish to claim what is to be built, or to ask for that before.
-    fn claim_new(&self, member: &Member<'_>, now: Instant) -> Result<Option<Wish>, Memory> {
+    fn claim_new(&self, member: &Member<'_>, now: Instant) -> Result<Option<Wish>, Memory>
+        ensures { IfOk result (λ o. IfSome o (IsWishOf member.now
+            (map (λ p. p.unit) self.now.out.items) (map (λ p. p.unit) self.now.failed.items))) }
+    {
         let Some(Wish::Claim { path, above }) = self.least_claim(member, now)? else {
             return Ok(None);
         };
@@ -163,7 +176,10 @@ impl<'f> Desk<'f> {
 
     /// The wish to claim the least unit that is neither out, nor failed, nor away, but for what is
     /// taken over.
-    fn least_claim(&self, member: &Member<'_>, now: Instant) -> Result<Option<Wish>, Memory> {
+    fn least_claim(&self, member: &Member<'_>, now: Instant) -> Result<Option<Wish>, Memory>
+        ensures { IfOk result (IsNewClaim member.now (map (λ p. p.unit) self.now.out.items)
+            (map (λ p. p.unit) self.now.failed.items)) }
+    {
         let alloc = *self.asked.allocator();
         let barred = units_of(alloc, self.out.as_slice(), self.failed.as_slice())?;
         let over = away_for(alloc, self.away.as_slice(), self.pace.takeover, now)?;
@@ -184,7 +200,10 @@ impl<'f> Desk<'f> {
     }
 
     /// The question that is due, if one is.
-    fn ask(&self, member: &Member<'_>, now: Instant) -> Result<Option<Wish>, Memory> {
+    fn ask(&self, member: &Member<'_>, now: Instant) -> Result<Option<Wish>, Memory>
+        ensures { IfOk result (λ o. IfSome o (λ wish. (from p : _)
+            × IsNextAsk member.now from (Some (p, wish)))) }
+    {
         if !self.is_hit(member) && now.duration_since(self.asked_at) < self.pace.ask {
             return Ok(None);
         }
@@ -287,7 +306,10 @@ impl<'f> Desk<'f> {
     }
 
     /// A unit that is out and has its answer, unless its claim is the open one.
-    fn answered(&self, rt: &HostRuntime, member: &Member<'_>) -> Result<Option<u32>, WorkFault> {
+    fn answered(&self, rt: &HostRuntime, member: &Member<'_>) -> Result<Option<u32>, WorkFault>
+        ensures { IfOk result (λ o. IfSome o
+            (λ u. list_any (λ v. v == u) (map (λ p. p.unit) self.now.out.items) ≡ true)) }
+    {
         let open = match member.open_claim() {
             Some(open) => Some(open.unit),
             None => None,

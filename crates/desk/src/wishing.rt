@@ -1,4 +1,7 @@
 //! When a unit is claimed, and above which round.
+ghost use Rattle.std.specs.Prelude.{◌≡◌, IfOk, IfSome};
+ghost use Rattle.desk.specs.Wishing.{claim_of_unit};
+
 use ballots::Claimer;
 use faults::Memory;
 use live_choice::Wish;
@@ -17,7 +20,9 @@ pub(crate) fn may_claim(member: &Member<'_>, gives_way: bool) -> bool {
 }
 
 /// The claim for the unit of this number, above what the member promised.
-pub(crate) fn claim_of(member: &Member<'_>, unit: u32) -> Result<Option<Wish>, Memory> {
+pub(crate) fn claim_of(member: &Member<'_>, unit: u32) -> Result<Option<Wish>, Memory>
+    ensures { IfOk result (λ o. IfSome o (λ wish. wish ≡ claim_of_unit member.now unit)) }
+{
     let units = member.units();
     if unit >= units.len() {
         return Ok(None);
