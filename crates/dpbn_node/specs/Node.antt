@@ -21,7 +21,7 @@ use Rattle.node.specs.State.{LoggedNode, NodeState}
 use Rattle.node.specs.declared.fault.NodeFault.{NodeFault}
 use Rattle.program.specs.Listings.{IsDescribed, RefusesListingFile}
 use Rattle.program.specs.NodeLine.{IsLineOf}
-use Rattle.program.specs.Refusals.{IsSystemRefusal, memory_refusal}
+use Rattle.program.specs.Refusals.{IsSystemRefusal}
 use Rattle.program.specs.declared.refusal.Refusal.{Refusal}
 use Rattle.protocol.specs.Given.{Given}
 use Rattle.protocol.specs.State.{engine_of}

@@ -259,6 +259,9 @@ module _ {D P : Type 0} (given : P → Option (List Arrived)) (does : P → Call
             → IfErr answer IsFault
         left_faults same (Ok o) none_is = tt
         left_faults same (Err f) (g, tells, none_is) =
-            left_fault (ap (λ x. x.node) (same ∙ same_node)) f
-            (g, tells, subst (λ l. IsNoPart old.node l g) left_as
-            (subst (λ x. IsNoPart x (LeftAs m k) g) same_node none_is))
+            left_fault (ap (λ x. x.node) (same ∙ same_node)) f (
+              g,
+              tells,
+              subst (λ l. IsNoPart old.node l g) left_as
+                  (subst (λ x. IsNoPart x (LeftAs m k) g) same_node none_is),
+            )

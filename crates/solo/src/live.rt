@@ -84,21 +84,23 @@ impl<'a, D: Disk, P: Port> Solo<'a, D, P> {
         // order: it was asked once, unless a job was answered, and then the step's sends were
         // offered. What the node takes for a datagram the port vouches for.
         ensures taken { IfOk result (λ o. IfSome o (λ act. HasTaken P.given P.offered P.does
-            P.vouches self.old self.new (SoFar (option_map (λ b. b.now) made.entry) wish) (asked_by act))) }
+            P.vouches self.old self.new (SoFar (option_map (λ b. b.now) made.entry) wish)
+            (asked_by act))) }
         ensures heard { IfOk result (λ o. IfSome o
             (λ act. IsHeard P.vouches self.new.port (asked_by act))) }
 
         // There was nothing to do, and nothing was offered.
         ensures nothing { IfOk result (λ o. IfNone o
-            (IsChosen P.given P.does P.vouches self.old self.new (SoFar (option_map (λ b. b.now) made.entry) wish) []
-            None)) }
+            (IsChosen P.given P.does P.vouches self.old self.new
+            (SoFar (option_map (λ b. b.now) made.entry) wish) [] None)) }
         ensures same { IfOk result (λ o. IfNone o
             ((self.new.node ≡ self.old.node) × (self.new.pending ≡ self.old.pending)
             × OffersNothing P.offered self.old self.new)) }
 
         // Refusals, and what they leave.
         ensures refused { IfErr result (IsTurnFault P.given P.does P.vouches self.old self.new
-            (SoFar (option_map (λ b. b.now) made.entry) wish) (LeavesAtMost D.is_kept D.history self.old self.new)) }
+            (SoFar (option_map (λ b. b.now) made.entry) wish)
+            (LeavesAtMost D.is_kept D.history self.old self.new)) }
         ensures left { IfErr result (λ f. (self.new.pending ≡ self.old.pending)
             × OffersNothing P.offered self.old self.new) }
         ensures device { IfErr result (λ f. (k : _) → f ≡ refused.Down k
