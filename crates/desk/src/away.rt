@@ -1,4 +1,6 @@
 //! Units that are away: the last claim that the member promised for them is another member's.
+ghost use Rattle.std.specs.Prelude.{◌<◌, length};
+
 use claims::Claim;
 use faults::Memory;
 use live_parts::is_away;

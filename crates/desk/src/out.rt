@@ -1,6 +1,6 @@
 //! Jobs that are out, and builds that failed.
 ghost use Rattle.std.specs.List.{list_any};
-ghost use Rattle.std.specs.Prelude.{◌≡◌, ◌<◌, ◌==◌, IfOk, IfSome, MatchOption, Contains, map};
+ghost use Rattle.std.specs.Prelude.{◌≡◌, ◌++◌, ◌==◌, IfOk, map};
 
 use engine::Letter;
 use faults::Memory;
