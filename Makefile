@@ -31,8 +31,10 @@ bench: all
 	-bench/member
 	-bench/node
 	-bench/traces
+	-bench/way
 	./dpbn node --help 2>/dev/null; [ $$? -eq 2 ]
 	-bench/nodes
 	-bench/link
+	-bench/seals
 
 .PHONY: all check install dist bench

@@ -15,6 +15,7 @@ CATEGORIES = ["archivers", "audio", "databases", "devel", "editors", "games", "g
               "net", "print", "security", "sysutils", "textproc", "www", "x11"]
 LAYERS = 12
 HUBS = 40
+SMALL = b"x"
 
 
 class Numbers:
@@ -81,6 +82,38 @@ def run_chain(paths):
         if n in needed:
             lines.append(f"devel/link{n}.RUN_DEPENDS=devel/link{needed[n]}")
     return "\n".join(lines) + "\n", [f"devel/link{n}" for n in range(paths)]
+
+
+def deliver(datagram, *nodes):
+    return [{"datagram": datagram, "event": "deliver", "node": node} for node in nodes]
+
+
+def life(path, first, pieces, file):
+    """The events of a unit whose datagrams begin with this number, and how many datagrams it sends."""
+    proposed, voted = first + 3, first + 3 + pieces
+    events = [claim(path)]
+    events += deliver(first, 0, 1) + deliver(first + 1, 0) + deliver(first + 2, 0)
+    events.append({"event": "built", "files": [{"hex": file.hex(), "name": "x"}], "node": 0, "path": path})
+    for piece in range(pieces):
+        events += deliver(proposed + piece, 0, 1)
+    events += deliver(voted, 0) + deliver(voted + 1, 0)
+    for piece in range(pieces):
+        events += deliver(voted + 2 + piece, 1, 2)
+    return events, 5 + 2 * pieces
+
+
+def lives(names):
+    """The events of these units, one after the other."""
+    events, first = [], 0
+    for path in names:
+        more, sent = life(path, first, 1, SMALL)
+        events += more
+        first += sent
+    return events
+
+
+def claim(path):
+    return {"above": 0, "event": "claim", "host": 3, "node": 0, "path": path}
 
 
 # Runs the words, and tells on standard error the seconds, the peak memory in KiB and the status. What the system says of a

@@ -140,6 +140,11 @@ def wrong_words():
     for members, turns in (("10", "1"), ("0", "1"), ("3", "1000001"), ("-1", "1"), ("three", "1"), ("3", "")):
         yield ["cluster", *SHARED, "--members", members, "--turns", turns]
     yield ["node", *SHARED, "--members", "3", "--me", "256", "--turns", "1", "--base", "7000"]
+    there = [*node, "--hosts", "1.2.3.4:5"]
+    yield from (there, [*there, "--key", "x", "--unsealed"], [*here, "--key", "x", "--unsealed"], [*here, "--key"], [*here, "--key", "x", "--key", "x"],
+                [*here, "--unsealed", "--unsealed"], [*here, "--continue", "--continue"], [*here, "--continue=yes"], [*here, "--key", b"\xff"])
+    yield from ([*cluster, "--key", "x"], [*cluster, "--unsealed"], [*cluster, "--continue"], ["key"], ["key", "x", "y"], ["key", "--help"], ["keys", "x"],
+                ["key", "x", "--key", "x"], ["key", b"\xff"])
 
 
 def no_calls(tally):
@@ -174,14 +179,21 @@ def faults(tally):
         lay(folder)
         bad_files(folder)
         base = free_ports(4)
-        good = {"--listing": "listing", "--builds": "builds", "--weights": "1,2,3,4", "--hosts": places(base, 4), "--me": "3", "--dir": "bad-logs",
-                "--members": "4", "--turns": "0"}
+        for name, mode in (("key", 0o600), ("open-key", 0o644), ("bad-key", 0o600)):
+            put(f"{folder}/{name}", b"no key\n" if name == "bad-key" else b"ab" * 32 + b"\n")
+            os.chmod(f"{folder}/{name}", mode)
+        os.mkdir(f"{folder}/lost")
+        put(f"{folder}/lost/node-3.run", b"dpbn run 1\n")
+        good = {"--listing": "listing", "--builds": "builds", "--weights": "1,2,3,4", "--hosts": places(base, 4), "--key": "key", "--me": "3",
+                "--dir": "logs", "--members": "4", "--turns": "0"}
         with taken(base + 3):
             ordered(tally, folder, "node", good, (
                 ("2", {"--listing": "none"}), ("401 at 1", {"--listing": "bad"}), ("2", {"--builds": "none"}),
-                ("1305 at 0", {"--builds": "bad"}), ("801", {"--weights": "1,2"}), ("1206 at 1", {"--hosts": "1.2.3.4"}),
-                ("909", {"--me": "4"}), ("2", {"--dir": "none"}), ("1204", {})))
-        ordered(tally, folder, "node", good, (("1004", {}),))
+                ("1305 at 0", {"--builds": "bad"}), ("801", {"--weights": "1,2"}), ("2", {"--key": "none"}), ("1208", {"--key": "open-key"}),
+                ("1207", {"--key": "bad-key"}), ("1206 at 1", {"--hosts": "1.2.3.4"}), ("909", {"--me": "4"}), ("2", {"--dir": "none"}),
+                ("1007", {"--dir": "lost"}), ("1006 at 0", {"--dir": "bad-logs"}), ("1204", {})))
+        unkeyed = {word: it for word, it in good.items() if word not in ("--hosts", "--key")}
+        ordered(tally, folder, "node", {**unkeyed, "--base": str(base), "--dir": "bad-logs"}, (("1004", {}),))
         short = ["node", *SHARED, "--members", "4", "--me", "3", "--turns", "0", "--base", str(base)]
         with taken(base + 3):
             tally.add("a socket that is taken", difference(answer(short, folder), refused(1204)))
@@ -231,7 +243,7 @@ def bad_words(tally):
         here = places(base, 4).split(",")
         for hosts, place in ((here[:3], 4), ([*here, here[0]], 5), ([here[0], here[0], *here[2:]], 2), ([*here[:3], "host:1"], 4),
                              ([*here[:3], "[::1]:1"], 4), ([here[0], "0.0.0.0:1", *here[2:]], 2), ([""], 1)):
-            got = answer([*good, f"--hosts={','.join(hosts)}"], folder)
+            got = answer([*good, "--unsealed", f"--hosts={','.join(hosts)}"], folder)
             tally.add(f"the hosts {','.join(hosts)!r}", difference(got, refused(f"1206 at {place}")))
 
 
@@ -276,6 +288,8 @@ def alone(tally):
         one = ["cluster", *SHARED, "--members", "1", "--turns", "12"]
         tally.add("a cluster on its log", difference(answer(one, folder), (b"", b"dpbn: fault 1203\n", 1)))
         three = ["cluster", *SHARED, "--members", "3", "--turns", "12"]
+        tally.add("beside the run file of a lone member", difference(answer(three, folder), (b"", b"dpbn: fault 1203\n", 1)))
+        os.remove(f"{folder}/logs/node-0.run")
         tally.add("the log of a lone member", difference(answer(three, folder), (b"", b"dpbn: fault 1005\n", 1)))
 
 
@@ -374,12 +388,17 @@ def failing_device(tally, shim, folder):
     down, held = (b"node 0: down\n", b"dpbn: fault 1001 at 0\n", 0), (node_line(0, i=1), b"", 0)
     got, count = called(shim, folder, words, "")
     tally.add("a node whose calls are counted", difference(got, held))
-    for number in range(10, count + 1):
+    # its folder is brought to the disk, the log is made in 8 calls, and then the run file and its name are brought there
+    for number in range(1, count + 1):
         got, _ = called(shim, folder, words, str(number))
-        tally.add(f"call {number} of {count} of a node's log", difference(got, down))
+        wanted = down if number > 11 else refused(2 if number in (1, 10, 11) else 1001)
+        tally.add(f"call {number} of {count} of a node's log", difference(got, wanted))
         tally.add(f"the node run again after call {number}", difference(answer(words, folder), held))
     for room in (44, 50, 100, 150):
         lay_logs(folder)
+        if room < 112:  # the run file's length
+            tally.add(f"a device with room for {room} bytes, and no run file", difference(answer(words, folder, preexec_fn=with_room(room)), refused(2)))
+        tally.add("a start with room", difference(answer([*words[:-1], "0"], folder), (node_line(0, q=1), b"", 0)))
         tally.add(f"a device with room for {room} bytes", difference(answer(words, folder, preexec_fn=with_room(room)), down))
         tally.add(f"the device that had {room} bytes", difference(answer(words, folder), held))
 
@@ -455,7 +474,7 @@ def sockets(tally):
         base = free_ports(3)
         where = ",".join(f"127.0.0.{me + 2}:{base}" for me in range(3))
         for me in range(3):
-            for words, place in ((["--base", str(base)], ("127.0.0.1", base + me)), (["--hosts", where], (f"127.0.0.{me + 2}", base))):
+            for words, place in ((["--base", str(base)], ("127.0.0.1", base + me)), (["--hosts", where, "--unsealed"], (f"127.0.0.{me + 2}", base))):
                 node = started(folder, me, [*words, "--turns", "1000000"])
                 found = listening(node)
                 ended(node)
@@ -470,9 +489,14 @@ def sockets(tally):
         for held in range(3):
             with taken(base, f"127.0.0.{held + 2}"):
                 for me in range(3):
-                    got = answer(["node", *SHARED, "--members", "3", "--me", str(me), "--hosts", where, "--turns", "0"], folder)
-                    wanted = refused(1204) if me == held else (node_line(me, q=1), b"", 0)
+                    got = answer(["node", *SHARED, "--members", "3", "--me", str(me), "--hosts", where, "--unsealed", "--turns", "0"], folder)
+                    wanted = refused(1204) if me == held else (node_line(me, q=1), nothing_seen(me), 0)
                     tally.add(f"node {me}, where address {held} is taken", difference(got, wanted))
+
+
+def nothing_seen(me):
+    """What a node of three whose peers have hosts tells at the end, where nothing came."""
+    return b"".join(b"dpbn: member %d: heard 0, sealed otherwise 0, unsent 0\n" % it for it in range(3) if it != me) + b"dpbn: strangers: 0\n"
 
 
 def hosts(tally):
@@ -481,7 +505,7 @@ def hosts(tally):
         lay(folder)
         base = free_ports(1)
         where = ",".join(f"127.0.0.{k + 1}:{base}" for k in range(3))
-        nodes = [started(folder, me, ["--hosts", where, "--turns", "300"]) for me in range(3)]
+        nodes = [started(folder, me, ["--hosts", where, "--unsealed", "--turns", "300"]) for me in range(3)]
         out = b"".join(node.communicate(timeout=300)[0] for node in nodes)
         tally.add("three nodes on three addresses", "" if out == ALL else f"{out!r}")
 
@@ -494,7 +518,7 @@ def stops(tally, packages=12):
         with tempfile.TemporaryDirectory() as folder:
             lay(folder, listing, json.dumps(builds))
             base = free_ports(1)
-            words = ["--hosts", ",".join(f"127.0.0.{me + 1}:{base}" for me in range(3)), "--patience", "5", "--turns"]
+            words = ["--hosts", ",".join(f"127.0.0.{me + 1}:{base}" for me in range(3)), "--unsealed", "--patience", "5", "--turns"]
             nodes = [started(folder, me, [*words, "3000", "--progress", "20"]) for me in range(3)]
             has_begun = grown(f"{folder}/logs/node-{number}.log", 400)
             nodes[number].send_signal(how)
@@ -509,8 +533,8 @@ def stops(tally, packages=12):
 
 
 def letters_at(folder, me, words):
-    """How many packages are held at a node, and its line, from its log."""
-    out, error, status = answer(["node", *SHARED, "--members", "3", "--me", str(me), *words, "0"], folder)
+    """How many packages are held at a node, and its line, from its log, which has to be there."""
+    out, error, status = answer(["node", *SHARED, "--members", "3", "--me", str(me), "--continue", *words, "0"], folder)
     found = re.match(rb"node \d: I=(\d+) ", out)
     return (int(found[1]) if found and not status else -1), out or error
 
@@ -717,24 +741,29 @@ def held_by_all(tally, name, nodes, packages):
     tally.add(name, "" if all(held) else f"of the nodes {[me for me in range(3) if not held[me]]} not")
 
 
-def kills(tally, rounds=20, seed=1, packages=60):
-    """Three nodes on a listing, of which one after the other is killed and started again, each fifth time with a full device, while
-    noise is sent to their sockets."""
+def kills(tally, rounds=20, seed=1, packages=60, sealing=False):
+    """Three nodes on a listing, with a key or without one, of which one after the other is killed and started again, each fifth time
+    with a full device, while noise is sent to their sockets."""
     dice = random.Random(seed)
     listing = "".join(f"p/n{k}.FULLPKGNAME=n{k}-1\n" + (f"p/n{k}.LIB_DEPENDS=p/n{dice.randrange(k)}\n" if k % 3 else "") for k in range(packages))
     builds = {f"p/n{k}": [{"hex": dice.randbytes(dice.choice((0, 10, 40_000))).hex(), "name": "x"}] for k in range(packages)}
     with tempfile.TemporaryDirectory() as folder:
         lay(folder, listing, json.dumps(builds))
         base = free_ports(3)
-        words = ["--base", str(base), "--turns", "1000000", "--patience", "5"]
+        spots = [(f"127.0.0.{me + 1}", base) if sealing else ("127.0.0.1", base + me) for me in range(3)]
+        peers = ["--base", str(base)]
+        if sealing:
+            answer(["key", "key"], folder)
+            peers = ["--hosts", ",".join(f"{address}:{port}" for address, port in spots), "--key", "key"]
+        words = [*peers, "--turns", "1000000", "--patience", "5"]
         nodes = [started(folder, me, words) for me in range(3)]
         full = Full(folder)
         for me in range(3):
-            grown(full.log(me), 44)
+            grown(f"{folder}/logs/node-{me}.run", 1)
         noise = socket.socket(socket.AF_INET, socket.SOCK_DGRAM)
         for number in range(rounds):
             time.sleep(dice.uniform(0.01, 0.15))
-            noise.sendto(dice.randbytes(dice.randrange(100)), ("127.0.0.1", base + dice.randrange(3)))
+            noise.sendto(dice.randbytes(dice.randrange(100)), spots[dice.randrange(3)])
             me = dice.randrange(3)
             full.ended(me, nodes[me])
             if number % 5 == 4:
@@ -745,11 +774,12 @@ def kills(tally, rounds=20, seed=1, packages=60):
         for me, node in enumerate(nodes):
             full.ended(me, node)
         noise.close()
-        full.tally(tally, f"{rounds} kills")
-        agreed(tally, folder, f"{rounds} kills")
-        last = [started(folder, me, ["--base", str(base), "--turns", str(60 * packages), "--patience", "5", "--progress", "20"]) for me in range(3)]
-        held_by_all(tally, f"all is held after {rounds} kills", last, packages)
-        agreed(tally, folder, f"{rounds} kills, and turns to spare")
+        name = f"{rounds} kills{' under a key' if sealing else ''}"
+        full.tally(tally, name)
+        agreed(tally, folder, name)
+        last = [started(folder, me, [*peers, "--turns", str(60 * packages), "--patience", "5", "--progress", "20"]) for me in range(3)]
+        held_by_all(tally, f"all is held after {name}", last, packages)
+        agreed(tally, folder, f"{name}, and turns to spare")
 
 
 def agreed(tally, folder, when):

@@ -1,7 +1,7 @@
 -- A node takes what came for it.
-use Rattle.std.proofs.Common.{◌≡◌, ℕ, Bool, true, false, List, Some, Err, slice_get, slice_set, sym, ap, subst, ◌∙◌, inl, inr}
+use Rattle.std.proofs.Common.{◌≡◌, ℕ, Bool, true, false, List, Option, None, Some, Err, refl, slice_get, slice_set, sym, ap, subst, ◌∙◌, inl, inr}
 use Rattle.std.specs.Prelude.{◌⊎◌, is_some, option_map, slice_index_or}
-use Rattle.choice.specs.Choice.{Chosen, comes_to}
+use Rattle.choice.specs.Choice.{Chosen, Here, comes_to}
 use Rattle.faults.specs.Bytes.{Text, is_among}
 use Rattle.node.specs.Calls.{left_by}
 use Rattle.node.specs.State.{LoggedNode}
@@ -46,6 +46,17 @@ pub sent_seen : (sent : List Text) (text seen : Text) (is_sent : Bool) → seen 
     → is_sent ≡ is_among sent seen → is_sent ≡ true → is_among sent text ≡ true
 sent_seen sent text seen is_sent same is among = sym (is ∙ ap (is_among sent) same) ∙ among
 
+-- what came is there to take, where it came for a node that is up
+pub some_came : (here : Here) (k : ℕ) (text : Text) (came : Arrived) → came ≡ Some (k, text)
+    → is_some (here k) ≡ true → is_some (comes_to here came) ≡ true
+some_came here k text came is some =
+    ap (λ (c : Arrived). is_some (comes_to here c)) is ∙ by (here k) some
+  where
+    by : (o : Option State) → is_some o ≡ true
+        → is_some (option_map {U = ℕ × Asked} (λ (s : State). (k, Comes text)) o) ≡ true
+    by None none = absurd (let bad : false ≡ true = none in cc)
+    by (Some s) here_is = refl
+
 -- ---- the same, told of a node that is lent
 
 module _ {D : Type 0} (nodes : List (LoggedNode D)) (k : ℕ) (text : Text) (came : Arrived)
@@ -59,6 +70,10 @@ module _ {D : Type 0} (nodes : List (LoggedNode D)) (k : ℕ) (text : Text) (cam
 
   comes : comes_to (here_in nodes) came ≡ Some (k, Comes text)
   comes = ap (comes_to (here_in nodes)) arrived ∙ asked_so nodes k text n stands up
+
+  -- so there is something to take
+  pub some_comes : is_some (comes_to (here_in nodes) came) ≡ true
+  some_comes = ap is_some comes
 
   pub taken_lent : m ≡ n → (r : Ready) → r.node ≡ k → IsReadied m (Comes text) r.readied
       → IsChosenAs nodes (comes_to (here_in nodes) came) (Some r)

@@ -2,14 +2,13 @@
 use Rattle.std.proofs.Common.{◌≡◌, ℕ, List, [], ◌∷◌, Option, None, Some, refl, sym, ap, subst, ◌∙◌}
 use Rattle.std.proofs.lemmas.List.{append-nil}
 use Rattle.std.specs.Prelude.{is_some}
-use Rattle.choice.proofs.SomeOwn.{some_choice}
 use Rattle.choice.specs.Choice.{Chosen, Here, IsFirstOwn, IsGivenOr, comes_to, first_job, has_job, in_turn}
 use Rattle.choice.specs.Pending.{Pending}
 use Rattle.faults.specs.Answers.{option_or}
 use Rattle.node.specs.Step.{Asked}
 use Rattle.ports.specs.Kept.{Arrived, GoesOnBy}
 use Rattle.protocol.specs.Given.{Given}
-use Rattle.choosing.specs.Choosing.{looked_for, AreMembers, IsChosenBy}
+use Rattle.choosing.specs.Choosing.{looked_for, IsChosenBy}
 
 -- where nothing was asked, it goes on by nothing
 pub goes_on : {X : Type 0} (o : Option (List X)) → GoesOnBy [] o o
@@ -53,10 +52,3 @@ module _ (here : Here) (count : ℕ) (p : Pending) (builds : Given) (old new : O
       choice = subst (λ g. IsGivenOr g c (IsFirstOwn here count p (in_turn p.next count) c))
           (sym (ap (λ j. option_or j (comes_to here came)) no_job ∙ comes)) own;
     }
-
-    -- there is a choice
-    pub by_some : AreMembers here
-        → (c : Chosen) × IsChosenBy here count p builds old new c
-    by_some are =
-        let some = some_choice here count p builds came are in
-        (some.0, record { came = came; looked = looked; choice = some.1 })

@@ -12,10 +12,10 @@ use Rattle.node.specs.Step.{Asked, Comes, Does}
 use Rattle.ports.specs.Kept.{Arrived, GoesOnBy}
 use Rattle.protocol.specs.Given.{Given}
 use Rattle.protocol.specs.State.{State}
-use Rattle.choosing.proofs.ByCase.{by_arrival, by_job, by_own, by_some}
+use Rattle.choosing.proofs.ByCase.{by_arrival, by_job, by_own}
 use Rattle.choosing.proofs.Eventful.{IsEventful, jobs_are, owns_are, sent_is}
 use Rattle.choosing.specs.declared.chosen.Chosen.{Chosen as Ready}
-use Rattle.choosing.specs.Choosing.{AreMembers, HasChosen, IsChoosingFault, IsChosenAs}
+use Rattle.choosing.specs.Choosing.{HasChosen, IsChoosingFault, IsChosenAs}
 use Rattle.choosing.specs.Here.{here_in}
 use Rattle.choosing.specs.inside.Cases.{IsFirstFault, IsFirstPart, IsNotTaken, IsWantFor, WasSent}
 
@@ -63,7 +63,7 @@ module _ {D : Type 0} (nodes : List (LoggedNode D)) (sent : List Text) (p : Pend
       by : (j : Chosen) → first_job here count builds ≡ j → is_some j ≡ true
           → IsFault refused.Memory
       by None is some = absurd (let no : false ≡ true = some in cc)
-      by (Some x) is some = (Some x, by_job here count p builds old new x is goes)
+      by (Some x) is some = (x, by_job here count p builds old new x is goes)
 
   -- no job was answered
   no_job : IsChosenAs nodes (first_job here count builds) None
@@ -114,11 +114,15 @@ module _ {D : Type 0} (nodes : List (LoggedNode D)) (sent : List Text) (p : Pend
           event = λ y e. same_event x y e (arrived_event known x is);
         }
 
-    arrival_fault : AreMembers here → (f : TurnFault) → IsNotTaken nodes sent came f
-        → IsFault f
-    arrival_fault are f (inl memory) =
-        subst IsFault (sym memory) (by_some here count p builds old new none came goes are)
-    arrival_fault are f (inr (foreign, (k, text, is, lacks))) = subst IsFault (sym foreign) (
+    wants_arrival : (c : Chosen) → comes_to here came ≡ c → is_some c ≡ true
+        → IsFault refused.Memory
+    wants_arrival None is some = absurd (let no : false ≡ true = some in cc)
+    wants_arrival (Some x) is some = (x, by_arrival here count p builds old new none came goes x is)
+
+    arrival_fault : (f : TurnFault) → IsNotTaken nodes sent came f → IsFault f
+    arrival_fault f (inl (memory, some)) =
+        subst IsFault (sym memory) (wants_arrival (comes_to here came) refl some)
+    arrival_fault f (inr (foreign, (k, text, is, lacks))) = subst IsFault (sym foreign) (
       k,
       text,
       by_arrival here count p builds old new none came goes (k, Comes text) is,
@@ -146,11 +150,12 @@ module _ {D : Type 0} (nodes : List (LoggedNode D)) (sent : List Text) (p : Pend
             (subst (IsFirstOwn here count p (in_turn p.next count)) e is);
       }
 
-      own_fault : AreMembers here → (f : TurnFault)
-          → IsFirstFault nodes p (in_turn p.next count) f → IsFault f
-      own_fault are f (inl memory) =
-          subst IsFault (sym memory) (by_some here count p builds old new none came goes are)
-      own_fault are f (inr (k, input, g, node, is, refuses)) = subst IsFault (sym node) (
+      own_fault : (f : TurnFault) → IsFirstFault nodes p (in_turn p.next count) f → IsFault f
+      own_fault f (inl (memory, (k, input, is))) = subst IsFault (sym memory) (
+        (k, Does input),
+        by_own here count p builds old new none came goes (Some (k, Does input)) nothing is,
+      )
+      own_fault f (inr (k, input, g, node, is, refuses)) = subst IsFault (sym node) (
         k,
         input,
         by_own here count p builds old new none came goes (Some (k, Does input)) nothing is,
@@ -182,9 +187,9 @@ module _ {D : Type 0} (nodes : List (LoggedNode D)) (sent : List Text) (p : Pend
 
     -- ---- what came
 
-    pub arrival_denied : AreMembers (here_in nodes) → (f : TurnFault) → IsNotTaken xs sent came f
+    pub arrival_denied : (f : TurnFault) → IsNotTaken xs sent came f
         → IsChoosingFault nodes sent p builds old new f
-    arrival_denied are f fault = arrival_fault nodes sent p builds old new none came goes are f
+    arrival_denied f fault = arrival_fault nodes sent p builds old new none came goes f
         (subst (λ ys. IsNotTaken ys sent came f) same fault)
 
     module _ (ys : List (LoggedNode D)) (still : ys ≡ xs) (t : Option Ready)
@@ -215,9 +220,9 @@ module _ {D : Type 0} (nodes : List (LoggedNode D)) (sent : List Text) (p : Pend
             (own_made nodes sent p builds old new none came goes nothing_came r
             (subst (λ ws. IsFirstPart ws p (in_turn p.next (length ws)) r) (still ∙ same) own))
 
-        pub own_denied : AreMembers (here_in nodes) → (f : TurnFault)
+        pub own_denied : (f : TurnFault)
             → IsFirstFault ys p (in_turn p.next (length ys)) f
             → IsChoosingFault nodes sent p builds old new f
-        own_denied are f fault =
-            own_fault nodes sent p builds old new none came goes nothing_came are f
+        own_denied f fault =
+            own_fault nodes sent p builds old new none came goes nothing_came f
             (subst (λ ws. IsFirstFault ws p (in_turn p.next (length ws)) f) (still ∙ same) fault)

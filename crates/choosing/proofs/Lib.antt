@@ -8,3 +8,4 @@ pub mod Jobs
 pub mod Owns
 pub mod Places
 pub mod Ranges
+pub mod Asking

@@ -52,14 +52,21 @@ module _ {D : Type 0} (nodes : List (LoggedNode D)) (p : Pending) where
         (own, own_here own is, part_at nodes k n stands up own r part)
 
     own_fault : (f : NodeFault)
+        → ((input : Input)
+        × IsOwn n.node.member (above_at p k)
+        (λ u. has_failed p u || list_any (λ v. v == u) others) (Some input))
         → ((own : Option Input)
         × IsOwn n.node.member (above_at p k)
         (λ u. has_failed p u || list_any (λ v. v == u) others) own
         × IsNoPart n own f)
         → IsOwnFault nodes p k (told f)
-    own_fault f (own, is, inl memory) = inl (ap told memory)
-    own_fault f (own, is, inr (input, some, refuses)) = elim (told_is f) [
-      | inl memory ↦ inl memory
+    own_fault f due (own, is, inl memory) =
+        inl (ap told memory, (due.0, own_here (Some due.0) due.1))
+    own_fault f due (own, is, inr (input, some, refuses)) = elim (told_is f) [
+      | inl memory ↦ inl (
+        memory,
+        (input, subst (λ o. IsOwnIf here count p k (here k) o) some (own_here own is)),
+      )
       | inr node ↦ inr (
         input,
         f,
@@ -103,14 +110,21 @@ module _ {D : Type 0} (nodes : List (LoggedNode D)) (p : Pending) where
         )
 
     pub fault_lent : (f : NodeFault) (t : TurnFault) → t ≡ told f
+        → ((input : Input)
+        × IsOwn n.node.member above
+        (λ u. has_failed p u || list_any (λ v. v == u) others) (Some input))
         → ((own : Option Input)
         × IsOwn n.node.member above
         (λ u. has_failed p u || list_any (λ v. v == u) others) own
         × IsNoPart m own f)
         → IsOwnFault nodes p k t
-    fault_lent f t is_told (own, is, part) =
+    fault_lent f t is_told due (own, is, part) =
         subst (λ x. IsOwnFault nodes p k x) (sym is_told)
         (own_fault k n stands (up_here nodes k n stands some) others elsewhere f (
+          due.0,
+          subst (λ a. IsOwn n.node.member a
+              (λ u. has_failed p u || list_any (λ v. v == u) others) (Some due.0)) is_above due.1,
+        ) (
           own,
           subst (λ a. IsOwn n.node.member a
               (λ u. has_failed p u || list_any (λ v. v == u) others) own) is_above is,
@@ -156,7 +170,7 @@ module _ {D : Type 0} (nodes : List (LoggedNode D)) (p : Pending) where
       -- it is refused
       pub own_refused : (f : TurnFault) → IsOwnFault nodes p i f
           → IsFirstFault nodes p (range_with_len from (below - from)) f
-      own_refused f (inl memory) = inl memory
+      own_refused f (inl (memory, (input, is))) = inl (memory, (i, input, first_here input is))
       own_refused f (inr (input, g, node, is, refuses)) =
           inr (i, input, g, node, first_here input is, refuses)
 
@@ -209,7 +223,8 @@ module _ {D : Type 0} (nodes : List (LoggedNode D)) (p : Pending) where
     pub first_refused : (f : TurnFault)
         → IsFirstFault nodes p (range_with_len next (all - next)) f
         → IsFirstFault nodes p (in_turn p.next count) f
-    first_refused f (inl memory) = inl memory
+    first_refused f (inl (memory, (k, input, is))) =
+        inl (memory, (k, input, among_first (k, Does input) is))
     first_refused f (inr (k, input, g, node, is, refuses)) =
         inr (k, input, g, node, among_first (k, Does input) is, refuses)
 
@@ -246,6 +261,7 @@ module _ {D : Type 0} (nodes : List (LoggedNode D)) (p : Pending) where
         where
           by : IsFirstFault nodes p (range_with_len 0 (next - 0)) f
               → IsFirstFault nodes p (in_turn p.next count) f
-          by (inl memory) = inl memory
+          by (inl (memory, (k, input, is))) =
+              inl (memory, (k, input, later_is (Some (k, Does input)) is))
           by (inr (k, input, g, node, is, refuses)) =
               inr (k, input, g, node, later_is (Some (k, Does input)) is, refuses)

@@ -1,5 +1,5 @@
 -- What was chosen, with its step ready.
-use Rattle.std.specs.Prelude.{◌≡◌, ℕ, Bool, true, false, List, Option, None, Some, Err, [], ◌∷◌, if◌then◌else◌, is_some, length, slice_get}
+use Rattle.std.specs.Prelude.{◌≡◌, ℕ, Bool, true, false, List, Option, None, Some, Result, Err, [], ◌∷◌, if◌then◌else◌, is_some, length, map, slice_get}
 use Rattle.choice.specs.Choice.{Chosen, Here, IsChoice, has_job}
 use Rattle.choice.specs.Pending.{Pending}
 use Rattle.choice.specs.declared.fault.TurnFault.{TurnFault}
@@ -9,12 +9,13 @@ use Rattle.node.specs.State.{LoggedNode}
 use Rattle.node.specs.Step.{Asked, Comes, Does, Takes}
 use Rattle.node.specs.declared.fault.NodeFault.{NodeFault}
 use Rattle.node.specs.declared.fault.NodeFault.TheVariants as fault
+use Rattle.parts.specs.Calls.{came_by}
 use Rattle.parts.specs.Readied.{IsReadied}
 use Rattle.parts.specs.declared.readied.Readied.{Readied}
+use Rattle.ports.specs.Calls.{Call, Received, WentThrough}
 use Rattle.ports.specs.Kept.{Arrived, GoesOnBy}
+use Rattle.ports.specs.declared.fault.PortFault.{PortFault}
 use Rattle.protocol.specs.Given.{Given}
-use Rattle.protocol.specs.Member.{IsMember}
-use Rattle.protocol.specs.State.{State}
 use Rattle.protocol.specs.declared.input.Input.{Input}
 use Rattle.choosing.specs.Here.{here_in}
 use Rattle.choosing.specs.Events.{event_of}
@@ -70,10 +71,6 @@ told (fault.Log f) = refused.Node (fault.Log f)
 told fault.Stopped = refused.Node fault.Stopped
 told (fault.Foreign f) = refused.Node (fault.Foreign f)
 
--- Each of them is a member.
-abbrev pub AreMembers : Here → Type 0
-AreMembers here = (k : ℕ) (s : State) → here k ≡ Some s → IsMember s
-
 -- It is the turn's choice, by what the port gave from the old moment to the new one.
 pub record IsChosenBy (here : Here) (count : ℕ) (p : Pending) (builds : Given)
     (old new : Option (List Arrived)) (chosen : Chosen) : Type 0 where
@@ -105,14 +102,23 @@ HasForeign nodes sent p builds old new =
     × IsChosenBy (here_in nodes) (length nodes) p builds old new (Some (k, Comes text))
     × (is_among sent text ≡ false)
 
--- Why nothing was made ready: memory was wanting, or one of these two.
+-- Why nothing was made ready: memory was wanting for what there is to do, or one of these two.
 abbrev pub IsChoosingFault : {D : Type 0} → List (LoggedNode D) → List Text → Pending → Given
     → Option (List Arrived) → Option (List Arrived) → TurnFault → Type 0
 IsChoosingFault nodes sent p builds old new refused.Memory =
-    (chosen : Chosen) × IsChosenBy (here_in nodes) (length nodes) p builds old new chosen
+    (chosen : ℕ × Asked)
+    × IsChosenBy (here_in nodes) (length nodes) p builds old new (Some chosen)
 IsChoosingFault nodes sent p builds old new (refused.Node f) =
     IsRefusedOwn nodes sent p builds old new f
 IsChoosingFault nodes sent p builds old new (refused.Down k) = ⊥
 IsChoosingFault nodes sent p builds old new refused.NotSent =
     HasForeign nodes sent p builds old new
 IsChoosingFault nodes sent p builds old new refused.NotFresh = ⊥
+
+-- The port answered some receives, and nothing else was asked of it; and by what they gave, where
+-- nothing had been given before, this is so.
+pub record ByReceives {P : Type 0} (does : P → Call → P → Type 0) (port last : P)
+    (IsSo : Option (List Arrived) → Option (List Arrived) → Type 0) : Type 0 where
+  pub received : List (Result Arrived PortFault)
+  pub went : WentThrough does port (map Received received) last
+  pub so : IsSo (Some []) (Some (map came_by received))

@@ -20,7 +20,7 @@ ghost use Rattle.choice.specs.Choice.{comes_to, first_job, in_turn, is_elsewhere
 ghost use Rattle.faults.specs.Bytes.{is_among};
 ghost use Rattle.ports.specs.Kept.{GoesOnBy};
 ghost use Rattle.choosing.specs.Choosing.{
-  AreMembers,
+  ByReceives,
   HasChosen,
   IsChoosingFault,
   IsChosenAs,
@@ -36,6 +36,7 @@ ghost use Rattle.choosing.specs.inside.Cases.{
   IsOwnFault,
   IsOwnPart,
   IsWantFor,
+  WasReceived,
   WasSent,
   answer_here,
   arrived,
@@ -79,13 +80,20 @@ pub fn choose<D: Disk, P: Port>(
     requires few { length nodes.old.items ≤ 9 }
     requires next { pending.now.next ≤ length nodes.old.items }
     requires known { NoneIsForeign nodes.old.items sent.now }
-    requires members { AreMembers (here_in nodes.old.items) }
     ensures same { nodes.new.items ≡ nodes.old.items }
     ensures offered { GoesOnBy [] (P.offered port.old) (P.offered port.new) }
     ensures chosen { IfOk result (HasChosen nodes.new.items sent.now pending.now builds.now
         (P.given port.old) (P.given port.new)) }
     ensures refused { IfErr result (IsChoosingFault nodes.old.items sent.now pending.now builds.now
         (P.given port.old) (P.given port.new)) }
+
+    // The same by its calls, whatever it keeps of them: it was asked to receive, and nothing else.
+    ensures calls { IfOk result (λ r. ByReceives P.does port.old port.new
+        (λ before after.
+        HasChosen nodes.new.items sent.now pending.now builds.now before after r)) }
+    ensures calls_refused { IfErr result (λ f. ByReceives P.does port.old port.new
+        (λ before after.
+        IsChoosingFault nodes.old.items sent.now pending.now builds.now before after f)) }
 {
     if let Some(chosen) = answered(alloc, nodes, builds)? {
         return Ok(Some(chosen));
@@ -144,6 +152,7 @@ fn answer_at<D: Disk>(
 fn received<P: Port>(port: &mut P) -> Option<(u8, Vec<u8>)>
     ensures given { GoesOnBy (arrived result ∷ []) (P.given port.old) (P.given port.new) }
     ensures offered { GoesOnBy [] (P.offered port.old) (P.offered port.new) }
+    ensures calls { WasReceived P.does port.old (arrived result) port.new }
 {
     match port.receive() {
         Ok(came) => came,

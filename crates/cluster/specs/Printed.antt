@@ -1,19 +1,20 @@
 -- What the program prints.
-use Rattle.std.specs.Prelude.{◌≡◌, ℕ, List, Option}
+use Rattle.std.specs.Prelude.{◌≡◌, ℕ, List, [], Option}
 use Rattle.std.specs.Io.KnownBytes.{Appends}
 use Rattle.clap.specs.Words.{Text as Word}
 use Rattle.dpbn_cluster.specs.Cluster.{IsClusterText}
 use Rattle.dpbn_node.specs.Node.{IsNodeText}
 use Rattle.dpbn_words.specs.Calls.{AreTaken, IsCallOf, matched}
 use Rattle.dpbn_words.specs.declared.Call.{Call}
-use Rattle.dpbn_words.specs.declared.Call.TheVariants.{Cluster, Node}
+use Rattle.dpbn_words.specs.declared.Call.TheVariants.{Cluster, Key, Node}
 use Rattle.faults.specs.Bytes.{Text}
 use Rattle.program.specs.Printing.{AppendsBeginning}
 
 -- what a call prints
 abbrev pub IsOutputOf : Call → Text → Type 0
 IsOutputOf (Cluster files trace) text = IsClusterText files text
-IsOutputOf (Node files me peers patience) text = IsNodeText files me text
+IsOutputOf (Node files me peers patience run) text = IsNodeText files me peers run text
+IsOutputOf (Key file) text = text ≡ []
 
 -- what was written since, where it is known, is one such text
 pub record HasPrinted (call : Call) (before after : Option (List ℕ)) : Type 0 where

@@ -1,5 +1,5 @@
 //! The calls of `dpbn`.
-ghost use Rattle.std.specs.Prelude.{◌≡◌, ◌≤◌, IfErr, IfOk, OnOk, map, string_bytes};
+ghost use Rattle.std.specs.Prelude.{◌≡◌, ◌≤◌, [], IfErr, IfOk, OnOk, map, string_bytes};
 ghost use Rattle.std.specs.Io.KnownBytes.{Keeps};
 ghost use Rattle.cluster.specs.Printed.{HasCarriedOut, HasPrinted, IsOutputOf};
 ghost use Rattle.cluster.specs.Stopped.{
@@ -10,8 +10,10 @@ ghost use Rattle.cluster.specs.Stopped.{
   RefusesCall,
 };
 ghost use Rattle.dpbn_words.specs.Calls.{AreTaken};
+ghost use Rattle.program.specs.Refusals.{IsSystemRefusal};
 
 use dpbn_cluster::cluster_of_words;
+use dpbn_key::make_key;
 use dpbn_node::node_of_words;
 use dpbn_words::{Call, dpbn_words};
 use program::{Answer, Refusal, Stop, print};
@@ -100,6 +102,22 @@ fn answer_to<E: Write>(rt: &HostRuntime, call: &Call<'_>, err: &mut E) -> Result
             me,
             peers,
             patience,
-        } => node_of_words(rt, files, *me, peers, *patience, err),
+            run,
+        } => node_of_words(rt, files, *me, peers, *patience, run, err),
+        Call::Key { file } => made_key(rt, file),
+    }
+}
+
+/// Nothing, once a file with a new key is made.
+fn made_key(rt: &HostRuntime, file: &str) -> Result<Answer, Refusal>
+    ensures output { IfOk result (λ answer. answer.text.items ≡ []) }
+    ensures refused { IfErr result IsSystemRefusal }
+{
+    match make_key(rt, file) {
+        Ok(()) => Ok(Answer {
+            text: Vec::new(rt.alloc()),
+            status: 0,
+        }),
+        Err(fault) => Err(Refusal::of(&fault)),
     }
 }

@@ -2,6 +2,7 @@
 use Rattle.std.specs.Prelude.{◌≡◌, ◌⊎◌, ℕ, List, Some, flat_map, length, option_map, slice_get}
 use Rattle.choice.specs.Refusals.{number_of, place_of}
 use Rattle.choice.specs.declared.fault.TurnFault.{TurnFault}
+use Rattle.dpbn_cluster.specs.Running.{AreEventsOfTurns}
 use Rattle.dpbn_node.specs.Given.{AreTold}
 use Rattle.dpbn_node.specs.Node.{RefusesGiven, socket_refusal}
 use Rattle.dpbn_words.specs.declared.Files.{Files}
@@ -31,14 +32,15 @@ pub record IsShown (division : Division) (weights : List ℕ) (events : List Eve
   pub led : Leads (start division weights) events world
   pub has_lines : HasLines world text
 
--- So it is of some events, over the tree that a listing describes, where so many members weigh what
--- is told.
+-- So it is of the events of as many turns as are told, over the tree that a listing describes,
+-- where so many members weigh what is told.
 pub record IsClusterText (files : Files) (text : Text) : Type 0 where
   pub division : Division
   pub described : IsDescribed files.is_single division.tree
   pub weights : List ℕ
   pub told : AreTold files.members (option_map (λ t. t.now) files.weights) weights
   pub events : List Event
+  pub of_turns : AreEventsOfTurns files.turns events
   pub shown : IsShown division weights events text
 
 -- why no cluster is made: a log that is none of its members', or has notes

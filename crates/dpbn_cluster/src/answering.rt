@@ -1,5 +1,5 @@
 //! The answer of `dpbn cluster` to its words.
-ghost use Rattle.std.specs.Prelude.{◌≡◌, ◌≤◌, ◌⊎◌, IfErr, IfOk, length, map};
+ghost use Rattle.std.specs.Prelude.{◌≡◌, ◌≤◌, ◌⊎◌, [], IfErr, IfOk, length, map};
 ghost use Rattle.dpbn_cluster.specs.Cluster.{
   IsClusterRefusal,
   IsClusterText,
@@ -7,15 +7,17 @@ ghost use Rattle.dpbn_cluster.specs.Cluster.{
   RefusesCluster,
   RefusesStart,
 };
+ghost use Rattle.dpbn_cluster.specs.Running.{AreEventsOfTurns, HasRunTo};
 ghost use Rattle.dpbn_node.specs.Node.{socket_refusal};
 ghost use Rattle.events.specs.Events.{event_view};
 ghost use Rattle.program.specs.Refusals.{IsSystemRefusal, memory_refusal};
 ghost use Rattle.turns.specs.State.{IsWorldOf};
 ghost use Rattle.engine.specs.Division.{Division};
-ghost use Rattle.world.specs.World.{World};
+ghost use Rattle.world.specs.World.{World, start};
 
 use crate::turning::{lines_of, run};
 use ballots::Weights;
+use choice::TurnFault;
 use dpbn_node::{Given, given_of_words, log_of_file};
 use dpbn_words::Files;
 use events::Event;
@@ -23,6 +25,7 @@ use listing::Tree;
 use ports::Port;
 use program::{Answer, Refusal, tree_of_file};
 use protocol::Packages;
+use run_file::read_run;
 use stable_record::{Disk, FileDisk};
 use std::alloc::{AllocError, Global};
 use std::fs;
@@ -36,7 +39,8 @@ use udp::UdpPort;
 /// the trace, if one is named.
 ///
 /// All that can be wrong is looked at before the first turn, in this order: the listing, the
-/// builds, the weights, the logs' files, the sockets, the logs.
+/// builds, the weights, the logs' files, whether run files stand beside them, the sockets, the
+/// logs.
 ///
 /// # Errors
 ///
@@ -71,7 +75,8 @@ fn run_on<E: Write>(
 ) -> Result<Vec<u8>, Refusal>
     requires { length given.now.weights ≡ files.now.members }
     ensures shown { IfOk result (λ text. (division : Division) × (division.tree ≡ tree.now)
-        × (events : _) × IsShown division given.now.weights events text.items) }
+        × (events : _) × AreEventsOfTurns files.now.turns events
+        × IsShown division given.now.weights events text.items) }
     ensures refused { IfErr result RefusesStart }
 {
     let cluster = cluster_of(rt, tree, &given.weights, files)?;
@@ -92,9 +97,13 @@ fn after<D: Disk, P: Port, E: Write>(
     files: &Files<'_>,
     err: &mut E,
 ) -> Result<(Vec<u8>, Vec<Event>), AllocError>
-    requires { length cluster.weights ≡ files.now.members }
-    ensures { IfOk result (λ r. IsShown cluster.entry.division cluster.entry.weights
+    requires each { length cluster.weights ≡ files.now.members }
+    ensures shown { IfOk result (λ r. IsShown cluster.entry.division cluster.entry.weights
         (map event_view r.1.items) r.0.items) }
+    ensures ran { IfOk result (λ r. HasRunTo P.given P.does builds.now cluster.entry
+        files.now.turns r.1.items) }
+    ensures events { IfOk result (λ r. cluster.entry.events ≡ []
+        → AreEventsOfTurns files.now.turns (map event_view r.1.items)) }
 {
     let mut cluster = cluster;
     run(
@@ -121,9 +130,12 @@ fn cluster_of<'a>(
     requires { length weights.now ≡ files.now.members }
     ensures tree { IfOk result (λ c. c.division.tree ≡ tree.entry.now) }
     ensures weights { IfOk result (λ c. c.weights ≡ weights.now) }
+    ensures fresh { IfOk result (λ c. IsWorldOf c (start c.division weights.now)) }
+    ensures events { IfOk result (λ c. c.events ≡ []) }
     ensures refused { IfErr result RefusesStart }
 {
     let disks = logs_of_files(rt, files.dir, files.members)?;
+    refuse_runs(rt, files.dir, files.members)?;
     let port = port_of(rt, files.members)?;
     match Cluster::new(rt.alloc(), tree, weights, disks, port) {
         Ok(cluster) => Ok(cluster),
@@ -145,6 +157,20 @@ fn logs_of_files(rt: &HostRuntime, folder: &str, members: u8) -> Result<Vec<File
         }
     }
     Ok(disks)
+}
+
+/// Refuses logs of which one has a run file beside it: a node runs on it, or did.
+fn refuse_runs(rt: &HostRuntime, folder: &str, members: u8) -> Result<(), Refusal>
+    ensures { IfErr result (λ r. IsSystemRefusal r ⊎ IsClusterRefusal r) }
+{
+    for member in 0..members {
+        match read_run(rt, folder, member) {
+            Ok(None) => {}
+            Ok(Some(_)) => return Err(Refusal::of(&TurnFault::NotFresh)),
+            Err(fault) => return Err(Refusal::of(&fault)),
+        }
+    }
+    Ok(())
 }
 
 /// The port of all of them.

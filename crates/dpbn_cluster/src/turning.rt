@@ -1,11 +1,14 @@
 //! The turns of a cluster, and what its nodes show.
 ghost use Rattle.std.specs.Prelude.{◌≡◌, ◌≤◌, IfOk, length};
+ghost use Rattle.dpbn_cluster.specs.Running.{Answer, HasRun, IsTurn};
 ghost use Rattle.dpbr_run.specs.inside.NodeLines.{HasNodeLines};
 ghost use Rattle.dpbr_run.specs.Run.{IsNodeLine};
 ghost use Rattle.std.specs.Prelude.{string_bytes};
 ghost use Rattle.turns.specs.State.{IsWorldOf};
 ghost use Rattle.world.specs.World.{World};
 
+use choice::TurnFault;
+use events::Event;
 use ports::Port;
 use program::{Refusal, node_text};
 use protocol::Packages;
@@ -25,6 +28,7 @@ pub fn run<D: Disk, P: Port, E: Write>(
     members: u8,
     err: &mut E,
 )
+    ensures ran { HasRun P.given P.does builds.now cluster.old cluster.new turns }
     ensures fixed { (cluster.new.division ≡ cluster.old.division)
         × (cluster.new.weights ≡ cluster.old.weights) }
 {
@@ -41,10 +45,16 @@ fn take_turn<D: Disk, P: Port, E: Write>(
     builds: &Packages,
     err: &mut E,
 )
-    ensures fixed { (cluster.new.division ≡ cluster.old.division)
-        × (cluster.new.weights ≡ cluster.old.weights) }
+    ensures { (answer : Answer)
+        × IsTurn P.given P.does cluster.old cluster.new builds.now answer }
 {
-    match cluster.turn(builds) {
+    let answer = cluster.turn(builds);
+    tell(answer, err);
+}
+
+/// Tells why a turn is refused, if it is.
+fn tell<E: Write>(answer: Result<Option<Event>, TurnFault>, err: &mut E) {
+    match answer {
         Ok(done) => drop(done),
         Err(fault) => {
             let _ = writeln!(err, "dpbn: {}", Refusal::of(&fault));

@@ -1,12 +1,10 @@
 -- The line on a node.
-use Rattle.std.proofs.Common.{◌≡◌, ℕ, Bool, true, false, List, Option, None, Some, MatchOption, sym, ap, subst, ◌∙◌, if◌then◌else◌}
-use Rattle.dpbn_node.specs.Node.{IsOf, IsShown, letters_of}
+use Rattle.std.proofs.Common.{◌≡◌, ℕ, Bool, true, false, Option, None, Some, MatchOption, sym, ap, subst, if◌then◌else◌}
+use Rattle.dpbn_node.specs.Node.{letters_of}
 use Rattle.engine.specs.State.{AreCounts, State}
 use Rattle.engine.specs.declared.Counts.{Counts}
 use Rattle.faults.specs.Bytes.{Text}
-use Rattle.listing.specs.Tree.{Tree}
-use Rattle.node.specs.Calls.{IsOpened}
-use Rattle.node.specs.State.{IsNode, NodeState}
+use Rattle.node.specs.State.{NodeState}
 use Rattle.program.specs.NodeLine.{IsLineOf, node_line}
 use Rattle.protocol.specs.State.{engine_of}
 
@@ -26,22 +24,3 @@ module _ (me : ℕ) (n : NodeState) where
   line_is (Some counts) (up, are) line told =
       subst (λ (l : Option State). IsLineOf me l line) (sym (letters_if false up))
       (counts, are, told)
-
-module _ (tree : Tree) (weights : List ℕ) (me : ℕ) (n : NodeState) where
-  -- a node that was opened is that of its member
-  pub opened_is : IsOpened tree weights me n → IsOf tree weights me n
-  opened_is o = record {
-    over = ap (λ (m : NodeState). m.member.division.tree) o.node ∙ o.of_tree;
-    weigh = ap (λ (m : NodeState). m.member.weights) o.node;
-    own = ap (λ (m : NodeState). m.member.me) o.node;
-  }
-
-  -- what is told of such a node
-  pub shown : IsNode n → IsOf tree weights me n → (line : Text) → IsLineOf me (letters_of n) line
-      → IsShown tree weights me line
-  shown is_node is line told = record {
-    node = n;
-    is_node = is_node;
-    of_member = is;
-    is_line = told;
-  }

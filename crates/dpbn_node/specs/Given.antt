@@ -1,5 +1,5 @@
 -- What a node is started with, and what is told where that can't be had.
-use Rattle.std.specs.Prelude.{◌≡◌, ◌⊎◌, ◌++◌, ℕ, List, [], ◌∷◌, Option, None, Some, flat_map, length, replicate}
+use Rattle.std.specs.Prelude.{◌≡◌, ◌⊎◌, ℕ, List, ◌∷◌, Option, None, Some, flat_map, length, replicate}
 use Rattle.std.specs.Fmt.{decimal}
 use Rattle.faults.specs.Bytes.{Text}
 use Rattle.program.specs.Refusals.{IsSystemRefusal, memory_refusal}

@@ -1,38 +1,43 @@
 //! The answer of `dpbn node` to its words.
-ghost use Rattle.std.specs.Prelude.{◌≡◌, ◌<◌, ◌≤◌, ◌⊎◌, IfErr, IfOk, List, length, option_map, string_bytes, ℕ};
+ghost use Rattle.std.specs.Prelude.{◌≡◌, ◌<◌, ◌≤◌, ◌⊎◌, IfErr, IfOk, length, string_bytes};
 ghost use Rattle.dpbn_node.specs.Node.{
   AreGood,
   IsHostsRefusal,
+  IsLineAfter,
   IsLogRefusal,
+  IsNodeOf,
   IsNodeText,
-  IsOf,
   IsShown,
+  IsShownOn,
   RefusesNode,
+  RefusesOnLog,
   RefusesStart,
+  is_local,
   letters_of,
   member_refusal,
+  run_at,
   socket_refusal,
 };
-ghost use Rattle.listing.specs.Tree.{Tree};
-ghost use Rattle.node.specs.Calls.{IsOpened};
 ghost use Rattle.program.specs.NodeLine.{IsLineOf};
 ghost use Rattle.program.specs.Refusals.{memory_refusal};
 
-use crate::given::{Given, given_of_words, log_of_file};
+use crate::given::{Given, given_of_words};
 use crate::turning::run;
 use ballots::Weights;
-use dpbn_words::{Files, Peers};
+use dpbn_run::{Sealing, Telling, identity_of, key_of_words, start_of, write_unwritten};
+use dpbn_words::{Files, Peers, Run};
 use listing::Tree;
 use node::Node;
 use ports::Port;
 use program::{Answer, Refusal, node_text, tree_of_file};
 use protocol::Packages;
+use run_file::Start;
 use solo::Solo;
 use stable_record::{Disk, FileDisk};
 use std::alloc::{AllocError, Global};
 use std::io::Write;
 use std::net::SocketAddr;
-use udp::{UdpPort, loopback, parse_hosts};
+use udp::{Guard, UdpPort, loopback, parse_hosts};
 
 /// For how many milliseconds a turn waits for a datagram, where it isn't told.
 const PATIENCE: u16 = 20;
@@ -41,7 +46,8 @@ const PATIENCE: u16 = 20;
 /// told on `err`, and uses the turn up.
 ///
 /// All that can be wrong is looked at before the first turn, in this order: the listing, the
-/// builds, the weights, the hosts, the member, the log's file, the socket, the log.
+/// builds, the weights, the key's file, the hosts, the member, the log's file and the run file
+/// beside it, the socket, the log, and whether the run file can be written.
 ///
 /// # Errors
 ///
@@ -52,23 +58,56 @@ pub fn node_of_words<E: Write>(
     me: u8,
     peers: &Peers<'_>,
     patience: Option<u16>,
+    run: &Run<'_>,
     err: &mut E,
 ) -> Result<Answer, Refusal>
     requires few { files.now.members ≤ 9 }
     requires peers { AreGood peers.now }
-    ensures ok { IfOk result
-        (λ answer. (answer.status ≡ 0) × IsNodeText files.now me answer.text.items) }
-    ensures refused { IfErr result (RefusesNode files.now me peers.now) }
+    ensures ok { IfOk result (λ answer. (answer.status ≡ 0)
+        × IsNodeText files.now me peers.now run.now answer.text.items) }
+    ensures refused { IfErr result (RefusesNode files.now me peers.now run.now) }
 {
     let tree = tree_of_file(rt, files.listing, files.is_single)?;
     let given = given_of_words(rt, files)?;
+    let key = key_of_words(rt, run.key)?;
     let addresses = addresses_of(rt.alloc(), files.members, peers)?;
-    match run_on(rt, &tree, &given, files, me, addresses, patience, err) {
+    let place = Place {
+        sealing: Sealing {
+            key,
+            is_open: is_local(peers),
+        },
+        addresses,
+        patience: patience.unwrap_or(PATIENCE),
+        is_continued: run.is_continued,
+    };
+    match run_on(rt, &tree, &given, files, me, place, err) {
         Ok(text) => Ok(Answer {
             text: text.into_bytes(),
             status: 0,
         }),
         Err(refusal) => Err(refusal),
+    }
+}
+
+/// Where a node stands among its peers, and of which run it is.
+#[derive(Drop)]
+pub struct Place {
+    pub sealing: Sealing,
+    /// Where the members listen, by number.
+    pub addresses: Vec<SocketAddr>,
+    /// For how many milliseconds a turn waits for a datagram.
+    pub patience: u16,
+    /// Whether a log of the run has to be there.
+    pub is_continued: bool,
+}
+
+/// Whether all members are on this host.
+fn is_local(peers: &Peers<'_>) -> bool
+    ensures { result ≡ is_local peers.now }
+{
+    match peers {
+        Peers::Base(_) => true,
+        Peers::Hosts(_) => false,
     }
 }
 
@@ -96,25 +135,65 @@ fn run_on<E: Write>(
     given: &Given,
     files: &Files<'_>,
     me: u8,
-    addresses: Vec<SocketAddr>,
-    patience: Option<u16>,
+    place: Place,
     err: &mut E,
 ) -> Result<String, Refusal>
-    requires each { length addresses.items ≡ files.now.members }
+    requires each { length place.addresses.items ≡ files.now.members }
     requires weights { length given.now.weights ≡ files.now.members }
     ensures member { IfOk result (λ text. me < files.now.members) }
-    ensures shown { IfOk result (λ text.
-        IsShown tree.now given.now.weights me (string_bytes text)) }
-    ensures refused { IfErr result (RefusesStart files.now me) }
+    ensures shown { IfOk result (λ text. IsShown (run_at tree.now given.now.weights place) me
+        given.now.builds files.now.turns (string_bytes text)) }
+    ensures refused { IfErr result
+        (RefusesStart files.now me (run_at tree.now given.now.weights place)) }
 {
     if me >= files.members {
         return Err(not_a_member());
     }
-    let disk = log_of_file(rt, files.dir, me)?;
-    let port = port_of(rt, addresses, me, patience.unwrap_or(PATIENCE))?;
+    let identity = identity_of(tree, &given.weights, me);
+    let start = start_of(rt, files.dir, &identity, &place.sealing, place.is_continued)?;
+    let guard = place.sealing.guard(tree, &given.weights);
+    let telling = Telling::new(me, files.progress, place.sealing.is_watched());
+    let port = port_of(rt, place.addresses, me, place.patience, guard)?;
+    node_on_log(rt, start, port, tree, given, files, me, telling, err)
+}
+
+/// Opens the member's node on its log, writes its run file if that is still to be written, takes
+/// its turns, and answers the line on it. That is so whatever is known of the log's file before:
+/// what its disk says of it, as long as the file does what that says.
+///
+/// # Errors
+///
+/// Why the log opens as no node of the member; else why the run file can't be written; else want of
+/// memory for the line.
+pub fn node_on_log<E: Write>(
+    rt: &HostRuntime,
+    start: Start,
+    port: UdpPort<'_, HostRuntime>,
+    tree: &Tree,
+    given: &Given,
+    files: &Files<'_>,
+    me: u8,
+    telling: Telling,
+    err: &mut E,
+) -> Result<String, Refusal>
+    requires { me < length given.now.weights }
+    ensures shown { IfOk result (λ text. IsShownOn start.disk port.entry tree.now
+        given.now.weights me given.now.builds files.now.turns (string_bytes text)) }
+    ensures refused { IfErr result RefusesOnLog }
+{
+    let Start { disk, unwritten } = start;
     let node = open(rt.alloc(), disk, tree, &given.weights, me)?;
+    write_unwritten(rt, files.dir, me, unwritten)?;
     let solo = Solo::new(node, port);
-    match line_after(rt.alloc(), solo, &given.builds, files, me, err) {
+    match line_after(
+        rt.alloc(),
+        solo,
+        &given.builds,
+        files.turns,
+        me,
+        telling,
+        err,
+    ) {
         Ok(line) => Ok(line),
         Err(_) => Err(Refusal::memory()),
     }
@@ -125,24 +204,17 @@ fn line_after<E: Write>(
     alloc: Global,
     solo: Solo<'_, FileDisk, UdpPort<'_, HostRuntime>>,
     builds: &Packages,
-    files: &Files<'_>,
+    turns: u32,
     me: u8,
+    telling: Telling,
     err: &mut E,
 ) -> Result<String, AllocError>
-    ensures { (tree : Tree) (weights : List ℕ) → IsOf tree weights me solo.entry.node.node
-        → IfOk result (λ text. IsShown tree weights me (string_bytes text)) }
+    ensures { IfOk result (λ text.
+        IsLineAfter builds.now turns solo.entry me (string_bytes text)) }
 {
     let mut solo = solo;
-    run(
-        alloc,
-        &mut solo,
-        builds,
-        files.turns,
-        files.progress,
-        me,
-        err,
-    );
-    let _len = solo.node().log_len();
+    let mut telling = telling;
+    run(alloc, &mut solo, builds, turns, &mut telling, err);
     line_of(alloc, &solo, me)
 }
 
@@ -168,17 +240,21 @@ fn not_a_member() -> Refusal
     }
 }
 
-/// The port of the member's node.
+/// The port of the member's node, which lets in what the guard does.
 fn port_of<'c>(
     rt: &'c HostRuntime,
     addresses: Vec<SocketAddr>,
     me: u8,
     patience: u16,
+    guard: Guard,
 ) -> Result<UdpPort<'c, HostRuntime>, Refusal>
     requires { me < length addresses.items }
-    ensures { IfErr result (λ r. (r ≡ memory_refusal) ⊎ (r ≡ socket_refusal)) }
+    ensures sealed { IfOk result (λ port. (port.inbox.key ≡ guard.seal)
+        × (port.outbox.key ≡ guard.seal)) }
+    ensures open { IfOk result (λ port. port.is_open ≡ guard.is_open) }
+    ensures refused { IfErr result (λ r. (r ≡ memory_refusal) ⊎ (r ≡ socket_refusal)) }
 {
-    match UdpPort::alone(rt, rt, rt.alloc(), addresses, me, patience) {
+    match UdpPort::alone_behind(rt, rt, rt.alloc(), addresses, me, patience, guard) {
         Ok(port) => Ok(port),
         Err(fault) => Err(Refusal::of(&fault)),
     }
@@ -193,7 +269,7 @@ fn open<'a>(
     me: u8,
 ) -> Result<Node<'a, FileDisk>, Refusal>
     requires { me < length weights.now }
-    ensures opened { IfOk result (λ n. IsOpened tree.entry.now weights.now me n.node) }
+    ensures opened { IfOk result (IsNodeOf tree.entry.now weights.now me disk) }
     ensures refused { IfErr result IsLogRefusal }
 {
     match Node::open(alloc, disk, tree, weights, me) {

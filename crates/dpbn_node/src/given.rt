@@ -29,6 +29,7 @@ pub struct Given {
 /// That of the builds; else that of the weights.
 pub fn given_of_words(rt: &HostRuntime, files: &Words<'_>) -> Result<Given, Refusal>
     requires few { files.now.members ≤ 9 }
+    ensures builds { IfOk result (λ given. AreBuilds given.builds) }
     ensures weights { IfOk result (λ given.
         AreTold files.now.members (option_map (λ t. t.now) files.now.weights) given.weights) }
     ensures refused { IfErr result RefusesGiven }

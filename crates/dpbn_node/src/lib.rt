@@ -5,5 +5,5 @@ mod answering;
 mod given;
 mod turning;
 
-pub use crate::answering::node_of_words;
+pub use crate::answering::{Place, node_of_words, node_on_log};
 pub use crate::given::{Given, given_of_words, log_of_file};

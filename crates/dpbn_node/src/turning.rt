@@ -1,71 +1,95 @@
 //! The turns of a node.
-ghost use Rattle.dpbn_node.specs.Node.{IsOf};
-ghost use Rattle.listing.specs.Tree.{Tree};
-ghost use Rattle.std.specs.Prelude.{List, ℕ};
+ghost use Rattle.std.specs.Prelude.{◌≡◌};
+ghost use Rattle.dpbn_node.specs.Node.{HasRun};
+ghost use Rattle.solo.specs.Handed.{AllBuilds};
+ghost use Rattle.solo.specs.Turns.{HaveTurned, IsTurn, Outcome};
 
+use dpbn_run::Telling;
 use ports::Port;
-use program::{Refusal, node_text};
+use program::Refusal;
 use protocol::Packages;
 use solo::Solo;
-use stable_record::Disk;
+use stable_record::{Disk, FileDisk};
 use std::alloc::Global;
 use std::io::Write;
 use std::time::Clock;
-use udp::UdpPort;
+use udp::{Tallies, UdpPort};
 
-/// Takes so many turns, and then sends what waits to leave. What a turn refuses is told on `err`;
-/// and after each so many turns, if that is wanted, the node's line.
-pub fn run<D: Disk, C: Clock, E: Write>(
+/// A port that counts what it sees of the members.
+pub(crate) trait Counting {
+    /// What it saw of them.
+    fn seen(&self) -> &Tallies;
+}
+
+impl<'c, C: Clock> Counting for UdpPort<'c, C> {
+    fn seen(&self) -> &Tallies {
+        self.tallies()
+    }
+}
+
+/// Takes so many turns, and then sends what waits to leave. What a turn refuses is told on `err`,
+/// and so is what else is to be told as it goes.
+pub fn run<E: Write>(
     alloc: Global,
-    solo: &mut Solo<'_, D, UdpPort<'_, C>>,
+    solo: &mut Solo<'_, FileDisk, UdpPort<'_, HostRuntime>>,
     builds: &Packages,
     turns: u32,
-    progress: Option<u32>,
-    me: u8,
+    telling: &mut Telling,
     err: &mut E,
 )
-    ensures { (tree : Tree) (weights : List ℕ) (k : ℕ) → IsOf tree weights k solo.old.node.node
-        → IsOf tree weights k solo.new.node.node }
+    ensures { HasRun builds.now turns solo.old solo.new }
 {
-    let mut left = progress.unwrap_or(0);
-    for _ in 0..turns {
-        take_turn(solo, builds, err);
-        left = next_line(alloc, solo, progress, left, me, err);
-    }
+    take_turns(alloc, solo, builds, turns, telling, err);
     solo.port().flush();
+    telling.tell_members(solo.port().seen(), err);
+}
+
+/// Takes so many turns.
+fn take_turns<D: Disk, P: Port + Counting, E: Write>(
+    alloc: Global,
+    solo: &mut Solo<'_, D, P>,
+    builds: &Packages,
+    turns: u32,
+    telling: &mut Telling,
+    err: &mut E,
+)
+    ensures { HaveTurned D.is_kept D.history D.failures_of P.given P.offered P.does P.vouches
+        (AllBuilds builds.now) turns solo.old solo.new }
+{
+    for _ in 0..turns {
+        take_turn(solo, builds, telling, err);
+        tell_turn(alloc, solo, telling, err);
+    }
 }
 
 /// Takes a turn, and tells why it is refused, if it is.
-#[tactic(auto, using(crate::proofs::Staying::turned))]
-fn take_turn<D: Disk, P: Port, E: Write>(solo: &mut Solo<'_, D, P>, builds: &Packages, err: &mut E)
-    ensures { (tree : Tree) (weights : List ℕ) (k : ℕ) → IsOf tree weights k solo.old.node.node
-        → IsOf tree weights k solo.new.node.node }
+fn take_turn<D: Disk, P: Port, E: Write>(
+    solo: &mut Solo<'_, D, P>,
+    builds: &Packages,
+    telling: &mut Telling,
+    err: &mut E,
+)
+    ensures { (answer : Outcome) × IsTurn D.is_kept D.history D.failures_of P.given P.offered
+        P.does P.vouches (AllBuilds builds.now) solo.old solo.new answer }
 {
     match solo.turn(builds) {
         Ok(done) => drop(done),
-        Err(fault) => {
-            let _ = writeln!(err, "dpbn: {}", Refusal::of(&fault));
-        }
+        Err(fault) => telling.refused(Refusal::of(&fault), err),
     }
 }
 
-/// Tells the node's line where it is due, and answers in how many turns the next one is.
-fn next_line<D: Disk, C: Clock, E: Write>(
+/// Tells what is due behind a turn.
+fn tell_turn<D: Disk, P: Port + Counting, E: Write>(
     alloc: Global,
-    solo: &Solo<'_, D, UdpPort<'_, C>>,
-    progress: Option<u32>,
-    left: u32,
-    me: u8,
+    solo: &mut Solo<'_, D, P>,
+    telling: &mut Telling,
     err: &mut E,
-) -> u32 {
-    let Some(progress) = progress else {
-        return 0;
-    };
-    if left > 1 {
-        return left - 1;
+)
+    ensures { solo.new ≡ solo.old }
+{
+    telling.tell_otherwise(solo.port().seen(), err);
+    if telling.is_due() {
+        let counts = solo.counts();
+        telling.tell_line(alloc, counts, solo.port().seen(), err);
     }
-    if let Ok(line) = node_text(alloc, me, solo.counts()) {
-        let _ = err.write_all(line.as_bytes());
-    }
-    progress
 }

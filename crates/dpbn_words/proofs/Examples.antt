@@ -56,17 +56,54 @@ example_base_value : value_at (codes "base") (node_words (codes "--base" ∷ cod
 unfolding matched dpbn_app clap_on_literals
 example_base_value = refl
 
-example_hosts : AreTaken (node_words (codes "--hosts=h:1,i:2,j:3" ∷ codes "--single" ∷ []))
+example_hosts : AreTaken (node_words (codes "--hosts=h:1,i:2,j:3" ∷ codes "--key=K" ∷ codes "--single" ∷ []))
 unfolding faults_of matched dpbn_app clap_on_literals
 example_hosts = refl
 
-example_hosts_value : value_at (codes "hosts") (node_words (codes "--hosts=h:1,i:2,j:3" ∷ codes "--single" ∷ [])) ≡ Some (codes "h:1,i:2,j:3")
+example_hosts_value : value_at (codes "hosts") (node_words (codes "--hosts=h:1,i:2,j:3" ∷ codes "--key=K" ∷ codes "--single" ∷ [])) ≡ Some (codes "h:1,i:2,j:3")
 unfolding matched dpbn_app clap_on_literals
 example_hosts_value = refl
 
-example_single : value_at (codes "single") (node_words (codes "--hosts=h:1,i:2,j:3" ∷ codes "--single" ∷ [])) ≡ Some (codes "true")
+example_single : value_at (codes "single") (node_words (codes "--hosts=h:1,i:2,j:3" ∷ codes "--key=K" ∷ codes "--single" ∷ [])) ≡ Some (codes "true")
 unfolding matched dpbn_app clap_on_literals
 example_single = refl
+
+example_key_file : value_at (codes "key") (node_words (codes "--hosts=h:1,i:2,j:3" ∷ codes "--key=K" ∷ codes "--single" ∷ [])) ≡ Some (codes "K")
+unfolding matched dpbn_app clap_on_literals
+example_key_file = refl
+
+-- a key, or that there is none: one of the two with hosts, and either or none with a first port
+example_unsealed : AreTaken (node_words (codes "--hosts=h:1" ∷ codes "--unsealed" ∷ codes "--continue" ∷ []))
+unfolding faults_of matched dpbn_app clap_on_literals
+example_unsealed = refl
+
+example_base_with_key : AreTaken (node_words (codes "--base" ∷ codes "5000" ∷ codes "--key" ∷ codes "K" ∷ []))
+unfolding faults_of matched dpbn_app clap_on_literals
+example_base_with_key = refl
+
+example_no_key : faults_of (node_words (codes "--hosts=h:1" ∷ [])) ≡ kind.MissingRequiredArgument ∷ []
+unfolding faults_of matched dpbn_app clap_on_literals
+example_no_key = refl
+
+example_key_and_none : faults_of (node_words (codes "--base" ∷ codes "5000" ∷ codes "--unsealed" ∷ codes "--key=K" ∷ [])) ≡ kind.ArgumentConflict ∷ []
+unfolding faults_of matched dpbn_app clap_on_literals
+example_key_and_none = refl
+
+-- a new key's file
+abbrev key_words : List Text
+key_words = codes "dpbn" ∷ codes "key" ∷ codes "K" ∷ []
+
+example_new_key : AreTaken key_words
+unfolding faults_of matched dpbn_app clap_on_literals
+example_new_key = refl
+
+example_new_key_file : value_at (codes "FILE") key_words ≡ Some (codes "K")
+unfolding matched dpbn_app clap_on_literals
+example_new_key_file = refl
+
+example_no_file : faults_of (codes "dpbn" ∷ codes "key" ∷ []) ≡ kind.MissingRequiredArgument ∷ []
+unfolding faults_of matched dpbn_app clap_on_literals
+example_no_file = refl
 
 -- one of the two has to be given, and not both
 example_neither : faults_of (node_words []) ≡ kind.MissingRequiredArgument ∷ []

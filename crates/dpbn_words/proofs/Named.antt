@@ -3,36 +3,49 @@ use Rattle.std.proofs.Common.{◌≡◌, List, Option, Some, Result, Ok, Err, If
 use Rattle.std.specs.Str.{bytes_eq}
 use Rattle.clap.specs.Words.{IsAmong, Row, Text}
 use Rattle.clap.specs.declared.error.kind.ErrorKind.{ErrorKind}
-use Rattle.dpbn_words.specs.Calls.{peers_fault}
-use Rattle.dpbn_words.specs.inside.Naming.{HasFiles, HasNode, NamesCall}
+use Rattle.dpbn_words.specs.Calls.{node_fault}
+use Rattle.dpbn_words.specs.inside.Naming.{HasFiles, HasNode, HasText, NamesCall}
 
 cluster_files : (rows : List Row) → NamesCall (Some (codes "cluster", rows)) → HasFiles rows
 cluster_files rows (inl p) = p.1
-cluster_files rows (inr p) = absurd (true≢false (ap (λ t. bytes_eq t (codes "cluster")) p.0))
+cluster_files rows (inr (inl p)) = absurd (true≢false (ap (λ t. bytes_eq t (codes "cluster")) p.0))
+cluster_files rows (inr (inr p)) = absurd (true≢false (ap (λ t. bytes_eq t (codes "cluster")) p.0))
 
 node_values : (rows : List Row) → NamesCall (Some (codes "node", rows)) → HasNode rows
 node_values rows (inl p) = absurd (true≢false (ap (λ t. bytes_eq t (codes "node")) p.0))
-node_values rows (inr p) = p.1
+node_values rows (inr (inl p)) = p.1
+node_values rows (inr (inr p)) = absurd (true≢false (ap (λ t. bytes_eq t (codes "node")) p.0))
+
+key_file : (rows : List Row) → NamesCall (Some (codes "key", rows)) → HasText rows (codes "FILE")
+key_file rows (inl p) = absurd (true≢false (ap (λ t. bytes_eq t (codes "key")) p.0))
+key_file rows (inr (inl p)) = absurd (true≢false (ap (λ t. bytes_eq t (codes "key")) p.0))
+key_file rows (inr (inr p)) = p.1
 
 module _ {T : Type 0} (r : Result T ErrorKind) (matched : Option (Text × List Row)) (rows : List Row) where
-  -- a cluster's call is made wherever its values are matched
-  pub cluster_kind : matched ≡ Some (codes "cluster", rows) → IfErr r (λ kind. HasFiles rows → ⊥)
-      → IfErr r (λ kind. NamesCall matched → IsAmong kind (peers_fault matched))
-  cluster_kind is never = by r never
-    where
-      by : (x : Result T ErrorKind) → IfErr x (λ kind. HasFiles rows → ⊥)
-          → IfErr x (λ kind. NamesCall matched → IsAmong kind (peers_fault matched))
-      by (Ok call) never = tt
-      by (Err kind) never = λ names. absurd (never (cluster_files rows (subst NamesCall is names)))
+  -- a call is made wherever its values are matched
+  made : (Has : Type 0) → (NamesCall matched → Has) → (x : Result T ErrorKind) → IfErr x (λ kind. Has → ⊥)
+      → IfErr x (λ kind. NamesCall matched → IsAmong kind (node_fault matched))
+  made Has has (Ok call) never = tt
+  made Has has (Err kind) never = λ names. absurd (never (has names))
 
-  -- a node's is made so, or is refused for its peers
+  -- so is a cluster's
+  pub cluster_kind : matched ≡ Some (codes "cluster", rows) → IfErr r (λ kind. HasFiles rows → ⊥)
+      → IfErr r (λ kind. NamesCall matched → IsAmong kind (node_fault matched))
+  cluster_kind is never = made (HasFiles rows) (λ names. cluster_files rows (subst NamesCall is names)) r never
+
+  -- and a key's
+  pub key_kind : matched ≡ Some (codes "key", rows) → IfErr r (λ kind. HasText rows (codes "FILE") → ⊥)
+      → IfErr r (λ kind. NamesCall matched → IsAmong kind (node_fault matched))
+  key_kind is never = made (HasText rows (codes "FILE")) (λ names. key_file rows (subst NamesCall is names)) r never
+
+  -- a node's is made so, or is refused for its peers or its key
   pub node_kind : matched ≡ Some (codes "node", rows)
-      → IfErr r (λ kind. HasNode rows → IsAmong kind (peers_fault (Some (codes "node", rows))))
-      → IfErr r (λ kind. NamesCall matched → IsAmong kind (peers_fault matched))
+      → IfErr r (λ kind. HasNode rows → IsAmong kind (node_fault (Some (codes "node", rows))))
+      → IfErr r (λ kind. NamesCall matched → IsAmong kind (node_fault matched))
   node_kind is among = by r among
     where
-      by : (x : Result T ErrorKind) → IfErr x (λ kind. HasNode rows → IsAmong kind (peers_fault (Some (codes "node", rows))))
-          → IfErr x (λ kind. NamesCall matched → IsAmong kind (peers_fault matched))
+      by : (x : Result T ErrorKind) → IfErr x (λ kind. HasNode rows → IsAmong kind (node_fault (Some (codes "node", rows))))
+          → IfErr x (λ kind. NamesCall matched → IsAmong kind (node_fault matched))
       by (Ok call) among = tt
       by (Err kind) among = λ names.
-          subst (λ m. IsAmong kind (peers_fault m)) (sym is) (among (node_values rows (subst NamesCall is names)))
+          subst (λ m. IsAmong kind (node_fault m)) (sym is) (among (node_values rows (subst NamesCall is names)))

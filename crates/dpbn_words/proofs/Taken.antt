@@ -12,6 +12,7 @@ use Rattle.clap.specs.Words.{fault_of}
 use Rattle.clap.specs.declared.builder.value_parser.ValueParser.TheVariants.{Signed}
 use Rattle.clap.specs.declared.error.kind.ErrorKind.{ErrorKind}
 use Rattle.clap.proofs.ValueTestLemmas.{accepts-Accepts}
+use Rattle.words.specs.Calls.{single}
 use Rattle.words.proofs.Entering.{Enters, enters_one, none_lacks}
 use Rattle.words.proofs.Uses.{AllFit, AreKnown, given_matched, known, none_or_matched, rows_fit}
 use Rattle.dpbn_words.specs.Calls.{cluster_command, dpbn_app, matched, needed, number, option, shared}
@@ -71,7 +72,7 @@ files_there more rows fit none =
       turns.1,
     )
 
--- ---- the subcommands as they are built: the program's two, and clap's own
+-- ---- the subcommands as they are built: the program's three, and clap's own
 
 abbrev subcommand_at : ℕ → Shape
 subcommand_at k = slice_index_or (built dpbn_app).subs k cluster_command
@@ -103,7 +104,7 @@ node_values rest none =
     let fit : AllFit c rows = rows_fit (subcommand_at 1) rest node_known none in
     let files = files_there (drop 8 c) rows fit (none_lacks (subcommand_at 1) rest refl none) in
     let me = is_there (is_given (codes "me") rows) _ files.1 in
-    inr (
+    inr (inl (
       refl,
       record {
         files = files.0;
@@ -111,27 +112,39 @@ node_values rest none =
         base = number_if_there c rows fit _ _ _ refl;
         patience = number_if_there c rows fit _ _ _ refl;
       },
-    )
+    ))
+
+key_values : (rest : List Text) → level_fault (subcommand_at 2) [] nothing_held rest false [] ≡ []
+    → NamesCall (Some (rows_at (subcommand_at 2) rest))
+unfolding dpbn_app
+key_values rest none =
+    let c : List Rule = (subcommand_at 2).rules in
+    let rows : List Row = rows_at_sub 2 rest in
+    let fit : AllFit c rows = rows_fit (subcommand_at 2) rest (known c refl) none in
+    let file = is_there (is_given (codes "FILE") rows) _ (none_lacks (subcommand_at 2) rest refl none) in
+    let there = given_matched c (slice_index_or c 0 single) refl rows fit file.0 in
+    inr (inr (refl, (there.text, there.first)))
 
 -- ---- which subcommand is entered
 
--- which one of three is found: the last passes the test
-abbrev IsOneOf : {X : Type 0} → (X → Bool) → X → X → X → X → Type 0
-IsOneOf p a b c x = (a ≡ x) ⊎ ((b ≡ x) ⊎ ((c ≡ x) × (p c ≡ true)))
+-- which one of four is found: the last passes the test
+abbrev IsOneOf : {X : Type 0} → (X → Bool) → X → X → X → X → X → Type 0
+IsOneOf p a b c d x = (a ≡ x) ⊎ ((b ≡ x) ⊎ ((c ≡ x) ⊎ ((d ≡ x) × (p d ≡ true))))
 
-found_among : {X : Type 0} (p : X → Bool) (a b c x : X) → find p (a ∷ b ∷ c ∷ []) ≡ Some x → IsOneOf p a b c x
-found_among {X} p a b c x = by (p a) (p b) (p c) refl
+found_among : {X : Type 0} (p : X → Bool) (a b c d x : X) → find p (a ∷ b ∷ c ∷ d ∷ []) ≡ Some x → IsOneOf p a b c d x
+found_among {X} p a b c d x = by (p a) (p b) (p c) (p d) refl
   where
     same : (u v : X) → Some u ≡ Some v → u ≡ v
     same u v e = cc
 
-    by : (i j k : Bool) → p c ≡ k → cond i (Some a) (cond j (Some b) (cond k (Some c) None)) ≡ Some x → IsOneOf p a b c x
-    by true j k at e = inl (same a x e)
-    by false true k at e = inr (inl (same b x e))
-    by false false true at e = inr (inr (same c x e, at))
-    by false false false at e = absurd (let no : None ≡ Some x = e in cc)
+    by : (i j k l : Bool) → p d ≡ l → cond i (Some a) (cond j (Some b) (cond k (Some c) (cond l (Some d) None))) ≡ Some x → IsOneOf p a b c d x
+    by true j k l at e = inl (same a x e)
+    by false true k l at e = inr (inl (same b x e))
+    by false false true l at e = inr (inr (inl (same c x e)))
+    by false false false true at e = inr (inr (inr (same d x e, at)))
+    by false false false false at e = absurd (let no : None ≡ Some x = e in cc)
 
-help_is_met : (name : Text) → answers_to name (label_of (subcommand_at 2)) ≡ true → name ≡ codes "help"
+help_is_met : (name : Text) → answers_to name (label_of (subcommand_at 3)) ≡ true → name ≡ codes "help"
 unfolding dpbn_app
 help_is_met name met = sym ((bytes_eq-Decides (codes "help") name).0 (by (bytes_eq (codes "help") name) met))
   where
@@ -148,11 +161,14 @@ NamedBy shape rest = NamesCall (Some (rows_at shape rest))
 shape_values : (words : List Text) (e : Enters (built dpbn_app) words) → NamedBy e.shape e.rest
 unfolding dpbn_app
 shape_values words e =
-    elim (found_among (λ s. answers_to e.name (label_of s)) (subcommand_at 0) (subcommand_at 1) (subcommand_at 2) e.shape e.found) [
+    elim (found_among (λ s. answers_to e.name (label_of s)) (subcommand_at 0) (subcommand_at 1) (subcommand_at 2) (subcommand_at 3) e.shape e.found) [
       | inl is ↦ subst (λ s. NamedBy s e.rest) is (cluster_values e.rest (subst (λ s. level_fault s [] nothing_held e.rest false [] ≡ []) (sym is) e.faultless))
       | inr rest ↦ elim rest [
         | inl is ↦ subst (λ s. NamedBy s e.rest) is (node_values e.rest (subst (λ s. level_fault s [] nothing_held e.rest false [] ≡ []) (sym is) e.faultless))
-        | inr own ↦ absurd (never_help e.name (help_is_met e.name own.1) e.no_help)
+        | inr last ↦ elim last [
+          | inl is ↦ subst (λ s. NamedBy s e.rest) is (key_values e.rest (subst (λ s. level_fault s [] nothing_held e.rest false [] ≡ []) (sym is) e.faultless))
+          | inr own ↦ absurd (never_help e.name (help_is_met e.name own.1) e.no_help)
+        ]
       ]
     ]
 

@@ -1,16 +1,18 @@
 -- The calls of `dpbn`, as clap matches their words.
 use Rattle.std.specs.Prelude.{◌≡◌, ◌≤◌, ◌++◌, ℕ, codes, if◌then◌else◌, is_some, List, [], ◌∷◌, Bool, Option, None, Some, option_map, pos, true, false}
+use Rattle.std.specs.Option.{option_map_or}
 use Rattle.std.specs.Str.{bytes_eq}
 use Rattle.clap.specs.Kinds.{or_else}
 use Rattle.clap.specs.Words.{App, Kinds, Row, Rule, Shape, Text, fault_of, first_of, new_app, new_rule, subcommand_of, with_subcommand}
 use Rattle.clap.specs.declared.builder.value_parser.ValueParser.TheVariants.{Signed}
 use Rattle.clap.specs.declared.error.kind.ErrorKind.TheVariants.{ArgumentConflict, MissingRequiredArgument}
 use Rattle.dpbn_words.specs.declared.Call.{Call}
-use Rattle.dpbn_words.specs.declared.Call.TheVariants.{Cluster, Node}
+use Rattle.dpbn_words.specs.declared.Call.TheVariants.{Cluster, Key, Node}
 use Rattle.dpbn_words.specs.declared.Files.{Files}
 use Rattle.dpbn_words.specs.declared.Peers.{Peers}
 use Rattle.dpbn_words.specs.declared.Peers.TheVariants.{Base, Hosts}
-use Rattle.words.specs.Calls.{IsFlag, IsNumber, command, single}
+use Rattle.dpbn_words.specs.declared.Run.{Run}
+use Rattle.words.specs.Calls.{IsFlag, IsNumber, command, flag, single, word}
 
 -- ---- what clap is told
 
@@ -51,7 +53,14 @@ node_command = command (codes "node") (
     ∷ number (codes "base") 1024 65526
     ∷ option (codes "hosts")
     ∷ number (codes "patience") 0 60000
+    ∷ option (codes "key")
+    ∷ flag (codes "unsealed")
+    ∷ flag (codes "continue")
     ∷ [])
+
+-- `dpbn key`
+abbrev pub key_command : Shape
+key_command = command (codes "key") (word (codes "FILE") ∷ [])
 
 -- the program with its subcommand on all nodes alone; it has to be given a subcommand
 abbrev pub cluster_app : App
@@ -60,9 +69,13 @@ cluster_app =
     with_subcommand
     (record program { top = record program.top { subcommand_required = true } }) cluster_command
 
+-- the program with its subcommands on nodes alone
+abbrev pub nodes_app : App
+nodes_app = with_subcommand cluster_app node_command
+
 -- the program
 unfoldable pub dpbn_app : App
-dpbn_app = with_subcommand cluster_app node_command
+dpbn_app = with_subcommand nodes_app key_command
 
 -- the subcommand that clap matches of the words, and what it matches under the names of that
 unfoldable pub matched : List Text → Option (Text × List Row)
@@ -74,22 +87,35 @@ matched words = subcommand_of dpbn_app words
 abbrev pub is_given : List Row → Text → Bool
 is_given rows id = is_some (first_of id rows)
 
+-- the flag of this name was given
+abbrev pub is_set : List Row → Text → Bool
+is_set rows id = option_map_or (λ text. bytes_eq text (codes "true")) (first_of id rows) false
+
 -- of two options of which one has to be given, both were, or none
 abbrev pub choice_fault : Bool → Bool → Kinds
 choice_fault true true = ArgumentConflict ∷ []
 choice_fault false false = MissingRequiredArgument ∷ []
 choice_fault _ _ = []
 
--- a node has to be told either the first port of all members or their hosts
-abbrev pub peers_fault : Option (Text × List Row) → Kinds
-peers_fault None = []
-peers_fault (Some (name, rows)) =
-    if bytes_eq name (codes "node")
-    then choice_fault (is_given rows (codes "base")) (is_given rows (codes "hosts")) else []
+-- A node with hosts has to be told its key's file or that it has none, and no node both.
+abbrev pub sealing_fault : Bool → Bool → Bool → Kinds
+sealing_fault has_hosts true true = ArgumentConflict ∷ []
+sealing_fault true false false = MissingRequiredArgument ∷ []
+sealing_fault _ _ _ = []
 
--- the kinds of fault that clap finds in the words, of which it names one, or else that of the peers
+-- a node has to be told either the first port of all members or their hosts, and then of its key
+abbrev pub node_fault : Option (Text × List Row) → Kinds
+node_fault None = []
+node_fault (Some (name, rows)) =
+    if bytes_eq name (codes "node")
+    then or_else (choice_fault (is_given rows (codes "base")) (is_given rows (codes "hosts")))
+    (sealing_fault (is_given rows (codes "hosts")) (is_given rows (codes "key"))
+    (is_set rows (codes "unsealed")))
+    else []
+
+-- the kinds of fault that clap finds in the words, of which it names one, or else that of a node
 unfoldable pub faults_of : List Text → Kinds
-faults_of words = or_else (fault_of dpbn_app words) (peers_fault (matched words))
+faults_of words = or_else (fault_of dpbn_app words) (node_fault (matched words))
 
 -- the words are taken: no fault is found in them
 abbrev pub AreTaken : List Text → Type 0
@@ -132,11 +158,18 @@ ArePeers rows (Base port) =
 ArePeers rows (Hosts text) =
     IsText rows (codes "hosts") text.now × IsTextIf rows (codes "base") None
 
+-- the key's file, if one was given, and whether the run is to be continued
+pub record IsRun (rows : List Row) (run : Run) : Type 0 where
+  pub key : IsTextIf rows (codes "key") (option_map (λ t. t.now) run.key)
+  pub continues : run.is_continued ≡ is_set rows (codes "continue")
+
 -- clap matched the call's subcommand, and the call's values are those of its matches
 abbrev pub IsCallOf : Option (Text × List Row) → Call → Type 0
 IsCallOf None call = ⊥
 IsCallOf (Some (name, rows)) (Cluster files trace) = (name ≡ codes "cluster") × AreFiles rows files
     × IsTextIf rows (codes "trace") (option_map (λ t. t.now) trace)
-IsCallOf (Some (name, rows)) (Node files me peers patience) = (name ≡ codes "node")
+IsCallOf (Some (name, rows)) (Node files me peers patience run) = (name ≡ codes "node")
     × AreFiles rows files × IsNumberIn rows (codes "me") 0 255 me × ArePeers rows peers
-    × IsNumberIf rows (codes "patience") 0 60000 patience
+    × IsNumberIf rows (codes "patience") 0 60000 patience × IsRun rows run
+IsCallOf (Some (name, rows)) (Key file) =
+    (name ≡ codes "key") × IsText rows (codes "FILE") file.now

@@ -2,11 +2,12 @@
 ghost use Rattle.std.specs.Prelude.{◌≡◌, ◌∷◌, [], IfNone, IfOk, IfSome, false};
 ghost use Rattle.clap.specs.Words.{app_of, found_of, rows_of, rule_of};
 ghost use Rattle.clap.specs.declared.builder.command.Command.TheViews.{out-Command as fields_of};
-ghost use Rattle.dpbn_words.specs.Calls.{IsNumberIf, IsNumberIn, needed as needed_rule, option as option_rule};
+ghost use Rattle.dpbn_words.specs.Calls.{IsNumberIf, IsNumberIn, is_set, needed as needed_rule, option as option_rule};
 ghost use Rattle.dpbn_words.specs.inside.Apps.{with_rules};
 ghost use Rattle.dpbn_words.specs.inside.Naming.{HasNumber, MayHaveNumber};
+ghost use Rattle.words.specs.Calls.{flag as flag_rule, word as word_rule};
 
-use clap::{Arg, ArgMatches, Command};
+use clap::{Arg, ArgAction, ArgMatches, Command};
 use std::alloc::{AllocError, Global};
 use words::text_of;
 
@@ -24,6 +25,25 @@ pub fn needed<'a>(alloc: Global, id: &'a str, value: &'a str, help: &'a str) -> 
     ensures local { result.global ≡ false }
 {
     option(alloc, id, value, help).required(true)
+}
+
+/// A flag.
+pub fn flag<'a>(alloc: Global, id: &'a str, help: &'a str) -> Arg<'a>
+    ensures rule { rule_of result ≡ flag_rule id.entry.now }
+    ensures local { result.global ≡ false }
+{
+    Arg::new(alloc, id)
+        .long(id)
+        .help(help)
+        .action(ArgAction::SetTrue)
+}
+
+/// A word that has to stand.
+pub fn word<'a>(alloc: Global, id: &'a str, help: &'a str) -> Arg<'a>
+    ensures rule { rule_of result ≡ word_rule id.entry.now }
+    ensures local { result.global ≡ false }
+{
+    Arg::new(alloc, id).help(help).required(true)
 }
 
 /// The command with these three options behind those that it takes.
@@ -67,5 +87,15 @@ pub fn number_if(found: &ArgMatches<'_>, id: &str, least: u32, most: u32) -> Opt
     match text_of(found, id) {
         Some(_) => Some(Some(number_of(found, id, least, most)?)),
         None => Some(None),
+    }
+}
+
+/// Whether a flag was given.
+pub fn is_set(found: &ArgMatches<'_>, id: &str) -> bool
+    ensures { result ≡ is_set (rows_of (found_of found.now)) id.now }
+{
+    match text_of(found, id) {
+        Some(text) => text == "true",
+        None => false,
     }
 }

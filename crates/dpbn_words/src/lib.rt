@@ -3,11 +3,12 @@
 
 ghost use Rattle.std.specs.Prelude.{◌≡◌, IfErr, IfOk, [], map};
 ghost use Rattle.clap.specs.Words.{FailsBy, IsAmong, app_of, fault_of, kind_of, subcommand_rows_of};
-ghost use Rattle.dpbn_words.specs.Calls.{IsCallOf, cluster_app, dpbn_app, faults_of, matched, peers_fault};
+ghost use Rattle.dpbn_words.specs.Calls.{IsCallOf, cluster_app, dpbn_app, faults_of, matched, node_fault, nodes_app};
 ghost use Rattle.dpbn_words.specs.inside.Naming.{NamesCall};
 
 mod arguments;
 mod cluster;
+mod key;
 mod node;
 mod shared;
 
@@ -16,7 +17,7 @@ use clap::{ArgMatches, Command, Error};
 use std::alloc::{AllocError, Global};
 use std::convert::AsStr;
 
-/// What both subcommands take.
+/// What the subcommands on nodes take.
 #[derive(Debug, Drop)]
 pub struct Files<'a> {
     pub listing: &'a str,
@@ -44,6 +45,15 @@ pub enum Peers<'a> {
     Hosts(&'a str),
 }
 
+/// Of which run a node is.
+#[derive(Debug, Drop)]
+pub struct Run<'a> {
+    /// The file of the key under which it seals what it sends; none, where it believes what comes.
+    pub key: Option<&'a str>,
+    /// Whether a log of the run has to be there.
+    pub is_continued: bool,
+}
+
 /// A call of the program.
 #[derive(Debug, Drop)]
 pub enum Call<'a> {
@@ -59,13 +69,19 @@ pub enum Call<'a> {
         me: u8,
         peers: Peers<'a>,
         patience: Option<u16>,
+        run: Run<'a>,
+    },
+    /// A file with a new key.
+    Key {
+        file: &'a str,
     },
 }
 
 /// The call that the words make, the first of which is the program's name.
 ///
 /// Words that make no call, and those that ask for help, are refused with clap's text; so are those
-/// of a node that name neither the first port nor the hosts of its peers, or both.
+/// of a node that name neither the first port nor the hosts of its peers, or both; or its hosts,
+/// and neither a key nor that there is none; or both of these.
 pub fn dpbn_words<'a, S: AsStr>(alloc: Global, words: &'a [S]) -> Result<Call<'a>, Error>
     ensures call { IfOk result (IsCallOf (matched (map S.text words.entry.now))) }
     // Where there is a call no fault is found in the words, and a refusal is for want of memory
@@ -92,13 +108,14 @@ fn matches_of<'a, S: AsStr>(alloc: Global, words: &'a [S]) -> Result<ArgMatches<
 /// The call with the values that were found, or the kind of fault in them.
 fn call_of<'a>(matches: &ArgMatches<'a>) -> Result<Call<'a>, ErrorKind>
     ensures call { IfOk result (IsCallOf (subcommand_rows_of matches.now)) }
-    ensures sound { IfOk result (λ call. peers_fault (subcommand_rows_of matches.now) ≡ []) }
+    ensures sound { IfOk result (λ call. node_fault (subcommand_rows_of matches.now) ≡ []) }
     ensures kind { IfErr result (λ kind. NamesCall (subcommand_rows_of matches.now)
-        → IsAmong kind (peers_fault (subcommand_rows_of matches.now))) }
+        → IsAmong kind (node_fault (subcommand_rows_of matches.now))) }
 {
     match matches.subcommand() {
         Some(("cluster", found)) => cluster::call_of(found).ok_or(ErrorKind::MissingSubcommand),
         Some(("node", found)) => node::call_of(found),
+        Some(("key", found)) => key::call_of(found).ok_or(ErrorKind::MissingSubcommand),
         _ => Err(ErrorKind::MissingSubcommand),
     }
 }
@@ -108,8 +125,12 @@ fn refusal(alloc: Global, kind: ErrorKind) -> Result<Error, AllocError>
     ensures { IfOk result (λ error. kind_of error ≡ kind) }
 {
     let message = match kind {
-        ErrorKind::MissingRequiredArgument => "one of --base and --hosts has to be given",
-        ErrorKind::ArgumentConflict => "--base and --hosts cannot be given together",
+        ErrorKind::MissingRequiredArgument => {
+            "one of --base and --hosts has to be given, and with --hosts --key or --unsealed"
+        }
+        ErrorKind::ArgumentConflict => {
+            "--base and --hosts cannot be given together, nor --key and --unsealed"
+        }
         _ => "the words name no call",
     };
     dpbn_command(alloc)?.error(kind, message)
@@ -119,6 +140,13 @@ fn refusal(alloc: Global, kind: ErrorKind) -> Result<Error, AllocError>
 #[tactic(auto, unfolding(crate::specs::Calls::dpbn_app))]
 fn dpbn_command<'a>(alloc: Global) -> Result<Command<'a>, AllocError>
     ensures { IfOk result (λ command. app_of command ≡ dpbn_app) }
+{
+    with_nodes(alloc)?.subcommand(key::command(alloc)?)
+}
+
+/// The same of its subcommands on nodes alone.
+fn with_nodes<'a>(alloc: Global) -> Result<Command<'a>, AllocError>
+    ensures { IfOk result (λ command. app_of command ≡ nodes_app) }
 {
     with_cluster(alloc)?.subcommand(node::command(alloc)?)
 }

@@ -1,13 +1,14 @@
 //! `dpbn node`.
 ghost use Rattle.std.specs.Prelude.{◌≡◌, IfErr, IfNone, IfOk, IfSome, Some, [], codes, false};
-ghost use Rattle.clap.specs.Words.{IsAmong, found_of, rows_of, rule_of, shape_of};
+ghost use Rattle.clap.specs.Words.{IsAmong, app_of, found_of, rows_of, rule_of, shape_of};
 ghost use Rattle.clap.specs.declared.builder.command.Command.TheViews.{out-Command as fields_of};
-ghost use Rattle.dpbn_words.specs.Calls.{ArePeers, IsCallOf, IsNumberIf, choice_fault, is_given, needed as needed_rule, node_command, number, peers_fault};
+ghost use Rattle.dpbn_words.specs.Calls.{ArePeers, IsCallOf, IsNumberIf, IsRun, choice_fault, is_given, is_set, needed as needed_rule, node_command, node_fault, number, sealing_fault};
+ghost use Rattle.dpbn_words.specs.inside.Apps.{run, with_rules};
 ghost use Rattle.dpbn_words.specs.inside.Naming.{HasNode, MayHaveNumber};
 
-use crate::arguments::{needed, number_if, number_of, option, with_options};
+use crate::arguments::{flag, is_set, needed, number_if, number_of, option, with_options};
 use crate::shared::{self, files_of};
-use crate::{Call, Peers};
+use crate::{Call, Peers, Run};
 use clap::error::ErrorKind;
 use clap::{Arg, ArgMatches, Command, value_parser};
 use std::alloc::{AllocError, Global};
@@ -26,7 +27,25 @@ pub fn command<'a>(alloc: Global) -> Result<Command<'a>, AllocError>
         "where each member listens, where --base is not given",
     );
     let command = shared::command(alloc, "node", about)?;
-    with_options(command, me(alloc), base(alloc), hosts)?.arg(patience(alloc))
+    let command = with_options(command, me(alloc), base(alloc), hosts)?.arg(patience(alloc))?;
+    with_run(alloc, command)
+}
+
+/// The command with the options on the run behind those that it takes.
+fn with_run<'a>(alloc: Global, command: Command<'a>) -> Result<Command<'a>, AllocError>
+    requires local { (fields_of command).has_globals ≡ false }
+    ensures app { IfOk result (λ more. app_of more ≡ with_rules (app_of command.entry) run) }
+    ensures local { IfOk result (λ more. (fields_of more).has_globals ≡ false) }
+{
+    let key = option(
+        alloc,
+        "key",
+        "FILE",
+        "the file of the run's key, as `dpbn key` makes it",
+    );
+    let unsealed = flag(alloc, "unsealed", "there is no key: what comes is believed");
+    let continued = flag(alloc, "continue", "refuse to start where no log stands");
+    with_options(command, key, unsealed, continued)
 }
 
 /// The number of the node's own member.
@@ -62,17 +81,21 @@ fn patience<'a>(alloc: Global) -> Arg<'a>
 pub fn call_of<'a>(found: &ArgMatches<'a>) -> Result<Call<'a>, ErrorKind>
     ensures call { IfOk result (IsCallOf (Some (codes "node", rows_of (found_of found.now)))) }
     ensures sound { IfOk result
-        (λ call. peers_fault (Some (codes "node", rows_of (found_of found.now))) ≡ []) }
+        (λ call. node_fault (Some (codes "node", rows_of (found_of found.now))) ≡ []) }
     ensures kind { IfErr result (λ kind. HasNode (rows_of (found_of found.now))
-        → IsAmong kind (peers_fault (Some (codes "node", rows_of (found_of found.now))))) }
+        → IsAmong kind (node_fault (Some (codes "node", rows_of (found_of found.now))))) }
 {
     let peers = peers_of(found)?;
-    with_peers(found, peers).ok_or(ErrorKind::MissingRequiredArgument)
+    let run = run_of(found)?;
+    with_peers(found, peers, run).ok_or(ErrorKind::MissingRequiredArgument)
 }
 
 /// The first port of all members, or their hosts: one of the two has to be given.
 fn peers_of<'a>(found: &ArgMatches<'a>) -> Result<Peers<'a>, ErrorKind>
     ensures peers { IfOk result (ArePeers (rows_of (found_of found.now))) }
+    ensures sound { IfOk result (λ peers.
+        choice_fault (is_given (rows_of (found_of found.now)) (codes "base"))
+        (is_given (rows_of (found_of found.now)) (codes "hosts")) ≡ []) }
     ensures kind { IfErr result (λ kind.
         MayHaveNumber (rows_of (found_of found.now)) (codes "base") 1024 65526
         → IsAmong kind (choice_fault (is_given (rows_of (found_of found.now)) (codes "base"))
@@ -89,9 +112,35 @@ fn peers_of<'a>(found: &ArgMatches<'a>) -> Result<Peers<'a>, ErrorKind>
     }
 }
 
-/// The call with these peers and the values that were found.
-fn with_peers<'a>(found: &ArgMatches<'a>, peers: Peers<'a>) -> Option<Call<'a>>
-    requires { ArePeers (rows_of (found_of found.now)) peers }
+/// The key's file and whether the run is continued. With hosts there has to be a key, or that there
+/// is none has to be told; never both.
+fn run_of<'a>(found: &ArgMatches<'a>) -> Result<Run<'a>, ErrorKind>
+    ensures run { IfOk result (IsRun (rows_of (found_of found.now))) }
+    ensures sound { IfOk result (λ run.
+        sealing_fault (is_given (rows_of (found_of found.now)) (codes "hosts"))
+        (is_given (rows_of (found_of found.now)) (codes "key"))
+        (is_set (rows_of (found_of found.now)) (codes "unsealed")) ≡ []) }
+    ensures kind { IfErr result (λ kind. IsAmong kind
+        (sealing_fault (is_given (rows_of (found_of found.now)) (codes "hosts"))
+        (is_given (rows_of (found_of found.now)) (codes "key"))
+        (is_set (rows_of (found_of found.now)) (codes "unsealed")))) }
+{
+    let key = text_of(found, "key");
+    let hosts = text_of(found, "hosts");
+    match (key.is_some(), is_set(found, "unsealed")) {
+        (true, true) => Err(ErrorKind::ArgumentConflict),
+        (false, false) if hosts.is_some() => Err(ErrorKind::MissingRequiredArgument),
+        _ => Ok(Run {
+            key,
+            is_continued: is_set(found, "continue"),
+        }),
+    }
+}
+
+/// The call with these peers, of this run, and the values that were found.
+fn with_peers<'a>(found: &ArgMatches<'a>, peers: Peers<'a>, run: Run<'a>) -> Option<Call<'a>>
+    requires peers { ArePeers (rows_of (found_of found.now)) peers }
+    requires run { IsRun (rows_of (found_of found.now)) run }
     ensures some { IfSome result (IsCallOf (Some (codes "node", rows_of (found_of found.now)))) }
     ensures none { IfNone result (¬ HasNode (rows_of (found_of found.now))) }
 {
@@ -103,6 +152,7 @@ fn with_peers<'a>(found: &ArgMatches<'a>, peers: Peers<'a>) -> Option<Call<'a>>
         me,
         peers,
         patience,
+        run,
     })
 }
 

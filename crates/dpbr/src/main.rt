@@ -1,7 +1,7 @@
 //! Letters, audits and runs of a bulk build of ports, from files.
 #![tactic(auto)]
 
-use replay::dpbr_main;
+use replay::{SystemFiles, dpbr_main};
 use std::io::{ErrorKind, Write};
 use std::process::ExitCode;
 use std::{env, io};
@@ -13,7 +13,13 @@ fn main(rt: HostRuntime) -> ExitCode {
         let _ = writeln!(err, "dpbr: fault 1");
         return ExitCode::FAILURE;
     };
-    let status = dpbr_main(&rt, words.as_slice(), &mut out, &mut err);
+    let status = dpbr_main(
+        &SystemFiles::of(&rt),
+        rt.alloc(),
+        words.as_slice(),
+        &mut out,
+        &mut err,
+    );
     ExitCode::from(status)
 }
 

@@ -13,8 +13,8 @@ use Rattle.listing.specs.Tree.{Tree}
 use Rattle.lists.specs.List.{AreEntries, IsFirstBadLine}
 use Rattle.lists.specs.ListRefusals.{list_refusal}
 use Rattle.lists.specs.declared.list.ListFault.{ListFault}
-use Rattle.program.specs.Files.{RefusesFiles, RefusesTexts}
-use Rattle.program.specs.Listings.{rules_for}
+use Rattle.program.specs.Files.{RefusesBoth, RefusesTexts}
+use Rattle.program.specs.Listings.{IsDescribedAt}
 use Rattle.program.specs.declared.refusal.Refusal.{Refusal}
 
 -- the words for why a package is not allowed
@@ -54,14 +54,21 @@ pub record IsVerdictOnListing (rules : Rules) (listing list : Text)
   pub described : tree_of rules listing ≡ Ok tree
   pub is_verdict : IsVerdictOn tree list verdict
 
--- the verdict on a list of packages, by a listing, and the status that goes with it
-pub record IsAudit (is_single : Bool) (status : ℕ) (text : Text) : Type 0 where
-  pub listing : Text
-  pub list : Text
+-- the verdict on a list of packages, and the status that goes with it
+pub record IsAuditOf (tree : Tree) (list : Text) (status : ℕ) (text : Text) : Type 0 where
   pub verdict : Verdict
-  pub is_verdict : IsVerdictOnListing (rules_for is_single) listing list verdict
+  pub is_verdict : IsVerdictOn tree list verdict
   pub text_is : text ≡ verdict_line verdict
   pub status_is : status ≡ status_of verdict
+
+-- the same by a listing, where reads of these names gave both
+pub record IsAudit (Gave : Text → Text → Type 0) (listing_name list_name : Text)
+    (is_single : Bool) (status : ℕ) (text : Text) : Type 0 where
+  pub tree : Tree
+  pub described : IsDescribedAt Gave listing_name is_single tree
+  pub list : Text
+  pub from_list : Gave list_name list
+  pub is_audit : IsAuditOf tree list status text
 
 -- what is told of the first bad line of a list of packages, whatever the tree
 abbrev pub RefusesList : Text → Tree → Refusal → Type 0
@@ -71,7 +78,7 @@ RefusesList list tree r = (e : ListFault) × IsFirstBadLine list e × (r ≡ lis
 abbrev pub RefusesAudit : Rules → Text → Text → Refusal → Type 0
 RefusesAudit rules listing list r = RefusesTexts rules listing (RefusesList list) r
 
--- one of the two files can't be read, or this is told of the texts in them
-abbrev pub RefusesAuditFiles : Bool → Refusal → Type 0
-RefusesAuditFiles is_single r =
-    RefusesFiles (λ listing list. RefusesAudit (rules_for is_single) listing list) r
+-- one of the two can't be read, or this is told of what reads of these names gave
+abbrev pub RefusesAuditFiles : (Text → Text → Type 0) → Text → Text → Bool → Refusal → Type 0
+RefusesAuditFiles Gave listing list is_single r =
+    RefusesBoth Gave is_single listing list RefusesList r

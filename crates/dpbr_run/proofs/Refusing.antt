@@ -1,10 +1,10 @@
 -- What is told of a trace.
-use Rattle.std.proofs.Common.{◌≡◌, ◌⊎◌, Bool, inl, inr}
+use Rattle.std.proofs.Common.{◌≡◌, ◌⊎◌, inl, inr}
 use Rattle.faults.specs.Bytes.{Text}
 use Rattle.listing.specs.Tree.{Tree}
-use Rattle.dpbr_run.specs.Run.{RefusesEvent, RefusesRunFiles, RefusesTrace}
-use Rattle.dpbr_run.specs.Traces.{RefusesTraceFile}
-use Rattle.program.specs.Listings.{IsDescribed}
+use Rattle.dpbr_run.specs.Run.{RefusesEvent, RefusesTrace}
+use Rattle.dpbr_run.specs.Traces.{RefusesTraceAt}
+use Rattle.program.specs.Files.{RefusesAt}
 use Rattle.program.specs.Refusals.{memory_refusal}
 use Rattle.program.specs.declared.refusal.Refusal.{Refusal}
 
@@ -14,7 +14,8 @@ pub event_refused : (trace : Text) (tree : Tree) (r : Refusal) → (r ≡ memory
 event_refused trace tree r (inl memory) = inl memory
 event_refused trace tree r (inr refused) = inr (inr refused)
 
--- no trace is in the file
-pub trace_in_file : (is_single : Bool) (tree : Tree) (r : Refusal) → IsDescribed is_single tree → RefusesTraceFile r → RefusesRunFiles is_single r
-trace_in_file is_single tree r described (inl system) = inl system
-trace_in_file is_single tree r (listing, described) (inr (trace, refused)) = inr (listing, trace, inr (tree, described, inl refused))
+-- what has this name is no trace
+pub trace_refused : (Gave : Text → Text → Type 0) (name : Text) (tree : Tree) (r : Refusal) → RefusesTraceAt Gave name r
+    → RefusesAt Gave name (λ text. RefusesTrace text tree) r
+trace_refused Gave name tree r (inl system) = inl system
+trace_refused Gave name tree r (inr (trace, gave, refused)) = inr (trace, gave, inl refused)

@@ -6,8 +6,8 @@ use Rattle.faults.specs.Bytes.{Text}
 use Rattle.listing.specs.Listing.{Rules, tree_of}
 use Rattle.listing.specs.Tree.{Tree}
 use Rattle.lists.specs.ListText.{list_text}
-use Rattle.program.specs.Files.{RefusesFiles, RefusesTexts}
-use Rattle.program.specs.Listings.{rules_for}
+use Rattle.program.specs.Files.{RefusesBoth, RefusesTexts}
+use Rattle.program.specs.Listings.{IsDescribedAt}
 use Rattle.program.specs.NodeLine.{IsLineOf}
 use Rattle.program.specs.declared.refusal.Refusal.{Refusal}
 use Rattle.protocol.specs.State.{engine_of}
@@ -71,13 +71,16 @@ RefusesTrace trace tree r = RefusesText trace r ⊎ RefusesEvent tree trace r
 abbrev pub RefusesRun : Rules → Text → Text → Refusal → Type 0
 RefusesRun rules listing trace r = RefusesTexts rules listing (RefusesTrace trace) r
 
--- what a run of a trace leaves, by a listing
-pub record IsRun (is_single : Bool) (text : Text) : Type 0 where
-  pub listing : Text
+-- what a run of a trace leaves, by a listing, where reads of these names gave both
+pub record IsRun (Gave : Text → Text → Type 0) (listing_name trace_name : Text)
+    (is_single : Bool) (text : Text) : Type 0 where
+  pub tree : Tree
+  pub described : IsDescribedAt Gave listing_name is_single tree
   pub trace : Text
-  pub is_run : IsRunOfListing (rules_for is_single) listing trace text
+  pub from_trace : Gave trace_name trace
+  pub is_run : IsRunOf tree trace text
 
--- one of the two files can't be read, or this is told of the texts in them
-abbrev pub RefusesRunFiles : Bool → Refusal → Type 0
-RefusesRunFiles is_single r =
-    RefusesFiles (λ listing trace. RefusesRun (rules_for is_single) listing trace) r
+-- one of the two can't be read, or this is told of what reads of these names gave
+abbrev pub RefusesRunFiles : (Text → Text → Type 0) → Text → Text → Bool → Refusal → Type 0
+RefusesRunFiles Gave listing trace is_single r =
+    RefusesBoth Gave is_single listing trace RefusesTrace r

@@ -1,7 +1,7 @@
 -- What is told of traces.
-use Rattle.std.specs.Prelude.{◌≡◌, ◌⊎◌, Ok}
+use Rattle.std.specs.Prelude.{◌≡◌, Ok}
 use Rattle.faults.specs.Bytes.{Text}
-use Rattle.program.specs.Refusals.{IsSystemRefusal}
+use Rattle.program.specs.Files.{RefusesAt}
 use Rattle.program.specs.declared.refusal.Refusal.{Refusal}
 use Rattle.traces.specs.Faults as traces
 use Rattle.traces.specs.Faults.{IsTraceFault}
@@ -16,10 +16,10 @@ trace_refusal e = record { number = traces.number_of e; place = traces.place_of 
 abbrev pub RefusesText : Text → Refusal → Type 0
 RefusesText trace r = (f : TraceFault) × IsTraceFault trace f × (r ≡ trace_refusal f)
 
--- a text is the trace
-abbrev pub IsSpelled : Trace → Type 0
-IsSpelled trace = (text : Text) × (trace_of text ≡ Ok trace)
+-- a read of this name gave a text that is the trace
+abbrev pub IsSpelledAt : (Text → Text → Type 0) → Text → Trace → Type 0
+IsSpelledAt Gave name trace = (text : Text) × Gave name text × (trace_of text ≡ Ok trace)
 
--- the file of a trace can't be read, or this is told of a text that is no trace
-abbrev pub RefusesTraceFile : Refusal → Type 0
-RefusesTraceFile r = IsSystemRefusal r ⊎ ((trace : Text) × RefusesText trace r)
+-- what has this name can't be read, or this is told of a text that is no trace
+abbrev pub RefusesTraceAt : (Text → Text → Type 0) → Text → Refusal → Type 0
+RefusesTraceAt Gave name r = RefusesAt Gave name RefusesText r

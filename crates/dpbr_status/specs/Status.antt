@@ -11,8 +11,8 @@ use Rattle.listing.specs.Tree.{Package, Tree}
 use Rattle.dpbr_status.specs.Held.{AreHeld, IsFirstFault}
 use Rattle.dpbr_status.specs.HeldRefusals.{held_refusal}
 use Rattle.dpbr_status.specs.declared.held.HeldFault.{HeldFault}
-use Rattle.program.specs.Files.{RefusesFiles, RefusesTexts}
-use Rattle.program.specs.Listings.{rules_for}
+use Rattle.program.specs.Files.{RefusesBoth, RefusesTexts}
+use Rattle.program.specs.Listings.{IsDescribedAt}
 use Rattle.program.specs.NodeLine.{counts_line}
 use Rattle.program.specs.declared.refusal.Refusal.{Refusal}
 
@@ -56,11 +56,15 @@ pub record IsStatusOfListing (rules : Rules) (listing held text : Text) : Type 0
   pub described : tree_of rules listing ≡ Ok tree
   pub status : IsStatusOf tree held text
 
--- the status that a listing and a text of held package paths describe
-pub record IsStatus (is_single : Bool) (text : Text) : Type 0 where
-  pub listing : Text
+-- the status that a listing and a text of held package paths describe, which reads of these names
+-- gave
+pub record IsStatus (Gave : Text → Text → Type 0) (listing_name held_name : Text)
+    (is_single : Bool) (text : Text) : Type 0 where
+  pub tree : Tree
+  pub described : IsDescribedAt Gave listing_name is_single tree
   pub held : Text
-  pub is_status : IsStatusOfListing (rules_for is_single) listing held text
+  pub from_held : Gave held_name held
+  pub is_status : IsStatusOf tree held text
 
 -- what is told of the first fault of a text of held package paths
 abbrev pub RefusesHeld : Text → Tree → Refusal → Type 0
@@ -70,7 +74,7 @@ RefusesHeld held tree r = (e : HeldFault) × IsFirstFault tree held e × (r ≡ 
 abbrev pub RefusesStatus : Rules → Text → Text → Refusal → Type 0
 RefusesStatus rules listing held r = RefusesTexts rules listing (RefusesHeld held) r
 
--- one of the two files can't be read, or this is told of the texts in them
-abbrev pub RefusesStatusFiles : Bool → Refusal → Type 0
-RefusesStatusFiles is_single r =
-    RefusesFiles (λ listing held. RefusesStatus (rules_for is_single) listing held) r
+-- one of the two can't be read, or this is told of what reads of these names gave
+abbrev pub RefusesStatusFiles : (Text → Text → Type 0) → Text → Text → Bool → Refusal → Type 0
+RefusesStatusFiles Gave listing held is_single r =
+    RefusesBoth Gave is_single listing held RefusesHeld r

@@ -1,2 +1,6 @@
 mod GivenFiles
+mod Growing
+mod JustGiven
+mod ReadAgain
+mod Sound
 pub mod Refusing

@@ -1,18 +1,19 @@
--- What is told of texts and of files.
-use Rattle.std.proofs.Common.{◌≡◌, ◌⊎◌, ℕ, Bool, [], Some, Ok, Err, inl, inr, ap, refl}
-use Rattle.dpbr_run.specs.Traces.{RefusesTraceFile}
-use Rattle.dpbr_wayon.specs.Refusals.{RefusesBuilds, RefusesBuildsFile, RefusesPath, RefusesTaken, RefusesTrace, RefusesWayOnFiles, path_refusal}
+-- What is told of texts, which have names or not.
+use Rattle.std.proofs.Common.{◌≡◌, ◌⊎◌, ℕ, Some, Ok, Err, inl, inr, ap, refl}
+use Rattle.dpbr_run.specs.Traces.{IsSpelledAt}
+use Rattle.dpbr_wayon.specs.Refusals.{RefusesBehind, RefusesBuilds, RefusesGiven, RefusesNamed, RefusesPath, RefusesTaken, path_refusal}
+use Rattle.dpbr_wayon.specs.WayOn.{AreSpelledAt}
 use Rattle.faults.specs.Bytes.{Text}
 use Rattle.listing.specs.Tree.{Tree}
 use Rattle.pkgpath.specs.PkgPath.{path_of}
 use Rattle.pkgpath.specs.declared.PathFault.{PathFault}
 use Rattle.pkgpath.specs.declared.PathFault.TheVariants.{Memory as PathMemory}
-use Rattle.program.specs.Listings.{IsDescribed, RefusesListingFile}
+use Rattle.program.specs.Files.{RefusesAt}
 use Rattle.program.specs.Refusals.{memory_refusal}
 use Rattle.program.specs.declared.refusal.Refusal.{Refusal}
 use Rattle.protocol.specs.Given.{Given}
 use Rattle.traces.specs.Builds.{builds_of}
-use Rattle.traces.specs.Trace.{Trace, trace_of}
+use Rattle.traces.specs.Trace.{Trace}
 
 -- ---- one text
 
@@ -24,41 +25,25 @@ of_path path f (inr fault) = inr (f, fault, refl)
 
 -- ---- each behind those that are read before it
 
-module _ (tree : Tree) (trace : Text) (read : Trace) (is : trace_of trace ≡ Ok read) (node : ℕ) (path : Text) (host : ℕ) (builds : Text) (r : Refusal) where
-  pub path_refused : (r ≡ memory_refusal) ⊎ RefusesPath path r → (r ≡ memory_refusal) ⊎ RefusesTrace tree trace node path host builds r
-  path_refused (inl memory) = inl memory
-  path_refused (inr refused) = inr (inr (read, is, inl refused))
+module _ (Gave : Text → Text → Type 0) (trace_name builds_name : Text) (tree : Tree) (node : ℕ) (path : Text) (host : ℕ) (r : Refusal) where
+  -- want of memory is told wherever it comes up
+  wants_memory : r ≡ memory_refusal → RefusesBehind Gave trace_name builds_name tree node path host r
+  wants_memory memory = inl (inl (inl memory))
 
-  module _ (named : Text) (is_path : path_of path ≡ Ok named) where
-    pub builds_refused : (r ≡ memory_refusal) ⊎ RefusesBuilds builds r → (r ≡ memory_refusal) ⊎ RefusesTrace tree trace node path host builds r
-    builds_refused (inl memory) = inl memory
-    builds_refused (inr refused) = inr (inr (read, is, inr (named, is_path, inl refused)))
+  module _ (read : Trace) (spelled : IsSpelledAt Gave trace_name read) where
+    behind : RefusesNamed Gave builds_name tree read node path host r → RefusesBehind Gave trace_name builds_name tree node path host r
+    behind named = inr (read, spelled, named)
 
-    pub taken_refused : (given : Given) → builds_of builds ≡ Some given → (r ≡ memory_refusal) ⊎ RefusesTaken tree read node named host given r
-        → (r ≡ memory_refusal) ⊎ RefusesTrace tree trace node path host builds r
-    taken_refused given are (inl memory) = inl memory
-    taken_refused given are (inr refused) = inr (inr (read, is, inr (named, is_path, inr (given, are, refused))))
+    pub path_refused : (r ≡ memory_refusal) ⊎ RefusesPath path r → RefusesBehind Gave trace_name builds_name tree node path host r
+    path_refused (inl memory) = wants_memory memory
+    path_refused (inr refused) = behind (inl refused)
 
--- ---- files
+    module _ (named : Text) (is_path : path_of path ≡ Ok named) where
+      pub builds_refused : RefusesAt Gave builds_name RefusesBuilds r → RefusesBehind Gave trace_name builds_name tree node path host r
+      builds_refused (inl system) = behind (inr (named, is_path, inl system))
+      builds_refused (inr (builds, gave, refused)) = behind (inr (named, is_path, inr (builds, gave, inl refused)))
 
-module _ (is_single : Bool) (node : ℕ) (path : Text) (host : ℕ) (r : Refusal) where
-  pub listing_in_file : RefusesListingFile is_single r → RefusesWayOnFiles is_single node path host r
-  listing_in_file (inl system) = inl system
-  listing_in_file (inr (listing, refused)) = inr (listing, [], [], inl refused)
-
-  module _ (tree : Tree) (described : IsDescribed is_single tree) where
-    pub trace_in_file : RefusesTraceFile r → RefusesWayOnFiles is_single node path host r
-    trace_in_file (inl system) = inl system
-    trace_in_file (inr (trace, refused)) = inr (described.0, trace, [], inr (tree, described.1, inl refused))
-
-    -- what is told of the texts is told of the files
-    pub by_texts : (trace builds : Text) → (r ≡ memory_refusal) ⊎ RefusesTrace tree trace node path host builds r
-        → RefusesWayOnFiles is_single node path host r
-    by_texts trace builds (inl memory) = inl (inl memory)
-    by_texts trace builds (inr refused) = inr (described.0, trace, builds, inr (tree, described.1, refused))
-
-    pub builds_in_file : (trace : Text) (read : Trace) → trace_of trace ≡ Ok read → (named : Text) → path_of path ≡ Ok named → RefusesBuildsFile r
-        → RefusesWayOnFiles is_single node path host r
-    builds_in_file trace read is named is_path (inl system) = inl system
-    builds_in_file trace read is named is_path (inr (builds, refused)) =
-        by_texts trace builds (builds_refused tree trace read is node path host builds r named is_path (inr refused))
+      pub taken_refused : (given : Given) → AreSpelledAt Gave builds_name given → (r ≡ memory_refusal) ⊎ RefusesTaken tree read node named host given r
+          → RefusesBehind Gave trace_name builds_name tree node path host r
+      taken_refused given are (inl memory) = wants_memory memory
+      taken_refused given (builds, gave, are) (inr refused) = behind (inr (named, is_path, inr (builds, gave, inr (given, are, refused))))

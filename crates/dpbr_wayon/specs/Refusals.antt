@@ -1,23 +1,21 @@
 -- What is told where `dpbr wayon` prints no trace.
 use Rattle.std.specs.Prelude.{◌≡◌, ◌⊎◌, ℕ, Bool, None, Some, Ok, Err}
 use Rattle.dpbr_run.specs.Run.{run_refusal}
-use Rattle.dpbr_run.specs.Traces.{RefusesText}
+use Rattle.dpbr_run.specs.Traces.{IsSpelledAt, RefusesTraceAt}
 use Rattle.dpbr_wayon.specs.WayOn.{handed_over}
 use Rattle.faults.specs.Bytes.{Text}
-use Rattle.listing.specs.Listing.{Rules}
 use Rattle.listing.specs.Tree.{Tree}
 use Rattle.pkgpath.specs.PkgPath.{path_of}
 use Rattle.pkgpath.specs.Refusals as paths
 use Rattle.pkgpath.specs.declared.PathFault.{PathFault}
-use Rattle.program.specs.Files.{RefusesTexts}
-use Rattle.program.specs.Listings.{rules_for}
-use Rattle.program.specs.Refusals.{IsSystemRefusal}
+use Rattle.program.specs.Files.{RefusesAt}
+use Rattle.program.specs.Listings.{IsDescribedAt, RefusesListingAt}
 use Rattle.program.specs.declared.refusal.Refusal.{Refusal}
 use Rattle.protocol.specs.Given.{Given}
 use Rattle.running.specs.History.{History, IsHistory, IsRunFault, taken}
 use Rattle.running.specs.declared.runs.RunFault.{RunFault}
 use Rattle.traces.specs.Builds.{builds_of}
-use Rattle.traces.specs.Trace.{Trace, trace_of}
+use Rattle.traces.specs.Trace.{Trace}
 use Rattle.way.specs.Asked.{HasNoWay}
 use Rattle.way.specs.Refusals as ways
 use Rattle.way.specs.declared.fault.WayFault.{WayFault}
@@ -40,10 +38,6 @@ builds_refusal = record { number = 1305; place = Some 0 }
 -- what is told of a text that gives no files for paths
 abbrev pub RefusesBuilds : Text → Refusal → Type 0
 RefusesBuilds builds r = (builds_of builds ≡ None) × (r ≡ builds_refusal)
-
--- the file can't be read, or this is told of a text that gives no files for paths
-abbrev pub RefusesBuildsFile : Refusal → Type 0
-RefusesBuildsFile r = IsSystemRefusal r ⊎ ((builds : Text) × RefusesBuilds builds r)
 
 -- ---- of a trace that was read
 
@@ -85,28 +79,26 @@ RefusesGiven tree trace node path host builds r =
     ⊎ ((given : Given) × (builds_of builds ≡ Some given)
     × RefusesTaken tree trace node path host given r)
 
--- what is told of the path, or else of the files for paths
-abbrev pub RefusesNamed : Tree → Trace → ℕ → Text → ℕ → Text → Refusal → Type 0
-RefusesNamed tree trace node path host builds r =
+-- what is told of the path, or else of the files of this name
+abbrev pub RefusesNamed : (Text → Text → Type 0) → Text → Tree → Trace → ℕ → Text → ℕ → Refusal
+    → Type 0
+RefusesNamed Gave builds tree trace node path host r =
     RefusesPath path r
     ⊎ ((named : Text) × (path_of path ≡ Ok named)
-    × RefusesGiven tree trace node named host builds r)
+    × RefusesAt Gave builds (λ text. RefusesGiven tree trace node named host text) r)
 
--- what is told of the trace, or else of the path
-abbrev pub RefusesTrace : Tree → Text → ℕ → Text → ℕ → Text → Refusal → Type 0
-RefusesTrace tree trace node path host builds r =
-    RefusesText trace r
-    ⊎ ((read : Trace) × (trace_of trace ≡ Ok read)
-    × RefusesNamed tree read node path host builds r)
+-- what is told of the trace of this name, or else of the path
+abbrev pub RefusesBehind : (Text → Text → Type 0) → Text → Text → Tree → ℕ → Text → ℕ → Refusal
+    → Type 0
+RefusesBehind Gave trace builds tree node path host r =
+    RefusesTraceAt Gave trace r
+    ⊎ ((read : Trace) × IsSpelledAt Gave trace read
+    × RefusesNamed Gave builds tree read node path host r)
 
--- what is told of the listing, or else of the trace
-abbrev pub RefusesWayOn : Rules → Text → Text → ℕ → Text → ℕ → Text → Refusal → Type 0
-RefusesWayOn rules listing trace node path host builds r =
-    RefusesTexts rules listing (λ tree. RefusesTrace tree trace node path host builds) r
-
--- one of the files can't be read, or this is told of the path and of the texts in them
-abbrev pub RefusesWayOnFiles : Bool → ℕ → Text → ℕ → Refusal → Type 0
-RefusesWayOnFiles is_single node path host r =
-    IsSystemRefusal r
-    ⊎ ((listing : Text) × (trace : Text) × (builds : Text)
-    × RefusesWayOn (rules_for is_single) listing trace node path host builds r)
+-- what is told of the listing of this name, or else of the trace
+abbrev pub RefusesWayOn : (Text → Text → Type 0) → Text → Text → Text → Bool → ℕ → Text → ℕ
+    → Refusal → Type 0
+RefusesWayOn Gave listing trace builds is_single node path host r =
+    RefusesListingAt Gave listing is_single r
+    ⊎ ((tree : Tree) × IsDescribedAt Gave listing is_single tree
+    × RefusesBehind Gave trace builds tree node path host r)

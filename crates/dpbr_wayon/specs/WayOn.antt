@@ -2,10 +2,9 @@
 use Rattle.std.specs.Prelude.{◌≡◌, ◌++◌, ℕ, Bool, List, [], ◌∷◌, Option, None, Some, Ok, filter, map}
 use Rattle.events.specs.Events.{Event}
 use Rattle.faults.specs.Bytes.{Text, is_among, line_feed}
-use Rattle.listing.specs.Listing.{Rules, tree_of}
 use Rattle.listing.specs.Tree.{Tree, path_at}
 use Rattle.pkgpath.specs.PkgPath.{path_of}
-use Rattle.program.specs.Listings.{rules_for}
+use Rattle.program.specs.Listings.{IsDescribedAt}
 use Rattle.protocol.specs.Given.{Given}
 use Rattle.protocol.specs.Jobs.{files_for}
 use Rattle.running.specs.History.{History, IsHistory, taken}
@@ -34,7 +33,8 @@ handed_over d path builds = given_at d builds (number_found d path)
 
 -- ---- what is printed
 
--- The text is the trace of the events that were taken and then those of a way, and a line feed.
+-- The text is the trace of the events that were taken and then those of a way, and a line feed. It
+-- is read again as just that trace.
 pub record IsWritten (h : History) (weights : List ℕ) (node : ℕ) (path : Text) (host : ℕ)
     (given : Given) (text : Text) : Type 0 where
   pub way : List Event
@@ -42,6 +42,7 @@ pub record IsWritten (h : History) (weights : List ℕ) (node : ℕ) (path : Tex
   pub granted : IsGranted h.world node path host given
   pub written : text
       ≡ trace_text (record { weights = weights; events = taken h ++ way }) ++ line_feed ∷ []
+  pub again : trace_of text ≡ Ok (record { weights = weights; events = taken h ++ way })
 
 -- The trace's events lead from the start over the tree to a world, and the text is written of that.
 pub record IsAfter (tree : Tree) (trace : Trace) (node : ℕ) (path : Text) (host : ℕ)
@@ -65,21 +66,23 @@ pub record IsWayOnOf (tree : Tree) (trace : Text) (node : ℕ) (path : Text) (ho
   pub are_builds : builds_of builds ≡ Some given
   pub after : IsAfter tree read node named host given text
 
--- the same on the tree that a listing describes
-pub record IsWayOnOfListing (rules : Rules) (listing trace : Text) (node : ℕ) (path : Text)
-    (host : ℕ) (builds text : Text) : Type 0 where
-  pub tree : Tree
-  pub described : tree_of rules listing ≡ Ok tree
-  pub way_on : IsWayOnOf tree trace node path host builds text
-
--- what is printed for this node, path and host, by a listing, a trace and files for paths
-pub record IsWayOn (is_single : Bool) (node : ℕ) (path : Text) (host : ℕ)
-    (text : Text) : Type 0 where
-  pub listing : Text
+-- The same, where reads of these names gave the trace and the files.
+pub record HasWayOn (Gave : Text → Text → Type 0) (trace_name builds_name : Text) (tree : Tree)
+    (node : ℕ) (path : Text) (host : ℕ) (text : Text) : Type 0 where
   pub trace : Text
+  pub from_trace : Gave trace_name trace
   pub builds : Text
-  pub is_way_on : IsWayOnOfListing (rules_for is_single) listing trace node path host builds text
+  pub from_builds : Gave builds_name builds
+  pub is_way_on : IsWayOnOf tree trace node path host builds text
 
--- a text gives these files for paths
-abbrev pub AreSpelled : Given → Type 0
-AreSpelled given = (builds : Text) × (builds_of builds ≡ Some given)
+-- what is printed for this node, path and host, by a listing, a trace and files for paths, where
+-- reads of these names gave all three
+pub record IsWayOn (Gave : Text → Text → Type 0) (listing_name trace_name builds_name : Text)
+    (is_single : Bool) (node : ℕ) (path : Text) (host : ℕ) (text : Text) : Type 0 where
+  pub tree : Tree
+  pub described : IsDescribedAt Gave listing_name is_single tree
+  pub has_way_on : HasWayOn Gave trace_name builds_name tree node path host text
+
+-- a read of this name gave a text that has these files for paths
+abbrev pub AreSpelledAt : (Text → Text → Type 0) → Text → Given → Type 0
+AreSpelledAt Gave name given = (builds : Text) × Gave name builds × (builds_of builds ≡ Some given)

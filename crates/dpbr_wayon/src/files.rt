@@ -1,77 +1,74 @@
 //! The answer of `dpbr wayon` to its files.
-ghost use Rattle.std.specs.Prelude.{◌≡◌, Bool, IfErr, IfOk};
-ghost use Rattle.dpbr_wayon.specs.Refusals.{RefusesBuildsFile, RefusesWayOnFiles};
-ghost use Rattle.dpbr_wayon.specs.WayOn.{AreSpelled, IsWayOn};
-ghost use Rattle.program.specs.Listings.{IsDescribed};
+ghost use Rattle.std.specs.Prelude.{◌≡◌, IfErr, IfOk};
+ghost use Rattle.dpbr_wayon.specs.Refusals.{RefusesBehind, RefusesBuilds, RefusesWayOn};
+ghost use Rattle.dpbr_wayon.specs.WayOn.{AreSpelledAt, HasWayOn, IsWayOn};
+ghost use Rattle.program.specs.Files.{RefusesAt};
 
 use crate::reading::{builds_of_text, path_of_text};
 use crate::target::Target;
 use crate::text::way_of_events;
-use dpbr_run::trace_of_file;
+use dpbr_run::trace_of_name;
 use listing::Tree;
-use program::{Answer, Refusal, tree_of_file};
+use program::{Answer, NamedTexts, Refusal, tree_of_name};
 use protocol::Packages;
-use std::fs;
-use std::rt::Files;
+use std::alloc::Global;
 
-/// The answer to a listing, a trace and files for paths, which stand in files of these names. Each
-/// is read before the next is opened, and the path of the target before the last of them.
-pub fn wayon_of_files<R: Files + AllocGlobal>(
-    rt: &R,
+/// The answer to the listing, the trace and the files for paths of these names. Each is read before
+/// the next, and the path of the target before the last of them.
+pub fn wayon_of_files<T: NamedTexts>(
+    texts: &T,
+    alloc: Global,
     listing: &str,
     trace: &str,
     target: &Target<'_>,
     builds: &str,
     is_single: bool,
 ) -> Result<Answer, Refusal>
-    ensures ok { IfOk result (λ answer. (answer.status ≡ 0) × IsWayOn is_single target.now.node
-        target.now.path.now target.now.host answer.text.items) }
-    ensures refused { IfErr result (RefusesWayOnFiles is_single target.now.node
-        target.now.path.now target.now.host) }
+    ensures ok { IfOk result (λ answer. (answer.status ≡ 0)
+        × IsWayOn (T.gave texts.now) listing.now trace.now builds.now is_single
+        target.now.node target.now.path.now target.now.host answer.text.items) }
+    ensures refused { IfErr result (RefusesWayOn (T.gave texts.now) listing.now trace.now builds.now
+        is_single target.now.node target.now.path.now target.now.host) }
 {
-    let tree = tree_of_file(rt, listing, is_single)?;
-    wayon_in_files(rt, &tree, trace, target, builds)
+    let tree = tree_of_name(texts, alloc, listing, is_single)?;
+    wayon_in_files(texts, alloc, &tree, trace, target, builds)
 }
 
-/// The answer to a tree that a listing describes and the texts in two files.
-fn wayon_in_files<R: Files + AllocGlobal>(
-    rt: &R,
+/// The answer to a tree and the trace and the files of these names.
+fn wayon_in_files<T: NamedTexts>(
+    texts: &T,
+    alloc: Global,
     tree: &Tree,
     trace: &str,
     target: &Target<'_>,
     builds: &str,
 ) -> Result<Answer, Refusal>
-    ensures ok { (is_single : Bool) → IsDescribed is_single tree.now
-        → IfOk result (λ answer. (answer.status ≡ 0) × IsWayOn is_single target.now.node
-        target.now.path.now target.now.host answer.text.items) }
-    ensures refused { (is_single : Bool) → IsDescribed is_single tree.now
-        → IfErr result (RefusesWayOnFiles is_single target.now.node target.now.path.now
-        target.now.host) }
+    ensures ok { IfOk result (λ answer. (answer.status ≡ 0)
+        × HasWayOn (T.gave texts.now) trace.now builds.now tree.now
+        target.now.node target.now.path.now target.now.host answer.text.items) }
+    ensures refused { IfErr result (RefusesBehind (T.gave texts.now) trace.now builds.now tree.now
+        target.now.node target.now.path.now target.now.host) }
 {
-    let trace = trace_of_file(rt, trace)?;
-    let path = path_of_text(rt.alloc(), target.path)?;
-    let builds = builds_of_file(rt, builds)?;
-    let text = way_of_events(
-        rt.alloc(),
-        tree,
-        trace,
-        target.node,
-        &path,
-        target.host,
-        &builds,
-    )?;
+    let trace = trace_of_name(texts, alloc, trace)?;
+    let path = path_of_text(alloc, target.path)?;
+    let builds = builds_of_name(texts, alloc, builds)?;
+    let text = way_of_events(alloc, tree, trace, target.node, &path, target.host, &builds)?;
     Ok(Answer { text, status: 0 })
 }
 
-/// The files for paths that the text in a file gives.
+/// The files for paths that the text of this name gives.
 ///
 /// # Errors
 ///
 /// What the system refused; else the text's fault.
-fn builds_of_file<R: Files + AllocGlobal>(rt: &R, builds: &str) -> Result<Packages, Refusal>
-    ensures ok { IfOk result AreSpelled }
-    ensures refused { IfErr result RefusesBuildsFile }
+fn builds_of_name<T: NamedTexts>(
+    texts: &T,
+    alloc: Global,
+    builds: &str,
+) -> Result<Packages, Refusal>
+    ensures ok { IfOk result (AreSpelledAt (T.gave texts.now) builds.now) }
+    ensures refused { IfErr result (RefusesAt (T.gave texts.now) builds.now RefusesBuilds) }
 {
-    let text = fs::read(rt, builds)?;
-    builds_of_text(rt.alloc(), text.as_slice())
+    let text = texts.read(builds)?;
+    builds_of_text(alloc, text.as_slice())
 }

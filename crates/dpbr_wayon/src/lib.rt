@@ -7,9 +7,8 @@ mod handed;
 mod reading;
 mod target;
 mod text;
-mod texts;
+mod writable;
 
 pub use crate::files::wayon_of_files;
 pub use crate::target::Target;
-pub use crate::text::{way_of_events, way_of_trace};
-pub use crate::texts::wayon_of_texts;
+pub use crate::text::way_of_events;

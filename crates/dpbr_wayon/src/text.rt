@@ -1,18 +1,19 @@
 //! The text of `dpbr wayon`.
-ghost use Rattle.std.specs.Prelude.{◌≡◌, ◌⊎◌, ◌++◌, ◌∷◌, [], IfErr, IfOk, map};
-ghost use Rattle.dpbr_wayon.specs.Refusals.{RefusesTaken, RefusesTrace, RefusesWay};
-ghost use Rattle.dpbr_wayon.specs.WayOn.{IsAfter, IsWayOnOf, IsWritten};
+ghost use Rattle.std.specs.Prelude.{◌≡◌, ◌⊎◌, ◌++◌, ◌∷◌, [], All, IfErr, IfOk, Ok, map};
+ghost use Rattle.ballots.specs.Weights.{AreWeights};
+ghost use Rattle.dpbr_wayon.specs.Refusals.{RefusesTaken, RefusesWay};
+ghost use Rattle.dpbr_wayon.specs.WayOn.{IsAfter, IsWritten};
 ghost use Rattle.events.specs.Events.{event_view};
 ghost use Rattle.faults.specs.Bytes.{line_feed};
 ghost use Rattle.program.specs.Refusals.{memory_refusal};
+ghost use Rattle.traces.specs.Again.{IsTextEvent};
 ghost use Rattle.traces.specs.Faults.{trace_view};
+ghost use Rattle.traces.specs.Trace.{trace_of};
 ghost use Rattle.traces.specs.Written.{trace_text};
 
 use crate::handed::handed_over;
-use crate::reading::{builds_of_text, path_of_text};
-use crate::target::Target;
+use crate::writable::can_be_written;
 use ballots::Weights;
-use dpbr_run::trace_of_text;
 use events::Event;
 use faults::Memory;
 use listing::Tree;
@@ -24,32 +25,9 @@ use std::alloc::Global;
 use traces::{Trace, write_trace};
 use way::way_on;
 
-/// What is printed of a way to the target, after the trace was run: the trace of its events and
-/// then the way's, and a line feed.
-///
-/// # Errors
-///
-/// Memory; else the trace's fault; else the path's; else that of the files; else that of the
-/// trace's first event that is refused; else why no way is told.
-pub fn way_of_trace(
-    alloc: Global,
-    tree: &Tree,
-    trace: &[u8],
-    target: &Target<'_>,
-    builds: &[u8],
-) -> Result<Vec<u8>, Refusal>
-    ensures ok { IfOk result (λ text. IsWayOnOf tree.now trace.now target.now.node
-        target.now.path.now target.now.host builds.now text.items) }
-    ensures refused { IfErr result (λ r. (r ≡ memory_refusal) ⊎ RefusesTrace tree.now trace.now
-        target.now.node target.now.path.now target.now.host builds.now r) }
-{
-    let trace = trace_of_text(alloc, trace)?;
-    let path = path_of_text(alloc, target.path)?;
-    let builds = builds_of_text(alloc, builds)?;
-    way_of_events(alloc, tree, trace, target.node, &path, target.host, &builds)
-}
-
-/// The same of a trace that was read, for the unit that the path names.
+/// What is printed of a way to where the node holds the unit that the path names, for this host and
+/// these files, after the trace was run: the trace of its events and then the way's, and a line
+/// feed.
 ///
 /// # Errors
 ///
@@ -89,6 +67,7 @@ fn way_text(
     host: u16,
     packages: Packages,
 ) -> Result<Vec<u8>, Refusal>
+    requires { weights ≡ world.world.weights }
     ensures ok { IfOk result (λ text.
         IsWritten world.entry weights node path.now host packages text.items) }
     ensures refused { IfErr result (λ r. (r ≡ memory_refusal)
@@ -96,6 +75,8 @@ fn way_text(
 {
     match way_on(alloc, &world, node, path, host, packages) {
         Ok(way) => {
+            can_be_written(world.events());
+            can_be_written(way.as_slice());
             let text = written(alloc, weights, world.into_events(), way)?;
             Ok(text)
         }
@@ -110,10 +91,16 @@ fn written(
     mut events: Vec<Event>,
     mut way: Vec<Event>,
 ) -> Result<Vec<u8>, Memory>
-    ensures { IfOk result (λ text. text.items ≡ trace_text (record {
+    ensures text { IfOk result (λ text. text.items ≡ trace_text (record {
       weights = weights;
       events = map event_view events.items ++ map event_view way.items;
     }) ++ line_feed ∷ []) }
+    ensures again { IfOk result (λ text. AreWeights weights
+        → All IsTextEvent (map event_view events.items ++ map event_view way.items)
+        → trace_of text.items ≡ Ok (record {
+          weights = weights;
+          events = map event_view events.items ++ map event_view way.items;
+        })) }
 {
     events.append(&mut way)?;
     let trace = Trace { weights, events };

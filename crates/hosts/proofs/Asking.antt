@@ -9,6 +9,9 @@ use Rattle.choice.specs.Own.{Barred, IsOwnBy, claim_of, renewed}
 use Rattle.choice.specs.Pending.{Pending, above_at}
 use Rattle.faults.specs.Answers.{first_given, option_or}
 use Rattle.hosts.specs.Hosts.{IsOfATurn}
+use Rattle.live_choice.specs.Live.{answer_if, asked_for, first_answer, first_going, goes_on, going_on, left_to_do, wished}
+use Rattle.live_choice.specs.declared.wish.Wish.{Wish}
+use Rattle.live_choice.specs.declared.wish.Wish.TheVariants as wishes
 use Rattle.node.specs.State.{NodeState}
 use Rattle.node.specs.Step.{Asked, Comes, Does}
 use Rattle.package_record.specs.Making.{build_fault}
@@ -19,6 +22,7 @@ use Rattle.protocol.specs.Member.{IsMember}
 use Rattle.protocol.specs.State.{Building, Gathering, OpenClaim, Progress, State, Voting, name_at}
 use Rattle.protocol.specs.declared.input.Input.{Input}
 use Rattle.protocol.specs.declared.input.Input.TheVariants as inputs
+use Rattle.solo.specs.Handed.{AllBuilds, Handed, IsChoiceBy, SoFar}
 use Rattle.solo.specs.State.{only}
 use Rattle.world.proofs.Safe.{few_members}
 
@@ -165,6 +169,133 @@ module _ (n : NodeState) (small : n.member.me ≤ 65535) where
           let same : x ≡ y = cc in
           jobs_ask builds (range_with_len 0 count) x
           (subst (λ z. first_job (only n) count builds ≡ Some z) (sym same) job)
+
+  -- ---- the choice by what is made so far
+
+  wish_asks : (w : Wish) (s : State) → s.me ≤ 65535 → IsOfATurn (Does (asked_for w s))
+  wish_asks (wishes.Claim path above) s small_me = small_me
+  wish_asks (wishes.Ask path) s small_me = tt
+
+  made_asks : (made : Option Given) (s : State) (input : Input)
+      → answer_if made s ≡ Some input → IsOfATurn (Does input)
+  made_asks None s input is =
+      absurd (let no : ◌≡◌ {A = Option Input} None (Some input) = is in cc)
+  made_asks (Some builds) s input is = job_asks s builds s.claim input is
+
+  goes_asks : (s : State) → s.me ≤ 65535 → (o : OpenClaim) (at : Progress) (above : Option ℕ)
+      (input : Input) → goes_on s o at above ≡ Some input → IsOfATurn (Does input)
+  goes_asks s small_me o (Gathering c joined n) None input is =
+      let known : ◌≡◌ {A = Option Input} (Some inputs.Nudge) (Some input) = is in
+      let same : inputs.Nudge ≡ input = cc in
+      subst (λ i. IsOfATurn (Does i)) same tt
+  goes_asks s small_me o (Gathering c joined n) (Some round) input is =
+      absurd (let no : ◌≡◌ {A = Option Input} None (Some input) = is in cc)
+  goes_asks s small_me o (Building c) above input is =
+      absurd (let no : ◌≡◌ {A = Option Input} None (Some input) = is in cc)
+  goes_asks s small_me o (Voting b joined) None input is =
+      let known : ◌≡◌ {A = Option Input} (Some inputs.Nudge) (Some input) = is in
+      let same : inputs.Nudge ≡ input = cc in
+      subst (λ i. IsOfATurn (Does i)) same tt
+  goes_asks s small_me o (Voting b joined) (Some round) input is =
+      let known : ◌≡◌ {A = Option Input} (Some (inputs.Claim (name_at s o.unit) s.me round))
+      (Some input) = is in
+      let same : inputs.Claim (name_at s o.unit) s.me round ≡ input = cc in
+      subst (λ i. IsOfATurn (Does i)) same small_me
+
+  going_asks : (above : Option ℕ) (s : State) → s.me ≤ 65535 → (claim : Option OpenClaim)
+      (input : Input) → option_and_then (λ o. goes_on s o o.progress above) claim ≡ Some input
+      → IsOfATurn (Does input)
+  going_asks above s small_me None input is =
+      absurd (let no : ◌≡◌ {A = Option Input} None (Some input) = is in cc)
+  going_asks above s small_me (Some o) input is = goes_asks s small_me o o.progress above input is
+
+  -- what the first of these gives, a turn asks
+  each_asks : (f : ℕ → State → Option Input)
+      → ((k : ℕ) (s : State) → s.me ≤ 65535 → (input : Input) → f k s ≡ Some input
+      → IsOfATurn (Does input))
+      → (ks : List ℕ) (x : ℕ × Asked)
+      → first_given (λ k. option_map (λ input. (k, Does input)) (option_and_then (f k) (only n k)))
+      ks ≡ Some x
+      → IsOfATurn x.1
+  each_asks f asks [] x is = absurd (let no : ◌≡◌ {A = Chosen} None (Some x) = is in cc)
+  each_asks f asks (k ∷ ks) x is = by (each_asks f asks ks x) (only n k) refl is
+    where
+      later : Chosen
+      later = first_given
+          (λ k. option_map (λ input. (k, Does input)) (option_and_then (f k) (only n k))) ks
+
+      at_node : (later ≡ Some x → IsOfATurn x.1) → (s : State) → s.me ≤ 65535
+          → (o : Option Input) → f k s ≡ o
+          → option_or (option_map (λ (input : Input). (k, Does input)) o) later ≡ Some x
+          → IsOfATurn x.1
+      at_node behind s small_me None e is = behind is
+      at_node behind s small_me (Some input) e is =
+          let known : ◌≡◌ {A = Chosen} (Some (k, Does input)) (Some x) = is in
+          let same : ◌≡◌ {A = ℕ × Asked} (k, Does input) x = cc in
+          subst (λ y. IsOfATurn y.1) same (asks k s small_me input e)
+
+      by : (later ≡ Some x → IsOfATurn x.1) → (o : Option State) → only n k ≡ o
+          → option_or (option_map (λ (input : Input). (k, Does input)) (option_and_then (f k) o))
+          later ≡ Some x
+          → IsOfATurn x.1
+      by behind None at is = behind is
+      by behind (Some s) at is = at_node behind s (here_is k s at) (f k s) refl is
+
+  module _ (made : Option Given) (v : Option (ℕ × Wish)) (count : ℕ) (p : Pending)
+      (x : ℕ × Asked) where
+    going : Some x ≡ first_going (only n) count p → IsOfATurn x.1
+    going is = each_asks (λ k. going_on (above_at p k))
+        (λ k s small_me input e. going_asks (above_at p k) s small_me s.claim input e)
+        (in_turn p.next count) x (sym is)
+
+    by_wish : (k : ℕ) (w : Wish) (o : Option State) → only n k ≡ o
+        → Some x ≡ option_or (option_map (λ (s : State). (k, Does (asked_for w s))) o)
+        (first_going (only n) count p)
+        → IsOfATurn x.1
+    by_wish k w None at is = going is
+    by_wish k w (Some s) at is =
+        let known : ◌≡◌ {A = Chosen} (Some x) (Some (k, Does (asked_for w s))) = is in
+        let same : ◌≡◌ {A = ℕ × Asked} x (k, Does (asked_for w s)) = cc in
+        subst (λ y. IsOfATurn y.1) (sym same) (wish_asks w s (here_is k s at))
+
+    by_left : (u : Option (ℕ × Wish))
+        → Some x ≡ option_or (wished (only n) u) (first_going (only n) count p) → IsOfATurn x.1
+    by_left None is = going is
+    by_left (Some (k, w)) is = by_wish k w (only n k) refl is
+
+    comes_here : (d : ℕ × List ℕ) (o : Option State)
+        → Some x ≡ option_or (option_map (λ (s : State). (d.0, Comes d.1)) o)
+        (left_to_do (only n) count p v)
+        → IsOfATurn x.1
+    comes_here d None is = by_left v is
+    comes_here d (Some s) is =
+        let known : ◌≡◌ {A = Chosen} (Some x) (Some (d.0, Comes d.1)) = is in
+        let same : ◌≡◌ {A = ℕ × Asked} x (d.0, Comes d.1) = cc in
+        subst (λ y. IsOfATurn y.1) (sym same) tt
+
+    comes_in : (came : Arrived)
+        → Some x ≡ option_or (comes_to (only n) came) (left_to_do (only n) count p v)
+        → IsOfATurn x.1
+    comes_in None is = by_left v is
+    comes_in (Some d) is = comes_here d (only n d.0) is
+
+    answers : (came : Arrived) (o : Chosen) → first_answer (only n) count (λ k. made) ≡ o
+        → Some x ≡ option_or o (option_or (comes_to (only n) came) (left_to_do (only n) count p v))
+        → IsOfATurn x.1
+    answers came None none is = comes_in came is
+    answers came (Some y) some is =
+        let known : ◌≡◌ {A = Chosen} (Some x) (Some y) = is in
+        let same : x ≡ y = cc in
+        each_asks (λ k. answer_if made) (λ k s small_me input e. made_asks made s input e)
+        (range_with_len 0 count) x
+        (subst (λ z. first_answer (only n) count (λ k. made) ≡ Some z) (sym same) some)
+
+  pub chosen_asks : (count : ℕ) (p : Pending) (handed : Handed) (me : ℕ) (came : Arrived)
+      (x : ℕ × Asked) → IsChoiceBy handed (only n) count p me came (Some x) → IsOfATurn x.1
+  chosen_asks count p (AllBuilds builds) me came x is = choice_asks count p builds came x is
+  chosen_asks count p (SoFar made wish) me came x is =
+      answers made (option_map (λ w. (me, w)) wish) count p x came
+      (first_answer (only n) count (λ k. made)) refl is
 
 -- a member's number is small
 pub number_is_small : (n : NodeState) → IsMember n.member → n.member.me ≤ 65535

@@ -8,3 +8,4 @@ pub mod Reopened
 pub mod Running
 pub mod Starting
 pub mod Turning
+pub mod OnHosts

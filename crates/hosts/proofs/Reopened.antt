@@ -18,12 +18,13 @@ use Rattle.node.specs.OnLog.{IsFull, IsLogged, IsOnLog, LeavesOneMoreAtMost, ide
 use Rattle.node.specs.State.{LoggedNode, NodeState, with_note}
 use Rattle.node.specs.Step.{Asked, Taken, Takes}
 use Rattle.node.specs.declared.fault.NodeFault.{NodeFault}
+use Rattle.ports.specs.Calls.{Call}
 use Rattle.ports.specs.Kept.{Arrived, Parcel}
-use Rattle.protocol.specs.Given.{Given}
 use Rattle.protocol.specs.State.{Value}
 use Rattle.solo.specs.Faults.{IsTurnFault}
-use Rattle.solo.specs.State.{SoloState, me_of}
-use Rattle.solo.specs.Turn.{HasTaken, IsChosen, IsUntouched, LeavesAtMost}
+use Rattle.solo.specs.Handed.{Handed}
+use Rattle.solo.specs.State.{SoloState}
+use Rattle.solo.specs.Turn.{HasTaken, IsUntouched, LeavesAtMost}
 use Rattle.stable_record.specs.Crash.{AllAlong, Leaves, MayLeave, and_then, at_first}
 use Rattle.stable_record.specs.History.{History}
 use Rattle.stable_record.specs.Log.{HasBeforeOrAfter, HasNotes}
@@ -119,7 +120,8 @@ opened_with tree weights me own file ts m mine has one opened opens =
 -- ---- a turn
 
 module _ {D P : Type 0} (is_kept : D → Type 0) (history : D → History)
-    (given : P → Option (List Arrived)) (offered : P → Option (List Parcel)) (builds : Given)
+    (given : P → Option (List Arrived)) (offered : P → Option (List Parcel))
+    (does : P → Call → P → Type 0) (vouches : P → Text → Type 0) (handed : Handed)
     (old new : SoloState D P) (logged : IsLogged old.node) (on : IsOnLog history old.node)
     (kept : is_kept new.node.log.disk) where
   abbrev n : NodeState
@@ -152,43 +154,41 @@ module _ {D P : Type 0} (is_kept : D → Type 0) (history : D → History)
       )
 
   went_down : (k : ℕ)
-      → IsTurnFault given old new builds (LeavesAtMost is_kept history old new) (refused.Down k)
+      → IsTurnFault given does vouches old new handed (LeavesAtMost is_kept history old new) (refused.Down k)
       → HasWritten
   went_down k (asked, is_chosen, me, tried, down, leaves) =
       written_of asked
-      (asks_so given offered builds (LeavesAtMost is_kept history old new) old new logged asked
-      is_chosen) tried.step tried.takes
-      (has_room given offered builds (LeavesAtMost is_kept history old new) old new logged
+      (asks_so given offered does vouches handed (LeavesAtMost is_kept history old new) old new
+      logged asked [] is_chosen) tried.step tried.takes
+      (has_room given offered does vouches handed (LeavesAtMost is_kept history old new) old new logged
       tried.step.answer.note tried.room)
       (leaves kept on)
 
   written : (r : Result (Option Act) TurnFault)
       → IfOk r (λ o. IfSome o
-      (λ act. IsChosen given old new builds (Some (me_of old, asked_by act))))
-      → IfOk r (λ o. IfSome o (λ act. HasTaken offered old new (asked_by act)))
+      (λ act. HasTaken given offered does vouches old new handed (asked_by act)))
       → IfOk r (λ o. IfSome o (λ act. LeavesAtMost is_kept history old new (asked_by act)))
-      → IfErr r (IsTurnFault given old new builds (LeavesAtMost is_kept history old new))
+      → IfErr r (IsTurnFault given does vouches old new handed (LeavesAtMost is_kept history old new))
       → MatchResult r (λ o. IfNone o (IsUntouched is_kept history old new))
       (λ f. ((k : ℕ) × (f ≡ refused.Down k)) ⊎ IsUntouched is_kept history old new)
       → HasWritten
-  written (Ok None) chosen t leaves fault untouched = inl (untouched kept (λ up. on))
-  written (Ok (Some act)) chosen t leaves fault untouched =
+  written (Ok None) t leaves fault untouched = inl (untouched kept (λ up. on))
+  written (Ok (Some act)) t leaves fault untouched =
       written_of (asked_by act)
-      (asks_so given offered builds (LeavesAtMost is_kept history old new) old new logged
-      (asked_by act) chosen) t.taken t.takes t.room (leaves kept on)
-  written (Err f) chosen t leaves fault untouched = ⊎_elim
+      (asks_so given offered does vouches handed (LeavesAtMost is_kept history old new) old new
+      logged (asked_by act) _ t.chosen) t.taken t.takes t.room (leaves kept on)
+  written (Err f) t leaves fault untouched = ⊎_elim
       (λ down. went_down down.0
-      (subst (IsTurnFault given old new builds (LeavesAtMost is_kept history old new)) down.1
+      (subst (IsTurnFault given does vouches old new handed (LeavesAtMost is_kept history old new)) down.1
       fault))
       (λ same. inl (same kept (λ up. on))) untouched
 
   -- what is opened again has the notes from before, or these and that of the step
   pub opened_again : (r : Result (Option Act) TurnFault)
       → IfOk r (λ o. IfSome o
-      (λ act. IsChosen given old new builds (Some (me_of old, asked_by act))))
-      → IfOk r (λ o. IfSome o (λ act. HasTaken offered old new (asked_by act)))
+      (λ act. HasTaken given offered does vouches old new handed (asked_by act)))
       → IfOk r (λ o. IfSome o (λ act. LeavesAtMost is_kept history old new (asked_by act)))
-      → IfErr r (IsTurnFault given old new builds (LeavesAtMost is_kept history old new))
+      → IfErr r (IsTurnFault given does vouches old new handed (LeavesAtMost is_kept history old new))
       → MatchResult r (λ o. IfNone o (IsUntouched is_kept history old new))
       (λ f. ((k : ℕ) × (f ≡ refused.Down k)) ⊎ IsUntouched is_kept history old new)
       → (tree : Tree) (weights : List ℕ) (me : ℕ) → identity_of n.member ≡ identity tree weights me
@@ -197,8 +197,8 @@ module _ {D P : Type 0} (is_kept : D → Type 0) (history : D → History)
       → (m : NodeState) → IsOpened tree weights me m
       → Opens (identity_of m.member) file (Ok (texts_of m.notes))
       → IsLeftInTurn n (texts_of m.notes)
-  opened_again r chosen t leaves fault untouched tree weights me mine one file gone m opened opens =
-      by (written r chosen t leaves fault untouched)
+  opened_again r t leaves fault untouched tree weights me mine one file gone m opened opens =
+      by (written r t leaves fault untouched)
     where
       with_these : (ts : List Text) → HasNotes (identity_of n.member) ts file
           → texts_of m.notes ≡ ts
@@ -212,3 +212,10 @@ module _ {D P : Type 0} (is_kept : D → Type 0) (history : D → History)
           (λ has. inl (with_these (texts_of n.notes) has))
           (λ has. inr (asked, t, step, with_these (texts_of (with_note n.notes t.answer.note)) has))
           (note_at history old.node on t.answer.note (history new.node.log.disk) file most gone)
+
+-- a node that was opened so is that member's
+pub identity_opened : (tree : Tree) (weights : List ℕ) (me : ℕ) (n : NodeState)
+    → IsOpened tree weights me n → identity_of n.member ≡ identity tree weights me
+identity_opened tree weights me n opened =
+    ap (λ (x : NodeState). identity_of x.member) opened.node
+    ∙ ap (λ (t : Tree). identity t weights me) opened.of_tree

@@ -1,44 +1,48 @@
 -- What a turn that is answered so is on its host.
-use Rattle.std.proofs.Common.{List, Option, None, Some, Result, Ok, Err, IfErr, IfOk, ap, ◌∙◌, inl, inr, ⊎_elim}
-use Rattle.std.specs.Prelude.{IfSome}
+use Rattle.std.proofs.Common.{◌≡◌, List, [], Option, None, Some, Result, Ok, Err, IfErr, IfOk, ap, ◌∙◌, inl, inr, ⊎_elim}
+use Rattle.std.specs.Prelude.{IfNone, IfSome}
 use Rattle.ballots.specs.declared.message.Note.{Note}
 use Rattle.choice.specs.Acts.{asked_by}
 use Rattle.choice.specs.declared.act.Act.{Act}
 use Rattle.choice.specs.declared.fault.TurnFault.{TurnFault}
 use Rattle.choice.specs.declared.fault.TurnFault.TheVariants as refused
-use Rattle.hosts.proofs.Asking.{choice_asks, number_is_small}
+use Rattle.faults.specs.Bytes.{Text}
+use Rattle.hosts.proofs.Asking.{chosen_asks, number_is_small}
 use Rattle.hosts.specs.Hosts.{IsOfATurn}
 use Rattle.hosts.specs.Turns.{IsRefusedTurn, IsStepTaken}
 use Rattle.node.specs.Calls.{left_by}
 use Rattle.node.specs.OnLog.{HasRoomForNote, IsFull, IsLogged}
 use Rattle.node.specs.Step.{Asked}
+use Rattle.parts.specs.Calls.{came_by}
+use Rattle.ports.specs.Calls.{Call}
 use Rattle.ports.specs.Kept.{Arrived, Parcel}
-use Rattle.protocol.specs.Given.{Given}
 use Rattle.protocol.specs.State.{Value}
 use Rattle.solo.specs.Faults.{IsTurnFault}
+use Rattle.solo.specs.Handed.{Handed}
 use Rattle.solo.specs.State.{SoloState, me_of}
-use Rattle.solo.specs.Turn.{HasTaken, IsChosen}
+use Rattle.solo.specs.Turn.{HasTaken, IsChosen, OffersNothing}
 use Rattle.world.proofs.Hosting.{lack_of_full}
 
 module _ {D P : Type 0} (given : P → Option (List Arrived)) (offered : P → Option (List Parcel))
-    (builds : Given) (leaves : Asked → Type 0) (old new : SoloState D P)
-    (logged : IsLogged old.node) where
+    (does : P → Call → P → Type 0) (vouches : P → Text → Type 0) (handed : Handed)
+    (leaves : Asked → Type 0) (old new : SoloState D P) (logged : IsLogged old.node) where
   -- what was chosen, a turn asks
-  pub asks_so : (asked : Asked) → IsChosen given old new builds (Some (me_of old, asked))
+  pub asks_so : (asked : Asked) (parcels : List Parcel)
+      → IsChosen given does vouches old new handed parcels (Some (me_of old, asked))
       → IsOfATurn asked
-  asks_so asked c = choice_asks old.node.node (number_is_small old.node.node logged.node.member) _
-      old.pending builds c.came (me_of old, asked) c.choice
+  asks_so asked parcels c =
+      chosen_asks old.node.node (number_is_small old.node.node logged.node.member) _ old.pending
+      handed (me_of old) (came_by c.answer) (me_of old, asked) c.choice
 
   -- a turn that answers what it did took that step
   pub taken_so : (r : Result (Option Act) TurnFault)
       → IfOk r (λ o. IfSome o
-      (λ act. IsChosen given old new builds (Some (me_of old, asked_by act))))
-      → IfOk r (λ o. IfSome o (λ act. HasTaken offered old new (asked_by act)))
+      (λ act. HasTaken given offered does vouches old new handed (asked_by act)))
       → IfOk r (λ o. IfSome o (λ act. IsStepTaken offered old new (asked_by act)))
-  taken_so (Ok (Some act)) chosen t = record {
+  taken_so (Ok (Some act)) t = record {
     taken = t.taken;
     step = λ before came. record {
-      asks = asks_so (asked_by act) chosen;
+      asks = asks_so (asked_by act) _ t.chosen;
       came = came;
       takes = t.takes;
       room = t.room;
@@ -46,8 +50,17 @@ module _ {D P : Type 0} (given : P → Option (List Arrived)) (offered : P → O
     node = t.node;
     offers = t.offers;
   }
-  taken_so (Ok None) chosen t = tt
-  taken_so (Err f) chosen t = tt
+  taken_so (Ok None) t = tt
+  taken_so (Err f) t = tt
+
+  -- where there was nothing to do, the node stayed
+  pub stayed_so : (r : Result (Option Act) TurnFault)
+      → IfOk r (λ o. IfNone o ((new.node ≡ old.node) × (new.pending ≡ old.pending)
+      × OffersNothing offered old new))
+      → IfOk r (λ o. IfNone o (new.node ≡ old.node))
+  stayed_so (Ok (Some act)) same = tt
+  stayed_so (Ok None) same = same.0
+  stayed_so (Err f) same = tt
 
   -- where there was room on the log, it is not lacking
   pub has_room : (o : Option (Note Value)) → HasRoomForNote old.node.log o
@@ -56,13 +69,13 @@ module _ {D P : Type 0} (given : P → Option (List Arrived)) (offered : P → O
   has_room (Some note) room = λ full. room (lack_of_full old.node logged.end (Some note) full)
 
   -- and what one that is refused is
-  pub refused_so : (f : TurnFault) → IsTurnFault given old new builds leaves f
+  pub refused_so : (f : TurnFault) → IsTurnFault given does vouches old new handed leaves f
       → IsRefusedTurn old new f
   refused_so refused.Memory (chosen, is_chosen, same) = same
   refused_so (refused.Node f) (asked, is_chosen, r) = ⊎_elim
       (λ takes. inr (record {
         asked = asked;
-        asks = asks_so asked is_chosen;
+        asks = asks_so asked [] is_chosen;
         refuses = takes;
         left = r.leaves;
       }))
@@ -72,7 +85,7 @@ module _ {D P : Type 0} (given : P → Option (List Arrived)) (offered : P → O
     asked = asked;
     taken = tried.step;
     step = λ before came. record {
-      asks = asks_so asked is_chosen;
+      asks = asks_so asked [] is_chosen;
       came = came;
       takes = tried.takes;
       room = has_room tried.step.answer.note tried.room;
@@ -83,6 +96,6 @@ module _ {D P : Type 0} (given : P → Option (List Arrived)) (offered : P → O
   refused_so refused.NotFresh none = absurd none
 
   pub refusals_so : (r : Result (Option Act) TurnFault)
-      → IfErr r (IsTurnFault given old new builds leaves) → IfErr r (IsRefusedTurn old new)
+      → IfErr r (IsTurnFault given does vouches old new handed leaves) → IfErr r (IsRefusedTurn old new)
   refusals_so (Ok o) why = tt
   refusals_so (Err f) why = refused_so f why

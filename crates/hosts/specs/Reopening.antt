@@ -1,12 +1,16 @@
 -- A node that ends at some moment of a turn, and is opened again.
-use Rattle.std.specs.Prelude.{◌≡◌, ◌⊎◌, ◌++◌, List}
+use Rattle.std.specs.Prelude.{◌≡◌, ◌⊎◌, ◌++◌, ℕ, List, Ok}
 use Rattle.faults.specs.Bytes.{Text}
 use Rattle.hosts.specs.Hosts.{TakesStep, WasOffered}
-use Rattle.node.specs.OnLog.{texts_of}
-use Rattle.node.specs.State.{NodeState, with_note}
+use Rattle.listing.specs.Tree.{Tree}
+use Rattle.node.specs.Calls.{IsOpened}
+use Rattle.node.specs.OnLog.{identity_of, texts_of}
+use Rattle.node.specs.State.{LoggedNode, NodeState, with_note}
 use Rattle.node.specs.Step.{Asked, Taken}
+use Rattle.solo.specs.State.{SoloState}
 use Rattle.stable_record.specs.Crash.{MayLeave}
-use Rattle.stable_record.specs.History.{History}
+use Rattle.stable_record.specs.History.{History, seen}
+use Rattle.stable_record.specs.Opening.{Opens}
 
 -- A crash at some moment from the old calls to the new ones may leave this file.
 pub record MayBeLeft (old new : History) (file : Text) : Type 0 where
@@ -25,3 +29,19 @@ IsLeftInTurn n left =
     ⊎ ((asked : Asked) × (t : Taken)
     × ((before : List Text) → WasOffered before asked → TakesStep before n asked t)
     × (left ≡ texts_of (with_note n.notes t.answer.note)))
+
+-- A node was opened on its log, and took a turn, which left it as this; and one of its member was
+-- opened over another disk. Where a crash at some moment of the turn may leave just that disk's
+-- file, the second one has the notes of the first, or these and that of its step.
+pub record ComesBack {D E P : Type 0} (is_kept : D → Type 0) (history : D → History)
+    (left_kept : E → Type 0) (left_history : E → History) (tree : Tree) (weights : List ℕ) (me : ℕ)
+    (disk : D) (left : E) (new : SoloState D P) (again : LoggedNode E) : Type 0 where
+  pub opened : LoggedNode D
+  pub is_opened : IsOpened tree weights me opened.node
+  pub notes : is_kept new.node.log.disk
+      → Opens (identity_of opened.node.member) (seen (history disk))
+      (Ok (texts_of opened.node.notes))
+  pub opened_again : IsOpened tree weights me again.node
+  pub has : left_kept again.log.disk → is_kept new.node.log.disk
+      → MayBeLeft (history opened.log.disk) (history new.node.log.disk) (seen (left_history left))
+      → IsLeftInTurn opened.node (texts_of again.node.notes)

@@ -4,9 +4,11 @@
 #![tactic(auto)]
 
 mod laws;
+mod on_hosts;
 mod reopening;
 mod turns;
 
 pub use crate::laws::{lone_nodes_hold_alike, lone_nodes_make_a_world};
-pub use crate::reopening::turn_then_open;
+pub use crate::on_hosts::{turns_are_of_a_run, vouched_turns_are_of_a_run};
+pub use crate::reopening::{open_turn_open, turn_then_open};
 pub use crate::turns::turn_on_host;

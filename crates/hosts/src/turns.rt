@@ -1,7 +1,8 @@
 //! A lone node's turn, told as what becomes of its host, over what the contracts say and no more.
-ghost use Rattle.std.specs.Prelude.{◌≡◌, IfErr, IfNone, IfOk, IfSome, None};
+ghost use Rattle.std.specs.Prelude.{◌≡◌, [], IfErr, IfNone, IfOk, IfSome, None};
 ghost use Rattle.choice.specs.Acts.{asked_by};
 ghost use Rattle.hosts.specs.Turns.{IsRefusedTurn, IsStepTaken};
+ghost use Rattle.solo.specs.Handed.{AllBuilds};
 ghost use Rattle.solo.specs.Turn.{IsChosen};
 
 use choice::{Act, TurnFault};
@@ -25,7 +26,7 @@ pub fn turn_on_host<D: Disk, P: Port>(
     ensures turned { IfOk result (λ o. IfSome o
         (λ act. IsStepTaken P.offered solo.old solo.new (asked_by act))) }
     ensures nothing { IfOk result (λ o. IfNone o
-        (IsChosen P.given solo.old solo.new builds.now None)) }
+        (IsChosen P.given P.does P.vouches solo.old solo.new (AllBuilds builds.now) [] None)) }
     ensures stayed { IfOk result (λ o. IfNone o (solo.new.node ≡ solo.old.node)) }
     ensures refused { IfErr result (IsRefusedTurn solo.old solo.new) }
 {

@@ -1,5 +1,5 @@
 -- What a node does where it is told that the unit of its open claim was built, or could not be.
-use Rattle.std.proofs.Common.{◌≡◌, ℕ, Bool, true, false, not, List, [], ◌∷◌, Option, None, Some, Result, Ok, Err, IfErr, IfSome, inl, inr, refl, sym, ap, subst, ◌∙◌, if◌then◌else◌}
+use Rattle.std.proofs.Common.{◌≡◌, ℕ, true, false, not, [], ◌∷◌, Option, None, Some, Result, Ok, Err, IfErr, IfSome, inl, inr, refl, sym, ap, subst, ◌∙◌, if◌then◌else◌}
 use Rattle.std.specs.Prelude.{◌⊎◌, is_none, option_and_then, option_map}
 use Rattle.agreement.specs.Member as members
 use Rattle.agreement.specs.Messages as messages
@@ -7,11 +7,10 @@ use Rattle.agreement.specs.Quorums.{nobody}
 use Rattle.agreement.specs.Step.{on_built, on_failed, says, still}
 use Rattle.agreement.specs.Votes.{ballot}
 use Rattle.choice.specs.Answering.{built_of}
-use Rattle.engine.specs.declared.Letter.{Letter}
 use Rattle.faults.specs.Answers.{first_that_applies, option_or}
 use Rattle.faults.specs.Bytes.{Text}
 use Rattle.node.specs.State.{LoggedNode, NodeState}
-use Rattle.node.specs.Step.{Asked, Does, Taken, Takes, taken, taken_by}
+use Rattle.node.specs.Step.{Does, Taken, Takes, taken, taken_by}
 use Rattle.node.specs.declared.fault.NodeFault.{NodeFault}
 use Rattle.node.specs.declared.fault.NodeFault.TheVariants as fault
 use Rattle.package_record.specs.Making.{build_fault}
@@ -19,14 +18,13 @@ use Rattle.package_record.specs.declared.RecordFault.{RecordFault}
 use Rattle.protocol.proofs.Asked.{stage_is}
 use Rattle.protocol.specs.Answers.{Answer, answered, everyone}
 use Rattle.protocol.specs.Given.{Given}
-use Rattle.protocol.specs.InTheAgreement.{stage_of, view}
+use Rattle.protocol.specs.InTheAgreement.{view}
 use Rattle.protocol.specs.Jobs.{are_given, build_by, job_of, paths_at}
 use Rattle.protocol.specs.Member.{IsMember}
 use Rattle.protocol.specs.State.{Building, OpenClaim, State, Value, name_at}
-use Rattle.protocol.specs.Step.{answer, answered_or, at_unit, builds, builds_under, fails, files_refusal, host_in, proposes, unit_in, unless}
+use Rattle.protocol.specs.Step.{answered_or, at_unit, builds, builds_under, fails, files_refusal, host_in, proposes, unit_in, unless}
 use Rattle.protocol.specs.declared.input.Input.{Input}
 use Rattle.protocol.specs.declared.input.Input.TheVariants as inputs
-use Rattle.protocol.specs.declared.refusal.Refusal.{Refusal}
 use Rattle.protocol.specs.declared.refusal.Refusal.TheVariants as refusals
 use Rattle.engine.proofs.Names.{name_is_found}
 use Rattle.engine.specs.Division.{number_of}

@@ -2,7 +2,7 @@
 use Rattle.std.proofs.Common.{◌≡◌, ◌<◌, ℕ, Option, None, Some, Err, length, refl, sym, ap, subst, ◌∙◌, inl, inr}
 use Rattle.std.specs.Prelude.{◌⊎◌}
 use Rattle.choice.proofs.SomeOwn.{some_own_by}
-use Rattle.choice.specs.Own.{Barred, IsLeastFree, IsOwn, IsOwnBy, claim_of}
+use Rattle.choice.specs.Own.{Barred, IsLeastFree, IsOwn, IsOwnBy, claim_of, renewed}
 use Rattle.node.specs.State.{LoggedNode}
 use Rattle.node.specs.Step.{Does, Takes}
 use Rattle.node.specs.declared.fault.NodeFault.{NodeFault}
@@ -24,6 +24,27 @@ pub claims_least : (s : State) → None ≡ s.claim → (above : Option ℕ) (ba
 claims_least s none above barred p least input is =
     subst (λ o. IsOwnBy s o above barred (Some input)) none
     (Some p, least, ap (λ i. Some i) is)
+
+-- it renews its open claim, if it has one
+pub renews_some : (s : State) (o : OpenClaim) → Some o ≡ s.claim → (above : Option ℕ)
+    (barred : Barred) → (input : Input) × IsOwn s above barred (Some input)
+renews_some s o is above barred = (
+  renewed s o above,
+  subst (λ x. IsOwnBy s x above barred (Some (renewed s o above))) is refl,
+)
+
+-- it claims something, if something is free
+pub claims_some : (s : State) → None ≡ s.claim → (above : Option ℕ) (barred : Barred) (p : ℕ)
+    → IsLeastFree s barred (Some p) → (input : Input) × IsOwn s above barred (Some input)
+claims_some s none above barred p least =
+    (claim_of s p, claims_least s none above barred p least (claim_of s p) refl)
+
+-- that it does something is told of the same member
+pub some_of : (s m : State) → m ≡ s → (above : Option ℕ) (barred : Barred)
+    → ((input : Input) × IsOwn m above barred (Some input))
+    → (input : Input) × IsOwn s above barred (Some input)
+some_of s m same above barred (input, is) =
+    (input, subst (λ x. IsOwn x above barred (Some input)) same is)
 
 -- what it does is told of the same member
 pub own_of : (s m : State) → m ≡ s → (above : Option ℕ) (barred : Barred) (own : Option Input)

@@ -1,15 +1,16 @@
 -- Files that are given for packages.
-use Rattle.std.proofs.Common.{◌≡◌, ◌<◌, ◌&&◌, ◌||◌, ◌==◌, ◌+◌, ◌++◌, ℕ, zero, suc, Bool, true, false, List, [], ◌∷◌, Option, None, Some, length, map, take, get_or, refl, sym, ap, ◌∙◌, arith, cond, eq-eqb}
+use Rattle.std.proofs.Common.{◌≡◌, ◌<◌, ◌&&◌, ◌||◌, ◌+◌, ◌++◌, ℕ, zero, suc, Bool, true, false, List, [], ◌∷◌, Option, None, Some, length, map, take, get_or, refl, sym, ap, ◌∙◌, arith, cond, eq-eqb}
 use Rattle.std.proofs.lemmas.Bool.{and_parts}
 use Rattle.std.proofs.lemmas.List.{length-map, map-append, take_more}
 use Rattle.std.proofs.lemmas.List.Folds.{list_all-append, list_all-map, list_all_at}
 use Rattle.std.specs.Prelude.{IfSome, find, is_some, option_map, unwrap_or}
-use Rattle.std.specs.List.{list_all, list_any}
+use Rattle.std.specs.List.{list_all}
 use Rattle.std.specs.Str.{bytes_eq}
 use Rattle.choice.specs.Answering.{given_for, has_files}
 use Rattle.faults.specs.Bytes.{Text, is_among}
 use Rattle.listing.proofs.Settings.{eq_self}
 use Rattle.package_record.specs.Content.{NamedFile}
+use Rattle.parts.specs.inside.First.{NoneHas}
 use Rattle.protocol.specs.Given.{Given}
 use Rattle.protocol.specs.Jobs.{are_given, files_for}
 
@@ -41,13 +42,8 @@ some_found builds path g some = (
 -- ---- the first with a path
 
 module _ (builds : Given) (path : Text) where
-  -- none of so many has the path
-  abbrev pub NoneHas : ℕ → Type 0
-  NoneHas i = (k : ℕ) (d : Text × List NamedFile) → k < i → k < length builds
-      → bytes_eq (get_or builds k d).0 path ≡ false
-
   -- none has it
-  pub none_has : NoneHas (length builds) → is_among (map (λ g. g.0) builds) path ≡ false
+  pub none_has : NoneHas builds path (length builds) → is_among (map (λ g. g.0) builds) path ≡ false
   none_has none = none_found builds path (find_none builds none)
     where
       find_none : (gs : Given)
@@ -61,7 +57,7 @@ module _ (builds : Given) (path : Text) where
           ∙ find_none gs (λ k d a b. each (suc k) d (omega (arith, a)) (omega (arith, b)))
 
   -- this one is the first
-  pub first_has : (i : ℕ) (d : Text × List NamedFile) → i < length builds → NoneHas i
+  pub first_has : (i : ℕ) (d : Text × List NamedFile) → i < length builds → NoneHas builds path i
       → bytes_eq (get_or builds i d).0 path ≡ true
       → (is_among (map (λ g. g.0) builds) path ≡ true)
       × ((get_or builds i d).1 ≡ files_for builds path)

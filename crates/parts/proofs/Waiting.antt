@@ -1,5 +1,5 @@
 -- What a node is asked whose open claim waits for a build.
-use Rattle.std.proofs.Common.{◌≡◌, ℕ, Option, None, Some, refl, sym, ap, subst, ◌∙◌}
+use Rattle.std.proofs.Common.{◌≡◌, ℕ, Option, Some, sym, ap, subst, ◌∙◌}
 use Rattle.std.specs.Prelude.{option_and_then}
 use Rattle.choice.specs.Answering.{answer_of, answer_to, built_of, given_for}
 use Rattle.faults.specs.Bytes.{Text}

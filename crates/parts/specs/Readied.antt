@@ -1,5 +1,5 @@
 -- A node's part in a turn, with its step ready.
-use Rattle.std.specs.Prelude.{◌≡◌, ◌⊎◌, Option, None, Some, Result, Ok, Err}
+use Rattle.std.specs.Prelude.{◌≡◌, ◌⊎◌, Option, None, Some, Ok, Err}
 use Rattle.choice.specs.Acts.{asked_by}
 use Rattle.node.specs.State.{LoggedNode}
 use Rattle.node.specs.Step.{Asked, Does, IsReadyFor, Takes, taken_by}

@@ -1,2 +1,3 @@
 -- What only bodies and proofs need.
 pub mod Answering
+pub mod First

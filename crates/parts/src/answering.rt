@@ -14,7 +14,8 @@ ghost use Rattle.std.specs.Prelude.{
   true,
 };
 ghost use Rattle.choice.specs.Answering.{answer_of, built_of, given_for};
-ghost use Rattle.faults.specs.Bytes.{is_among};
+ghost use Rattle.faults.specs.Bytes.{Text, is_among};
+ghost use Rattle.indexmap.specs.IndexMap.{get};
 ghost use Rattle.listing.specs.Tree.{path_at};
 ghost use Rattle.node.specs.Step.{Does};
 ghost use Rattle.node.specs.declared.fault.NodeFault.TheVariants.{Memory as out_of_memory};
@@ -23,11 +24,15 @@ ghost use Rattle.protocol.specs.Jobs.{files_for, paths_at};
 ghost use Rattle.protocol.specs.State.{name_at};
 ghost use Rattle.parts.specs.Readied.{IsPart, IsReadied};
 ghost use Rattle.parts.specs.inside.Answering.{AreParts, IsWaiting, is_bad_files};
+ghost use Rattle.parts.specs.inside.First.{IsFirst};
+ghost use Rattle.std.specs.Str.{bytes_eq};
 
 use crate::Readied;
+use crate::handed::{by_path, files_by_number};
 use crate::readied::make_ready;
 use ballots::Claimer;
 use faults::Memory;
+use indexmap::IndexMap;
 use listing::Tree;
 use member::{Input, Member, Packages, Refusal};
 use node::{Node, NodeFault};
@@ -99,9 +104,51 @@ fn given_to(
     ensures { IfOk result (λ given.
         given ≡ given_for builds.now (map (path_at tree.now) positions.now)) }
 {
+    if positions.len() < 2 {
+        return looked_up(alloc, tree, positions, builds);
+    }
+    let numbers = by_path(alloc, builds)?;
+    by_numbers(alloc, tree, positions, builds, &numbers)
+}
+
+/// The same, by looking through all that is handed in for each.
+fn looked_up(
+    alloc: Global,
+    tree: &Tree,
+    positions: &[u32],
+    builds: &Packages,
+) -> Result<Option<Packages>, Memory>
+    requires { All (λ p. p < length tree.now) positions.now }
+    ensures { IfOk result (λ given.
+        given ≡ given_for builds.now (map (path_at tree.now) positions.now)) }
+{
     let mut items = Vec::with_capacity(alloc, positions.len())?;
     for position in positions {
         let Some(files) = files_of(builds, tree.path(*position)) else {
+            return Ok(None);
+        };
+        items.push(with_path(tree.path(*position), files)?)?;
+    }
+    Ok(Some(Packages::new(items)))
+}
+
+/// The same, by the numbers of the first entries with each path.
+fn by_numbers(
+    alloc: Global,
+    tree: &Tree,
+    positions: &[u32],
+    builds: &Packages,
+    numbers: &IndexMap<PkgPath, usize>,
+) -> Result<Option<Packages>, Memory>
+    requires listed { All (λ p. p < length tree.now) positions.now }
+    requires numbers { (path : Text) → IsFirst builds.now path (length builds.now)
+        (get bytes_eq numbers.now path) }
+    ensures { IfOk result (λ given.
+        given ≡ given_for builds.now (map (path_at tree.now) positions.now)) }
+{
+    let mut items = Vec::with_capacity(alloc, positions.len())?;
+    for position in positions {
+        let Some(files) = files_by_number(builds, numbers, tree.path(*position)) else {
             return Ok(None);
         };
         items.push(with_path(tree.path(*position), files)?)?;

@@ -2,11 +2,12 @@
 #![tactic(auto)]
 
 mod answering;
+mod handed;
 mod offering;
 mod owning;
 mod readied;
 
 pub use crate::answering::answer;
 pub use crate::offering::offer;
-pub use crate::owning::own;
-pub use crate::readied::{Readied, take_in};
+pub use crate::owning::{own, renewed};
+pub use crate::readied::{Readied, make_ready, take_in};

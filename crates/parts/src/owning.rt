@@ -1,6 +1,6 @@
 //! What a node does of itself.
 ghost use Rattle.std.specs.List.{list_any};
-ghost use Rattle.std.specs.Prelude.{◌≡◌, ◌<◌, ◌==◌, ◌||◌, IfErr, IfOk, Option, false, length};
+ghost use Rattle.std.specs.Prelude.{◌≡◌, ◌<◌, ◌==◌, ◌||◌, IfErr, IfOk, OnErr, Option, Some, false, length};
 ghost use Rattle.choice.specs.Own.{IsLeastFree, IsOwn, claim_of, is_barred, renewed};
 ghost use Rattle.choice.specs.Pending.{has_failed};
 ghost use Rattle.protocol.specs.State as members;
@@ -21,7 +21,7 @@ use stable_record::Disk;
 ///
 /// # Errors
 ///
-/// `Memory`, or why the node opens no new claim.
+/// `Memory`, for what there is to do, or why the node opens no new claim.
 pub fn own<D: Disk>(
     node: &mut Node<'_, D>,
     above: Option<u64>,
@@ -38,6 +38,9 @@ pub fn own<D: Disk>(
         × IsOwn node.old.node.member above
         (λ u. has_failed pending.now u || list_any (λ v. v == u) elsewhere.now) own
         × IsNoPart node.new own f) }
+    ensures due { OnErr result ((own : Asks)
+        × IsOwn node.old.node.member above
+        (λ u. has_failed pending.now u || list_any (λ v. v == u) elsewhere.now) (Some own)) }
 {
     match input_of(node.member(), above, pending, elsewhere)? {
         Some(input) => Ok(Some(make_ready(node, input)?)),
@@ -52,8 +55,10 @@ fn input_of(
     pending: &Pending,
     elsewhere: &[u32],
 ) -> Result<Option<Input>, Memory>
-    ensures { IfOk result (IsOwn member.now above
+    ensures own { IfOk result (IsOwn member.now above
         (λ u. has_failed pending.now u || list_any (λ v. v == u) elsewhere.now)) }
+    ensures due { OnErr result ((own : Asks) × IsOwn member.now above
+        (λ u. has_failed pending.now u || list_any (λ v. v == u) elsewhere.now) (Some own)) }
 {
     if let Some(open) = member.open_claim() {
         return Ok(Some(renewed(member, open.unit, above)?));
@@ -65,8 +70,8 @@ fn input_of(
 }
 
 /// A new claim for the unit above this round, where a greater claim stands in the way of the open
-/// one; and else a nudge.
-fn renewed(member: &Member<'_>, unit: u32, above: Option<u64>) -> Result<Input, Memory>
+/// one; and else a nudge. It fails only for want of memory.
+pub fn renewed(member: &Member<'_>, unit: u32, above: Option<u64>) -> Result<Input, Memory>
     requires { unit < length member.now.division.units }
     ensures { IfOk result (λ input. (o : members.OpenClaim) → o.unit ≡ unit
         → input ≡ renewed member.now o above) }

@@ -23,10 +23,7 @@ pub struct Readied {
 /// # Errors
 ///
 /// `Memory`, or why the node takes no step on it.
-pub(crate) fn make_ready<D: Disk>(
-    node: &mut Node<'_, D>,
-    input: Input,
-) -> Result<Readied, NodeFault>
+pub fn make_ready<D: Disk>(node: &mut Node<'_, D>, input: Input) -> Result<Readied, NodeFault>
     requires up { node.old.node.stopped ≡ false }
     requires input { IsGoodInput input }
     ensures same { node.new ≡ node.old }

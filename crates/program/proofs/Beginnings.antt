@@ -1,7 +1,7 @@
 -- What of a text a writer took so far.
 use Rattle.std.proofs.Common.{◌≡◌, ◌-◌, ◌++◌, ◌∙◌, ℕ, List, [], Option, length, take, drop, ap, refl, subst, sym, append_assoc, append-nil, take-append-drop}
 use Rattle.std.proofs.KnownBytes.{Appends-kept, Appends-nil, Appends-trans}
-use Rattle.std.proofs.Math.Seq.{take-append_seam}
+use Rattle.std.proofs.Math.Seq.{take-append_seam, take-length}
 use Rattle.std.proofs.lemmas.List.{take_rest}
 use Rattle.std.specs.Io.KnownBytes.{Appends, Keeps}
 use Rattle.faults.specs.Bytes.{Text}
@@ -32,3 +32,7 @@ module _ (a b : Option (List ℕ)) (text rest : Text) (taken : HasTaken a b text
 
   pub all_taken : rest ≡ [] → Appends a b text
   all_taken none = subst (Appends a b) (sym (taken.1 ∙ ap (λ l. taken.0 ++ l) none ∙ append-nil taken.0)) taken.2
+
+-- the whole is a beginning
+pub whole_begins : (a b : Option (List ℕ)) (text : Text) → Appends a b text → AppendsBeginning a b text
+whole_begins a b text all = (length text, subst (Appends a b) (sym (take-length text)) all)

@@ -1,20 +1,14 @@
--- What is told of the texts of files.
-use Rattle.std.proofs.Common.{◌≡◌, ◌⊎◌, Bool, [], inl, inr, ap, refl, Ok, Err}
+-- What is told of texts, which have names or not.
+use Rattle.std.proofs.Common.{◌≡◌, ◌⊎◌, Bool, inl, inr, ap, refl, Ok, Err}
 use Rattle.faults.specs.Bytes.{Text}
 use Rattle.listing.specs.Listing.{Rules, tree_of}
 use Rattle.listing.specs.Tree.{Tree}
 use Rattle.listing.specs.declared.ListingFault.{ListingFault}
 use Rattle.listing.specs.declared.ListingFault.TheVariants.{Memory as ListingMemory}
-use Rattle.program.specs.Files.{RefusesFiles, RefusesTexts}
-use Rattle.program.specs.Listings.{IsDescribed, RefusesListingFile, listing_refusal, rules_for}
+use Rattle.program.specs.Files.{RefusesAt, RefusesTexts}
+use Rattle.program.specs.Listings.{IsDescribed, IsDescribedAt, RefusesListingAt, RefusesListingFile, listing_refusal, rules_for}
 use Rattle.program.specs.Refusals.{memory_refusal}
 use Rattle.program.specs.declared.refusal.Refusal.{Refusal}
-
--- what is told of the text of a file is told of the file
-pub listing_in_file : (is_single : Bool) (listing : Text) (e : ListingFault) → (e ≡ ListingMemory) ⊎ (tree_of (rules_for is_single) listing ≡ Err e)
-    → RefusesListingFile is_single (listing_refusal e)
-listing_in_file is_single listing e (inl memory) = inl (inl (ap listing_refusal memory))
-listing_in_file is_single listing e (inr fault) = inr (listing, (e, fault, refl))
 
 -- ---- of two texts, the second of which is asked of the tree that the first describes
 
@@ -31,14 +25,25 @@ module _ (Asked : Text → Tree → Refusal → Type 0) (rules : Rules) (listing
   second_refused tree r described (inl memory) = inl memory
   second_refused tree r described (inr refused) = inr (inr (tree, described, refused))
 
-module _ (Asked : Text → Tree → Refusal → Type 0) (is_single : Bool) (r : Refusal) where
-  -- what is told of the first file is told of both
-  pub by_listing : RefusesListingFile is_single r → RefusesFiles (λ listing second. RefusesTexts (rules_for is_single) listing (Asked second)) r
-  by_listing (inl system) = inl system
-  by_listing (inr (listing, refused)) = inr (listing, [], inl refused)
+-- ---- of texts that reads of names gave
 
-  -- want of memory, or what is told of the text of the second file
-  pub by_text : (second : Text) (tree : Tree) → IsDescribed is_single tree → (r ≡ memory_refusal) ⊎ Asked second tree r
-      → RefusesFiles (λ listing second. RefusesTexts (rules_for is_single) listing (Asked second)) r
-  by_text second tree described (inl memory) = inl (inl memory)
-  by_text second tree (listing, described) (inr refused) = inr (listing, second, inr (tree, described, refused))
+module _ (Gave : Text → Text → Type 0) (name : Text) where
+  -- what is told of the listing that was read
+  pub listing_read : (is_single : Bool) (listing : Text) → Gave name listing → (e : ListingFault) → (e ≡ ListingMemory) ⊎ (tree_of (rules_for is_single) listing ≡ Err e)
+      → RefusesListingAt Gave name is_single (listing_refusal e)
+  listing_read is_single listing gave e (inl memory) = inl (inl (ap listing_refusal memory))
+  listing_read is_single listing gave e (inr fault) = inr (listing, gave, (e, fault, refl))
+
+  -- whatever name it has
+  pub described : (is_single : Bool) (tree : Tree) → IsDescribedAt Gave name is_single tree → IsDescribed is_single tree
+  described is_single tree (listing, gave, is) = (listing, is)
+
+  pub refused : (is_single : Bool) (r : Refusal) → RefusesListingAt Gave name is_single r → RefusesListingFile is_single r
+  refused is_single r (inl system) = inl system
+  refused is_single r (inr (listing, gave, told)) = inr (listing, told)
+
+  -- want of memory, or what is told of the text that was read
+  pub text_read : (RefusesText : Text → Refusal → Type 0) (text : Text) → Gave name text → (r : Refusal) → (r ≡ memory_refusal) ⊎ RefusesText text r
+      → RefusesAt Gave name RefusesText r
+  text_read RefusesText text gave r (inl memory) = inl (inl memory)
+  text_read RefusesText text gave r (inr told) = inr (text, gave, told)

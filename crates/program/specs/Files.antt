@@ -1,9 +1,9 @@
--- What is told of a listing and of a second text, which stand in files or not.
-use Rattle.std.specs.Prelude.{◌≡◌, ◌⊎◌, Ok}
+-- What is told of a listing and of a second text, which have names or not.
+use Rattle.std.specs.Prelude.{◌≡◌, ◌⊎◌, Bool, Ok}
 use Rattle.faults.specs.Bytes.{Text}
 use Rattle.listing.specs.Listing.{Rules, tree_of}
 use Rattle.listing.specs.Tree.{Tree}
-use Rattle.program.specs.Listings.{RefusesListing}
+use Rattle.program.specs.Listings.{IsDescribedAt, RefusesListing, RefusesListingAt}
 use Rattle.program.specs.Refusals.{IsSystemRefusal}
 use Rattle.program.specs.declared.refusal.Refusal.{Refusal}
 
@@ -13,7 +13,15 @@ RefusesTexts rules listing RefusesAsked r =
     RefusesListing rules listing r
     ⊎ ((tree : Tree) × (tree_of rules listing ≡ Ok tree) × RefusesAsked tree r)
 
--- one of the two files can't be read, or this is told of the texts in them
-abbrev pub RefusesFiles : (Text → Text → Refusal → Type 0) → Refusal → Type 0
-RefusesFiles RefusesBoth r =
-    IsSystemRefusal r ⊎ ((listing : Text) × (second : Text) × RefusesBoth listing second r)
+-- what has this name can't be read, or this is told of what a read of it gave
+abbrev pub RefusesAt : (Text → Text → Type 0) → Text → (Text → Refusal → Type 0) → Refusal → Type 0
+RefusesAt Gave name RefusesText r =
+    IsSystemRefusal r ⊎ ((text : Text) × Gave name text × RefusesText text r)
+
+-- this is told of the listing of the first name, or else of what has the second
+abbrev pub RefusesBoth : (Text → Text → Type 0) → Bool → Text → Text
+    → (Text → Tree → Refusal → Type 0) → Refusal → Type 0
+RefusesBoth Gave is_single listing second RefusesAsked r =
+    RefusesListingAt Gave listing is_single r
+    ⊎ ((tree : Tree) × IsDescribedAt Gave listing is_single tree
+    × RefusesAt Gave second (λ text. RefusesAsked text tree) r)

@@ -17,6 +17,11 @@ rules_for is_single = with_groups (group_by is_single)
 abbrev pub IsDescribed : Bool → Tree → Type 0
 IsDescribed is_single tree = (listing : Text) × (tree_of (rules_for is_single) listing ≡ Ok tree)
 
+-- the same by a listing that a read of this name gave
+abbrev pub IsDescribedAt : (Text → Text → Type 0) → Text → Bool → Tree → Type 0
+IsDescribedAt Gave name is_single tree =
+    (listing : Text) × Gave name listing × (tree_of (rules_for is_single) listing ≡ Ok tree)
+
 -- how the fault of a listing is told
 abbrev pub listing_refusal : ListingFault → Refusal
 listing_refusal e = record { number = listings.number_of e; place = listings.place_of e }
@@ -30,3 +35,9 @@ RefusesListing rules listing r =
 abbrev pub RefusesListingFile : Bool → Refusal → Type 0
 RefusesListingFile is_single r =
     IsSystemRefusal r ⊎ ((listing : Text) × RefusesListing (rules_for is_single) listing r)
+
+-- the listing of this name can't be read, or this is told of what a read of it gave
+abbrev pub RefusesListingAt : (Text → Text → Type 0) → Text → Bool → Refusal → Type 0
+RefusesListingAt Gave name is_single r =
+    IsSystemRefusal r
+    ⊎ ((listing : Text) × Gave name listing × RefusesListing (rules_for is_single) listing r)

@@ -5,6 +5,7 @@ use Rattle.clap.specs.Words.{kind_of}
 use Rattle.clap.specs.declared.error.Error.{Error}
 use Rattle.clap.specs.declared.error.kind.ErrorKind.TheVariants.{OutOfMemory}
 use Rattle.faults.specs.Bytes.{Text, line_feed}
+use Rattle.program.specs.Printing.{AppendsBeginning}
 use Rattle.program.specs.Refusals.{memory_refusal, refusal_text}
 use Rattle.program.specs.declared.refusal.Refusal.{Refusal}
 use Rattle.program.specs.declared.stop.Stop.{Stop}
@@ -31,3 +32,9 @@ abbrev pub IsTold : Text → Stop → Option (List ℕ) → Option (List ℕ) �
 IsTold program (WrongWords e) before after = ⊤
 IsTold program (Refused r) before after = Appends before after (refusal_line program r)
 IsTold program (Unwritten r) before after = Appends before after (refusal_line program r)
+
+-- What was written since, where it is known, is a beginning of that line; clap's own texts are its.
+abbrev pub IsBegun : Text → Stop → Option (List ℕ) → Option (List ℕ) → Type 0
+IsBegun program (WrongWords e) before after = ⊤
+IsBegun program (Refused r) before after = AppendsBeginning before after (refusal_line program r)
+IsBegun program (Unwritten r) before after = AppendsBeginning before after (refusal_line program r)

@@ -3,6 +3,7 @@
 #![tactic(auto)]
 
 mod answer;
+mod named;
 mod node_line;
 mod printing;
 mod refusal;
@@ -10,8 +11,9 @@ mod stop;
 mod tree;
 
 pub use crate::answer::Answer;
+pub use crate::named::{NamedTexts, SystemFiles};
 pub use crate::node_line::{counts_text, node_text};
 pub use crate::printing::print;
 pub use crate::refusal::Refusal;
 pub use crate::stop::Stop;
-pub use crate::tree::{tree_of_file, tree_of_text};
+pub use crate::tree::{tree_of_file, tree_of_name, tree_of_text};

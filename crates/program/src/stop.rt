@@ -1,13 +1,21 @@
 //! Why the program stops before its answer is printed.
-ghost use Rattle.std.specs.Prelude.{◌≡◌, ◌⊎◌, OnOk};
-ghost use Rattle.program.specs.Stops.{IsTold, StopsBy, status_after};
+ghost use Rattle.std.specs.Prelude.{◌≡◌, ◌⊎◌, IfSome, OnOk};
+ghost use Rattle.std.specs.Io.KnownBytes.{Appends};
+ghost use Rattle.program.specs.Printing.{AppendsBeginning};
+ghost use Rattle.program.specs.Stops.{IsBegun, IsTold, StopsBy, refusal_line, status_after};
 ghost use Rattle.program.specs.declared.stop.Stop.TheVariants.{Refused};
 
+use crate::printing::print;
 use crate::refusal::Refusal;
+use arrayvec::ArrayString;
 use clap::Error;
 use clap::error::ErrorKind;
+use std::fmt::Write as _;
 use std::io;
 use std::io::Write;
+
+/// How many bytes the line of a refusal may have: a name of 80, and what stands behind it.
+const MOST_IN_LINE: usize = 128;
 
 /// Why the program stops before its answer is printed.
 #[derive(Drop)]
@@ -33,17 +41,43 @@ impl Stop {
     }
 
     /// Says why on `err`: clap's text, or one line, the program's name and then `: fault N` or
-    /// `: fault N at K`.
+    /// `: fault N at K`. After an error no more than a beginning of that line was written.
     pub fn tell<E: Write>(self, program: &str, err: &mut E) -> io::Result<()>
-        ensures { OnOk result
+        ensures told { OnOk result
             (IsTold program.now self (E.contents err.old) (E.contents err.new)) }
+        ensures begun { IsBegun program.now self (E.contents err.old) (E.contents err.new) }
     {
         match self {
             Stop::WrongWords(error) => write!(err, "{error}"),
             Stop::Refused(refusal) | Stop::Unwritten(refusal) => {
-                writeln!(err, "{program}: {refusal}")
+                tell_refusal(program, refusal, err)
             }
         }
+    }
+}
+
+/// Writes the line that tells a refusal, for which no memory is asked. Of a name for which it has
+/// no room nothing is told.
+fn tell_refusal<E: Write>(program: &str, refusal: Refusal, err: &mut E) -> io::Result<()>
+    ensures told { OnOk result (Appends (E.contents err.old) (E.contents err.new)
+        (refusal_line program.now refusal)) }
+    ensures begun { AppendsBeginning (E.contents err.old) (E.contents err.new)
+        (refusal_line program.now refusal) }
+{
+    match line_of(program, refusal) {
+        Some(line) => print(err, line.as_str().as_bytes()),
+        None => Err(io::Error::from(io::ErrorKind::WriteZero)),
+    }
+}
+
+/// The line that tells a refusal, if there is room for it.
+fn line_of(program: &str, refusal: Refusal) -> Option<ArrayString<MOST_IN_LINE>>
+    ensures { IfSome result (λ line. line.bytes ≡ refusal_line program.now refusal) }
+{
+    let mut line = ArrayString::new();
+    match writeln!(line, "{program}: {refusal}") {
+        Ok(()) => Some(line),
+        Err(_) => None,
     }
 }
 

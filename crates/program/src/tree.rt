@@ -2,12 +2,12 @@
 ghost use Rattle.std.specs.Prelude.{IfErr, IfOk};
 ghost use Rattle.faults.specs.Answers.{IsRightUnless};
 ghost use Rattle.listing.specs.Listing.{tree_of};
-ghost use Rattle.program.specs.Listings.{IsDescribed, RefusesListingFile, rules_for};
+ghost use Rattle.program.specs.Listings.{IsDescribed, IsDescribedAt, RefusesListingAt, RefusesListingFile, rules_for};
 
+use crate::named::{NamedTexts, SystemFiles};
 use crate::refusal::Refusal;
 use listing::{ListingFault, Tree};
 use std::alloc::Global;
-use std::fs;
 use std::rt::Files;
 
 /// The tree that the listing describes, where each path is a group of its own or not.
@@ -19,6 +19,26 @@ pub fn tree_of_text(alloc: Global, listing: &[u8], is_single: bool) -> Result<Tr
     } else {
         Tree::parse(alloc, listing)
     }
+}
+
+/// The tree that the listing of this name describes.
+///
+/// # Errors
+///
+/// What the system refused; else the listing's fault.
+pub fn tree_of_name<T: NamedTexts>(
+    texts: &T,
+    alloc: Global,
+    listing: &str,
+    is_single: bool,
+) -> Result<Tree, Refusal>
+    ensures ok { IfOk result (IsDescribedAt (T.gave texts.now) listing.now is_single) }
+    ensures refused { IfErr result
+        (RefusesListingAt (T.gave texts.now) listing.now is_single) }
+{
+    let listing = texts.read(listing)?;
+    let tree = tree_of_text(alloc, listing.as_slice(), is_single)?;
+    Ok(tree)
 }
 
 /// The tree that the listing in a file describes.
@@ -34,7 +54,5 @@ pub fn tree_of_file<R: Files + AllocGlobal>(
     ensures ok { IfOk result (IsDescribed is_single) }
     ensures refused { IfErr result (RefusesListingFile is_single) }
 {
-    let listing = fs::read(rt, listing)?;
-    let tree = tree_of_text(rt.alloc(), listing.as_slice(), is_single)?;
-    Ok(tree)
+    tree_of_name(&SystemFiles::of(rt), rt.alloc(), listing, is_single)
 }

@@ -10,35 +10,38 @@ use dpbr_audit::audit_of_files;
 use dpbr_run::run_of_files;
 use dpbr_status::status_of_files;
 use dpbr_wayon::{Target, wayon_of_files};
-use program::{Answer, Refusal, Stop, print};
+use program::{Answer, NamedTexts, Refusal, Stop, print};
+use std::alloc::Global;
 use std::io::Write;
-use std::rt::Files;
 use words::{Call, dpbr_words};
 
 /// Carries out the call that the words make, and gives the status with which the program ends: 0; 3
 /// after an audit that answers no; 1 after a fault, of which it writes one line to `err`, `dpbr:
-/// fault N` or `dpbr: fault N at K`; 2 where the words make no call, or ask for help, after clap's
-/// text on `err`.
+/// fault N` or `dpbr: fault N at K`, and nothing else; 2 where the words make no call, or ask for
+/// help, after clap's text on `err`.
 ///
 /// The first word is the program's name. The whole output is made before any of it is written to
 /// `out`; output that can't be written is fault 2.
-pub fn dpbr_main<R: Files + AllocGlobal, O: Write, E: Write>(
-    rt: &R,
+pub fn dpbr_main<T: NamedTexts, O: Write, E: Write>(
+    texts: &T,
+    alloc: Global,
     words: &[String],
     out: &mut O,
     err: &mut E,
 ) -> u8
     ensures status { result ≤ 3 }
-    ensures done { result ≡ 0 → HasCarriedOut (map string_bytes words.now) 0 (O.contents out.old)
-        (O.contents out.new) }
-    ensures denied { result ≡ 3 → HasCarriedOut (map string_bytes words.now) 3 (O.contents out.old)
-        (O.contents out.new) }
-    ensures fault { result ≡ 1 → HasFailed (map string_bytes words.now) (O.contents out.old)
-        (O.contents out.new) }
+    ensures done { result ≡ 0 → HasCarriedOut (T.gave texts.now) (map string_bytes words.now) 0
+        (O.contents out.old) (O.contents out.new) }
+    ensures denied { result ≡ 3 → HasCarriedOut (T.gave texts.now) (map string_bytes words.now) 3
+        (O.contents out.old) (O.contents out.new) }
+    ensures fault { result ≡ 1 → HasFailed (T.gave texts.now) (map string_bytes words.now)
+        (O.contents out.old) (O.contents out.new) (E.contents err.old) (E.contents err.new) }
     ensures wrong_words { result ≡ 2 → ¬ AreTaken (map string_bytes words.now) }
     ensures quiet { result ≡ 2 → Keeps (O.contents out.old) (O.contents out.new) }
+    ensures untold { (result ≡ 0) ⊎ (result ≡ 3)
+        → Keeps (E.contents err.old) (E.contents err.new) }
 {
-    match dpbr_call(rt, words, out) {
+    match dpbr_call(texts, alloc, words, out) {
         Ok(status) => status,
         Err(stop) => {
             let status = stop.status();
@@ -58,61 +61,68 @@ pub fn dpbr_main<R: Files + AllocGlobal, O: Write, E: Write>(
 ///
 /// `WrongWords`, where clap takes the words for no call; `Refused`, where a file can't be read, its
 /// text has a fault, or memory was refused; `Unwritten`, where a write to `out` failed.
-pub fn dpbr_call<R: Files + AllocGlobal, O: Write>(
-    rt: &R,
+pub fn dpbr_call<T: NamedTexts, O: Write>(
+    texts: &T,
+    alloc: Global,
     words: &[String],
     out: &mut O,
 ) -> Result<u8, Stop>
     ensures status { IfOk result (λ status. (status ≡ 0) ⊎ (status ≡ 3)) }
-    ensures done { IfOk result (λ status. HasCarriedOut (map string_bytes words.now) status
-        (O.contents out.old) (O.contents out.new)) }
-    ensures stopped { IfErr result (λ stop. HasStopped (map string_bytes words.now) stop
-        (O.contents out.old) (O.contents out.new)) }
+    ensures done { IfOk result (λ status. HasCarriedOut (T.gave texts.now)
+        (map string_bytes words.now) status (O.contents out.old) (O.contents out.new)) }
+    ensures stopped { IfErr result (λ stop. HasStopped (T.gave texts.now)
+        (map string_bytes words.now) stop (O.contents out.old) (O.contents out.new)) }
 {
-    let call = dpbr_words(rt.alloc(), words)?;
-    carry_out(rt, &call, out)
+    let call = dpbr_words(alloc, words)?;
+    carry_out(texts, alloc, &call, out)
 }
 
 /// Prints what the call asks for, and gives the status that goes with it.
-fn carry_out<R: Files + AllocGlobal, O: Write>(
-    rt: &R,
+fn carry_out<T: NamedTexts, O: Write>(
+    texts: &T,
+    alloc: Global,
     call: &Call<'_>,
     out: &mut O,
 ) -> Result<u8, Stop>
     ensures status { IfOk result (λ status. (status ≡ 0) ⊎ (status ≡ 3)) }
-    ensures printed { IfOk result
-        (λ status. HasPrinted call.now status (O.contents out.old) (O.contents out.new)) }
-    ensures stopped { IfErr result
-        (λ stop. CannotCarryOut call.now stop (O.contents out.old) (O.contents out.new)) }
+    ensures printed { IfOk result (λ status. HasPrinted (T.gave texts.now) call.now status
+        (O.contents out.old) (O.contents out.new)) }
+    ensures stopped { IfErr result (λ stop. CannotCarryOut (T.gave texts.now) call.now stop
+        (O.contents out.old) (O.contents out.new)) }
 {
-    let answer = answer_of_files(rt, call)?;
+    let answer = answer_of_files(texts, alloc, call)?;
     match print(out, answer.text.as_slice()) {
         Ok(()) => Ok(answer.status),
         Err(_) => Err(Stop::Unwritten(Refusal::device())),
     }
 }
 
-fn answer_of_files<R: Files + AllocGlobal>(rt: &R, call: &Call<'_>) -> Result<Answer, Refusal>
-    ensures output { IfOk result (λ answer. IsOutputOf call.now answer.status answer.text.items) }
+fn answer_of_files<T: NamedTexts>(
+    texts: &T,
+    alloc: Global,
+    call: &Call<'_>,
+) -> Result<Answer, Refusal>
+    ensures output { IfOk result
+        (λ answer. IsOutputOf (T.gave texts.now) call.now answer.status answer.text.items) }
     ensures status { IfOk result (λ answer. (answer.status ≡ 0) ⊎ (answer.status ≡ 3)) }
-    ensures refused { IfErr result (RefusesCall call.now) }
+    ensures refused { IfErr result (RefusesCall (T.gave texts.now) call.now) }
 {
     match call {
         Call::Status {
             listing,
             held,
             is_single,
-        } => status_of_files(rt, listing, held, *is_single),
+        } => status_of_files(texts, alloc, listing, held, *is_single),
         Call::Audit {
             listing,
             list,
             is_single,
-        } => audit_of_files(rt, listing, list, *is_single),
+        } => audit_of_files(texts, alloc, listing, list, *is_single),
         Call::Run {
             listing,
             trace,
             is_single,
-        } => run_of_files(rt, listing, trace, *is_single),
+        } => run_of_files(texts, alloc, listing, trace, *is_single),
         Call::Wayon {
             listing,
             trace,
@@ -127,7 +137,7 @@ fn answer_of_files<R: Files + AllocGlobal>(rt: &R, call: &Call<'_>) -> Result<An
                 path,
                 host: *host,
             };
-            wayon_of_files(rt, listing, trace, &target, builds, *is_single)
+            wayon_of_files(texts, alloc, listing, trace, &target, builds, *is_single)
         }
     }
 }

@@ -1,11 +1,12 @@
 -- What was chosen is made ready, or why it is not.
-use Rattle.std.proofs.Common.{◌≡◌, ◌≢◌, ◌==◌, ℕ, Bool, true, false, List, [], ◌∷◌, Option, None, Some, Result, Ok, Err, IfErr, IfOk, Vec, length, if◌then◌else◌, refl, sym, ap, subst, ◌∙◌, inl, inr}
+use Rattle.std.proofs.Common.{◌≡◌, ◌≢◌, ◌==◌, ℕ, Bool, true, false, List, [], Option, None, Some, Result, Ok, Err, IfErr, IfOk, Vec, length, if◌then◌else◌, refl, sym, ap, subst, ◌∙◌, inl, inr}
 use Rattle.std.specs.List.{range_with_len}
 use Rattle.std.specs.Prelude.{option_map}
 use Rattle.std.specs.declared.alloc.Global.{Global}
 use Rattle.choice.specs.Choice.{Chosen, IsOwnIf, comes_to, first_job, in_turn}
 use Rattle.choice.specs.declared.fault.TurnFault.{TurnFault}
 use Rattle.choice.specs.declared.fault.TurnFault.TheVariants as refused
+use Rattle.faults.specs.Bytes.{Text}
 use Rattle.node.specs.Calls.{left_by}
 use Rattle.node.specs.State.{LoggedNode, NodeState}
 use Rattle.node.specs.Step.{Comes, Does}
@@ -13,7 +14,8 @@ use Rattle.node.specs.declared.fault.NodeFault.{NodeFault}
 use Rattle.node.specs.declared.fault.NodeFault.TheVariants as fault
 use Rattle.parts.specs.Readied.{IsNoPart, IsPart}
 use Rattle.parts.specs.declared.readied.Readied.{Readied}
-use Rattle.ports.specs.Kept.{Arrived, GoesOnBy}
+use Rattle.ports.specs.Calls.{Call}
+use Rattle.ports.specs.Kept.{Arrived}
 use Rattle.protocol.specs.Given.{Given}
 use Rattle.protocol.specs.Member.{IsMember}
 use Rattle.protocol.specs.State.{State}
@@ -22,12 +24,13 @@ use Rattle.solo.proofs.ByCase.{by_arrival, by_job, by_own, by_some}
 use Rattle.solo.proofs.Only.{in_range, in_turns, none_among, none_does, own_answer, some_among, this_one_does}
 use Rattle.solo.proofs.Refused.{stays, told_is}
 use Rattle.solo.specs.Faults.{IsTurnFault}
+use Rattle.solo.specs.Handed.{AllBuilds}
 use Rattle.solo.specs.State.{SoloState, member_up, only}
 use Rattle.solo.specs.Turn.{IsChosen}
-use Rattle.solo.specs.inside.Turning.{HasChosen, IsMade, IsNotTaken, told}
+use Rattle.solo.specs.inside.Turning.{HasChosen, HasCome, IsMade, IsNotTaken, told}
 
 -- the one that is here is a member
-members_here : (n : NodeState) → IsMember n.member → (k : ℕ) (s : State) → only n k ≡ Some s
+pub members_here : (n : NodeState) → IsMember n.member → (k : ℕ) (s : State) → only n k ≡ Some s
     → IsMember s
 members_here n is k s at = by (k == n.member.me) n.stopped at
   where
@@ -60,8 +63,9 @@ module _ {D : Type 0} (m n : LoggedNode D) (stays : m ≡ n) (new : LoggedNode D
       subst (IsNotTaken n new (comes_to (only n.node) came)) (sym same)
       (subst (λ x. IsNotTaken x new (comes_to (only x.node) came) f) stays refuses)
 
-module _ {D P : Type 0} (given : P → Option (List Arrived)) (old new : SoloState D P)
-    (builds : Given) (is : IsMember old.node.node.member) where
+module _ {D P : Type 0} (given : P → Option (List Arrived)) (does : P → Call → P → Type 0)
+    (vouches : P → Text → Type 0) (old new : SoloState D P) (builds : Given)
+    (is : IsMember old.node.node.member) where
   abbrev n : NodeState
   n = old.node.node
 
@@ -72,10 +76,10 @@ module _ {D P : Type 0} (given : P → Option (List Arrived)) (old new : SoloSta
   count = length n.member.weights
 
   abbrev HasMade : Option Readied → Type 0
-  HasMade = HasChosen given old new builds
+  HasMade = HasChosen given does vouches old new (AllBuilds builds)
 
   abbrev IsFault : TurnFault → Type 0
-  IsFault = IsTurnFault given old new builds (λ asked. ⊥)
+  IsFault = IsTurnFault given does vouches old new (AllBuilds builds) (λ asked. ⊥)
 
   -- ---- its job
 
@@ -84,31 +88,30 @@ module _ {D P : Type 0} (given : P → Option (List Arrived)) (old new : SoloSta
   first_is input e = some_among n builds input e (range_with_len 0 count)
       (in_range me count is.one_of_them)
 
-  pub job_made : GoesOnBy [] (given old.port) (given new.port) → new.node ≡ old.node
-      → (r : Readied) → IsPart old.node (own_answer n builds) (Some r) → HasMade (Some r)
-  job_made goes same r part = by (own_answer n builds) refl part
+  pub job_made : new.port ≡ old.port → new.node ≡ old.node → (r : Readied)
+      → IsPart old.node (own_answer n builds) (Some r) → HasMade (Some r)
+  job_made still same r part = by (own_answer n builds) refl part
     where
       by : (o : Option Input) → own_answer n builds ≡ o → IsPart old.node o (Some r)
           → HasMade (Some r)
       by None e part = absurd part
       by (Some input) e part = record {
         chosen = Some (me, Does input);
-        is_chosen = by_job given old new builds (me, Does input) (first_is input e) goes;
+        is_chosen = by_job given does vouches old new builds (me, Does input) (first_is input e) still;
         made = (refl, part);
         same = same;
       }
 
-  pub job_wants : GoesOnBy [] (given old.port) (given new.port)
-      → new.node.node ≡ old.node.node → (f : TurnFault) → f ≡ refused.Memory
-      → own_answer n builds ≢ None → IsFault f
-  job_wants goes same f memory some =
+  pub job_wants : new.port ≡ old.port → new.node.node ≡ old.node.node → (f : TurnFault)
+      → f ≡ refused.Memory → own_answer n builds ≢ None → IsFault f
+  job_wants still same f memory some =
       subst IsFault (sym memory) (by (own_answer n builds) refl)
     where
       by : (o : Option Input) → own_answer n builds ≡ o → IsFault refused.Memory
       by None e = absurd (some e)
       by (Some input) e = (
         Some (me, Does input),
-        by_job given old new builds (me, Does input) (first_is input e) goes,
+        by_job given does vouches old new builds (me, Does input) (first_is input e) still,
         same,
       )
 
@@ -122,11 +125,11 @@ module _ {D P : Type 0} (given : P → Option (List Arrived)) (old new : SoloSta
       by (Some input) e part = absurd part
 
   module _ (none : IsPart old.node (own_answer n builds) None) (came : Arrived)
-      (goes : GoesOnBy (came ∷ []) (given old.port) (given new.port)) where
+      (goes : HasCome given does vouches old.port new.port came) where
     -- memory was wanting, whatever is chosen
     wants : new.node.node ≡ old.node.node → (f : TurnFault) → f ≡ refused.Memory → IsFault f
     wants same f memory =
-        let some = by_some given old new builds (no_job none) came goes
+        let some = by_some given does vouches old new builds (no_job none) came goes
         (members_here n is) in
         subst IsFault (sym memory) (some.0, some.1, same)
 
@@ -141,7 +144,7 @@ module _ {D P : Type 0} (given : P → Option (List Arrived)) (old new : SoloSta
         by None e made = absurd made
         by (Some x) e made = record {
           chosen = Some x;
-          is_chosen = by_arrival given old new builds (no_job none) came goes x e;
+          is_chosen = by_arrival given does vouches old new builds (no_job none) came goes x e;
           made = made;
           same = same;
         }
@@ -154,7 +157,7 @@ module _ {D P : Type 0} (given : P → Option (List Arrived)) (old new : SoloSta
         | inl memory ↦ no_memory memory
         | inr node ↦ subst IsFault (sym (t.tells ∙ node)) (
           Comes t.text,
-          by_arrival given old new builds (no_job none) came goes (me, Comes t.text) t.comes,
+          by_arrival given does vouches old new builds (no_job none) came goes (me, Comes t.text) t.comes,
           record { cause = inl takes; leaves = t.leaves },
         )
       ]
@@ -182,9 +185,9 @@ module _ {D P : Type 0} (given : P → Option (List Arrived)) (old new : SoloSta
       DoesOwn own = IsOwnIf (only n) count old.pending me (member_up n) own
 
       own_chosen : (input : Input) → DoesOwn (Some input)
-          → IsChosen given old new builds (Some (me, Does input))
+          → IsChosen given does vouches old new (AllBuilds builds) [] (Some (me, Does input))
       own_chosen input own =
-          by_own given old new builds (no_job none) came goes (Some (me, Does input))
+          by_own given does vouches old new builds (no_job none) came goes (Some (me, Does input))
           (nothing_came nothing)
           (this_one_does n count old.pending input own (in_turn old.pending.next count)
           (in_turns me old.pending.next count is.one_of_them))
@@ -193,7 +196,7 @@ module _ {D P : Type 0} (given : P → Option (List Arrived)) (old new : SoloSta
           → ((own : Option Input) × DoesOwn own × IsPart old.node own o) → HasMade o
       own_made same None (None, own, part) = record {
         chosen = None;
-        is_chosen = by_own given old new builds (no_job none) came goes None
+        is_chosen = by_own given does vouches old new builds (no_job none) came goes None
             (nothing_came nothing)
             (none_does n count old.pending own (in_turn old.pending.next count));
         made = tt;

@@ -1,7 +1,13 @@
 pub mod ByCase
 pub mod Chosen
+pub mod Coming
 pub mod Done
+pub mod Left
 pub mod Only
 pub mod Refused
 pub mod Room
 pub mod Turned
+pub mod Turns
+pub mod Each
+pub mod LiveCase
+pub mod LiveChosen

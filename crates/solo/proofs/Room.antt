@@ -1,5 +1,5 @@
 -- Where a log has room for the note of a step, the node's notes say so.
-use Rattle.std.proofs.Common.{◌≡◌, ◌+◌, ◌<◌, Option, None, Some, subst, arith}
+use Rattle.std.proofs.Common.{◌≡◌, Option, None, Some, subst, arith}
 use Rattle.ballots.specs.declared.message.Note.{Note}
 use Rattle.node.proofs.Finishing.{note_is}
 use Rattle.node.specs.OnLog.{IsFull, IsLogged, LacksRoom, identity_of, texts_of}

@@ -1,27 +1,30 @@
 -- What was chosen is taken.
-use Rattle.std.proofs.Common.{◌≡◌, ◌⊎◌, ℕ, true, false, List, [], Option, None, Some, Ok, sym, ap, subst, ◌∙◌, inr}
+use Rattle.std.proofs.Common.{◌≡◌, ◌⊎◌, ℕ, true, false, List, [], ◌∷◌, Option, None, Some, Ok, map, refl, sym, ap, subst, ◌∙◌, inr}
 use Rattle.choice.specs.Acts.{asked_by}
 use Rattle.choice.specs.Choice.{Chosen}
 use Rattle.choice.specs.Pending.{kept_after}
 use Rattle.choice.specs.declared.fault.TurnFault.{TurnFault}
 use Rattle.choice.specs.declared.fault.TurnFault.TheVariants as refused
+use Rattle.faults.specs.Bytes.{Text}
 use Rattle.node.proofs.Finishing.{note_is}
 use Rattle.node.specs.Calls.{HasFilled, HasTried, LeavesItsNoteAtMost, left_by}
 use Rattle.node.specs.OnLog.{HasRoomForNote, IsFull, IsOnLog, LacksRoom}
 use Rattle.node.specs.State.{LoggedNode}
 use Rattle.node.specs.Parcels.{datagrams_to}
 use Rattle.node.specs.Step.{Asked, Takes, after, note_in, taken_by}
-use Rattle.parts.specs.Offered.{parcels_from}
+use Rattle.parts.specs.Calls.{came_by}
+use Rattle.parts.specs.Offered.{WasOffered, parcels_from}
 use Rattle.parts.specs.Readied.{IsReadied}
 use Rattle.parts.specs.declared.readied.Readied.{Readied}
-use Rattle.ports.specs.Kept.{Arrived, GoesOnBy, Parcel}
-use Rattle.protocol.specs.Given.{Given}
+use Rattle.ports.specs.Calls.{Call}
+use Rattle.ports.specs.Kept.{Arrived, GoesOnBy, KeepsVouching, Parcel}
+use Rattle.solo.specs.Handed.{Handed}
 use Rattle.stable_record.specs.History.{History}
 use Rattle.solo.proofs.ByCase.{goes_no_more, goes_on}
 use Rattle.solo.specs.Faults.{IsTurnFault}
 use Rattle.solo.specs.State.{SoloState, me_of}
-use Rattle.solo.specs.Turn.{HasTaken, IsChosen, IsUntouched, LeavesAtMost}
-use Rattle.solo.specs.inside.Turning.{HasChosen, IsMade, IsTakingFault}
+use Rattle.solo.specs.Turn.{HasTaken, IsChosen, IsUntouched, IsVouchedFor, LeavesAtMost}
+use Rattle.solo.specs.inside.Turning.{HasChosen, IsMade, IsTakingFault, TookStep}
 
 module _ {D : Type 0} (n : LoggedNode D) (r : Readied) where
   -- what was made ready is what was chosen
@@ -36,18 +39,20 @@ module _ {D : Type 0} (n : LoggedNode D) (r : Readied) where
   readied_is (Some x) made = subst (λ asked. IsReadied n asked r) (sym (made.1).asks) made.1
 
 -- what was made ready of this node was made ready of the same node
-pub has_now : {D P : Type 0} (given : P → Option (List Arrived)) (old now mid : SoloState D P)
-    (builds : Given) → old ≡ now → (o : Option Readied) (r : Readied) → o ≡ Some r
-    → HasChosen given old mid builds o → HasChosen given now mid builds (Some r)
-has_now given old now mid builds same o r is has =
-    subst (λ x. HasChosen given x mid builds (Some r)) same
-    (subst (HasChosen given old mid builds) is has)
+pub has_now : {D P : Type 0} (given : P → Option (List Arrived)) (does : P → Call → P → Type 0)
+    (vouches : P → Text → Type 0) (old now mid : SoloState D P) (handed : Handed) → old ≡ now
+    → (o : Option Readied) (r : Readied) → o ≡ Some r
+    → HasChosen given does vouches old mid handed o
+    → HasChosen given does vouches now mid handed (Some r)
+has_now given does vouches old now mid handed same o r is has =
+    subst (λ x. HasChosen given does vouches x mid handed (Some r)) same
+    (subst (HasChosen given does vouches old mid handed) is has)
 
 -- where that is the turn's choice, and the node stayed
-pub readied_so : {D P : Type 0} (given : P → Option (List Arrived)) (old mid : SoloState D P)
-    (builds : Given) (r : Readied) → HasChosen given old mid builds (Some r)
-    → IsReadied mid.node (asked_by r.act) r
-readied_so given old mid builds r has = subst (λ n. IsReadied n (asked_by r.act) r)
+pub readied_so : {D P : Type 0} (given : P → Option (List Arrived)) (does : P → Call → P → Type 0)
+    (vouches : P → Text → Type 0) (old mid : SoloState D P) (handed : Handed) (r : Readied)
+    → HasChosen given does vouches old mid handed (Some r) → IsReadied mid.node (asked_by r.act) r
+readied_so given does vouches old mid handed r has = subst (λ n. IsReadied n (asked_by r.act) r)
     (sym has.same) (readied_is old.node r has.chosen has.made)
 
 -- a crash in what follows leaves what it leaves of the node before
@@ -68,40 +73,68 @@ untouched_so is_kept history old mid new same f = subst
     ⊎ (is_kept new.node.log.disk → (n.node.stopped ≡ false → IsOnLog history n)
     → history new.node.log.disk ≡ history n.log.disk)) same
 
-module _ {D P : Type 0} (given : P → Option (List Arrived)) (old mid new : SoloState D P)
-    (builds : Given) where
-  -- nothing more was received
-  pub chosen_then : (c : Chosen) → IsChosen given old mid builds c
-      → GoesOnBy [] (given mid.port) (given new.port) → IsChosen given old new builds c
-  chosen_then c is nothing = record {
-    came = is.came;
+-- what was offered nothing went through no call
+none_sent : {P : Type 0} (does : P → Call → P → Type 0) (old new : P) → WasOffered does old [] new
+    → new ≡ old
+none_sent does old new ([], are, same) = same
+none_sent does old new (a ∷ answers, are, went) =
+    absurd (let no : ◌≡◌ {A = List Parcel} (a.0 ∷ map (λ x. x.0) answers) [] = are in cc)
+
+-- what was vouched for still is
+vouched_on : {P : Type 0} (vouches : P → Text → Type 0) (old new : P) (came : Arrived)
+    → KeepsVouching vouches old new → IsVouchedFor vouches old came
+    → IsVouchedFor vouches new came
+vouched_on vouches old new None keeps is = tt
+vouched_on vouches old new (Some d) keeps is = keeps d.1 is
+
+module _ {D P : Type 0} (given : P → Option (List Arrived)) (does : P → Call → P → Type 0)
+    (vouches : P → Text → Type 0) (old mid new : SoloState D P) (handed : Handed) where
+  -- nothing more was received, and then these were offered
+  pub chosen_then : (c : Chosen) (parcels : List Parcel)
+      → IsChosen given does vouches old mid handed [] c
+      → GoesOnBy [] (given mid.port) (given new.port) → WasOffered does mid.port parcels new.port
+      → KeepsVouching vouches mid.port new.port
+      → IsChosen given does vouches old new handed parcels c
+  chosen_then c parcels is nothing sent keeps = record {
+    answer = is.answer;
     looked = goes_no_more _ (given old.port) (given mid.port) (given new.port) is.looked nothing;
+    between = is.between;
+    received = is.received;
+    sent = subst (λ p. WasOffered does p parcels new.port)
+        (none_sent does is.between mid.port is.sent) sent;
+    vouched = vouched_on vouches mid.port new.port (came_by is.answer) keeps is.vouched;
     choice = is.choice;
   }
 
-  module _ (r : Readied) (has : HasChosen given old mid builds (Some r))
-      (nothing : GoesOnBy [] (given mid.port) (given new.port)) where
-    pub chosen_so : IsChosen given old new builds (Some (me_of old, asked_by r.act))
-    chosen_so = subst (λ c. IsChosen given old new builds c)
+  module _ (r : Readied) (has : HasChosen given does vouches old mid handed (Some r))
+      (nothing : GoesOnBy [] (given mid.port) (given new.port))
+      (keeps : KeepsVouching vouches mid.port new.port) where
+    pub chosen_so : (parcels : List Parcel) → WasOffered does mid.port parcels new.port
+        → IsChosen given does vouches old new handed parcels (Some (me_of old, asked_by r.act))
+    chosen_so parcels sent = subst (λ c. IsChosen given does vouches old new handed parcels c)
         (chosen_is old.node r has.chosen has.made)
-        (chosen_then has.chosen has.is_chosen nothing)
+        (chosen_then has.chosen parcels has.is_chosen nothing sent keeps)
 
     -- the step that was ready was taken
     pub taken_so : (offered : P → Option (List Parcel)) → mid.pending ≡ old.pending
         → GoesOnBy [] (offered old.port) (offered mid.port)
-        → HasTaken offered mid new (asked_by r.act) → HasTaken offered old new (asked_by r.act)
-    taken_so offered kept silent t = record {
-      taken = t.taken;
-      takes = subst (λ n. Takes n.node (asked_by r.act) (Ok t.taken)) has.same t.takes;
-      room = subst (λ n. ¬ IsFull n.node t.taken.answer.note) has.same t.room;
-      node = t.node ∙ ap (λ n. after n.node t.taken) has.same;
-      pending = t.pending ∙ (λ i. kept_after (kept i) ((has.same i).node.member.me)
-          ((has.same i).node.member) (asked_by r.act));
-      offers = subst
-          (λ n. GoesOnBy (parcels_from n.node.member.me (datagrams_to t.taken.answer.sends))
-          (offered old.port) (offered new.port)) has.same
-          (goes_on _ (offered old.port) (offered mid.port) (offered new.port) silent t.offers);
-    }
+        → TookStep offered does mid new (asked_by r.act)
+        → HasTaken given offered does vouches old new handed (asked_by r.act)
+    taken_so offered kept silent t =
+        let sends = λ (n : LoggedNode D). parcels_from n.node.member.me
+        (datagrams_to t.taken.answer.sends) in
+        record {
+          taken = t.taken;
+          takes = subst (λ n. Takes n.node (asked_by r.act) (Ok t.taken)) has.same t.takes;
+          room = subst (λ n. ¬ IsFull n.node t.taken.answer.note) has.same t.room;
+          node = t.node ∙ ap (λ n. after n.node t.taken) has.same;
+          pending = t.pending ∙ (λ i. kept_after (kept i) ((has.same i).node.member.me)
+              ((has.same i).node.member) (asked_by r.act));
+          offers = subst (λ n. GoesOnBy (sends n) (offered old.port) (offered new.port)) has.same
+              (goes_on _ (offered old.port) (offered mid.port) (offered new.port) silent t.offers);
+          chosen = chosen_so (sends old.node)
+              (subst (λ n. WasOffered does mid.port (sends n) new.port) has.same t.calls);
+        }
 
     filled : LacksRoom mid.node.log (note_in r.ready.step) → HasFilled old.node (asked_by r.act)
     filled lacks = record {
@@ -122,27 +155,31 @@ module _ {D P : Type 0} (given : P → Option (List Arrived)) (old mid new : Sol
     }
 
     -- or it was not
-    pub refused_so : (leaves : Asked → Type 0) → leaves (asked_by r.act) → (f : TurnFault)
-        → IsTakingFault mid.node new.node (note_in r.ready.step) f
-        → IsTurnFault given old new builds leaves f
-    refused_so leaves left refused.Memory same =
-        (Some (me_of old, asked_by r.act), chosen_so, same ∙ ap (λ n. n.node) has.same)
-    refused_so leaves left (refused.Node g) (full, lacks, same) = (
+    chosen_still : new.port ≡ mid.port
+        → IsChosen given does vouches old new handed [] (Some (me_of old, asked_by r.act))
+    chosen_still still = chosen_so [] ([], refl, still)
+
+    pub refused_so : new.port ≡ mid.port → (leaves : Asked → Type 0) → leaves (asked_by r.act)
+        → (f : TurnFault) → IsTakingFault mid.node new.node (note_in r.ready.step) f
+        → IsTurnFault given does vouches old new handed leaves f
+    refused_so still leaves left refused.Memory same =
+        (Some (me_of old, asked_by r.act), chosen_still still, same ∙ ap (λ n. n.node) has.same)
+    refused_so still leaves left (refused.Node g) (full, lacks, same) = (
       asked_by r.act,
-      chosen_so,
+      chosen_still still,
       record {
         cause = inr (full, filled lacks);
         leaves = same ∙ ap (λ n. n.node) has.same
             ∙ sym (ap (left_by old.node.node (asked_by r.act)) full);
       },
     )
-    refused_so leaves left (refused.Down k) (me, room, stops) = (
+    refused_so still leaves left (refused.Down k) (me, room, stops) = (
       asked_by r.act,
-      chosen_so,
+      chosen_still still,
       me ∙ ap (λ n. n.node.member.me) has.same,
       tried room,
       stops ∙ ap (λ n. record n.node { stopped = true }) has.same,
       left,
     )
-    refused_so leaves left refused.NotSent none = absurd none
-    refused_so leaves left refused.NotFresh none = absurd none
+    refused_so still leaves left refused.NotSent none = absurd none
+    refused_so still leaves left refused.NotFresh none = absurd none

@@ -1,15 +1,17 @@
 -- Why a turn did nothing, and what that leaves.
-use Rattle.std.specs.Prelude.{◌≡◌, ◌⊎◌, true, List, Option, Some, Err}
+use Rattle.std.specs.Prelude.{◌≡◌, ◌⊎◌, ℕ, true, List, [], Option, Some, Err}
 use Rattle.choice.specs.Choice.{Chosen}
 use Rattle.choice.specs.declared.fault.TurnFault.{TurnFault}
 use Rattle.choice.specs.declared.fault.TurnFault.TheVariants.{Memory, Node, Down, NotSent, NotFresh}
+use Rattle.faults.specs.Bytes.{Text}
 use Rattle.node.specs.Calls.{HasFilled, HasTried, left_by}
 use Rattle.node.specs.State.{LoggedNode}
 use Rattle.node.specs.Step.{Asked, Takes}
 use Rattle.node.specs.declared.fault.NodeFault.{NodeFault}
 use Rattle.node.specs.declared.fault.NodeFault.TheVariants as fault
+use Rattle.ports.specs.Calls.{Call}
 use Rattle.ports.specs.Kept.{Arrived}
-use Rattle.protocol.specs.Given.{Given}
+use Rattle.solo.specs.Handed.{Handed}
 use Rattle.stable_record.specs.declared.log_fault.LogFault.TheVariants as log
 use Rattle.solo.specs.State.{SoloState, me_of}
 use Rattle.solo.specs.Turn.{IsChosen}
@@ -21,19 +23,39 @@ pub record IsRefusedBy {D : Type 0} (old new : LoggedNode D) (asked : Asked) (f 
   pub cause : Takes old.node asked (Err f) ⊎ ((f ≡ fault.Log log.Full) × HasFilled old asked)
   pub leaves : new.node ≡ left_by old.node asked f
 
--- Each refusal has its cause, want of memory aside, which leaves the node; and the port was asked
--- as for a choice, whichever it is. Where the node went down, the note of its step went to the
--- device, and this is what that leaves of what the node was asked.
-abbrev pub IsTurnFault : {D P : Type 0} → (P → Option (List Arrived)) → SoloState D P
-    → SoloState D P → Given → (Asked → Type 0) → TurnFault → Type 0
-IsTurnFault given old new builds leaves Memory =
-    (chosen : Chosen) × IsChosen given old new builds chosen × (new.node.node ≡ old.node.node)
-IsTurnFault given old new builds leaves (Node f) =
-    (asked : Asked) × IsChosen given old new builds (Some (me_of old, asked))
+-- Memory was wanting, whatever is chosen, and the node stayed.
+abbrev pub WantsMemory : {D P : Type 0} → (P → Option (List Arrived)) → (P → Call → P → Type 0)
+    → (P → Text → Type 0) → SoloState D P → SoloState D P → Handed → Type 0
+WantsMemory given does vouches old new handed =
+    (chosen : Chosen) × IsChosen given does vouches old new handed [] chosen
+    × (new.node.node ≡ old.node.node)
+
+-- The node refused what was chosen.
+abbrev pub RefusesChoice : {D P : Type 0} → (P → Option (List Arrived)) → (P → Call → P → Type 0)
+    → (P → Text → Type 0) → SoloState D P → SoloState D P → Handed → NodeFault → Type 0
+RefusesChoice given does vouches old new handed f =
+    (asked : Asked) × IsChosen given does vouches old new handed [] (Some (me_of old, asked))
     × IsRefusedBy old.node new.node asked f
-IsTurnFault given old new builds leaves (Down k) =
-    (asked : Asked) × IsChosen given old new builds (Some (me_of old, asked)) × (k ≡ me_of old)
-    × HasTried old.node asked × (new.node.node ≡ record old.node.node { stopped = true })
-    × leaves asked
-IsTurnFault given old new builds leaves NotSent = ⊥
-IsTurnFault given old new builds leaves NotFresh = ⊥
+
+-- The node went down: the note of its step on what was chosen went to the device, and this is what
+-- that leaves of what the node was asked.
+abbrev pub GoesDown : {D P : Type 0} → (P → Option (List Arrived)) → (P → Call → P → Type 0)
+    → (P → Text → Type 0) → SoloState D P → SoloState D P → Handed → (Asked → Type 0) → ℕ → Type 0
+GoesDown given does vouches old new handed leaves k =
+    (asked : Asked) × IsChosen given does vouches old new handed [] (Some (me_of old, asked))
+    × (k ≡ me_of old) × HasTried old.node asked
+    × (new.node.node ≡ record old.node.node { stopped = true }) × leaves asked
+
+-- Each refusal has its cause, want of memory aside, which leaves the node; and the port was asked
+-- as for a choice, whichever it is, and was offered nothing.
+abbrev pub IsTurnFault : {D P : Type 0} → (P → Option (List Arrived)) → (P → Call → P → Type 0)
+    → (P → Text → Type 0) → SoloState D P → SoloState D P → Handed → (Asked → Type 0) → TurnFault
+    → Type 0
+IsTurnFault given does vouches old new handed leaves Memory =
+    WantsMemory given does vouches old new handed
+IsTurnFault given does vouches old new handed leaves (Node f) =
+    RefusesChoice given does vouches old new handed f
+IsTurnFault given does vouches old new handed leaves (Down k) =
+    GoesDown given does vouches old new handed leaves k
+IsTurnFault given does vouches old new handed leaves NotSent = ⊥
+IsTurnFault given does vouches old new handed leaves NotFresh = ⊥

@@ -1,36 +1,60 @@
 -- One turn of a node whose peers are elsewhere.
-use Rattle.std.specs.Prelude.{◌≡◌, Bool, false, List, [], ◌∷◌, Option, Ok, if◌then◌else◌, length}
-use Rattle.choice.specs.Choice.{Chosen, IsChoice, has_job}
+use Rattle.std.specs.Prelude.{◌≡◌, ⊤, Bool, false, List, [], ◌∷◌, Option, None, Some, Result, Ok, if◌then◌else◌, length}
+use Rattle.choice.specs.Choice.{Chosen}
 use Rattle.choice.specs.Pending.{kept_after}
+use Rattle.faults.specs.Bytes.{Text}
 use Rattle.node.specs.Calls.{LeavesItsNoteAtMost}
 use Rattle.node.specs.OnLog.{IsFull, IsOnLog}
 use Rattle.node.specs.Parcels.{datagrams_to}
-use Rattle.node.specs.Step.{Asked, Taken, Takes, after}
-use Rattle.parts.specs.Offered.{parcels_from}
+use Rattle.node.specs.Step.{Asked, Comes, Does, Taken, Takes, after}
+use Rattle.parts.specs.Calls.{came_by}
+use Rattle.parts.specs.Offered.{WasOffered, parcels_from}
+use Rattle.ports.specs.Calls.{Call, Received, WentThrough}
 use Rattle.ports.specs.Kept.{Arrived, GoesOnBy, Parcel}
-use Rattle.protocol.specs.Given.{Given}
+use Rattle.ports.specs.declared.fault.PortFault.{PortFault}
 use Rattle.stable_record.specs.History.{History}
+use Rattle.solo.specs.Handed.{Handed, IsChoiceBy, answers_first}
 use Rattle.solo.specs.State.{SoloState, me_of, only}
+
+-- whether a job of the node is answered before all else
+abbrev pub has_work : {D P : Type 0} → SoloState D P → Handed → Bool
+has_work s handed = answers_first handed (only s.node.node) (length s.node.node.member.weights)
 
 -- What receives gave in the turn: nothing was asked of the port where a job waited for its answer,
 -- and else it was asked once.
 abbrev pub looked_for : Bool → Arrived → List Arrived
 looked_for has_job came = if has_job then [] else came ∷ []
 
--- It is the turn's choice, by what the port gave in the turn.
-pub record IsChosen {D P : Type 0} (given : P → Option (List Arrived)) (old new : SoloState D P)
-    (builds : Given) (chosen : Chosen) : Type 0 where
-  pub came : Arrived
-  pub looked : GoesOnBy
-      (looked_for (has_job (only old.node.node) (length old.node.node.member.weights) builds) came)
-      (given old.port) (given new.port)
-  pub choice : IsChoice (only old.node.node) (length old.node.node.member.weights) old.pending
-      builds came chosen
+-- the calls by which it was asked
+abbrev pub received_by : Bool → Result Arrived PortFault → List Call
+received_by has_job answer = if has_job then [] else Received answer ∷ []
+
+-- The port vouches for what came, if it is bytes.
+abbrev pub IsVouchedFor : {P : Type 0} → (P → Text → Type 0) → P → Arrived → Type 0
+IsVouchedFor vouches port None = ⊤
+IsVouchedFor vouches port (Some d) = vouches port d.1
+
+-- It is the turn's choice, by what the port gave in the turn, for which it vouches. The port went
+-- through just these calls, in order: it was asked once, or never, and then these were offered.
+pub record IsChosen {D P : Type 0} (given : P → Option (List Arrived))
+    (does : P → Call → P → Type 0) (vouches : P → Text → Type 0) (old new : SoloState D P)
+    (handed : Handed) (parcels : List Parcel) (chosen : Chosen) : Type 0 where
+  pub answer : Result Arrived PortFault
+  pub looked : GoesOnBy (looked_for (has_work old handed) (came_by answer)) (given old.port)
+      (given new.port)
+  pub between : P
+  pub received : WentThrough does old.port (received_by (has_work old handed) answer) between
+  pub sent : WasOffered does between parcels new.port
+  pub vouched : IsVouchedFor vouches new.port (came_by answer)
+  pub choice : IsChoiceBy handed (only old.node.node) (length old.node.node.member.weights)
+      old.pending (me_of old) (came_by answer) chosen
 
 -- The node took its step on what it was asked, for whose note its log had room, what follows is
 -- kept, and just the step's sends were offered.
-pub record HasTaken {D P : Type 0} (offered : P → Option (List Parcel)) (old new : SoloState D P)
-    (asked : Asked) : Type 0 where
+pub record HasTaken {D P : Type 0} (given : P → Option (List Arrived))
+    (offered : P → Option (List Parcel)) (does : P → Call → P → Type 0)
+    (vouches : P → Text → Type 0) (old new : SoloState D P) (handed : Handed) (asked : Asked)
+    : Type 0 where
   pub taken : Taken
   pub takes : Takes old.node.node asked (Ok taken)
   pub room : ¬ IsFull old.node.node taken.answer.note
@@ -38,6 +62,13 @@ pub record HasTaken {D P : Type 0} (offered : P → Option (List Parcel)) (old n
   pub pending : new.pending ≡ kept_after old.pending (me_of old) old.node.node.member asked
   pub offers : GoesOnBy (parcels_from (me_of old) (datagrams_to taken.answer.sends))
       (offered old.port) (offered new.port)
+  pub chosen : IsChosen given does vouches old new handed
+      (parcels_from (me_of old) (datagrams_to taken.answer.sends)) (Some (me_of old, asked))
+
+-- What the node is asked, if it is to take bytes, the port vouches for.
+abbrev pub IsHeard : {P : Type 0} → (P → Text → Type 0) → P → Asked → Type 0
+IsHeard vouches port (Comes text) = vouches port text
+IsHeard vouches port (Does input) = ⊤
 
 -- Nothing was offered.
 abbrev pub OffersNothing : {D P : Type 0} → (P → Option (List Parcel)) → SoloState D P

@@ -5,7 +5,6 @@ ghost use Rattle.std.specs.Prelude.{
   ◌<◌,
   ◌⊎◌,
   [],
-  ◌∷◌,
   IfErr,
   IfOk,
   None,
@@ -20,13 +19,15 @@ ghost use Rattle.choice.specs.Choice.{IsOwnIf, comes_to};
 ghost use Rattle.choice.specs.declared.fault.TurnFault.TheVariants as refused;
 ghost use Rattle.node.specs.declared.fault.NodeFault.{NodeFault as Fault};
 ghost use Rattle.node.specs.Calls.{left_by};
+ghost use Rattle.node.specs.OnLog.{IsLogged};
 ghost use Rattle.node.specs.Step.{Comes, Does};
-ghost use Rattle.ports.specs.Kept.{GoesOnBy};
+ghost use Rattle.ports.specs.Kept.{GoesOnBy, KeepsVouching};
 ghost use Rattle.protocol.specs.declared.input.Input.{Input as Asks};
 ghost use Rattle.parts.specs.Readied.{IsNoPart, IsPart};
 ghost use Rattle.solo.specs.Faults.{IsTurnFault};
+ghost use Rattle.solo.specs.Handed.{AllBuilds};
 ghost use Rattle.solo.specs.State.{member_up, only};
-ghost use Rattle.solo.specs.inside.Turning.{HasChosen, IsMade, IsNotTaken, solo_of, told};
+ghost use Rattle.solo.specs.inside.Turning.{HasChosen, HasCome, IsMade, IsNotTaken, solo_of, told};
 
 use choice::{Pending, TurnFault};
 use node::{Node, NodeFault};
@@ -49,12 +50,16 @@ pub(crate) fn choose<D: Disk, P: Port>(
     pending: &Pending,
     builds: &Packages,
 ) -> Result<Option<Readied>, TurnFault>
+    ensures logged { IsLogged node.old }
     ensures log { node.new.log ≡ node.old.log }
     ensures offered { GoesOnBy [] (P.offered port.old) (P.offered port.new) }
-    ensures chosen { IfOk result (HasChosen P.given (solo_of node.old pending.now port.old)
-        (solo_of node.new pending.now port.new) builds.now) }
-    ensures refused { IfErr result (IsTurnFault P.given (solo_of node.old pending.now port.old)
-        (solo_of node.new pending.now port.new) builds.now (λ asked. ⊥)) }
+    ensures chosen { IfOk result (HasChosen P.given P.does P.vouches
+        (solo_of node.old pending.now port.old) (solo_of node.new pending.now port.new)
+        (AllBuilds builds.now)) }
+    ensures refused { IfErr result (IsTurnFault P.given P.does P.vouches
+        (solo_of node.old pending.now port.old) (solo_of node.new pending.now port.new)
+        (AllBuilds builds.now) (λ asked. ⊥)) }
+    ensures vouches_on { KeepsVouching P.vouches port.old port.new }
 {
     let me = node.member().me();
     if let Some(readied) = answered(node, builds)? {
@@ -88,10 +93,11 @@ fn answered<D: Disk>(
 }
 
 /// What came. A receive that fails gave nothing.
-fn received<P: Port>(port: &mut P) -> Option<(u8, Vec<u8>)>
-    ensures given { GoesOnBy (option_map (λ d. (d.0, d.1.items)) result ∷ []) (P.given port.old)
-        (P.given port.new) }
+pub(crate) fn received<P: Port>(port: &mut P) -> Option<(u8, Vec<u8>)>
+    ensures came { HasCome P.given P.does P.vouches port.old port.new
+        (option_map (λ d. (d.0, d.1.items)) result) }
     ensures offered { GoesOnBy [] (P.offered port.old) (P.offered port.new) }
+    ensures vouches_on { KeepsVouching P.vouches port.old port.new }
 {
     match port.receive() {
         Ok(came) => came,
@@ -100,7 +106,7 @@ fn received<P: Port>(port: &mut P) -> Option<(u8, Vec<u8>)>
 }
 
 /// That the node, which has this number, takes what came, if that came for it and it is up.
-fn taken_in<D: Disk>(
+pub(crate) fn taken_in<D: Disk>(
     node: &mut Node<'_, D>,
     me: u8,
     came: Option<(u8, Vec<u8>)>,

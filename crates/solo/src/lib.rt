@@ -2,6 +2,7 @@
 #![tactic(auto)]
 
 mod choosing;
+mod live;
 mod solo;
 mod taking;
 

@@ -18,12 +18,14 @@ ghost use Rattle.choice.specs.Acts.{asked_by};
 ghost use Rattle.choice.specs.Pending.{nothing_kept};
 ghost use Rattle.choice.specs.declared.fault.TurnFault.TheVariants as refused;
 ghost use Rattle.engine.specs.State as engines;
-ghost use Rattle.node.specs.OnLog.{IsOnLog};
+ghost use Rattle.node.specs.OnLog.{IsLogged, IsOnLog};
+ghost use Rattle.ports.specs.Kept.{KeepsVouching};
 ghost use Rattle.protocol.specs.State.{engine_of};
 ghost use Rattle.stable_record.specs.Faults.{HasRisen};
 ghost use Rattle.solo.specs.Faults.{IsTurnFault};
-ghost use Rattle.solo.specs.State.{me_of};
-ghost use Rattle.solo.specs.Turn.{HasTaken, IsChosen, IsUntouched, LeavesAtMost, OffersNothing};
+ghost use Rattle.solo.specs.Handed.{AllBuilds};
+ghost use Rattle.solo.specs.Turns.{IsTurn};
+ghost use Rattle.solo.specs.Turn.{HasTaken, IsChosen, IsHeard, IsUntouched, LeavesAtMost, OffersNothing};
 
 use crate::choosing::choose;
 use crate::taking::take;
@@ -38,9 +40,9 @@ use std::marker::Model;
 /// One node, whose peers are elsewhere, and the port by which they hear each other.
 #[derive(Drop)]
 pub struct Solo<'a, D: Disk, P: Port> {
-    node: Node<'a, D>,
-    pending: Pending,
-    port: P,
+    pub(crate) node: Node<'a, D>,
+    pub(crate) pending: Pending,
+    pub(crate) port: P,
 }
 
 impl<'a, D: Disk, P: Port> Model for Solo<'a, D, P> {
@@ -79,46 +81,10 @@ impl<'a, D: Disk, P: Port> Solo<'a, D, P> {
     ///
     /// `Memory`; `Down`, where the node's device failed; else what the node refuses.
     pub fn turn(&mut self, builds: &Packages) -> Result<Option<Act>, TurnFault>
-        // The choice, and the port: it was asked once, unless a job waited for its answer.
-        ensures chosen { IfOk result (λ o. IfSome o (λ act.
-            IsChosen P.given self.old self.new builds.now (Some (me_of self.old, asked_by act)))) }
-        ensures nothing { IfOk result (λ o. IfNone o
-            (IsChosen P.given self.old self.new builds.now None)) }
-
-        // The node took the step, and just its sends were offered.
-        ensures taken { IfOk result (λ o. IfSome o
-            (λ act. HasTaken P.offered self.old self.new (asked_by act))) }
-        ensures same { IfOk result (λ o. IfNone o
-            ((self.new.node ≡ self.old.node) × (self.new.pending ≡ self.old.pending)
-            × OffersNothing P.offered self.old self.new)) }
-
-        // Refusals, and what they leave.
-        ensures refused { IfErr result (IsTurnFault P.given self.old self.new builds.now
-            (LeavesAtMost D.is_kept D.history self.old self.new)) }
-        ensures left { IfErr result (λ f. (self.new.pending ≡ self.old.pending)
-            × OffersNothing P.offered self.old self.new) }
-        ensures device { IfErr result (λ f. (k : _) → f ≡ refused.Down k
-            → HasRisen (D.failures_of self.old.node.log.disk)
-            (D.failures_of self.new.node.log.disk)) }
-
-        // The log: after each turn, and at each moment of one.
-        ensures on_log { D.is_kept self.new.node.log.disk → IsOnLog D.history self.old.node
-            → self.new.node.node.stopped ≡ false → IsOnLog D.history self.new.node }
-        ensures any_moment { IfOk result (λ o. IfSome o
-            (λ act. LeavesAtMost D.is_kept D.history self.old self.new (asked_by act))) }
-        ensures untouched { MatchResult result
-            (λ o. IfNone o (IsUntouched D.is_kept D.history self.old self.new))
-            (λ f. ((k : _) × (f ≡ refused.Down k))
-            ⊎ IsUntouched D.is_kept D.history self.old self.new) }
-        ensures kept { D.is_kept self.new.node.log.disk → D.is_kept self.old.node.log.disk }
+        ensures { IsTurn D.is_kept D.history D.failures_of P.given P.offered P.does P.vouches
+            (AllBuilds builds.now) self.old self.new result }
     {
-        match choose(&mut self.node, &mut self.port, &self.pending, builds)? {
-            Some(readied) => {
-                let act = take(&mut self.node, &mut self.pending, &mut self.port, readied)?;
-                Ok(Some(act))
-            }
-            None => Ok(None),
-        }
+        self.take_turn(builds)
     }
 
     /// How many packages have each letter at the node, as long as it is up.
@@ -162,5 +128,54 @@ impl<'a, D: Disk, P: Port> Solo<'a, D, P> {
             self.entry.ghost_name result.ghost_name (λ p. record self.old { port = p })) }
     {
         &mut self.port
+    }
+
+    /// The same, clause by clause.
+    fn take_turn(&mut self, builds: &Packages) -> Result<Option<Act>, TurnFault>
+        // The choice, whose step the node took; and the port went through just these calls, in
+        // order: it was asked once, unless a job waited for its answer, and then the step's sends
+        // were offered. What the node takes for a datagram the port vouches for.
+        ensures taken { IfOk result (λ o. IfSome o (λ act. HasTaken P.given P.offered P.does
+            P.vouches self.old self.new (AllBuilds builds.now) (asked_by act))) }
+        ensures heard { IfOk result (λ o. IfSome o
+            (λ act. IsHeard P.vouches self.new.port (asked_by act))) }
+
+        // There was nothing to do, and nothing was offered.
+        ensures nothing { IfOk result (λ o. IfNone o
+            (IsChosen P.given P.does P.vouches self.old self.new (AllBuilds builds.now) []
+            None)) }
+        ensures same { IfOk result (λ o. IfNone o
+            ((self.new.node ≡ self.old.node) × (self.new.pending ≡ self.old.pending)
+            × OffersNothing P.offered self.old self.new)) }
+
+        // Refusals, and what they leave.
+        ensures refused { IfErr result (IsTurnFault P.given P.does P.vouches self.old self.new
+            (AllBuilds builds.now) (LeavesAtMost D.is_kept D.history self.old self.new)) }
+        ensures left { IfErr result (λ f. (self.new.pending ≡ self.old.pending)
+            × OffersNothing P.offered self.old self.new) }
+        ensures device { IfErr result (λ f. (k : _) → f ≡ refused.Down k
+            → HasRisen (D.failures_of self.old.node.log.disk)
+            (D.failures_of self.new.node.log.disk)) }
+
+        // The log: before and after each turn, and at each moment of one.
+        ensures logged { IsLogged self.old.node }
+        ensures on_log { D.is_kept self.new.node.log.disk → IsOnLog D.history self.old.node
+            → self.new.node.node.stopped ≡ false → IsOnLog D.history self.new.node }
+        ensures any_moment { IfOk result (λ o. IfSome o
+            (λ act. LeavesAtMost D.is_kept D.history self.old self.new (asked_by act))) }
+        ensures untouched { MatchResult result
+            (λ o. IfNone o (IsUntouched D.is_kept D.history self.old self.new))
+            (λ f. ((k : _) × (f ≡ refused.Down k))
+            ⊎ IsUntouched D.is_kept D.history self.old self.new) }
+        ensures kept { D.is_kept self.new.node.log.disk → D.is_kept self.old.node.log.disk }
+        ensures vouches_on { KeepsVouching P.vouches self.old.port self.new.port }
+    {
+        match choose(&mut self.node, &mut self.port, &self.pending, builds)? {
+            Some(readied) => {
+                let act = take(&mut self.node, &mut self.pending, &mut self.port, readied)?;
+                Ok(Some(act))
+            }
+            None => Ok(None),
+        }
     }
 }

@@ -5,12 +5,12 @@ ghost use Rattle.choice.specs.declared.fault.TurnFault.TheVariants as refused;
 ghost use Rattle.node.specs.OnLog.{IsFull, IsLogged, IsOnLog, LeavesOneMoreAtMost};
 ghost use Rattle.node.specs.Parcels.{datagrams_to};
 ghost use Rattle.node.specs.Step.{IsReadyFor, after, note_in, taken_by};
-ghost use Rattle.parts.specs.Offered.{parcels_from};
+ghost use Rattle.parts.specs.Offered.{WasOffered, parcels_from};
 ghost use Rattle.parts.specs.Readied.{IsReadied};
-ghost use Rattle.ports.specs.Kept.{GoesOnBy};
+ghost use Rattle.ports.specs.Kept.{GoesOnBy, KeepsVouching};
 ghost use Rattle.stable_record.specs.Faults.{HasRisen};
-ghost use Rattle.solo.specs.Turn.{HasTaken, IsUntouched, LeavesAtMost};
-ghost use Rattle.solo.specs.inside.Turning.{IsTakingFault, solo_of};
+ghost use Rattle.solo.specs.Turn.{IsUntouched, LeavesAtMost};
+ghost use Rattle.solo.specs.inside.Turning.{IsTakingFault, TookStep, solo_of};
 
 use crate::choosing::told;
 use choice::{Act, Pending, TurnFault};
@@ -34,9 +34,11 @@ pub(crate) fn take<D: Disk, P: Port>(
 ) -> Result<Act, TurnFault>
     requires { IsReadied node.old (asked_by readied.act) readied }
     ensures act { IfOk result (λ act. act ≡ readied.act) }
-    ensures taken { IfOk result (λ act. HasTaken P.offered (solo_of node.old pending.old port.old)
-        (solo_of node.new pending.new port.new) (asked_by readied.act)) }
+    ensures taken { IfOk result (λ act. TookStep P.offered P.does
+        (solo_of node.old pending.old port.old) (solo_of node.new pending.new port.new)
+        (asked_by readied.act)) }
     ensures given { GoesOnBy [] (P.given port.old) (P.given port.new) }
+    ensures vouches_on { KeepsVouching P.vouches port.old port.new }
     ensures refused { IfErr result
         (IsTakingFault node.old node.new (note_in readied.ready.step)) }
     ensures left { OnErr result ((pending.new ≡ pending.old) × (port.new ≡ port.old)) }
@@ -88,7 +90,10 @@ fn finish<D: Disk, P: Port>(
     ensures offered { OnOk result (GoesOnBy
         (parcels_from me (datagrams_to (taken_by node.old.node ready).answer.sends))
         (P.offered port.old) (P.offered port.new)) }
+    ensures calls { OnOk result (WasOffered P.does port.old
+        (parcels_from me (datagrams_to (taken_by node.old.node ready).answer.sends)) port.new) }
     ensures given { GoesOnBy [] (P.given port.old) (P.given port.new) }
+    ensures vouches_on { KeepsVouching P.vouches port.old port.new }
     ensures no_offer { OnErr result (port.new ≡ port.old) }
     ensures refused { IfErr result (IsTakingFault node.old node.new (note_in ready.step)) }
     ensures device { IfErr result (λ f. (k : _) → f ≡ refused.Down k

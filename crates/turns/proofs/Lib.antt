@@ -12,3 +12,4 @@ pub mod Standing
 pub mod Stepping
 pub mod Still
 pub mod Turns
+pub mod ByCalls

@@ -10,7 +10,6 @@ use Rattle.protocol.specs.Member.{IsMember}
 use Rattle.protocol.specs.State.{State}
 use Rattle.turns.specs.State.{ClusterState, IsWorldOf, here_of, node_view, taken}
 use Rattle.choosing.specs.Here.{member_up}
-use Rattle.choosing.specs.Choosing.{AreMembers}
 use Rattle.world.proofs.Growing.{leads_later}
 use Rattle.world.specs.Happening.{Leads}
 use Rattle.world.specs.World.{IsMade, World, down_node, node_at, start, up_node}
@@ -59,24 +58,6 @@ module _ {D P : Type 0} (c : ClusterState D P) (w : World) (is : IsWorldOf c w) 
         let run = each_run_is_acts c.division c.weights (taken c) w is.made is.led in
         subst (λ (x : NodeState). IsMember x.member) (sym hosted.is)
         (node_is_member w made_there run.3 k (up_node n.node) hosted.stands)
-
-  -- so are all that are up
-  pub members_there : AreMembers (here_of c)
-  members_there k s at = by (slice_get c.nodes k) refl at
-    where
-      by : (o : Option (LoggedNode D)) → slice_get c.nodes k ≡ o → member_up o ≡ Some s
-          → IsMember s
-      by None stands at = absurd (let no : ◌≡◌ {A = Option State} None (Some s) = at in cc)
-      by (Some n) stands at = by_state n.node.stopped refl at
-        where
-          by_state : (b : Bool) → n.node.stopped ≡ b
-              → (if b then None else Some n.node.member) ≡ Some s → IsMember s
-          by_state true down at =
-              absurd (let no : ◌≡◌ {A = Option State} None (Some s) = at in cc)
-          by_state false up at =
-              let known : ◌≡◌ {A = Option State} (Some n.node.member) (Some s) = at in
-              let same : n.node.member ≡ s = cc in
-              subst IsMember same (member_there k n stands up)
 
 -- the member of a node that is up
 pub here_up : {D P : Type 0} (c : ClusterState D P) (k : ℕ) (n : LoggedNode D)

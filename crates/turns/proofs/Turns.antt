@@ -44,7 +44,7 @@ use Rattle.turns.proofs.Still.{are_untouched, is_same, same_count, still_on_logs
 use Rattle.turns.specs.AnyCase.{StandsInAnyCase}
 use Rattle.turns.specs.Faults.{IsLeftBy, IsTurnFault}
 use Rattle.turns.specs.State.{AreOnLogs, ClusterState, IsWorldOf, taken}
-use Rattle.turns.specs.Turn.{AreUntouched, HasFailedAt, HasHappened, IsChosen, IsEventChosen, IsSame, KeepsWith, LeavesItsNotes, OffersItsSends, OthersStay, WentDown, WereKept}
+use Rattle.turns.specs.Turn.{AreUntouched, HasFailedAt, HasHappened, IsChosen, IsEventChosen, IsSame, KeepsWith, LeavesItsNotes, Offers, OffersNothing, OthersStay, WentDown, WereKept}
 use Rattle.turns.specs.inside.Turning.{GoesDown, IsDue, IsMadeReady, IsTurn, StandsStill, TakesStep, turning_of}
 use Rattle.wire.specs.Reading.{datagram_of}
 use Rattle.wire.specs.declared.datagram.Piece.{Piece}
@@ -153,7 +153,7 @@ pub record Promises {D P : Type 0} (is_kept : D → Type 0) (history : D → His
   pub nothing : IfOk result (λ o. IfNone o (IsChosen given old new builds None))
   pub happened : IfOk result (λ o. IfSome o (λ e. HasHappened old new (event_view e)))
   pub others : IfOk result (λ o. IfSome o (λ e. OthersStay old new (node_of (event_view e))))
-  pub offers : IfOk result (λ o. IfSome o (λ e. OffersItsSends offered old new (event_view e)))
+  pub offers : Offers offered old new result
   pub pending : IfOk result (λ o. IfSome o (λ e. KeepsWith old new (event_view e)))
   pub same : IfOk result (λ o. IfNone o (IsSame old new))
   pub faults : IfErr result (IsTurnFault given old new builds)
@@ -239,8 +239,12 @@ module _ {D P : Type 0} (is_kept : D → Type 0) (history : D → History) (fail
   -- ---- refusals
 
   fault_is : (f : TurnFault) → IsTurnOf (Err f) → IsTurnFault given old new builds f
-  fault_is refused.Memory (inl t) = (t.0.0, chosen_is t.0.0 t.0.1)
-  fault_is refused.Memory (inr t) = (t.1.chosen, chosen_is t.1.chosen t.1.is_chosen)
+  fault_is refused.Memory (inl t) = (t.0.0, chosen_is (Some t.0.0) t.0.1)
+  fault_is refused.Memory (inr t) = (
+    (t.0.node, asked_by t.0.readied.act),
+    subst (IsChosen given old new builds) (chosen_some t.1.chosen t.0 t.1.readied)
+        (chosen_is t.1.chosen t.1.is_chosen),
+  )
   fault_is (refused.Node f) (inl (refuses, still)) =
       let e = some_of (event_of old.sent (refuses.0, Does refuses.1)) refuses.3 in (
         e.0,
@@ -308,6 +312,15 @@ module _ {D P : Type 0} (is_kept : D → Type 0) (history : D → History) (fail
       subst (HasFailedAt failures old new) (sym t.2.0)
       (has_failed_at is_kept history failures offered old new division weights t.0 t.2.1.0 t.2.1.1)
 
+  -- and where it is refused nothing was offered
+  offers_none : (f : TurnFault) → IsTurnOf (Err f) → OffersNothing offered old new
+  offers_none f (inl t) = t.1.offers
+  offers_none refused.Memory (inr t) = t.2.offers
+  offers_none (refused.Node f) (inr t) = t.2.2.offers
+  offers_none (refused.Down k) (inr t) = t.2.1.1.offers
+  offers_none refused.NotSent (inr t) = absurd t.2
+  offers_none refused.NotFresh (inr t) = absurd t.2
+
   -- ---- by what it answers
 
   pub promises : (result : Result (Option declared.Event) TurnFault) → IsTurnOf result
@@ -318,7 +331,7 @@ module _ {D P : Type 0} (is_kept : D → Type 0) (history : D → History) (fail
         (chosen_is t.0.chosen t.0.is_chosen);
     happened = tt;
     others = tt;
-    offers = tt;
+    offers = t.1.offers;
     pending = tt;
     same = still_same t.1;
     faults = tt;
@@ -354,7 +367,7 @@ module _ {D P : Type 0} (is_kept : D → Type 0) (history : D → History) (fail
     nothing = tt;
     happened = tt;
     others = tt;
-    offers = tt;
+    offers = offers_none f t;
     pending = tt;
     same = tt;
     faults = fault_is f t;

@@ -1,10 +1,12 @@
 -- A turn of a cluster.
-use Rattle.std.specs.Prelude.{◌≡◌, ◌++◌, ℕ, true, List, [], ◌∷◌, Option, Some, length, map, slice_get, slice_set}
+use Rattle.std.specs.Prelude.{◌≡◌, ◌++◌, ℕ, true, List, [], ◌∷◌, Option, None, Some, Result, Ok, Err, length, map, slice_get, slice_set}
 use Rattle.choice.specs.Choice.{Chosen, IsChoice, has_job}
 use Rattle.choice.specs.Pending.{kept_after}
+use Rattle.choice.specs.declared.fault.TurnFault.{TurnFault}
 use Rattle.choosing.specs.Choosing.{looked_for}
 use Rattle.choosing.specs.Events.{event_of}
-use Rattle.events.specs.Events.{Event, StopIn, node_of}
+use Rattle.events.specs.Events.{Event, StopIn, event_view, node_of}
+use Rattle.events.specs.declared.event.Event as declared
 use Rattle.events.specs.declared.event.Left.{Left}
 use Rattle.events.specs.declared.event.Left.TheVariants as left
 use Rattle.node.specs.OnLog.{LeavesOneMoreAtMost}
@@ -58,6 +60,13 @@ OffersItsSends offered old new e =
 abbrev pub OffersNothing : {D P : Type 0} → (P → Option (List Parcel)) → ClusterState D P
     → ClusterState D P → Type 0
 OffersNothing offered old new = GoesOnBy [] (offered old.port) (offered new.port)
+
+-- A turn offers what its event's step sends, and else nothing.
+abbrev pub Offers : {D P : Type 0} → (P → Option (List Parcel)) → ClusterState D P
+    → ClusterState D P → Result (Option declared.Event) TurnFault → Type 0
+Offers offered old new (Ok None) = OffersNothing offered old new
+Offers offered old new (Ok (Some e)) = OffersItsSends offered old new (event_view e)
+Offers offered old new (Err f) = OffersNothing offered old new
 
 -- What is kept between turns is what it was, with what the event's node did.
 abbrev pub KeepsWith : {D P : Type 0} → ClusterState D P → ClusterState D P → Event → Type 0

@@ -1,6 +1,6 @@
 //! A cluster, which contracts see as its nodes, its datagrams, its events, and what it keeps
 //! between turns.
-ghost use Rattle.std.specs.Prelude.{◌≡◌, [], IfErr, IfOk, MatchOption, None, Some, length};
+ghost use Rattle.std.specs.Prelude.{◌≡◌, [], IfErr, IfOk, MatchOption, None, Some, length, map};
 ghost use Rattle.choice.specs.Pending.{nothing_kept};
 ghost use Rattle.engine.specs.State as engines;
 ghost use Rattle.world.specs.MatchingLaws.{IsSafe};
@@ -20,6 +20,7 @@ use choice::{Pending, TurnFault};
 use datagrams::Datagrams;
 use engine::{Counts, Units};
 use events::Event;
+use faults::Memory;
 use listing::Tree;
 use node::Node;
 use ports::Port;
@@ -139,6 +140,25 @@ impl<'a, D: Disk, P: Port> Cluster<'a, D, P> {
         events
     }
 
+    /// The nodes, by number, each over its disk, and the port, for which the cluster goes.
+    pub fn into_parts(self) -> (Vec<Node<'a, D>>, P)
+        ensures nodes { result.0.items ≡ self.entry.nodes }
+        ensures port { result.1 ≡ self.entry.port }
+    {
+        let Cluster { nodes, port, .. } = self;
+        (nodes, port)
+    }
+
+    /// The disks, by number, for which the cluster goes. Where memory for a list of them is wanting
+    /// they go, too.
+    pub fn into_disks(self) -> Result<Vec<D>, Memory>
+        ensures { IfOk result (λ disks.
+            disks.items ≡ map (λ n. n.log.disk) self.entry.nodes) }
+    {
+        let Cluster { alloc, nodes, .. } = self;
+        disks_of(alloc, nodes)
+    }
+
     /// How many packages have each letter at the node, as long as it is up.
     pub fn counts(&self, node: u8) -> Option<Counts>
         ensures { MatchOption result (here_of self.now node ≡ None)
@@ -161,4 +181,15 @@ impl<'a, D: Disk, P: Port> Cluster<'a, D, P> {
     {
         &mut self.port
     }
+}
+
+/// The disks on which these nodes stand.
+fn disks_of<D: Disk>(alloc: Global, nodes: Vec<Node<'_, D>>) -> Result<Vec<D>, Memory>
+    ensures { IfOk result (λ disks. disks.items ≡ map (λ n. n.log.disk) nodes.entry.items) }
+{
+    let mut disks = Vec::with_capacity(alloc, nodes.len())?;
+    for node in nodes {
+        disks.push(node.into_disk())?;
+    }
+    Ok(disks)
 }

@@ -29,12 +29,13 @@ ghost use Rattle.datagrams.specs.Growing.{HasGrown};
 ghost use Rattle.node.specs.OnLog.{IsLogged};
 ghost use Rattle.node.specs.Parcels.{datagrams_to};
 ghost use Rattle.node.specs.Step.{IsAsked, IsReadyFor, sends_in};
-ghost use Rattle.parts.specs.Offered.{parcels_from};
+ghost use Rattle.parts.specs.Offered.{WasOffered, parcels_from};
 ghost use Rattle.ports.specs.Kept.{GoesOnBy};
 ghost use Rattle.turns.specs.inside.Turning.{
   HasNotTaken,
   HasTaken,
   IsTakenAs,
+  IsTakenByCalls,
   KeepsStop,
   StopsAs,
 };
@@ -93,6 +94,21 @@ pub(crate) fn take<D: Disk, P: Port>(
           port = port.new;
         }) chosen result }
     ensures given { GoesOnBy [] (P.given port.old) (P.given port.new) }
+    ensures calls { IsTakenByCalls D.is_kept D.history D.failures_of P.does
+        (record {
+          nodes = nodes.old.items;
+          sent = sent.old;
+          events = events.old.items;
+          pending = pending.old;
+          port = port.old;
+        })
+        (record {
+          nodes = nodes.new.items;
+          sent = sent.new;
+          events = events.new.items;
+          pending = pending.new;
+          port = port.new;
+        }) chosen result }
 {
     host_fits(&chosen.readied.act);
     match grown_for(alloc, nodes.as_slice(), sent, events, pending, &chosen) {
@@ -253,6 +269,9 @@ fn finish<D: Disk, P: Port>(
         (HasNotTaken D.is_kept D.history D.failures_of node.old node.new ready) }
     ensures silent { OnErr result (GoesOnBy [] (P.offered port.old) (P.offered port.new)) }
     ensures given { GoesOnBy [] (P.given port.old) (P.given port.new) }
+    ensures calls { OnOk result (WasOffered P.does port.old
+        (parcels_from number (datagrams_to (sends_in ready.step))) port.new) }
+    ensures uncalled { OnErr result (port.new ≡ port.old) }
 {
     let out = node.finish(ready)?;
     offer(port, number, &out.sends);

@@ -1,19 +1,14 @@
 //! The turns of a cluster.
-ghost use Rattle.std.specs.Prelude.{◌≡◌, ◌≤◌, ◌⊎◌, ◌++◌, ◌∷◌, [], IfErr, IfNone, IfOk, IfSome, None, length};
-ghost use Rattle.choice.specs.declared.fault.TurnFault.TheVariants as refused;
-ghost use Rattle.choosing.specs.Choosing.{AreMembers, NoneIsForeign};
-ghost use Rattle.choosing.specs.Here.{here_in};
-ghost use Rattle.events.specs.Events as values;
-ghost use Rattle.events.specs.declared.event.Left.TheVariants as left;
-ghost use Rattle.events.specs.Events.{event_view};
-ghost use Rattle.world.specs.MatchingLaws.{IsSafe};
-ghost use Rattle.turns.specs.AnyCase.{IsListedInAnyCase};
+ghost use Rattle.std.specs.Prelude.{◌≡◌, ◌≤◌, ◌++◌, ◌∷◌, [], IfErr, IfNone, IfOk, IfSome, None, length};
+ghost use Rattle.choosing.specs.Choosing.{NoneIsForeign};
+ghost use Rattle.events.specs.Events.{event_view, node_of};
+ghost use Rattle.turns.specs.Calls.{HasCalled};
+ghost use Rattle.turns.specs.Disks.{LeavesDisks};
 ghost use Rattle.turns.specs.Faults.{IsLeftBy, IsTurnFault};
-ghost use Rattle.turns.specs.State.{AreOnLogs, IsWorldOf, taken};
-ghost use Rattle.turns.specs.inside.Turning.{IsTurn};
-ghost use Rattle.turns.specs.Turn.{AreUntouched, HasFailedAt, HasHappened, IsChosen, IsEventChosen, IsSame, KeepsWith, LeavesItsNotes, OffersItsSends, OffersNothing, OthersStay, WereKept};
-ghost use Rattle.world.specs.Headline.{HasOneList};
-ghost use Rattle.world.specs.World as worlds;
+ghost use Rattle.turns.specs.Headline.{HasHeadline};
+ghost use Rattle.turns.specs.State.{AreOnLogs, taken};
+ghost use Rattle.turns.specs.Turn.{HasHappened, IsChosen, IsEventChosen, IsSame, KeepsWith, Offers, OthersStay};
+ghost use Rattle.turns.specs.inside.Turning.{IsTurn, IsTurnByCalls};
 
 use crate::Cluster;
 use crate::taking::take;
@@ -36,57 +31,36 @@ impl<'a, D: Disk, P: Port> Cluster<'a, D, P> {
     /// `Memory`; `NotSent`, where bytes came, for a node that is up, that none of the nodes sent;
     /// `Down`, where the device of the event's node failed; else what that node refuses.
     pub fn turn(&mut self, builds: &Packages) -> Result<Option<Event>, TurnFault>
-        // The choice, and the port: as far as it keeps what it gave, it was asked once, unless a
-        // job waited for its answer.
+        // The choice: as far as the port keeps what it gave, it was asked once, unless a job waited
+        // for its answer.
         ensures chosen { IfOk result (λ o. IfSome o
             (λ e. IsEventChosen P.given self.old self.new builds.now (event_view e))) }
         ensures nothing { IfOk result (λ o. IfNone o
             (IsChosen P.given self.old self.new builds.now None)) }
 
-        // What was chosen happened, and just its sends were offered, as far as the port keeps them.
+        // What was chosen happened; or nothing changed but the port; or why it is refused.
         ensures happened { IfOk result (λ o. IfSome o
             (λ e. HasHappened self.old self.new (event_view e))) }
         ensures others { IfOk result (λ o. IfSome o
-            (λ e. OthersStay self.old self.new (values.node_of (event_view e)))) }
-        ensures offered { IfOk result (λ o. IfSome o
-            (λ e. OffersItsSends P.offered self.old self.new (event_view e))) }
+            (λ e. OthersStay self.old self.new (node_of (event_view e)))) }
         ensures pending { IfOk result (λ o. IfSome o
             (λ e. KeepsWith self.old self.new (event_view e))) }
         ensures kept { IfOk result (λ o. IfSome o
             (λ e. taken self.new ≡ taken self.old ++ event_view e ∷ [])) }
-        ensures any_moment_taken { IfOk result (λ o. IfSome o
-            (λ e. LeavesItsNotes D.is_kept D.history self.old self.new (event_view e)
-            (values.node_of (event_view e)))) }
         ensures same { IfOk result (λ o. IfNone o (IsSame self.old self.new)) }
-        ensures silent { IfOk result (λ o. IfNone o (OffersNothing P.offered self.old self.new)) }
-
-        // Refusals, and what they leave.
-        ensures refused { IfErr result
-            (IsTurnFault P.given self.old self.new builds.now) }
+        ensures refused { IfErr result (IsTurnFault P.given self.old self.new builds.now) }
         ensures left { IfErr result (IsLeftBy self.old self.new) }
-        ensures untouched { IfErr result (λ f. ((k : _) × (f ≡ refused.Down k))
-            ⊎ AreUntouched D.is_kept D.history self.old self.new) }
-        ensures nothing_touched { IfOk result (λ o. IfNone o
-            (AreUntouched D.is_kept D.history self.old self.new)) }
-        ensures no_offer { IfErr result (λ f. OffersNothing P.offered self.old self.new) }
-        ensures any_moment { IfErr result (λ f. (e : values.Event) (k : _)
-            → f ≡ refused.Down k
-            → taken self.new ≡ taken self.old ++ values.StopIn e left.None ∷ []
-            → LeavesItsNotes D.is_kept D.history self.old self.new e k) }
-        ensures device { IfErr result (λ f. (k : _) → f ≡ refused.Down k
-            → HasFailedAt D.failures_of self.old self.new k) }
 
-        // Whichever it was.
+        // The port's sends; and all of its calls, whatever it keeps of them.
+        ensures offers { Offers P.offered self.old self.new result }
+        ensures calls { HasCalled P.does self.old self.new builds.now result }
+
+        // The disks, at each moment; and what holds, whichever it was.
+        ensures disks { LeavesDisks D.is_kept D.history D.failures_of self.old self.new result }
+        ensures on_logs { AreOnLogs D.is_kept D.history self.new }
         ensures fixed { (self.new.division ≡ self.old.division)
             × (self.new.weights ≡ self.old.weights) }
-        ensures on_logs { AreOnLogs D.is_kept D.history self.new }
-        ensures kept_before { WereKept D.is_kept self.old self.new }
-        ensures history { (w : worlds.World) × IsWorldOf self.new w }
-        ensures one_list { (w : worlds.World) → IsWorldOf self.new w
-            → HasOneList self.new.division self.new.weights (taken self.new) w }
-        ensures safe { (w : worlds.World) → IsWorldOf self.new w
-            → IsSafe self.new.division self.new.weights (taken self.new) w }
-        ensures any_case { IsListedInAnyCase self.new }
+        ensures headline { HasHeadline self.new }
     {
         take_turn(
             self.alloc,
@@ -113,8 +87,22 @@ fn take_turn<D: Disk, P: Port>(
     requires few { length nodes.old.items ≤ 9 }
     requires next { pending.old.next ≤ length nodes.old.items }
     requires known { NoneIsForeign nodes.old.items sent.old }
-    requires members { AreMembers (here_in nodes.old.items) }
-    ensures { IsTurn D.is_kept D.history D.failures_of P.given P.offered
+    ensures turn { IsTurn D.is_kept D.history D.failures_of P.given P.offered
+        (record {
+          nodes = nodes.old.items;
+          sent = sent.old;
+          events = events.old.items;
+          pending = pending.old;
+          port = port.old;
+        })
+        (record {
+          nodes = nodes.new.items;
+          sent = sent.new;
+          events = events.new.items;
+          pending = pending.new;
+          port = port.new;
+        }) builds.now result }
+    ensures calls { IsTurnByCalls D.is_kept D.history D.failures_of P.does
         (record {
           nodes = nodes.old.items;
           sent = sent.old;

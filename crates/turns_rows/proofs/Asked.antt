@@ -59,7 +59,7 @@ module _ {P : Type 0} (given : P → Option (List Arrived)) where
 
     once_refused : (f : TurnFault) → IsTurnFault given old new builds f
         → WasAskedAtMost 1 given old.port new.port
-    once_refused refused.Memory (chosen, is) = once chosen is
+    once_refused refused.Memory (chosen, is) = once (Some chosen) is
     once_refused (refused.Node f) (e, is, why) = once (Some is.chosen) is.is_chosen
     once_refused (refused.Down k) (e, is, why) = once (Some is.chosen) is.is_chosen
     once_refused refused.NotSent (k, text, is, why) = once (Some (k, Comes text)) is

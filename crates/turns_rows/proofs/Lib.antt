@@ -7,3 +7,7 @@ pub mod Idle
 pub mod Listed
 pub mod Showing
 pub mod Reopening
+pub mod Waiting
+pub mod InMemory
+pub mod Offered
+pub mod Crashing

@@ -1,5 +1,6 @@
 pub mod Going
 pub mod Listed
 pub mod Heard
+pub mod InMemory
 pub mod Reopened
 pub mod Shown

@@ -37,3 +37,7 @@ pub record HasNotesAcross {D P : Type 0} (old new : ClusterState D P) (k : ℕ) 
   pub acts : Acts world event node step
   pub notes : (texts_of opened.notes ≡ texts_of node.notes)
       ⊎ (texts_of opened.notes ≡ texts_of (with_note node.notes step.answer.note))
+
+-- Node k went down in a turn from this state of the cluster, and it has those notes.
+abbrev pub HasNotesOfDown : {D P : Type 0} → ClusterState D P → ℕ → NodeState → Type 0
+HasNotesOfDown {D} {P} old k opened = (new : ClusterState D P) × HasNotesAcross old new k opened

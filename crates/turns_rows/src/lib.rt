@@ -2,13 +2,15 @@
 #![tactic(auto)]
 
 mod heard;
+mod in_memory;
 mod reopened;
 mod run;
 mod shown;
 mod two;
 
 pub use crate::heard::hear_next;
-pub use crate::reopened::turn_then_reopen;
+pub use crate::in_memory::{hear_what_was_offered, turn_in_memory};
+pub use crate::reopened::{Reopened, turn_then_crash, turn_then_reopen};
 pub use crate::run::{run_until_nothing, take_turns};
 pub use crate::shown::turn_then_count;
 pub use crate::two::two_turns;

@@ -2,7 +2,7 @@
 ghost use Rattle.std.specs.Prelude.{◌≡◌, ◌<◌, IfSome, length};
 ghost use Rattle.stable_record.specs.History.{seen};
 ghost use Rattle.turns.specs.State.{AreOnLogs};
-ghost use Rattle.turns_rows.specs.Reopened.{HasNotesAcross, IsLeftOf};
+ghost use Rattle.turns_rows.specs.Reopened.{HasNotesAcross, HasNotesOfDown, IsLeftOf};
 
 use ballots::Weights;
 use choice::TurnFault;
@@ -10,7 +10,7 @@ use listing::Tree;
 use node::Node;
 use ports::Port;
 use protocol::Packages;
-use stable_record::Disk;
+use stable_record::{Disk, FaultDisk, Left, MemDisk};
 use std::alloc::Global;
 use turns::Cluster;
 use world::events_lead_to_later_worlds;
@@ -46,5 +46,52 @@ pub fn turn_then_reopen<'a, D: Disk, P: Port, E: Disk>(
     match Node::open(alloc, left, tree, weights, me) {
         Ok(node) => Some(node),
         Err(_refused) => None,
+    }
+}
+
+/// A node that was opened again, with its number.
+#[derive(Drop)]
+pub struct Reopened<'a> {
+    pub number: u8,
+    pub node: Node<'a, MemDisk>,
+}
+
+/// Takes a turn; where a node goes down in it, takes the cluster apart, has a crash leave that
+/// node's disk as told, and opens the member's node over what is left. It has the notes of the one
+/// that went down, or these and that of the event's step.
+pub fn turn_then_crash<'a, P: Port>(
+    alloc: Global,
+    cluster: Cluster<'_, FaultDisk, P>,
+    builds: &Packages,
+    left: Left,
+    tree: &'a Tree,
+    weights: &Weights,
+) -> Option<Reopened<'a>>
+    requires tree { cluster.division.tree ≡ tree.now }
+    requires weights { cluster.weights ≡ weights.now }
+    ensures { IfSome result (λ r. HasNotesOfDown cluster.entry r.number r.node.node) }
+{
+    events_lead_to_later_worlds();
+    let mut cluster = cluster;
+    let _events = cluster.events();
+    let Err(TurnFault::Down(number)) = cluster.turn(builds) else {
+        drop(cluster);
+        return None;
+    };
+    let (mut nodes, port) = cluster.into_parts();
+    drop(port);
+    if number as usize >= nodes.len() || number as usize >= weights.as_slice().len() {
+        drop(nodes);
+        return None;
+    }
+    let node = nodes.swap_remove(number as usize);
+    drop(nodes);
+    let disk = node.into_disk().into_inner().crash(left);
+    match Node::open(alloc, disk, tree, weights, number) {
+        Ok(node) => Some(Reopened { number, node }),
+        Err((_refused, disk)) => {
+            drop(disk);
+            None
+        }
     }
 }

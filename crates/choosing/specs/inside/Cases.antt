@@ -1,5 +1,5 @@
 -- What is made ready in each case of the choice, and why nothing is.
-use Rattle.std.specs.Prelude.{◌≡◌, ◌⊎◌, ℕ, Vec, true, false, List, Option, Some, is_some, length, option_and_then, option_map}
+use Rattle.std.specs.Prelude.{◌≡◌, ◌⊎◌, ℕ, Vec, true, false, List, [], ◌∷◌, Option, Some, Result, is_some, length, option_and_then, option_map}
 use Rattle.std.specs.declared.alloc.Global.{Global}
 use Rattle.choice.specs.Answering.{answer_of}
 use Rattle.choice.specs.Choice.{Chosen, IsFirstOwn, IsOwnIf, comes_to}
@@ -10,8 +10,11 @@ use Rattle.faults.specs.Bytes.{Text, is_among}
 use Rattle.node.specs.State.{LoggedNode}
 use Rattle.node.specs.Step.{Comes, Does}
 use Rattle.node.specs.declared.fault.NodeFault.{NodeFault}
+use Rattle.parts.specs.Calls.{came_by}
 use Rattle.parts.specs.declared.readied.Readied.{Readied}
+use Rattle.ports.specs.Calls.{Call, Received, WentThrough}
 use Rattle.ports.specs.Kept.{Arrived}
+use Rattle.ports.specs.declared.fault.PortFault.{PortFault}
 use Rattle.protocol.specs.Given.{Given}
 use Rattle.protocol.specs.declared.input.Input.{Input}
 use Rattle.choosing.specs.Choosing.{IsChosenAs, IsPartAt, RefusesAt}
@@ -34,17 +37,23 @@ IsWantFor x f = (f ≡ Memory) × (is_some x ≡ true)
 abbrev pub arrived : Option (ℕ × Vec ℕ Global) → Arrived
 arrived = option_map (λ d. (d.0, d.1.items))
 
+-- The port answered one receive, which gave this, and nothing else was asked of it.
+abbrev pub WasReceived : {P : Type 0} → (P → Call → P → Type 0) → P → Arrived → P → Type 0
+WasReceived does old came new =
+    (answer : Result Arrived PortFault) × (came ≡ came_by answer)
+    × WentThrough does old (Received answer ∷ []) new
+
 -- What a node takes was sent.
 abbrev pub WasSent : {D : Type 0} → List (LoggedNode D) → List Text → Arrived → Type 0
 WasSent nodes sent came =
     (k : ℕ) (text : Text) → comes_to (here_in nodes) came ≡ Some (k, Comes text)
     → is_among sent text ≡ true
 
--- Memory was wanting, or it came for a node that is up and was not sent.
+-- Memory was wanting for what there is to take, or it came for a node that is up and was not sent.
 abbrev pub IsNotTaken : {D : Type 0} → List (LoggedNode D) → List Text → Arrived → TurnFault
     → Type 0
 IsNotTaken nodes sent came f =
-    (f ≡ Memory) ⊎ ((f ≡ NotSent)
+    ((f ≡ Memory) × (is_some (comes_to (here_in nodes) came) ≡ true)) ⊎ ((f ≡ NotSent)
     × ((k : ℕ) × (text : Text) × (comes_to (here_in nodes) came ≡ Some (k, Comes text))
     × (is_among sent text ≡ false)))
 
@@ -56,10 +65,12 @@ IsOwnPart nodes p k r =
     (own : Option Input) × IsOwnIf (here_in nodes) (length nodes) p k (here_in nodes k) own
     × IsPartAt nodes k own r
 
--- Memory was wanting, or node k takes no step on what it would do of itself.
+-- Memory was wanting for what node k would do of itself, or it takes no step on that.
 abbrev pub IsOwnFault : {D : Type 0} → List (LoggedNode D) → Pending → ℕ → TurnFault → Type 0
 IsOwnFault nodes p k f =
-    (f ≡ Memory) ⊎ ((input : Input) × (g : NodeFault) × (f ≡ Node g)
+    ((f ≡ Memory) × ((input : Input)
+    × IsOwnIf (here_in nodes) (length nodes) p k (here_in nodes k) (Some input)))
+    ⊎ ((input : Input) × (g : NodeFault) × (f ≡ Node g)
     × IsOwnIf (here_in nodes) (length nodes) p k (here_in nodes k) (Some input)
     × RefusesAt nodes k (Does input) g)
 
@@ -70,10 +81,13 @@ IsFirstPart nodes p ks r =
     (chosen : Chosen) × IsFirstOwn (here_in nodes) (length nodes) p ks chosen
     × IsChosenAs nodes chosen r
 
--- Memory was wanting, or the first of these nodes that would do anything takes no step on it.
+-- Memory was wanting for what the first of these nodes would do that would do anything, or it takes
+-- no step on that.
 abbrev pub IsFirstFault : {D : Type 0} → List (LoggedNode D) → Pending → List ℕ → TurnFault
     → Type 0
 IsFirstFault nodes p ks f =
-    (f ≡ Memory) ⊎ ((k : ℕ) × (input : Input) × (g : NodeFault) × (f ≡ Node g)
+    ((f ≡ Memory) × ((k : ℕ) × (input : Input)
+    × IsFirstOwn (here_in nodes) (length nodes) p ks (Some (k, Does input))))
+    ⊎ ((k : ℕ) × (input : Input) × (g : NodeFault) × (f ≡ Node g)
     × IsFirstOwn (here_in nodes) (length nodes) p ks (Some (k, Does input))
     × RefusesAt nodes k (Does input) g)

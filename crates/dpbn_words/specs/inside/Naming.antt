@@ -46,4 +46,6 @@ pub record HasNode (rows : List Row) : Type 0 where
 abbrev pub NamesCall : Option (Text × List Row) → Type 0
 NamesCall None = ⊥
 NamesCall (Some (name, rows)) =
-    ((name ≡ codes "cluster") × HasFiles rows) ⊎ ((name ≡ codes "node") × HasNode rows)
+    ((name ≡ codes "cluster") × HasFiles rows)
+    ⊎ (((name ≡ codes "node") × HasNode rows)
+    ⊎ ((name ≡ codes "key") × HasText rows (codes "FILE")))

@@ -1,25 +1,30 @@
 -- A turn by its parts: what is chosen is made ready, and then taken.
-use Rattle.std.specs.Prelude.{◌≡◌, ◌⊎◌, true, List, Option, None, Some, Err}
+use Rattle.std.specs.Prelude.{◌≡◌, ◌⊎◌, true, List, [], ◌∷◌, Option, None, Some, Result, Ok, Err}
 use Rattle.ballots.specs.declared.message.Note.{Note}
 use Rattle.choice.specs.Choice.{Chosen}
-use Rattle.choice.specs.Pending.{Pending}
+use Rattle.choice.specs.Pending.{Pending, kept_after}
 use Rattle.choice.specs.declared.fault.TurnFault.{TurnFault}
 use Rattle.choice.specs.declared.fault.TurnFault.TheVariants.{Memory, Node, Down, NotSent, NotFresh}
 use Rattle.faults.specs.Bytes.{Text}
 use Rattle.node.specs.Calls.{left_by}
-use Rattle.node.specs.OnLog.{HasRoomForNote, LacksRoom}
+use Rattle.node.specs.OnLog.{HasRoomForNote, IsFull, LacksRoom}
+use Rattle.node.specs.Parcels.{datagrams_to}
 use Rattle.node.specs.State.{LoggedNode}
-use Rattle.node.specs.Step.{Comes, Takes}
+use Rattle.node.specs.Step.{Asked, Comes, Taken, Takes, after}
 use Rattle.node.specs.declared.fault.NodeFault.{NodeFault}
 use Rattle.node.specs.declared.fault.NodeFault.TheVariants as fault
+use Rattle.parts.specs.Calls.{came_by}
+use Rattle.parts.specs.Offered.{WasOffered, parcels_from}
 use Rattle.parts.specs.Readied.{IsReadied}
 use Rattle.parts.specs.declared.readied.Readied.{Readied}
-use Rattle.ports.specs.Kept.{Arrived}
-use Rattle.protocol.specs.Given.{Given}
+use Rattle.ports.specs.Calls.{Call, Received}
+use Rattle.ports.specs.Kept.{Arrived, GoesOnBy, Parcel}
+use Rattle.ports.specs.declared.fault.PortFault.{PortFault}
+use Rattle.solo.specs.Handed.{Handed}
 use Rattle.protocol.specs.State.{Value}
 use Rattle.stable_record.specs.declared.log_fault.LogFault.TheVariants as log
-use Rattle.solo.specs.State.{SoloState}
-use Rattle.solo.specs.Turn.{IsChosen}
+use Rattle.solo.specs.State.{SoloState, me_of}
+use Rattle.solo.specs.Turn.{IsChosen, IsVouchedFor}
 
 -- these, as one
 abbrev pub solo_of : {D P : Type 0} → LoggedNode D → Pending → P → SoloState D P
@@ -32,11 +37,21 @@ IsMade n None (Some r) = ⊥
 IsMade n (Some x) None = ⊥
 IsMade n (Some x) (Some r) = (x.0 ≡ n.node.member.me) × IsReadied n x.1 r
 
--- What was made ready is the turn's choice, and the node stays.
-pub record HasChosen {D P : Type 0} (given : P → Option (List Arrived)) (old new : SoloState D P)
-    (builds : Given) (r : Option Readied) : Type 0 where
+-- This came, by the answer to a receive.
+pub record HasCome {P : Type 0} (given : P → Option (List Arrived)) (does : P → Call → P → Type 0)
+    (vouches : P → Text → Type 0) (old new : P) (came : Arrived) : Type 0 where
+  pub answer : Result Arrived PortFault
+  pub gave : came_by answer ≡ came
+  pub kept : GoesOnBy (came ∷ []) (given old) (given new)
+  pub call : does old (Received answer) new
+  pub vouched : IsVouchedFor vouches new came
+
+-- What was made ready is the turn's choice, nothing was offered yet, and the node stays.
+pub record HasChosen {D P : Type 0} (given : P → Option (List Arrived))
+    (does : P → Call → P → Type 0) (vouches : P → Text → Type 0) (old new : SoloState D P)
+    (handed : Handed) (r : Option Readied) : Type 0 where
   pub chosen : Chosen
-  pub is_chosen : IsChosen given old new builds chosen
+  pub is_chosen : IsChosen given does vouches old new handed [] chosen
   pub made : IsMade old.node chosen r
   pub same : new.node ≡ old.node
 
@@ -58,6 +73,19 @@ pub record IsNotTaken {D : Type 0} (old new : LoggedNode D) (chosen : Chosen) (f
   pub tells : f ≡ told refusal
   pub cause : (refusal ≡ fault.Memory) ⊎ Takes old.node (Comes text) (Err refusal)
   pub leaves : new.node ≡ left_by old.node (Comes text) refusal
+
+-- The step that was ready was taken, and just its sends were offered.
+pub record TookStep {D P : Type 0} (offered : P → Option (List Parcel))
+    (does : P → Call → P → Type 0) (old new : SoloState D P) (asked : Asked) : Type 0 where
+  pub taken : Taken
+  pub takes : Takes old.node.node asked (Ok taken)
+  pub room : ¬ IsFull old.node.node taken.answer.note
+  pub node : new.node.node ≡ after old.node.node taken
+  pub pending : new.pending ≡ kept_after old.pending (me_of old) old.node.node.member asked
+  pub offers : GoesOnBy (parcels_from (me_of old) (datagrams_to taken.answer.sends))
+      (offered old.port) (offered new.port)
+  pub calls : WasOffered does old.port
+      (parcels_from (me_of old) (datagrams_to taken.answer.sends)) new.port
 
 -- Why a step with this note, which is ready, was not taken, and what that leaves of the node.
 abbrev pub IsTakingFault : {D : Type 0} → LoggedNode D → LoggedNode D → Option (Note Value)

@@ -17,8 +17,11 @@ use Rattle.node.specs.State.{LoggedNode}
 use Rattle.node.specs.Step.{IsAsked, ReadyStep, after, note_in, sends_in, taken_by}
 use Rattle.node.specs.declared.fault.NodeFault.{NodeFault}
 use Rattle.node.specs.declared.fault.NodeFault.TheVariants as fault
-use Rattle.parts.specs.Offered.{parcels_from}
+use Rattle.parts.specs.Calls.{TurnCalls, calls_of, given_in, no_calls, offered_in}
+use Rattle.parts.specs.Offered.{Answered, parcels_from, sends_of}
+use Rattle.ports.specs.Calls.{Call, WentThrough}
 use Rattle.ports.specs.Kept.{Arrived, GoesOnBy, Parcel}
+use Rattle.ports.specs.declared.fault.PortFault.{PortFault}
 use Rattle.protocol.specs.Given.{Given}
 use Rattle.stable_record.specs.Faults.{HasRisen}
 use Rattle.stable_record.specs.History.{History}
@@ -224,3 +227,36 @@ IsTurn is_kept history failures given offered old new builds (Err f) =
     (IsNotMadeReady given old new builds f × StandsStill is_kept history offered old new)
     ⊎ ((r : Ready) × IsMadeReady given old new builds (Some r)
     × IsTakenAs is_kept history failures offered old new r (Err f))
+
+-- ---- by the calls of the port
+
+-- the same, with these calls in the place of the port
+abbrev pub by_calls : {D P : Type 0} → Turning D P → TurnCalls → Turning D TurnCalls
+by_calls t calls = record {
+  nodes = t.nodes;
+  sent = t.sent;
+  events = t.events;
+  pending = t.pending;
+  port = calls;
+}
+
+-- The port answered these sends, and nothing else was asked of it; and seen by them, whatever was
+-- received before, that became of what was chosen.
+pub record IsTakenByCalls {D P : Type 0} (is_kept : D → Type 0) (history : D → History)
+    (failures : D → ℕ) (does : P → Call → P → Type 0) (old new : Turning D P) (r : Ready)
+    (result : Result declared.Event TurnFault) : Type 0 where
+  pub offered : List Answered
+  pub went : WentThrough does old.port (sends_of offered) new.port
+  pub so : (received : List (Result Arrived PortFault))
+      → IsTakenAs is_kept history failures offered_in
+      (by_calls old (record { received = received; offered = [] }))
+      (by_calls new (record { received = received; offered = offered })) r result
+
+-- The port answered these calls, and nothing else was asked of it; and seen by them it is the turn.
+pub record IsTurnByCalls {D P : Type 0} (is_kept : D → Type 0) (history : D → History)
+    (failures : D → ℕ) (does : P → Call → P → Type 0) (old new : Turning D P) (builds : Given)
+    (result : Result (Option declared.Event) TurnFault) : Type 0 where
+  pub calls : TurnCalls
+  pub went : WentThrough does old.port (calls_of calls) new.port
+  pub so : IsTurn is_kept history failures given_in offered_in (by_calls old no_calls)
+      (by_calls new calls) builds result

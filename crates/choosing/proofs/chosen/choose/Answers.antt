@@ -1,6 +1,8 @@
-use Rattle.std.proofs.Common.{subst, sym}
+use Rattle.std.proofs.Common.{[], ◌∷◌, Some, refl, subst, sym}
 use Rattle.std.proofs.lemmas.Result.{IfErr-weaker, IfOk-weaker, err_from_is_err_and}
+use Rattle.parts.specs.Calls.{came_by}
 use Rattle.choosing.proofs.ByCase.{goes_on}
+use Rattle.choosing.proofs.Asking.{in_calls}
 use Rattle.choosing.proofs.Choosings.{arrival_denied, arrival_taken, job_answered, job_wants, own_denied, own_taken}
 use Rattle.choosing.specs.Choosing.{NoneIsForeign}
 use Rattle.choosing.specs.inside.Cases.{arrived}
@@ -35,7 +37,7 @@ returns-in_err-chosen-2-clause-refused g c =
     c.args.builds.now (g.P.Port.given c.args.port.now) (g.P.Port.given c.received-came.new.port)
     c.answered.new.nodes.items c.answered.ensures.same c.in_ok-chosen.field-0 c.in_default.is
     c.in_ok-chosen.ensures.chosen (arrived c.received-came.result)
-    c.received-came.ensures.given c.requires.members c.in_err-chosen-2.field-0.0
+    c.received-came.ensures.given c.in_err-chosen-2.field-0.0
     c.in_err-chosen-2.ensures.refused)
 
 pub returns-in-Some-2-clause-chosen : goal.returns-in-Some-2-clause-chosen
@@ -67,5 +69,91 @@ returns-clause-refused g c =
     c.answered.new.nodes.items c.answered.ensures.same c.in_ok-chosen.field-0 c.in_default.is
     c.in_ok-chosen.ensures.chosen (arrived c.received-came.result)
     c.received-came.ensures.given c.taken_in.new.nodes.items c.taken_in.ensures.same
-    c.in_ok-chosen-2.field-0 c.in_ok-chosen-2.ensures.chosen c.in_default-2.is
-    c.requires.members) c.own_in_turn.ensures.refused
+    c.in_ok-chosen-2.field-0 c.in_ok-chosen-2.ensures.chosen c.in_default-2.is)
+    c.own_in_turn.ensures.refused
+
+-- ---- the same, by the calls of the port
+
+pub returns-in_err-chosen-clause-calls_refused : goal.returns-in_err-chosen-clause-calls_refused
+returns-in_err-chosen-clause-calls_refused g c =
+    let p = err_from_is_err_and c.from_residual.result c.from_residual.ensures.1 in
+    rw (p.1, p.2) (record {
+      received = [];
+      went = refl;
+      so = job_wants c.args.nodes.now.items c.args.sent.now c.args.pending.now
+          c.args.builds.now (Some []) (Some []) refl c.in_err-chosen.field-0.0
+          c.in_err-chosen.ensures.refused;
+    })
+
+pub returns-in-Some-clause-calls : goal.returns-in-Some-clause-calls
+returns-in-Some-clause-calls g c = record {
+  received = [];
+  went = refl;
+  so = job_answered c.args.nodes.now.items c.args.sent.now c.args.pending.now
+      c.args.builds.now (Some []) (Some []) refl c.answered.new.nodes.items
+      c.answered.ensures.same c.in_ok-chosen.field-0 c.in-Some.chosen c.in-Some.is
+      c.in_ok-chosen.ensures.chosen;
+}
+
+pub returns-in_err-chosen-2-clause-calls_refused : goal.returns-in_err-chosen-2-clause-calls_refused
+returns-in_err-chosen-2-clause-calls_refused g c =
+    let p = err_from_is_err_and c.from_residual-in_err-chosen-2.result
+    c.from_residual-in_err-chosen-2.ensures.1 in
+    let came = arrived c.received-came.result in
+    let r = c.received-came.ensures.calls in
+    rw (p.1, p.2) (record {
+      received = r.0 ∷ [];
+      went = r.2;
+      so = arrival_denied c.args.nodes.now.items c.args.sent.now c.args.pending.now
+          c.args.builds.now (Some []) (Some (came_by r.0 ∷ [])) c.answered.new.nodes.items
+          c.answered.ensures.same c.in_ok-chosen.field-0 c.in_default.is
+          c.in_ok-chosen.ensures.chosen came (in_calls came r.0 r.1)
+          c.in_err-chosen-2.field-0.0 c.in_err-chosen-2.ensures.refused;
+    })
+
+pub returns-in-Some-2-clause-calls : goal.returns-in-Some-2-clause-calls
+returns-in-Some-2-clause-calls g c =
+    let came = arrived c.received-came.result in
+    let r = c.received-came.ensures.calls in
+    record {
+      received = r.0 ∷ [];
+      went = r.2;
+      so = arrival_taken c.args.nodes.now.items c.args.sent.now c.args.pending.now
+          c.args.builds.now (Some []) (Some (came_by r.0 ∷ [])) c.answered.new.nodes.items
+          c.answered.ensures.same c.in_ok-chosen.field-0 c.in_default.is
+          c.in_ok-chosen.ensures.chosen came (in_calls came r.0 r.1) c.taken_in.new.nodes.items
+          c.taken_in.ensures.same c.in_ok-chosen-2.field-0 c.in_ok-chosen-2.ensures.chosen
+          c.in-Some-2.chosen c.in-Some-2.is c.in_ok-chosen-2.ensures.sent;
+    }
+
+pub returns-clause-calls : goal.returns-clause-calls
+returns-clause-calls g c =
+    let came = arrived c.received-came.result in
+    let r = c.received-came.ensures.calls in
+    IfOk-weaker c.own_in_turn.result _ _
+    (λ o own. record {
+      received = r.0 ∷ [];
+      went = r.2;
+      so = own_taken c.args.nodes.now.items c.args.sent.now c.args.pending.now
+          c.args.builds.now (Some []) (Some (came_by r.0 ∷ [])) c.answered.new.nodes.items
+          c.answered.ensures.same c.in_ok-chosen.field-0 c.in_default.is
+          c.in_ok-chosen.ensures.chosen came (in_calls came r.0 r.1) c.taken_in.new.nodes.items
+          c.taken_in.ensures.same c.in_ok-chosen-2.field-0 c.in_ok-chosen-2.ensures.chosen
+          c.in_default-2.is c.own_in_turn.new.nodes.items c.own_in_turn.ensures.same o own;
+    }) c.own_in_turn.ensures.chosen
+
+pub returns-clause-calls_refused : goal.returns-clause-calls_refused
+returns-clause-calls_refused g c =
+    let came = arrived c.received-came.result in
+    let r = c.received-came.ensures.calls in
+    IfErr-weaker c.own_in_turn.result _ _
+    (λ f own. record {
+      received = r.0 ∷ [];
+      went = r.2;
+      so = own_denied c.args.nodes.now.items c.args.sent.now c.args.pending.now
+          c.args.builds.now (Some []) (Some (came_by r.0 ∷ [])) c.answered.new.nodes.items
+          c.answered.ensures.same c.in_ok-chosen.field-0 c.in_default.is
+          c.in_ok-chosen.ensures.chosen came (in_calls came r.0 r.1) c.taken_in.new.nodes.items
+          c.taken_in.ensures.same c.in_ok-chosen-2.field-0 c.in_ok-chosen-2.ensures.chosen
+          c.in_default-2.is f own;
+    }) c.own_in_turn.ensures.refused

@@ -31,4 +31,4 @@ returns-in-Err-clause-refused g c =
     c.as_slice-3.result.now c.as_slice-2.ensures.value c.as_slice-3.ensures.value
     c.open_elsewhere-elsewhere.ensures)
     c.above-above.result c.above-above.ensures c.in-Err.fault c.told.result c.told.ensures
-    c.in-Err.ensures.refused
+    c.in-Err.ensures.due c.in-Err.ensures.refused

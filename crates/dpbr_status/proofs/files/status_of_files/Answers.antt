@@ -1,15 +1,22 @@
-use Rattle.std.proofs.lemmas.Result.{err_from_is_err_and}
-use Rattle.dpbr_status.specs.Status.{RefusesHeld}
-use Rattle.program.proofs.Refusing.{by_listing}
+use Rattle.std.proofs.Common.{inl, inr}
+use Rattle.std.proofs.lemmas.Result.{IfErr-weaker, IfOk-weaker, err_from_is_err_and}
 use Rattle.dpbr_status.proofs.files.status_of_files.Goals as goal
 
 pub returns-in_err-tree-clause-refused : goal.returns-in_err-tree-clause-refused
 returns-in_err-tree-clause-refused g c =
     let p = err_from_is_err_and c.from_residual.result c.from_residual.ensures.1 in
-    rw (p.1, p.2) (by_listing RefusesHeld c.args.is_single _ c.in_err-tree.ensures.refused)
+    rw (p.1, p.2) (inl c.in_err-tree.ensures.refused)
 
 pub returns-clause-ok : goal.returns-clause-ok
-returns-clause-ok g c = c.status_in_file-answer.ensures.ok c.args.is_single c.in_ok-tree.ensures.ok
+returns-clause-ok g c =
+    IfOk-weaker c.status_in_file-answer.result _ _
+    (λ answer (status, held, gave, is). (
+      status,
+      record { tree = c.in_ok-tree.tree; described = c.in_ok-tree.ensures.ok; held = held; from_held = gave; is_status = is },
+    ))
+    c.status_in_file-answer.ensures.ok
 
 pub returns-clause-refused : goal.returns-clause-refused
-returns-clause-refused g c = c.status_in_file-answer.ensures.refused c.args.is_single c.in_ok-tree.ensures.ok
+returns-clause-refused g c =
+    IfErr-weaker c.status_in_file-answer.result _ _ (λ r refused. inr (c.in_ok-tree.tree, c.in_ok-tree.ensures.ok, refused))
+    c.status_in_file-answer.ensures.refused

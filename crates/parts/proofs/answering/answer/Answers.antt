@@ -1,5 +1,5 @@
 use Rattle.parts.proofs.Waiting.{answer_part, parts_are}
-use Rattle.std.proofs.Common.{sym, subst}
+use Rattle.std.proofs.Common.{subst}
 use Rattle.parts.specs.inside.Answering.{IsWaiting}
 use Rattle.parts.proofs.answering.answer.Goals as goal
 

@@ -1,4 +1,4 @@
-use Rattle.std.proofs.Common.{◌≡◌, ◌<◌, ◌≤◌, ◌∙◌, ap, arith, get_or, length, subst, sym, true}
+use Rattle.std.proofs.Common.{◌≡◌, ◌<◌, ◌∙◌, ap, arith, get_or, length, subst, sym, true}
 use Rattle.std.specs.Str.{bytes_eq}
 use Rattle.parts.proofs.GivenFiles.{first_has, none_has}
 use Rattle.parts.proofs.answering.files_of.Goals as goal

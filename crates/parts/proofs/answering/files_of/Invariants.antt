@@ -1,4 +1,4 @@
-use Rattle.parts.proofs.GivenFiles.{NoneHas}
+use Rattle.parts.specs.inside.First.{NoneHas}
 use Rattle.parts.proofs.answering.files_of.Given as goal
 
 abbrev pub invariant-loop-given : goal.invariant-loop-given

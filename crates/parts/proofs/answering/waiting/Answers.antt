@@ -2,7 +2,6 @@ use Rattle.std.proofs.Common.{◌≡◌, ◌∙◌, Some, ap, option_map, sym}
 use Rattle.std.specs.Option.{option_copied}
 use Rattle.member.specs.OpenClaims.{open_of, progress_of_claimer}
 use Rattle.protocol.specs.Member.{IsOpen}
-use Rattle.protocol.specs.State.{Building, OpenClaim}
 use Rattle.parts.proofs.answering.waiting.Goals as goal
 
 pub returns-in-Building : goal.returns-in-Building

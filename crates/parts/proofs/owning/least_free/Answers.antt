@@ -1,5 +1,5 @@
 use Rattle.std.specs.List.{list_any}
-use Rattle.std.proofs.Common.{◌≡◌, ◌==◌, ◌||◌, ℕ, ◌∙◌, None, ap, arith, false, length, rules, subst, sym, true}
+use Rattle.std.proofs.Common.{◌≡◌, ◌==◌, ◌||◌, ℕ, ◌∙◌, ap, arith, false, length, rules, subst, sym, true}
 use Rattle.choice.specs.Own.{IsLeastFree}
 use Rattle.choice.specs.Pending.{has_failed}
 use Rattle.parts.proofs.Owned.{found_free, none_at_first, none_free, none_further, none_left}

@@ -2,7 +2,7 @@ use Rattle.std.specs.List.{list_any}
 use Rattle.std.proofs.Common.{◌==◌, ◌||◌, Some}
 use Rattle.std.proofs.lemmas.Result.{err_from_is_err_and}
 use Rattle.choice.specs.Pending.{has_failed}
-use Rattle.parts.proofs.DoingOwn.{no_memory, no_part, own_of}
+use Rattle.parts.proofs.DoingOwn.{no_memory, no_part, own_of, some_of}
 use Rattle.parts.proofs.owning.own.Goals as goal
 
 pub returns-in_err-input-clause-refused : goal.returns-in_err-input-clause-refused
@@ -21,7 +21,7 @@ returns-in_err-make_ready-in-Some-clause-refused g c =
       Some c.in-Some.input,
       own_of c.args.node.now.node.member c.member.result.now c.member.ensures.member c.args.above
           (λ u. has_failed c.args.pending.now u || list_any (λ v. v == u) c.args.elsewhere.now)
-          c.in_ok-input.field-0 c.in-Some.input c.in-Some.is c.in_ok-input.ensures,
+          c.in_ok-input.field-0 c.in-Some.input c.in-Some.is c.in_ok-input.ensures.own,
       no_part c.args.node.now c.make_ready.new.node c.make_ready.ensures.same c.in-Some.input
           p.0 c.in_err-make_ready-in-Some.field-0.0 p.2
           c.in_err-make_ready-in-Some.ensures.refused,
@@ -33,6 +33,26 @@ returns-in_ok-make_ready-in-Some-clause-part g c = (
   Some c.in-Some.input,
   own_of c.args.node.now.node.member c.member.result.now c.member.ensures.member c.args.above
       (λ u. has_failed c.args.pending.now u || list_any (λ v. v == u) c.args.elsewhere.now)
-      c.in_ok-input.field-0 c.in-Some.input c.in-Some.is c.in_ok-input.ensures,
+      c.in_ok-input.field-0 c.in-Some.input c.in-Some.is c.in_ok-input.ensures.own,
   c.in_ok-make_ready-in-Some.ensures.readied,
 )
+
+pub returns-in_err-input-clause-due : goal.returns-in_err-input-clause-due
+returns-in_err-input-clause-due g c =
+    let p = err_from_is_err_and c.from_residual.result c.from_residual.ensures.1 in
+    rw p.1 (some_of c.args.node.now.node.member c.member.result.now c.member.ensures.member
+    c.args.above
+    (λ u. has_failed c.args.pending.now u || list_any (λ v. v == u) c.args.elsewhere.now)
+    c.in_err-input.ensures.due)
+
+pub returns-in_err-make_ready-in-Some-clause-due :
+    goal.returns-in_err-make_ready-in-Some-clause-due
+returns-in_err-make_ready-in-Some-clause-due g c =
+    let p = err_from_is_err_and c.from_residual-in_err-make_ready-in-Some.result
+    c.from_residual-in_err-make_ready-in-Some.ensures.1 in
+    rw p.1 (
+      c.in-Some.input,
+      own_of c.args.node.now.node.member c.member.result.now c.member.ensures.member c.args.above
+          (λ u. has_failed c.args.pending.now u || list_any (λ v. v == u) c.args.elsewhere.now)
+          c.in_ok-input.field-0 c.in-Some.input c.in-Some.is c.in_ok-input.ensures.own,
+    )

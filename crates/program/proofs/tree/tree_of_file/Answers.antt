@@ -1,8 +1,10 @@
-use Rattle.std.proofs.lemmas.Result.{err_from_is_err_and}
-use Rattle.program.proofs.Refusing.{listing_in_file}
+use Rattle.std.specs.Prelude.{⊤}
+use Rattle.std.proofs.lemmas.Result.{IfErr-weaker, IfOk-weaker}
+use Rattle.program.proofs.Refusing.{described, refused}
 use Rattle.program.proofs.tree.tree_of_file.Goals as goal
 
-pub returns-in_err-tree-clause-refused : goal.returns-in_err-tree-clause-refused
-returns-in_err-tree-clause-refused g c =
-    let p = err_from_is_err_and c.from_residual-in_err-tree.result c.from_residual-in_err-tree.ensures.1 in
-    rw (p.1, p.2) (listing_in_file c.args.is_single c.as_slice.result.now _ c.in_err-tree.ensures)
+pub returns-clause-ok : goal.returns-clause-ok
+returns-clause-ok g c = IfOk-weaker c.tree_of_name.result _ _ (described (λ _ _. ⊤) c.args.listing.now c.args.is_single) c.tree_of_name.ensures.ok
+
+pub returns-clause-refused : goal.returns-clause-refused
+returns-clause-refused g c = IfErr-weaker c.tree_of_name.result _ _ (refused (λ _ _. ⊤) c.args.listing.now c.args.is_single) c.tree_of_name.ensures.refused

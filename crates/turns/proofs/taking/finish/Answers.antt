@@ -2,7 +2,7 @@ use Rattle.std.proofs.Common.{Err, ap, subst, ◌∙◌}
 use Rattle.std.proofs.lemmas.Result.{err_from_is_err_and}
 use Rattle.world.proofs.ByStep.{sends_answered}
 use Rattle.node.specs.Parcels.{datagrams_to}
-use Rattle.parts.specs.Offered.{parcels_from}
+use Rattle.parts.specs.Offered.{WasOffered, parcels_from}
 use Rattle.ports.specs.Kept.{GoesOnBy}
 use Rattle.turns.proofs.Settling.{not_taken}
 use Rattle.turns.proofs.taking.finish.Goals as goal
@@ -22,6 +22,13 @@ returns-clause-offered g c =
     ∙ ap datagrams_to (sends_answered c.args.node.now.node.member c.args.ready.step) in
     subst (λ s. GoesOnBy (parcels_from c.args.number s) (g.P.Port.offered c.args.port.now)
     (g.P.Port.offered c.offer.new.port)) sends c.offer.ensures.offered
+
+pub returns-clause-calls : goal.returns-clause-calls
+returns-clause-calls g c =
+    let sends = c.in_ok-out.ensures.taken.tells.sends
+    ∙ ap datagrams_to (sends_answered c.args.node.now.node.member c.args.ready.step) in
+    subst (λ s. WasOffered g.P.Port.does c.args.port.now (parcels_from c.args.number s)
+    c.offer.new.port) sends c.offer.ensures.calls
 
 pub returns-in_err-out-clause-refused : goal.returns-in_err-out-clause-refused
 returns-in_err-out-clause-refused g c =

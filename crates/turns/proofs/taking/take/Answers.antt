@@ -1,6 +1,7 @@
-use Rattle.std.proofs.Common.{[], ◌++◌, ◌∷◌, ap, refl, slice_get, slice_set, subst, sym, ◌∙◌}
+use Rattle.std.proofs.Common.{[], ◌++◌, ◌∷◌, ap, inl, refl, slice_get, slice_set, subst, sym, ◌∙◌}
 use Rattle.node.specs.State.{LoggedNode}
 use Rattle.node.specs.Step.{IsReadyFor}
+use Rattle.parts.specs.Calls.{offered_in}
 use Rattle.turns.proofs.Settling.{index_is, is_not_taken, is_taken}
 use Rattle.turns.specs.inside.Turning.{HasNotTaken, HasTaken, StopsAs}
 use Rattle.turns.proofs.taking.take.Goals as goal
@@ -76,3 +77,93 @@ returns-in-Err-finish-clause-taken g c =
     c.stopped.ensures)
     (c.cut_back.ensures ∙ c.in-Ok.ensures.count) (c.put_back.ensures ∙ c.in-Ok.ensures.before.0)
     c.in-Err-finish.ensures.silent
+
+-- ---- the same, by the calls of the port
+
+pub returns-in-Ok-finish-clause-calls : goal.returns-in-Ok-finish-clause-calls
+returns-in-Ok-finish-clause-calls g c =
+    let at = c.requires.readied in
+    let here = index_is c.args.nodes.now.items c.args.chosen.node at.node c.index_mut.result.now
+    at.stands c.index_mut.ensures.value in
+    let there = ap (λ l. slice_get l c.args.chosen.node) c.as_slice.ensures.value ∙ at.stands in
+    let offered = c.in-Ok-finish.ensures.calls in
+    record {
+      offered = offered.0;
+      went = offered.2;
+      so = λ received.
+          is_taken g.D.Disk.is_kept g.D.Disk.history g.D.Disk.failures_of offered_in
+          (record {
+            nodes = c.args.nodes.now.items;
+            sent = c.args.sent.now;
+            events = c.args.events.now.items;
+            pending = c.args.pending.now;
+            port = record { received = received; offered = [] };
+          })
+          (record {
+            nodes = slice_set c.args.nodes.now.items c.args.chosen.node c.finish.new.node;
+            sent = c.grown_for.new.sent;
+            events = c.keep.new.events.items;
+            pending = c.grown_for.new.pending;
+            port = record { received = received; offered = offered.0 };
+          })
+          c.args.chosen at c.in-Ok.grown.recorded c.in-Ok.ensures.recorded c.host_fits.ensures
+          (c.in-Ok.ensures.logged at.node there) c.finish.new.node refl
+          (subst (λ n. HasTaken g.D.Disk.is_kept g.D.Disk.history n c.finish.new.node
+          c.args.chosen.readied.ready) (sym here) c.in-Ok-finish.ensures.taken)
+          c.in-Ok.ensures.sent (c.in-Ok.ensures.pending at.node there)
+          (c.keep.ensures.kept
+          ∙ ap (λ l. l ++ c.in-Ok.grown.recorded.kept ∷ []) c.in-Ok.ensures.events)
+          offered.1 c.keep.result c.keep.ensures.answered;
+    }
+
+pub returns-in-Err-finish-clause-calls : goal.returns-in-Err-finish-clause-calls
+returns-in-Err-finish-clause-calls g c =
+    let at = c.requires.readied in
+    let here = index_is c.args.nodes.now.items c.args.chosen.node at.node c.index_mut.result.now
+    at.stands c.index_mut.ensures.value in
+    let there = ap (λ l. slice_get l c.args.chosen.node) c.as_slice.ensures.value ∙ at.stands in
+    record {
+      offered = [];
+      went = c.in-Err-finish.ensures.uncalled;
+      so = λ received.
+          is_not_taken g.D.Disk.is_kept g.D.Disk.history g.D.Disk.failures_of offered_in
+          (record {
+            nodes = c.args.nodes.now.items;
+            sent = c.args.sent.now;
+            events = c.args.events.now.items;
+            pending = c.args.pending.now;
+            port = record { received = received; offered = [] };
+          })
+          (record {
+            nodes = slice_set c.args.nodes.now.items c.args.chosen.node c.finish.new.node;
+            sent = c.cut_back.new.self;
+            events = c.stopped.new.events.items;
+            pending = c.put_back.new.self;
+            port = record { received = received; offered = [] };
+          })
+          c.args.chosen at c.in-Ok.grown.recorded c.in-Ok.ensures.recorded c.host_fits.ensures
+          (c.in-Ok.ensures.logged at.node there) c.finish.new.node refl c.in-Err-finish.fault
+          c.stopped.result
+          (subst (λ n. HasNotTaken g.D.Disk.is_kept g.D.Disk.history g.D.Disk.failures_of n
+          c.finish.new.node c.args.chosen.readied.ready c.in-Err-finish.fault) (sym here)
+          c.in-Err-finish.ensures.refused)
+          (subst (λ l. StopsAs c.args.chosen.node c.in-Ok.grown.recorded.stop l
+          c.stopped.new.events.items c.in-Err-finish.fault c.stopped.result) c.in-Ok.ensures.events
+          c.stopped.ensures)
+          (c.cut_back.ensures ∙ c.in-Ok.ensures.count)
+          (c.put_back.ensures ∙ c.in-Ok.ensures.before.0) refl;
+    }
+
+pub returns-in-Err-clause-calls : goal.returns-in-Err-clause-calls
+returns-in-Err-clause-calls g c =
+    rw c.from.ensures (record {
+      offered = [];
+      went = refl;
+      so = λ received. record {
+        nodes = inl refl;
+        sent = c.in-Err.ensures.same.0;
+        events = c.grown_for.ensures.events;
+        pending = c.in-Err.ensures.same.1;
+        offers = refl;
+      };
+    })

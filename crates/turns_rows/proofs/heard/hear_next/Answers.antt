@@ -28,6 +28,6 @@ returns-in-None g c =
     let arm = c.in_ok-event.ensures in
     record {
       heard = tt;
-      idle = if_nothing old mid e.fixed.1 e.history.0 e.history.1 g.P.Port.given c.args.first.now
+      idle = if_nothing old mid e.fixed.1 e.headline.world.0 e.headline.world.1 g.P.Port.given c.args.first.now
           c.in_ok-event.field-0 arm.nothing arm.same (ap is_some c.in-None.is);
     }

@@ -10,7 +10,7 @@ returns-in-Ok g c = λ kept gone.
     let history = g.D.Disk.history in
     let arm = c.in-Err-Down in
     let down = fell g.P.Port.given is_kept history old new c.args.builds.now arm.field-0 arm.node
-    c.args.me arm.field-0-is c.if-node-me.false arm.ensures.refused arm.ensures.any_moment in
+    c.args.me arm.field-0-is c.if-node-me.false arm.ensures.refused arm.ensures.disks.any_moment in
     let w = c.events-events.ensures.history in
     across is_kept history old new down.0 c.args.me down.1 down.2
     c.events_lead_to_later_worlds.ensures c.requires.on_logs w.0 w.1

@@ -15,7 +15,7 @@ returns-in-Ok g c =
       goes_on = any_turn old new e.fixed.0 e.fixed.1 given builds c.turn.result e.happened e.kept
           e.same e.refused e.left;
       asked = in_a_turn given old new builds c.turn.result e.chosen e.nothing e.refused;
-      ended = λ none. if_nothing old new e.fixed.1 e.history.0 e.history.1 given builds
+      ended = λ none. if_nothing old new e.fixed.1 e.headline.world.0 e.headline.world.1 given builds
           c.in-Ok.event c.in-Ok.ensures.nothing c.in-Ok.ensures.same
           (c.is_none.ensures ∙ ap not none);
     }

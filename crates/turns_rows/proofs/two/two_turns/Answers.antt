@@ -61,7 +61,7 @@ returns g c =
           (answered old mid e.fixed.0 e.fixed.1 c.in_ok-one.one one.happened one.kept one.same)
           (answered mid new f.fixed.0 f.fixed.1 c.in_ok-other.other other.happened other.kept
           other.same);
-      idle = λ none. if_nothing mid new f.fixed.1 f.history.0 f.history.1 given c.args.second.now
+      idle = λ none. if_nothing mid new f.fixed.1 f.headline.world.0 f.headline.world.1 given c.args.second.now
           c.in_ok-other.other other.nothing other.same (ap is_some none);
       asked = and_then given 1 1 old.port mid.port new.port
           (in_a_turn given old mid c.args.first.now c.turn.result e.chosen e.nothing e.refused)

@@ -1,8 +1,9 @@
 use Rattle.std.proofs.Common.{refl, subst, ◌∙◌}
 use Rattle.turns.proofs.AnyCase.{listed_in_any}
+use Rattle.turns.proofs.ByCalls.{has_called}
 use Rattle.turns.proofs.Led.{one_list, safe}
-use Rattle.turns.proofs.Standing.{members_there}
 use Rattle.turns.proofs.Turns.{Promises, StandsThen, none_foreign, promises, stands_then}
+use Rattle.turns.specs.Calls.{HasCalled}
 use Rattle.turns.specs.State.{ClusterState}
 use Rattle.turns.specs.Turn.{WereKept}
 use Rattle.turns.specs.inside.Standing.{cluster_of}
@@ -12,10 +13,6 @@ use Rattle.turns.proofs.cluster.Cluster.turn.Goals as goal
 pub take_turn-requires-clause-known : goal.take_turn-requires-clause-known
 take_turn-requires-clause-known g c =
     none_foreign (cluster_of c.self.inside) c.self.invariant.0.world c.self.invariant.0.is_world
-
-pub take_turn-requires-clause-members : goal.take_turn-requires-clause-members
-take_turn-requires-clause-members g c =
-    members_there (cluster_of c.self.inside) c.self.invariant.0.world c.self.invariant.0.is_world
 
 -- the cluster after the turn
 abbrev cluster_then : (g : Over) → goal.After-take_turn g
@@ -40,7 +37,7 @@ promised g c =
     g.P.Port.offered old (cluster_then g c) c.args.builds.now c.take_turn.result) c.self.view_is
     (promises g.D.Disk.is_kept g.D.Disk.history g.D.Disk.failures_of g.P.Port.given
     g.P.Port.offered (cluster_of c.self.inside) (cluster_then g c) c.args.builds.now refl refl
-    i.count i.world i.is_world c.self.invariant.1 c.take_turn.result c.take_turn.ensures)
+    i.count i.world i.is_world c.self.invariant.1 c.take_turn.result c.take_turn.ensures.turn)
 
 -- and what stands then
 standing : (g : Over) (c : goal.After-take_turn g)
@@ -49,7 +46,7 @@ standing g c =
     let i = c.self.invariant.0 in
     stands_then g.D.Disk.is_kept g.D.Disk.history g.D.Disk.failures_of g.P.Port.given
     g.P.Port.offered (cluster_of c.self.inside) (cluster_then g c) c.args.builds.now refl refl
-    i.count i.world i.is_world c.self.invariant.1 c.take_turn.result c.take_turn.ensures
+    i.count i.world i.is_world c.self.invariant.1 c.take_turn.result c.take_turn.ensures.turn
 
 pub invariant_of-self : goal.invariant_of-self
 invariant_of-self g c =
@@ -79,8 +76,8 @@ returns-clause-happened g c = (promised g c).happened
 pub returns-clause-others : goal.returns-clause-others
 returns-clause-others g c = (promised g c).others
 
-pub returns-clause-offered : goal.returns-clause-offered
-returns-clause-offered g c = (promised g c).offers
+pub returns-clause-offers : goal.returns-clause-offers
+returns-clause-offers g c = (promised g c).offers
 
 pub returns-clause-pending : goal.returns-clause-pending
 returns-clause-pending g c = (promised g c).pending
@@ -91,42 +88,41 @@ returns-clause-same g c = (promised g c).same
 pub returns-clause-refused : goal.returns-clause-refused
 returns-clause-refused g c = (promised g c).faults
 
-pub returns-clause-untouched : goal.returns-clause-untouched
-returns-clause-untouched g c = (promised g c).untouched
-
-pub returns-clause-nothing_touched : goal.returns-clause-nothing_touched
-returns-clause-nothing_touched g c = (promised g c).nothing_touched
-
-pub returns-clause-any_moment : goal.returns-clause-any_moment
-returns-clause-any_moment g c = (promised g c).any_moment
-
-pub returns-clause-any_moment_taken : goal.returns-clause-any_moment_taken
-returns-clause-any_moment_taken g c = (promised g c).any_moment_taken
-
-pub returns-clause-device : goal.returns-clause-device
-returns-clause-device g c = (promised g c).device
-
 pub returns-clause-left : goal.returns-clause-left
 returns-clause-left g c = (promised g c).leaves
+
+pub returns-clause-calls : goal.returns-clause-calls
+returns-clause-calls g c =
+    let i = c.self.invariant.0 in
+    subst (λ old. HasCalled g.P.Port.does old (cluster_then g c) c.args.builds.now
+    c.take_turn.result) c.self.view_is
+    (has_called g.D.Disk.is_kept g.D.Disk.history g.D.Disk.failures_of g.P.Port.does
+    (cluster_of c.self.inside) (cluster_then g c) c.args.builds.now refl refl i.count i.world
+    i.is_world c.self.invariant.1 c.take_turn.result c.take_turn.ensures.calls)
+
+pub returns-clause-disks : goal.returns-clause-disks
+returns-clause-disks g c =
+    let p = promised g c in
+    record {
+      any_moment_taken = p.any_moment_taken;
+      any_moment = p.any_moment;
+      device = p.device;
+      untouched = p.untouched;
+      nothing_touched = p.nothing_touched;
+      kept_before = subst (λ old. WereKept g.D.Disk.is_kept old (cluster_then g c)) c.self.view_is
+          (standing g c).kept_before;
+    }
 
 pub returns-clause-on_logs : goal.returns-clause-on_logs
 returns-clause-on_logs g c = (standing g c).on_logs
 
-pub returns-clause-kept_before : goal.returns-clause-kept_before
-returns-clause-kept_before g c =
-    subst (λ old. WereKept g.D.Disk.is_kept old (cluster_then g c)) c.self.view_is
-    (standing g c).kept_before
-
-pub returns-clause-history : goal.returns-clause-history
-returns-clause-history g c = let s = standing g c in (s.world, s.is_world)
-
-pub returns-clause-one_list : goal.returns-clause-one_list
-returns-clause-one_list g c = one_list (cluster_then g c)
-
-pub returns-clause-safe : goal.returns-clause-safe
-returns-clause-safe g c = safe (cluster_then g c)
-
-pub returns-clause-any_case : goal.returns-clause-any_case
-returns-clause-any_case g c =
+pub returns-clause-headline : goal.returns-clause-headline
+returns-clause-headline g c =
     let s = standing g c in
-    listed_in_any (cluster_then g c) s.is_world.made (s.any_case c.self.invariant.0.any_case)
+    record {
+      world = (s.world, s.is_world);
+      one_list = one_list (cluster_then g c);
+      safe = safe (cluster_then g c);
+      any_case = listed_in_any (cluster_then g c) s.is_world.made
+          (s.any_case c.self.invariant.0.any_case);
+    }

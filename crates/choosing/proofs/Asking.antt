@@ -1,0 +1,18 @@
+-- What a receive answered, and what it gave.
+use Rattle.std.proofs.Common.{◌≡◌, ℕ, [], ◌∷◌, Option, None, Some, Result, Ok, Vec, ap, refl, sym}
+use Rattle.std.specs.declared.alloc.Global.{Global}
+use Rattle.choosing.specs.inside.Cases.{arrived}
+use Rattle.parts.specs.Calls.{came_by}
+use Rattle.ports.specs.Calls.{told}
+use Rattle.ports.specs.Kept.{Arrived, GoesOnBy}
+use Rattle.ports.specs.declared.fault.PortFault.{PortFault}
+
+-- what it gave is what it answered
+pub came_told : (o : Option (ℕ × Vec ℕ Global)) → arrived o ≡ came_by (told (Ok o))
+came_told None = refl
+came_told (Some d) = refl
+
+-- and what the receives of the calls gave
+pub in_calls : (came : Arrived) (answer : Result Arrived PortFault) → came ≡ came_by answer
+    → GoesOnBy (came ∷ []) (Some []) (Some (came_by answer ∷ []))
+in_calls came answer is = ap (λ (c : Arrived). c ∷ []) (sym is)

@@ -1,0 +1,8 @@
+use Rattle.solo.specs.Turns.{HaveTurned}
+use Rattle.solo.specs.Handed.{AllBuilds}
+use Rattle.dpbn_node.proofs.turning.take_turns.Given as goal
+
+abbrev pub invariant-loop : goal.invariant-loop
+invariant-loop g l =
+    HaveTurned g.D.Disk.is_kept g.D.Disk.history g.D.Disk.failures_of g.P.Port.given
+    g.P.Port.offered g.P.Port.does g.P.Port.vouches (AllBuilds l.builds) l.counter l.initial.solo l.solo

@@ -1,0 +1,32 @@
+-- The key of a run.
+use Rattle.std.specs.Prelude.{◌≡◌, ℕ, List, Option, None, Some, option_map}
+use Rattle.dpbn_key.specs.Keys.{IsWritten, RefusesKey}
+use Rattle.dpbn_key.specs.Refusals.{number_of}
+use Rattle.dpbn_key.specs.declared.fault.KeyFault.{KeyFault}
+use Rattle.faults.specs.Bytes.{Text}
+use Rattle.listing.specs.Digest.{digest_text}
+use Rattle.listing.specs.Tree.{Tree}
+use Rattle.program.specs.declared.refusal.Refusal.{Refusal}
+use Rattle.seals.specs.Run.{fingerprint, run_key}
+use Rattle.sha2.specs.Sha256.{sha256}
+
+-- where a file is named, some text writes the key; where none is named, there is none
+abbrev pub IsKeyOf : Option Text → Option Text → Type 0
+IsKeyOf None key = key ≡ None
+IsKeyOf (Some file) None = ⊥
+IsKeyOf (Some file) (Some key) = IsWritten key
+
+-- what is told of the file: it can't be read, it is open to others, or it has no key
+abbrev pub RefusesKeyFile : Option Text → Refusal → Type 0
+RefusesKeyFile None r = ⊥
+RefusesKeyFile (Some file) r =
+    (f : KeyFault) × RefusesKey f × (r ≡ record { number = number_of f; place = None })
+
+-- the key under which the run over the tree is sealed, among members that weigh so much, if it is
+abbrev pub seal_of : Tree → List ℕ → Option Text → Option Text
+seal_of tree weights key =
+    option_map (λ k. run_key k (sha256 (digest_text tree)) weights) key
+
+-- what a run file shows of the key
+abbrev pub shown_of : Option Text → Option Text
+shown_of key = option_map fingerprint key

@@ -1,0 +1,81 @@
+-- Turns of crate `solo`, which a program takes one after the other, among all that becomes of
+-- hosts.
+use Rattle.std.specs.Prelude.{◌≡◌, ◌≢◌, ◌++◌, ℕ, List, Option, None, Some, Ok, Err, Contains, slice_get}
+use Rattle.choice.specs.Acts.{asked_by}
+use Rattle.choice.specs.declared.fault.TurnFault.TheVariants as refused
+use Rattle.faults.specs.Bytes.{Text}
+use Rattle.hosts.specs.Hosts.{Down, Host, Hosts, IsLeft, Up, WasOffered, sends_of}
+use Rattle.hosts.specs.Run.{Run}
+use Rattle.listing.specs.Tree.{Tree}
+use Rattle.node.specs.Step.{Asked, Taken, Takes}
+use Rattle.ports.specs.Calls.{Call}
+use Rattle.ports.specs.Kept.{Arrived, Parcel}
+use Rattle.solo.specs.Handed.{Handed}
+use Rattle.solo.specs.State.{SoloState, me_of}
+use Rattle.solo.specs.Turn.{IsChosen}
+use Rattle.solo.specs.Turns.{IsTurn, Outcome}
+use Rattle.stable_record.specs.History.{History}
+
+-- Bytes that the turn's choice takes were offered before.
+abbrev pub HearsOffered : {D P : Type 0} → (P → Option (List Arrived))
+    → (P → Call → P → Type 0) → (P → Text → Type 0) → Handed → List Text → SoloState D P
+    → SoloState D P → Type 0
+HearsOffered given does vouches handed offered old new =
+    (asked : Asked) (parcels : List Parcel)
+    → IsChosen given does vouches old new handed parcels (Some (me_of old, asked))
+    → WasOffered offered asked
+
+-- What the port vouches for was offered before: who heard it is sure that it was sent in this run.
+abbrev pub VouchesForOffered : {P : Type 0} → (P → Text → Type 0) → P → List Text → Type 0
+VouchesForOffered vouches port offered = (text : Text) → vouches port text → Contains offered text
+
+-- What runs on the host after a turn that was answered so: the node as the turn left it; or nothing
+-- any more, with this left on its log, where its device failed.
+abbrev pub host_after : {D P : Type 0} → SoloState D P → List Text → Outcome → Host
+host_after new left (Ok act) = Up new.node.node
+host_after new left (Err refused.Memory) = Up new.node.node
+host_after new left (Err (refused.Node f)) = Up new.node.node
+host_after new left (Err (refused.Down k)) = Down left
+host_after new left (Err refused.NotSent) = Up new.node.node
+host_after new left (Err refused.NotFresh) = Up new.node.node
+
+-- What was offered by it: what the step sends that the node took, if it took one.
+abbrev pub HasOffered : {D P : Type 0} → SoloState D P → Outcome → List Text → List Text → Type 0
+HasOffered state (Ok (Some act)) old new =
+    (t : Taken) × Takes state.node.node (asked_by act) (Ok t) × (new ≡ old ++ sends_of t)
+HasOffered state (Ok None) old new = new ≡ old
+HasOffered state (Err f) old new = new ≡ old
+
+-- The hosts after a turn of the node with this number: on its host that runs, all others are as
+-- they were, and what it offered was offered.
+pub record IsAfterTurn {D P : Type 0} (h g : Hosts) (k : ℕ) (old new : SoloState D P)
+    (left : List Text) (answer : Outcome) : Type 0 where
+  pub here : slice_get g.hosts k ≡ Some (host_after new left answer)
+  pub others : (j : ℕ) → j ≢ k → slice_get g.hosts j ≡ slice_get h.hosts j
+  pub offered : HasOffered old answer h.offered g.offered
+
+-- Law: whatever became of the hosts, a turn of a node that runs on one of them is one thing more
+-- that becomes of them, as long as bytes that it takes were offered before. Where its device failed
+-- that is so for whatever a node that ends may leave on its log.
+abbrev pub TurnsAreOfARun : {D P : Type 0} → (D → Type 0) → (D → History) → (D → ℕ)
+    → (P → Option (List Arrived)) → (P → Option (List Parcel)) → (P → Call → P → Type 0)
+    → (P → Text → Type 0) → Type 0
+TurnsAreOfARun {D} {P} is_kept history failures_of given offered does vouches =
+    (tree : Tree) (weights : List ℕ) (first h : Hosts) (k : ℕ) (handed : Handed)
+    (old new : SoloState D P) (left : List Text) (answer : Outcome) → Run tree weights first h
+    → slice_get h.hosts k ≡ Some (Up old.node.node) → IsLeft h.offered old.node.node left
+    → IsTurn is_kept history failures_of given offered does vouches handed old new answer
+    → HearsOffered given does vouches handed h.offered old new
+    → (g : Hosts) × Run tree weights first g × IsAfterTurn h g k old new left answer
+
+-- Law: so it is where all that the port vouches for was offered before.
+abbrev pub VouchedTurnsAreOfARun : {D P : Type 0} → (D → Type 0) → (D → History) → (D → ℕ)
+    → (P → Option (List Arrived)) → (P → Option (List Parcel)) → (P → Call → P → Type 0)
+    → (P → Text → Type 0) → Type 0
+VouchedTurnsAreOfARun {D} {P} is_kept history failures_of given offered does vouches =
+    (tree : Tree) (weights : List ℕ) (first h : Hosts) (k : ℕ) (handed : Handed)
+    (old new : SoloState D P) (left : List Text) (answer : Outcome) → Run tree weights first h
+    → slice_get h.hosts k ≡ Some (Up old.node.node) → IsLeft h.offered old.node.node left
+    → IsTurn is_kept history failures_of given offered does vouches handed old new answer
+    → VouchesForOffered vouches new.port h.offered
+    → (g : Hosts) × Run tree weights first g × IsAfterTurn h g k old new left answer

@@ -1,0 +1,90 @@
+-- Turns of a node, one after the other.
+use Rattle.std.specs.Prelude.{◌≡◌, ◌⊎◌, ℕ, false, List, [], ◌∷◌, Option, None, Result, IfErr, IfNone, IfOk, IfSome, MatchResult, length}
+use Rattle.choice.specs.Acts.{asked_by}
+use Rattle.choice.specs.declared.act.Act.{Act}
+use Rattle.choice.specs.declared.fault.TurnFault.{TurnFault}
+use Rattle.choice.specs.declared.fault.TurnFault.TheVariants.{Down}
+use Rattle.faults.specs.Bytes.{Text}
+use Rattle.node.specs.OnLog.{IsLogged, IsOnLog}
+use Rattle.ports.specs.Calls.{Call}
+use Rattle.ports.specs.Kept.{Arrived, KeepsVouching, Parcel}
+use Rattle.solo.specs.Handed.{Handed}
+use Rattle.stable_record.specs.Faults.{HasRisen}
+use Rattle.stable_record.specs.History.{History}
+use Rattle.solo.specs.Faults.{IsTurnFault}
+use Rattle.solo.specs.State.{SoloState}
+use Rattle.solo.specs.Turn.{HasTaken, IsChosen, IsHeard, IsUntouched, LeavesAtMost, OffersNothing}
+
+-- what a turn answers
+abbrev pub Outcome : Type 0
+Outcome = Result (Option Act) TurnFault
+
+-- What it answers was done. The node took its step on the turn's choice; and the port went through
+-- just these calls, in order: it was asked once, unless a job waited for its answer, and then the
+-- step's sends were offered. What the node took for a datagram the port vouches for. Or there was
+-- nothing to do, and nothing changed but the port, which was asked the same.
+pub record HasDone {D P : Type 0} (given : P → Option (List Arrived))
+    (offered : P → Option (List Parcel)) (does : P → Call → P → Type 0)
+    (vouches : P → Text → Type 0) (handed : Handed) (old new : SoloState D P) (answer : Outcome)
+    : Type 0 where
+  pub taken : IfOk answer (λ o. IfSome o
+      (λ act. HasTaken given offered does vouches old new handed (asked_by act)))
+  pub heard : IfOk answer (λ o. IfSome o (λ act. IsHeard vouches new.port (asked_by act)))
+  pub nothing : IfOk answer (λ o. IfNone o (IsChosen given does vouches old new handed [] None))
+  pub same : IfOk answer (λ o. IfNone o
+      ((new.node ≡ old.node) × (new.pending ≡ old.pending) × OffersNothing offered old new))
+
+-- Why it is refused, if it is, and what that leaves; the port was asked the same, and was offered
+-- nothing.
+pub record RefusesSo {D P : Type 0} (is_kept : D → Type 0) (history : D → History)
+    (failures_of : D → ℕ) (given : P → Option (List Arrived)) (offered : P → Option (List Parcel))
+    (does : P → Call → P → Type 0) (vouches : P → Text → Type 0) (handed : Handed)
+    (old new : SoloState D P) (answer : Outcome) : Type 0 where
+  pub refused : IfErr answer
+      (IsTurnFault given does vouches old new handed (LeavesAtMost is_kept history old new))
+  pub left : IfErr answer (λ f. (new.pending ≡ old.pending) × OffersNothing offered old new)
+  pub device : IfErr answer (λ f. (k : ℕ) → f ≡ Down k
+      → HasRisen (failures_of old.node.log.disk) (failures_of new.node.log.disk))
+
+-- The log: before and after the turn, and at each moment of it.
+pub record KeepsLog {D P : Type 0} (is_kept : D → Type 0) (history : D → History)
+    (old new : SoloState D P) (answer : Outcome) : Type 0 where
+  pub logged : IsLogged old.node
+  pub on_log : is_kept new.node.log.disk → IsOnLog history old.node
+      → new.node.node.stopped ≡ false → IsOnLog history new.node
+  pub any_moment : IfOk answer (λ o. IfSome o
+      (λ act. LeavesAtMost is_kept history old new (asked_by act)))
+  pub untouched : MatchResult answer (λ o. IfNone o (IsUntouched is_kept history old new))
+      (λ f. ((k : ℕ) × (f ≡ Down k)) ⊎ IsUntouched is_kept history old new)
+  pub kept : is_kept new.node.log.disk → is_kept old.node.log.disk
+
+-- A turn that was answered so. What the port vouched for it still vouches for.
+pub record IsTurn {D P : Type 0} (is_kept : D → Type 0) (history : D → History)
+    (failures_of : D → ℕ) (given : P → Option (List Arrived)) (offered : P → Option (List Parcel))
+    (does : P → Call → P → Type 0) (vouches : P → Text → Type 0) (handed : Handed)
+    (old new : SoloState D P) (answer : Outcome) : Type 0 where
+  pub done : HasDone given offered does vouches handed old new answer
+  pub refuses : RefusesSo is_kept history failures_of given offered does vouches handed old new
+      answer
+  pub log : KeepsLog is_kept history old new answer
+  pub vouches_on : KeepsVouching vouches old.port new.port
+
+-- Turns that were answered so, one after the other, lead from one state to the other: each is one
+-- of the state that the one before left, and nothing else happened in between.
+abbrev pub TurnsLead : {D P : Type 0} → (D → Type 0) → (D → History) → (D → ℕ)
+    → (P → Option (List Arrived)) → (P → Option (List Parcel)) → (P → Call → P → Type 0)
+    → (P → Text → Type 0) → Handed → SoloState D P → List Outcome → SoloState D P → Type 0
+TurnsLead is_kept history failures_of given offered does vouches handed old [] new = new ≡ old
+TurnsLead is_kept history failures_of given offered does vouches handed old (answer ∷ more) new =
+    (between : _)
+    × IsTurn is_kept history failures_of given offered does vouches handed old between answer
+    × TurnsLead is_kept history failures_of given offered does vouches handed between more new
+
+-- So many turns led from one state to the other.
+pub record HaveTurned {D P : Type 0} (is_kept : D → Type 0) (history : D → History)
+    (failures_of : D → ℕ) (given : P → Option (List Arrived)) (offered : P → Option (List Parcel))
+    (does : P → Call → P → Type 0) (vouches : P → Text → Type 0) (handed : Handed) (count : ℕ)
+    (old new : SoloState D P) : Type 0 where
+  pub answers : List Outcome
+  pub counted : length answers ≡ count
+  pub led : TurnsLead is_kept history failures_of given offered does vouches handed old answers new

@@ -1,0 +1,29 @@
+//! Two turns in a row.
+ghost use Rattle.std.specs.Prelude.{[], ◌∷◌};
+ghost use Rattle.solo.specs.Handed.{AllBuilds};
+ghost use Rattle.solo.specs.Turns.{TurnsLead};
+ghost use Rattle.solo_rows.specs.Two.{TookTwo};
+
+use choice::{Act, TurnFault};
+use ports::Port;
+use protocol::Packages;
+use solo::Solo;
+use stable_record::Disk;
+
+/// What a turn answers.
+pub type Outcome = Result<Option<Act>, TurnFault>;
+
+/// Takes two turns. Where both answer what the node did, it took a step on the one, and then, as
+/// that left it, a step on the other; and just what these send was offered, in that order.
+pub fn two_turns<D: Disk, P: Port>(
+    solo: &mut Solo<'_, D, P>,
+    builds: &Packages,
+) -> (Outcome, Outcome)
+    ensures led { TurnsLead D.is_kept D.history D.failures_of P.given P.offered P.does P.vouches
+        (AllBuilds builds.now) solo.old (result.0 ∷ result.1 ∷ []) solo.new }
+    ensures took { TookTwo P.offered solo.old solo.new result.0 result.1 }
+{
+    let one = solo.turn(builds);
+    let other = solo.turn(builds);
+    (one, other)
+}

@@ -1,0 +1,15 @@
+-- What holds of a cluster at each moment, as of each run.
+use Rattle.turns.specs.AnyCase.{IsListedInAnyCase}
+use Rattle.turns.specs.State.{ClusterState, IsWorldOf, taken}
+use Rattle.world.specs.Headline.{HasOneList}
+use Rattle.world.specs.MatchingLaws.{IsSafe}
+use Rattle.world.specs.World.{World}
+
+-- It is a world, to which its events lead from the start, and so all holds of it that holds of each
+-- run; and so it is, of the nodes that are up, whatever was left of the steps inside which nodes
+-- went down.
+pub record HasHeadline {D P : Type 0} (c : ClusterState D P) : Type 0 where
+  pub world : (w : World) × IsWorldOf c w
+  pub one_list : (w : World) → IsWorldOf c w → HasOneList c.division c.weights (taken c) w
+  pub safe : (w : World) → IsWorldOf c w → IsSafe c.division c.weights (taken c) w
+  pub any_case : IsListedInAnyCase c

@@ -1,0 +1,473 @@
+"""Nodes of a run with a key: what is forged, flipped, replayed or sealed otherwise changes nothing; files of keys; run files beside logs
+that are lost, swapped, emptied and copied back."""
+import hashlib
+import hmac
+import json
+import os
+import random
+import re
+import shutil
+import socket
+import subprocess
+import tempfile
+import time
+
+from topics import nodes
+from topics.nodes import (LISTING, NODES, SHARED, agreed, answer, free_ports, grown, lay, lay_logs, logs_in, node_line, put, refused,
+                          taken, ticks)
+from topics.tally import contents, difference
+
+# how many datagrams are sent, in all, that are forged; and that are noise or genuine ones with a bit flipped
+FORGED = FLIPPED = 1_000_000
+# after so many a sender naps, so that what it sends finds room in the socket's line
+AT_ONCE, NAP = 64, 0.001
+STRANGER = "127.0.0.9"
+TALLY = re.compile(rb"^dpbn: member (\d): heard (\d+)(?:, last \d+ looks ago)?, sealed otherwise (\d+), unsent (\d+)$")
+NOTHING = b"".join(b"dpbn: member %d: heard 0, sealed otherwise 0, unsent 0\n" % me for me in (1, 2)) + b"dpbn: strangers: 0\n"
+
+
+# ---- what goes over the line
+
+def code(key, text):
+    """The first half of HMAC with SHA-512."""
+    return hmac.new(key, text, hashlib.sha512).digest()[:32]
+
+
+def run_key(key, tree, weights):
+    return code(key, b"dpbn run 1" + tree + bytes([len(weights), *weights]))
+
+
+def sealed(key, text):
+    return text + code(key, text)
+
+
+def claim(number, member):
+    return number.to_bytes(8, "big") + bytes([member])
+
+
+def front(magic, kind, sender, tree, path):
+    return magic + bytes([kind, sender]) + tree + len(path).to_bytes(2, "big") + path
+
+
+def record(path, name, content):
+    """The text of a build of one package with one file."""
+    lines = ["@dpb 1", f"@name {name}", f"@comment pkgpath={path}", "@host 1", "@claim 1.1", "x",
+             f"@sha {hashlib.sha256(content).hexdigest()}", f"@size {len(content)}", "", ""]
+    return "\n".join(lines).encode() + content
+
+
+def datagrams_of(tree, path, build, sender):
+    """A datagram of each kind, by its name, as that member may send it."""
+    def whole(kind, body):
+        return front(b"DPB1", kind, sender, tree, path) + body
+
+    def piece(kind, carrier):
+        return front(b"DPB2", kind, sender, tree, path) + carrier + len(build).to_bytes(4, "big") + bytes(2) + build
+
+    greatest = claim(2 ** 63 - 1, sender)
+    return {"an offer": whole(1, greatest), "a promise": whole(2, claim(1, 0) + b"\0"), "a vote": whole(4, claim(1, 0)), "a request": whole(6, b""),
+            "a refusal": whole(7, claim(1, 0) + greatest), "a promise with a vote": piece(2, claim(1, 0) + b"\1" + claim(1, 1)),
+            "a proposal": piece(3, claim(1, 1)), "an agreed build": piece(5, b"")}
+
+
+def flood(mouth, to, datagrams):
+    """Sends these, with naps between."""
+    for number, datagram in enumerate(datagrams):
+        mouth.sendto(datagram, to)
+        if number % AT_ONCE == AT_ONCE - 1:
+            time.sleep(NAP)
+
+
+# ---- nodes that run
+
+def where(port):
+    return ",".join(f"127.0.0.{member + 1}:{port}" for member in range(3))
+
+
+def keyed(port, key="key"):
+    """The words on peers and key."""
+    return ["--hosts", where(port), "--key", key, "--patience", "5"]
+
+
+def node_words(me, turns, more, files=SHARED):
+    return ["node", *files, "--members", "3", "--me", str(me), "--turns", str(turns), *more]
+
+
+def begun(folder, me, more, turns=1_000_000, files=SHARED):
+    """A node of three, which writes its lines to files."""
+    with open(f"{folder}/out-{me}", "wb") as out, open(f"{folder}/err-{me}", "wb") as err:
+        return subprocess.Popen([NODES, *node_words(me, turns, [*more, "--progress", "100"], files)], cwd=folder, stdout=out, stderr=err)
+
+
+def over(node):
+    node.kill()
+    node.wait()
+
+
+def lines_of(folder, me):
+    """What the node told so far."""
+    return contents(f"{folder}/err-{me}").split(b"\n")[:-1]
+
+
+def seen(folder, me):
+    """What it told last of each other member (heard, sealed otherwise, unsent), and of strangers."""
+    tallies, strangers = {}, 0
+    for line in lines_of(folder, me):
+        found = TALLY.match(line)
+        if found:
+            tallies[int(found[1])] = tuple(int(it) for it in found.groups()[1:])
+        elif line.startswith(b"dpbn: strangers: "):
+            strangers = int(line.split()[-1])
+    return tallies, strangers
+
+
+def settled(folder, me):
+    """The same, once it stays."""
+    before, now = None, seen(folder, me)
+    while before != now:
+        time.sleep(1.5)
+        before, now = now, seen(folder, me)
+    return now
+
+
+def has_told(folder, me, line, seconds=60):
+    """Waits until it has told a line."""
+    until = time.monotonic() + seconds
+    while time.monotonic() < until:
+        if line in lines_of(folder, me):
+            return True
+        time.sleep(0.02)
+    return False
+
+
+def at_rest(folder, me):
+    """Waits until the node's log stays as it is, and gives its bytes."""
+    path = f"{folder}/logs/node-{me}.log"
+    grown(path, 45)
+    before, now = None, contents(path)
+    while before != now:
+        time.sleep(1)
+        before, now = now, contents(path)
+    return now
+
+
+def others(line):
+    """Whether it is told of nothing but members, strangers and the node itself."""
+    return not (TALLY.match(line) or line.startswith((b"dpbn: strangers: ", b"node ")))
+
+
+def lay_run(folder, listing=LISTING, builds=nodes.BUILDS):
+    """Files of a listing and builds, and a key; and gives it."""
+    lay(folder, listing, builds)
+    subprocess.run([NODES, "key", "key"], cwd=folder, check=True, timeout=60)
+    return bytes.fromhex(contents(f"{folder}/key").decode().strip())
+
+
+def tree_of(folder, me=0):
+    """The listing's digest, as the node's run file has it."""
+    return bytes.fromhex(contents(f"{folder}/logs/node-{me}.run").split(b"\n")[1].split()[1].decode())
+
+
+def many(packages, seed=1, sizes=(10,)):
+    """A listing in which packages need others, and files for each."""
+    dice = random.Random(seed)
+    listing = "".join(f"p/n{k}.FULLPKGNAME=n{k}-1\n" + (f"p/n{k}.LIB_DEPENDS=p/n{dice.randrange(k)}\n" if k % 3 else "") for k in range(packages))
+    return listing, json.dumps({f"p/n{k}": [{"hex": dice.randbytes(dice.choice(sizes)).hex(), "name": "x"}] for k in range(packages)})
+
+
+# ---- files of keys
+
+def keys(tally):
+    """What `key` makes, and which files of keys a node takes."""
+    with tempfile.TemporaryDirectory() as folder:
+        lay(folder)
+        os.umask(0)
+        tally.add("dpbn key", difference(answer(["key", "key"], folder), (b"", b"", 0)))
+        os.umask(0o022)
+        first, mode = contents(f"{folder}/key"), os.stat(f"{folder}/key").st_mode & 0o777
+        tally.add("the file of a key", "" if re.fullmatch(rb"[0-9a-f]{64}\n", first) and mode == 0o600 else f"{first!r}, mode {mode:o}")
+        tally.add("dpbn key, over a key", difference(answer(["key", "key"], folder), refused(2)))
+        tally.add("the key that was there", "" if contents(f"{folder}/key") == first else "it changed")
+        tally.add("dpbn key, in no folder", difference(answer(["key", "none/key"], folder), refused(2)))
+        answer(["key", "second"], folder)
+        tally.add("a second key", "" if contents(f"{folder}/second") != first else "it is the first")
+        port = free_ports(1)
+        digits = first[:64]
+        for name, text, mode, wanted in (("upper", digits.upper() + b"\n", 0o600, None), ("owners", first, 0o700, None), ("read", first, 0o400, None),
+                                         ("group", first, 0o640, 1208), ("all", first, 0o604, 1208), ("write", first, 0o602, 1208),
+                                         ("short", digits[:63] + b"\n", 0o600, 1207), ("long", first + b"\n", 0o600, 1207), ("end", digits, 0o600, 1207),
+                                         ("empty", b"", 0o600, 1207), ("hex", b"g" + digits[1:] + b"\n", 0o600, 1207), ("dos", digits + b"\r\n", 0o600, 1207)):
+            put(f"{folder}/{name}", text)
+            os.chmod(f"{folder}/{name}", mode)
+            lay_logs(folder)
+            got = answer(node_words(0, 0, keyed(port, name)), folder)
+            tally.add(f"the key {name}", difference(got, refused(wanted) if wanted else (node_line(0, q=1), NOTHING, 0)))
+            tally.add(f"the logs with the key {name}", "" if bool(logs_in(folder)) == (not wanted) else f"{sorted(logs_in(folder))}")
+        for name in ("none", "logs"):
+            tally.add(f"the key {name}", difference(answer(node_words(0, 0, keyed(port, name)), folder), refused(2)))
+
+
+# ---- logs and run files
+
+def stays(tally, folder, name, words, wanted):
+    """What is refused leaves all files of the folder as they are."""
+    before = logs_in(folder)
+    told = difference(answer(words, folder), refused(wanted))
+    after = logs_in(folder)
+    changed = [it for it in {*before, *after} if before.get(it) != after.get(it)]
+    tally.add(name, told or (f"{changed} changed" if changed else ""))
+
+
+def runs(tally):
+    """Logs that are lost, swapped, emptied, copied back, and run files of other runs."""
+    with tempfile.TemporaryDirectory() as folder:
+        lay_run(folder)
+        answer(["key", "second"], folder)
+        put(f"{folder}/other", b"a/c.FULLPKGNAME=c-1.0\n")
+        port = free_ports(1)
+        words = keyed(port)
+        first = node_words(0, 0, words)
+        stays(tally, folder, "--continue, where nothing stands", [*first, "--continue"], 1008)
+        three = [begun(folder, me, words) for me in range(3)]
+        held = [has_told(folder, me, node_line(me, i=1)[:-1]) for me in range(3)]
+        for node in three:
+            over(node)
+        tally.add("three nodes under a key", "" if all(held) else f"{[lines_of(folder, me)[-3:] for me in range(3)]}")
+        whole = logs_in(folder)
+        tally.add("what stands in the folder", "" if sorted(whole) == [f"node-{me}.{it}" for me in range(3) for it in ("log", "run")] else f"{sorted(whole)}")
+        tally.add("--continue", "" if answer([*first, "--continue"], folder)[::2] == (node_line(0, i=1), 0) else "it is refused")
+
+        def restored():
+            lay_logs(folder)
+            for name, text in whole.items():
+                put(f"{folder}/logs/{name}", text)
+
+        def spoiled(name, files, words, wanted):
+            """The folder with these files otherwise; none of a name: it isn't there."""
+            restored()
+            for file, text in files.items():
+                if text is None:
+                    os.remove(f"{folder}/logs/{file}")
+                else:
+                    put(f"{folder}/logs/{file}", text)
+            stays(tally, folder, name, words, wanted)
+
+        log, run = whole["node-0.log"], whole["node-0.run"]
+        for name, text in (("no log", None), ("an emptied log", b""), ("a log of one byte", b"\1"), ("a blank log", bytes(40))):
+            spoiled(f"{name} beside a run file", {"node-0.log": text}, first, 1007)
+            spoiled(f"{name} beside a run file, --continue", {"node-0.log": text}, [*first, "--continue"], 1007)
+        spoiled("the log of another member", {"node-0.log": whole["node-1.log"]}, first, 1005)
+        spoiled("log and run file of another member", {"node-0.log": whole["node-1.log"], "node-0.run": whole["node-1.run"]}, first, "1006 at 4")
+        spoiled("no run file, and a key", {"node-0.run": None}, first, "1006 at 0")
+        spoiled("a run file of another version", {"node-0.run": run.replace(b"run 1", b"run 2")}, first, "1006 at 1")
+        spoiled("a run file that was cut", {"node-0.run": run[:-1]}, first, "1006 at 5")
+        spoiled("an empty run file", {"node-0.run": b""}, first, "1006 at 1")
+        spoiled("another listing", {}, ["other" if it == "listing" else it for it in first], "1006 at 2")
+        spoiled("other weights", {}, [*first, "--weights", "1,1,2"], "1006 at 3")
+        two = ["--members", "2", "--me", "0", "--turns", "0", "--hosts", ",".join(where(port).split(",")[:2]), "--key", "key"]
+        spoiled("fewer members", {}, ["node", *SHARED, *two], "1006 at 3")
+        spoiled("another key", {}, node_words(0, 0, keyed(port, "second")), "1006 at 5")
+        spoiled("no key", {}, node_words(0, 0, ["--hosts", where(port), "--unsealed"]), "1006 at 5")
+        spoiled("a cluster in the folder", {}, ["cluster", *SHARED, "--members", "3", "--turns", "0"], 1203)
+        restored()
+        put(f"{folder}/logs/node-0.log", log[:-1] + b"\0")
+        got = answer(first, folder)
+        tally.add("an older copy of the log opens: nothing beside it tells", "" if got[2] == 0 else f"{got[1]!r}")
+
+
+# ---- what comes
+
+def believed(tally):
+    """Without a key a build that a member's address tells as agreed is taken; the same datagrams do nothing under a key."""
+    for name, words, line in (("no key", ["--unsealed"], node_line(0, i=1)), ("a key", ["--key", "key"], node_line(0, q=1))):
+        with tempfile.TemporaryDirectory() as folder:
+            lay_run(folder)
+            port = free_ports(1)
+            with taken(port, "127.0.0.2") as mouth:
+                node = begun(folder, 0, ["--hosts", where(port), "--patience", "5", *words], 300)
+                grown(f"{folder}/logs/node-0.run", 1)
+                build = record("a/b", "b-1.0", b"forged")
+                for datagram in datagrams_of(tree_of(folder), b"a/b", build, 1).values():
+                    mouth.sendto(datagram, ("127.0.0.1", port))
+                node.wait(timeout=120)
+            out = contents(f"{folder}/out-0")
+            tally.add(f"forged datagrams, {name}", "" if out == line else f"{out!r}")
+
+
+def forgeries(tree, weights, count):
+    """So many datagrams, of each kind and for each other member, that carry no seal of the run, or a wrong one."""
+    dice, texts = random.Random(2), []
+    for sender in (1, 2):
+        texts += datagrams_of(tree, b"a/b", record("a/b", "b-1.0", b"forged"), sender).values()
+    strange = run_key(bytes(32), tree, weights)
+    for number in range(count):
+        text = texts[number % len(texts)]
+        yield (text, text + dice.randbytes(32), sealed(strange, text), sealed(strange, text)[:-1], text + bytes(32))[number // len(texts) % 5]
+
+
+def forged(tally):
+    """A million forged datagrams at a node whose peers are away: a third from a stranger, the others from the members' addresses. Nothing
+    is noted, no turn is used; then a peer comes, and both hold all."""
+    with tempfile.TemporaryDirectory() as folder:
+        lay_run(folder)
+        port = free_ports(1)
+        node = begun(folder, 0, keyed(port))
+        before = at_rest(folder, 0)
+        tree = tree_of(folder)
+        used, began = ticks(node), time.monotonic()
+        for address, count in ((STRANGER, FORGED // 3), ("127.0.0.2", FORGED // 3), ("127.0.0.3", FORGED - 2 * (FORGED // 3))):
+            with taken(port, address) as mouth:
+                flood(mouth, ("127.0.0.1", port), forgeries(tree, (1, 1, 1), count))
+        took = time.monotonic() - began
+        tallies, strangers = settled(folder, 0)
+        used = (ticks(node) - used) / os.sysconf("SC_CLK_TCK")
+        came = strangers + sum(it[1] for it in tallies.values())
+        print(f"tests/run: {FORGED:,} forged datagrams in {took:.1f} s: {came:,} were read, {strangers:,} of a stranger; {used:.1f} s of processor", flush=True)
+        tally.add("forged datagrams that were read", "" if came > FORGED / 2 else f"{came}")
+        tally.add("forged datagrams that are heard", "" if all(it[0] == 0 for it in tallies.values()) else f"{tallies}")
+        wanted = [b"dpbn: member %d seals otherwise: another key, listing, weights or members" % me for me in (1, 2)]
+        told = sorted(line for line in lines_of(folder, 0) if others(line))
+        tally.add("what is told of forged datagrams", "" if told == wanted else f"{told[:5]}")
+        tally.add("the log behind forged datagrams", "" if contents(f"{folder}/logs/node-0.log") == before else "it changed")
+        peer = begun(folder, 1, keyed(port))
+        held = [has_told(folder, me, node_line(me, i=1)[:-1]) for me in (0, 1)]
+        over(peer)
+        over(node)
+        tally.add("a peer behind forged datagrams", "" if all(held) else f"{held}")
+
+
+def flipped(tally):
+    """A million datagrams from a member's address at a node: noise, and genuine ones of this run with a bit flipped."""
+    dice = random.Random(3)
+    with tempfile.TemporaryDirectory() as folder:
+        lay_run(folder)
+        port = free_ports(1)
+        with taken(port, "127.0.0.3") as mouth:
+            mouth.settimeout(30)
+            node = begun(folder, 0, keyed(port))
+            genuine = [mouth.recv(65_536) for _ in range(20)]
+            before = at_rest(folder, 0)
+
+            def one(number):
+                if number % 2:
+                    return dice.randbytes(dice.randrange(200))
+                text = bytearray(genuine[number // 2 % len(genuine)])
+                place = dice.randrange(8 * len(text))
+                text[place // 8] ^= 1 << place % 8
+                return bytes(text)
+
+            flood(mouth, ("127.0.0.1", port), (one(number) for number in range(FLIPPED)))
+            tallies, _ = settled(folder, 0)
+            tally.add("noise and flipped bits", "" if tallies[2][0] == 0 and tallies[2][1] > FLIPPED / 2 else f"{tallies}")
+            tally.add("the log behind noise and flipped bits", "" if contents(f"{folder}/logs/node-0.log") == before else "it changed")
+            mouth.sendto(genuine[0], ("127.0.0.1", port))
+            tally.add("a genuine one behind them", "" if settled(folder, 0)[0][2][0] == 1 else f"{seen(folder, 0)}")
+        over(node)
+        told = [line for line in lines_of(folder, 0) if others(line)]
+        print(f"tests/run: {FLIPPED:,} of noise and flipped bits: {tallies[2][1]:,} were read, and none was heard", flush=True)
+        tally.add("what is told of noise and flipped bits", "" if len(told) == 1 and b"member 2 seals otherwise" in told[0] else f"{told[:5]}")
+
+
+def strangers_of_the_run(tally):
+    """A member with another key, other weights or another listing is heard by none, and told by name, once; the others go on without."""
+    for name, more, files in (("key", keyed, None), ("weights", None, None), ("listing", None, "other")):
+        with tempfile.TemporaryDirectory() as folder:
+            lay_run(folder)
+            answer(["key", "second"], folder)
+            put(f"{folder}/other", b"a/b.FULLPKGNAME=b-1.0\na/c.FULLPKGNAME=c-1.0\n")
+            port = free_ports(1)
+            two = [begun(folder, me, keyed(port)) for me in (0, 1)]
+            words = keyed(port, "second") if more else keyed(port)
+            words += ["--weights", "1,1,2"] if name == "weights" else []
+            third = begun(folder, 2, words, files=["other" if it == "listing" else it for it in SHARED] if files else SHARED)
+            held = [has_told(folder, me, node_line(me, i=1)[:-1]) for me in (0, 1)]
+            line = b"dpbn: member 2 seals otherwise: another key, listing, weights or members"
+            named = [has_told(folder, me, line) for me in (0, 1)]
+            back = has_told(folder, 2, line.replace(b"member 2", b"member 0"))
+            for node in (*two, third):
+                over(node)
+            tally.add(f"two nodes beside one with another {name}", "" if all(held) and all(named) and back else f"held {held}, named {named}, back {back}")
+            once = [lines_of(folder, me).count(line) for me in (0, 1)]
+            heard = [seen(folder, me)[0][2][0] for me in (0, 1)] + [it[0] for it in seen(folder, 2)[0].values()]
+            tally.add(f"what is heard of another {name}", "" if once == [1, 1] and not any(heard) else f"told {once} times, heard {heard}")
+
+
+def replayed(tally, packages=30):
+    """All that two nodes of a run sent to the third, sent again: to the same nodes, started again, and to those of a run with another key."""
+    with tempfile.TemporaryDirectory() as folder:
+        lay_run(folder, *many(packages, sizes=(0, 10, 40_000)))
+        port = free_ports(1)
+        with taken(port, "127.0.0.3") as ear:
+            ear.settimeout(0.05)
+            ear.setsockopt(socket.SOL_SOCKET, socket.SO_RCVBUF, 4_000_000)
+            two, sent, held = [begun(folder, me, keyed(port)) for me in (0, 1)], [], [False, False]
+            until = time.monotonic() + 120
+            while not all(held) and time.monotonic() < until:
+                try:
+                    sent.append(ear.recv(65_536))
+                except TimeoutError:
+                    held = [node_line(me, i=packages)[:-1] in lines_of(folder, me) for me in (0, 1)]
+            for node in two:
+                over(node)
+            tally.add("two nodes that are overheard", "" if all(held) and len(sent) > packages else f"{held}, {len(sent)}")
+            two = [begun(folder, me, keyed(port)) for me in (0, 1)]
+            for me in (0, 1):
+                grown(f"{folder}/err-{me}", 1)
+                flood(ear, (f"127.0.0.{me + 1}", port), sent)
+            heard = [settled(folder, me)[0][2] for me in (0, 1)]
+            for node in two:
+                over(node)
+            tally.add("what was sent, sent again in its run", "" if all(it[0] > 0 and it[1] == 0 for it in heard) else f"{heard}")
+            agreed_of_two(tally, folder, "a run that is replayed")
+            os.remove(f"{folder}/key")
+            answer(["key", "key"], folder)
+            lay_logs(folder)
+            node = begun(folder, 0, keyed(port))
+            before = at_rest(folder, 0)
+            flood(ear, ("127.0.0.1", port), sent)
+            heard = settled(folder, 0)[0][2]
+            over(node)
+            print(f"tests/run: {len(sent):,} datagrams of an earlier run sent again: {heard[1]:,} were read, and {heard[0]} heard", flush=True)
+            tally.add("what was sent, sent again in another run", "" if heard[0] == 0 and heard[1] > 0 else f"{heard}")
+            tally.add("the log behind another run's datagrams", "" if contents(f"{folder}/logs/node-0.log") == before else "it changed")
+
+
+def agreed_of_two(tally, folder, when):
+    """What the logs of nodes 0 and 1 hold: one package a path."""
+    shutil.copy(f"{folder}/logs/node-1.log", f"{folder}/logs/node-2.log")
+    agreed(tally, folder, when)
+    os.remove(f"{folder}/logs/node-2.log")
+
+
+def beside_a_flood(tally, packages=150):
+    """Two nodes that build, and the same beside forged datagrams from the third one's address at both."""
+    took = []
+    for is_flooded in (False, True):
+        with tempfile.TemporaryDirectory() as folder:
+            lay_run(folder, *many(packages))
+            port = free_ports(1)
+            began = time.monotonic()
+            two = [begun(folder, me, keyed(port)) for me in (0, 1)]
+            held, sent = [False, False], 0
+            grown(f"{folder}/logs/node-0.run", 1)
+            texts = list(forgeries(tree_of(folder), (1, 1, 1), 4_096))
+            with taken(port, "127.0.0.3") as mouth:
+                while not all(held) and time.monotonic() < began + 300:
+                    for datagram in texts[:AT_ONCE] if is_flooded else []:
+                        for me in (0, 1):
+                            mouth.sendto(datagram, (f"127.0.0.{me + 1}", port))
+                            sent += 1
+                    texts = texts[AT_ONCE:] + texts[:AT_ONCE]
+                    time.sleep(0.002)
+                    held = [node_line(me, i=packages)[:-1] in lines_of(folder, me)[-8:] for me in (0, 1)]
+            took.append((time.monotonic() - began, sent))
+            for node in two:
+                over(node)
+            tally.add(f"two nodes {'beside a flood' if is_flooded else 'alone'}", "" if all(held) else f"{held}")
+    print(f"tests/run: two nodes, {packages} packages: {took[0][0]:.1f} s, and beside {took[1][1]:,} forged datagrams {took[1][0]:.1f} s", flush=True)
+
+
+def run(tally):
+    for one in (keys, runs, believed, forged, flipped, strangers_of_the_run, replayed, beside_a_flood):
+        one(tally)
+    nodes.kills(tally, 20, 2, sealing=True)
