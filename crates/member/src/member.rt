@@ -13,7 +13,7 @@ ghost use Rattle.protocol.specs.Answers.{after, tree_digest};
 ghost use Rattle.protocol.specs.Member.{IsMember};
 ghost use Rattle.protocol.specs.Restoring.{AreOnUnits, restored};
 ghost use Rattle.protocol.specs.State.{Value, engine_of, fresh, held_record};
-ghost use Rattle.protocol.specs.Step.{HasAnswered, HasHandled, facts_named, header_refusal};
+ghost use Rattle.protocol.specs.Step.{HasAnswered, HasHandled, facts_named, header_refusal, job_of_claim};
 ghost use Rattle.member.specs.KnownBuilds.{known_build, proposal_in};
 ghost use Rattle.member.specs.OpenClaims.{open_of};
 ghost use Rattle.member.specs.Outcomes.{told};
@@ -321,6 +321,13 @@ impl<'a> Member<'a> {
         ensures member { IsMember self.now }
     {
         self.claim.as_ref()
+    }
+
+    /// The job of the open claim, while that waits for a build.
+    pub fn job(&self) -> Option<&Job>
+        ensures { option_copied result ≡ job_of_claim self.now }
+    {
+        self.job.as_ref()
     }
 
     /// The greatest round that it opened for the unit that the path names, or 0.

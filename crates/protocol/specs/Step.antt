@@ -2,7 +2,7 @@
 -- in the words of crate agreement; here stand who is refused, in the order of the tests, and who
 -- gets what is said.
 use Rattle.std.specs.Prelude.{◌≡◌, ℕ, max, Bool, true, false, not, nat_le, nat_lt, List, [], ◌∷◌}
-use Rattle.std.specs.Prelude.{Option, None, Some, is_none, is_some, length, option_map, Result, Ok}
+use Rattle.std.specs.Prelude.{Option, None, Some, is_none, is_some, length, option_and_then, option_map, Result, Ok}
 use Rattle.std.specs.Prelude.{Err, if◌then◌else◌}
 use Rattle.std.specs.List.{list_all}
 use Rattle.std.specs.Str.{bytes_eq}
@@ -147,6 +147,10 @@ abbrev pub job_again : State → OpenClaim → Progress → Option Task
 job_again s o (Gathering c joined k) = None
 job_again s o (Building c) = Some (job_of s o.unit o.host c)
 job_again s o (Voting b joined) = None
+
+-- the job of the open claim, while that waits for a build
+abbrev pub job_of_claim : State → Option Task
+job_of_claim s = option_and_then (λ o. job_again s o o.progress) s.claim
 
 -- the answer, with this job
 abbrev pub with_job : Option Task → Result Answer Refusal → Result Answer Refusal

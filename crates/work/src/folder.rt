@@ -133,6 +133,21 @@ impl<'f> Folder<'f> {
         Ok(fs::exists(rt, path.as_str())?)
     }
 
+    /// Whether something stands for the job that has this name: what was built, or that it failed.
+    ///
+    /// # Errors
+    ///
+    /// What the system refused.
+    pub fn is_answered(&self, rt: &HostRuntime, name: &Name) -> Result<bool, WorkFault>
+        ensures { IfErr result IsOfSystem }
+    {
+        if self.has_failed(rt, name)? {
+            return Ok(true);
+        }
+        let path = self.path_of(rt.alloc(), Part::Done, name)?;
+        Ok(fs::exists(rt, path.as_str())?)
+    }
+
     /// Marks the build that has this name as failed, with a line on why, since what was handed in
     /// makes none. Once the mark is on the disk, that is taken away: so whoever takes away the mark
     /// has the job built anew.
