@@ -802,10 +802,13 @@ def agreed(tally, folder, when):
 
 
 def manual_page(tally):
-    """What dpbn(1) shows: its commands run in a folder, one after the other, and print what stands there."""
+    """What dpbn(1) shows: its commands run in a folder, one after the other, and print what stands there. A copy to another host is none."""
     page = contents(f"{TOP}/man/dpbn.1").decode()
-    with tempfile.TemporaryDirectory() as folder:
-        path = f"{os.path.dirname(NODES)}:{os.path.dirname(PROGRAM)}:{TOP}/tools:{os.environ['PATH']}"
+    with tempfile.TemporaryDirectory() as folder, tempfile.TemporaryDirectory() as aside:
+        with open(f"{aside}/scp", "w") as file:
+            file.write("#!/bin/sh\n")
+        os.chmod(f"{aside}/scp", 0o755)
+        path = f"{aside}:{os.path.dirname(NODES)}:{os.path.dirname(PROGRAM)}:{TOP}/tools:{os.environ['PATH']}"
         for line, text in shown(page):
             if line.startswith("cat "):
                 with open(f"{folder}/{line[4:]}", "w") as file:

@@ -203,8 +203,9 @@ def keys(tally):
             got = answer(node_words(0, 0, keyed(port, name)), folder)
             tally.add(f"the key {name}", difference(got, refused(wanted) if wanted else (node_line(0, q=1), NOTHING, 0)))
             tally.add(f"the logs with the key {name}", "" if bool(logs_in(folder)) == (not wanted) else f"{sorted(logs_in(folder))}")
-        for name in ("none", "logs"):
-            tally.add(f"the key {name}", difference(answer(node_words(0, 0, keyed(port, name)), folder), refused(2)))
+        os.mkdir(f"{folder}/private", 0o700)
+        for name, wanted in (("none", 2), ("private", 2), ("logs", 1208)):
+            tally.add(f"the key {name}", difference(answer(node_words(0, 0, keyed(port, name)), folder), refused(wanted)))
 
 
 # ---- logs and run files
