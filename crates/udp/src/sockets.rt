@@ -1,15 +1,18 @@
 //! The sockets of the nodes here.
-ghost use Rattle.std.specs.Prelude.{◌≡◌, ◌≢◌, ◌<◌, ◌↔◌, Err, IfErr, IfOk, IsTrue, MatchOption, Ok, false, length};
-ghost use Rattle.udp.specs.Coming.{HasCome, IsHeardOrLost, IsStrange};
+ghost use Rattle.std.specs.Prelude.{◌≡◌, ◌≢◌, ◌<◌, ◌↔◌, Err, IfErr, IfOk, IsTrue, MatchOption, Ok, false, length, true};
+ghost use Rattle.udp.specs.Coming.{Became, HasCome, IsHeardOrLost, IsStrange};
 ghost use Rattle.udp.specs.Inbox.{GoesOn};
 ghost use Rattle.udp.specs.Refusals.{CannotStart};
+ghost use Rattle.udp.specs.Requests.{is_repeat, known_after, request_in};
 ghost use Rattle.udp.specs.Ways.{HasNoSeat, HasNoWay, IsSeatOf, IsWay};
 
 use crate::inbox::{Came, Inbox};
+use crate::requests::{Requests, request_in};
 use crate::tallies::Tallies;
 use ports::PortFault;
 use std::io::ErrorKind;
 use std::net::{Net, SocketAddr, UdpSocket};
+use std::time::Instant;
 
 /// How many are taken off a socket at each look.
 const TAKEN_AT_A_LOOK: u32 = 1_024;
@@ -35,7 +38,7 @@ pub struct Way {
     pub member: u8,
 }
 
-/// Whose datagrams are taken, and how long ones.
+/// Whose datagrams are taken, how long ones, and how often.
 #[derive(Clone, Copy)]
 pub struct Sieve<'a> {
     /// Where the members' nodes listen, by number.
@@ -44,6 +47,10 @@ pub struct Sieve<'a> {
     pub most: usize,
     /// Whether those of others than the members are taken, too.
     pub is_open: bool,
+    /// What a request begins with, where one that comes again at once is dropped.
+    pub front: Option<[u8; 5]>,
+    /// When this is, where the clock tells.
+    pub now: Option<Instant>,
 }
 
 /// What the system did with a datagram.
@@ -121,25 +128,27 @@ pub fn take_off(
     sieve: Sieve<'_>,
     buffer: &mut [u8],
     inbox: &mut Inbox,
+    requests: &mut Requests,
     tallies: &mut Tallies,
 ) -> bool
     ensures { GoesOn inbox.old inbox.new }
 {
     let mut has_failed = false;
     for seat in seats {
-        has_failed = take_all(seat, sieve, buffer, inbox, tallies) || has_failed;
+        has_failed = take_all(seat, sieve, buffer, inbox, requests, tallies) || has_failed;
     }
     has_failed
 }
 
 /// Takes some of what came off the seat's socket, and says whether the socket failed. What is no
 /// text of a member's is counted, and nothing else is done with it. What finds no room in the line,
-/// or no memory, is lost.
+/// or no memory, is lost, and so is a request that came again at once.
 fn take_all(
     seat: &Seat,
     sieve: Sieve<'_>,
     buffer: &mut [u8],
     inbox: &mut Inbox,
+    requests: &mut Requests,
     tallies: &mut Tallies,
 ) -> bool
     ensures come { HasCome seat.now.node inbox.old inbox.new }
@@ -153,7 +162,8 @@ fn take_all(
         match seat.socket.recv_from(buffer) {
             Ok((count, from)) => {
                 left = left.saturating_sub(count);
-                take_one(seat.node, &buffer[..count], &from, sieve, inbox, tallies);
+                let bytes = &buffer[..count];
+                take_one(seat.node, bytes, &from, sieve, inbox, requests, tallies);
             }
             Err(error) => return is_failure(error.kind()),
         }
@@ -170,6 +180,7 @@ fn take_one(
     from: &SocketAddr,
     sieve: Sieve<'_>,
     inbox: &mut Inbox,
+    requests: &mut Requests,
     tallies: &mut Tallies,
 )
     ensures heard { IsHeardOrLost node bytes.now inbox.old inbox.new }
@@ -186,17 +197,52 @@ fn take_one(
         tallies.note_strange();
         return;
     }
-    let came = take_bytes(node, bytes, inbox);
     match member_at(sieve.members, from) {
-        Some(member) => tallies.note(member, came),
-        None => tallies.note_strange(),
+        Some(member) => {
+            let came = take_from(node, member, bytes, sieve, inbox, requests);
+            tallies.note(member, came);
+        }
+        None => {
+            take_bytes(node, bytes, inbox);
+            tallies.note_strange();
+        }
     }
+}
+
+/// Takes these bytes, which came from the member's address for the node, as others are taken, but
+/// for a request that came again at once: it is dropped.
+fn take_from(
+    node: u8,
+    member: usize,
+    bytes: &[u8],
+    sieve: Sieve<'_>,
+    inbox: &mut Inbox,
+    requests: &mut Requests,
+) -> Came
+    ensures became { let request = request_in sieve.entry.front sieve.entry.now node member bytes.now in
+        Became node bytes.now (is_repeat request requests.old.known.items) inbox.old inbox.new result }
+    ensures dropped { let request = request_in sieve.entry.front sieve.entry.now node member bytes.now in
+        is_repeat request requests.old.known.items ≡ true → result ≡ Came.Repeated }
+    ensures noted { let request = request_in sieve.entry.front sieve.entry.now node member bytes.now in
+        requests.new.known.items
+        ≡ known_after result request requests.old.next requests.old.known.items }
+{
+    let Some(request) = request_in(sieve.front, sieve.now, node, member, bytes) else {
+        return take_bytes(node, bytes, inbox);
+    };
+    if requests.has(&request) {
+        return Came::Repeated;
+    }
+    let came = take_bytes(node, bytes, inbox);
+    if came == Came::Waits {
+        requests.note(request);
+    }
+    came
 }
 
 /// Takes these bytes, which came for the node, if they are a text of this run.
 fn take_bytes(node: u8, bytes: &[u8], inbox: &mut Inbox) -> Came
-    ensures heard { IsHeardOrLost node bytes.now inbox.old inbox.new }
-    ensures goes_on { GoesOn inbox.old inbox.new }
+    ensures { Became node bytes.now false inbox.old inbox.new result }
 {
     inbox.take(node, bytes)
 }

@@ -11,6 +11,7 @@ use crate::inbox::Inbox;
 use crate::line::{Line, Waiting};
 use crate::outbox::Outbox;
 use crate::patience::Patience;
+use crate::requests::Requests;
 use crate::sockets::{
     Seat, Sent, Sieve, Way, address_of, hand_over, seat_of, take_off, take_seat, way_of,
 };
@@ -22,7 +23,7 @@ use seals::Seal;
 use std::alloc::Global;
 use std::net::{Ipv4Addr, Net, SocketAddr, SocketAddrV4};
 use std::thread;
-use std::time::{Clock, Duration};
+use std::time::{Clock, Duration, Instant};
 
 /// How many datagrams that came may stand in line. What comes beyond is lost.
 const MOST_COME: usize = 65_536;
@@ -57,8 +58,11 @@ pub struct UdpPort<'c, C: Clock> {
     most: usize,
     /// Whether datagrams of others than the members are taken, too.
     is_open: bool,
+    /// What a request begins with, where one that comes again at once is dropped.
+    front: Option<[u8; 5]>,
     buffer: Vec<u8>,
     inbox: Inbox,
+    requests: Requests,
     outbox: Outbox,
     leaving: Line<Way>,
     /// What was handed to the system and left the line.
@@ -116,7 +120,7 @@ impl<'c, C: Clock> UdpPort<'c, C> {
         ensures sealed { IfOk result (λ port. (port.inbox.key ≡ guard.seal)
             × (port.outbox.key ≡ guard.seal)) }
         ensures guard { IfOk result (λ port. (port.most ≡ guard.most)
-            × (port.is_open ≡ guard.is_open)) }
+            × (port.is_open ≡ guard.is_open) × (port.front ≡ guard.front)) }
         ensures refused { IfErr result CannotStart }
     {
         let mut seats = Vec::with_capacity(alloc, members as usize)?;
@@ -176,7 +180,7 @@ impl<'c, C: Clock> UdpPort<'c, C> {
         ensures sealed { IfOk result (λ port. (port.inbox.key ≡ guard.seal)
             × (port.outbox.key ≡ guard.seal)) }
         ensures guard { IfOk result (λ port. (port.most ≡ guard.most)
-            × (port.is_open ≡ guard.is_open)) }
+            × (port.is_open ≡ guard.is_open) × (port.front ≡ guard.front)) }
         ensures refused { IfErr result CannotStart }
     {
         let mut seats = Vec::with_capacity(alloc, 1)?;
@@ -262,12 +266,15 @@ impl<'c, C: Clock> UdpPort<'c, C> {
             members: self.addresses.as_slice(),
             most: self.most,
             is_open: self.is_open,
+            front: self.front,
+            now: Instant::now(self.clock).ok(),
         };
         take_off(
             &self.seats,
             sieve,
             &mut self.buffer,
             &mut self.inbox,
+            &mut self.requests,
             &mut self.tallies,
         )
     }
@@ -489,15 +496,17 @@ fn port_of<'c, C: Clock>(
     ensures sealed { IfOk result (λ port. (port.inbox.key ≡ guard.seal)
         × (port.outbox.key ≡ guard.seal)) }
     ensures guard { IfOk result (λ port. (port.most ≡ guard.most)
-        × (port.is_open ≡ guard.is_open)) }
+        × (port.is_open ≡ guard.is_open) × (port.front ≡ guard.front)) }
     ensures refused { IfErr result CannotStart }
 {
     let Guard {
         seal,
         most,
         is_open,
+        front,
     } = guard;
     let tallies = Tallies::new(alloc, addresses.len())?;
+    let requests = Requests::new(alloc)?;
     let outbox = Outbox::new(alloc, copy_of(&seal));
     Ok(UdpPort {
         clock,
@@ -506,9 +515,11 @@ fn port_of<'c, C: Clock>(
         addresses,
         most,
         is_open,
+        front,
         // One byte longer than the longest datagram: what is longer yet is cut to that.
         buffer: vec![in alloc; 0; most + 1]?,
         inbox: Inbox::new(alloc, seal, MOST_COME),
+        requests,
         outbox,
         leaving: Line::new(alloc, MOST_LEAVING),
         handed: Told::new(),
