@@ -1,13 +1,14 @@
 //! The sockets of the nodes here.
-ghost use Rattle.std.specs.Prelude.{◌≡◌, ◌≢◌, ◌<◌, ◌↔◌, Err, IfErr, IfOk, IsTrue, MatchOption, Ok, false, length, true};
+ghost use Rattle.std.specs.Prelude.{◌≡◌, ◌≢◌, ◌<◌, ◌≤◌, ◌↔◌, Err, IfErr, IfOk, IsTrue, MatchOption, Ok, false, length, true};
+ghost use Rattle.std.specs.List.{Contains};
 ghost use Rattle.udp.specs.Coming.{Became, HasCome, IsHeardOrLost, IsStrange};
 ghost use Rattle.udp.specs.Inbox.{GoesOn};
 ghost use Rattle.udp.specs.Refusals.{CannotStart};
-ghost use Rattle.udp.specs.Requests.{is_repeat, known_after, request_in};
+ghost use Rattle.udp.specs.Requests.{is_repeat, is_request, known_after};
 ghost use Rattle.udp.specs.Ways.{HasNoSeat, HasNoWay, IsSeatOf, IsWay};
 
 use crate::inbox::{Came, Inbox};
-use crate::requests::{Requests, request_in};
+use crate::requests::{Request, Requests, request_in};
 use crate::tallies::Tallies;
 use ports::PortFault;
 use std::io::ErrorKind;
@@ -113,6 +114,7 @@ pub fn way_of(seats: &[Seat], addresses: &[SocketAddr], from: u8, to: u8) -> Opt
 fn may_come(sieve: Sieve<'_>, from: &SocketAddr) -> bool
     ensures { sieve.entry.is_open ≡ false → IsStrange sieve.entry.members.now from.now
         → result ≡ false }
+    ensures members { Contains sieve.entry.members.now from.now → result ≡ true }
 {
     sieve.is_open || sieve.members.contains(from)
 }
@@ -188,6 +190,12 @@ fn take_one(
     ensures long { sieve.entry.most < length bytes.now → inbox.new ≡ inbox.old }
     ensures strange { sieve.entry.is_open ≡ false
         → IsStrange sieve.entry.members.now from.now → inbox.new ≡ inbox.old }
+
+    // A member's datagram that is no request is taken in any case.
+    ensures taken { length bytes.now ≤ sieve.entry.most
+        → Contains sieve.entry.members.now from.now
+        → is_request sieve.entry.front bytes.now ≡ false
+        → (came : Came) × Became node bytes.now false inbox.old inbox.new came }
 {
     if bytes.len() > sieve.most {
         tallies.note_strange();
@@ -199,7 +207,8 @@ fn take_one(
     }
     match member_at(sieve.members, from) {
         Some(member) => {
-            let came = take_from(node, member, bytes, sieve, inbox, requests);
+            let request = request_in(sieve.front, sieve.now, node, member, bytes);
+            let came = take_from(node, bytes, request, inbox, requests);
             tallies.note(member, came);
         }
         None => {
@@ -209,25 +218,26 @@ fn take_one(
     }
 }
 
-/// Takes these bytes, which came from the member's address for the node, as others are taken, but
-/// for a request that came again at once: it is dropped.
+/// Takes these bytes, which came from a member's address for the node, and may be a request. One
+/// that came again at once is dropped, and all others are taken as they are elsewhere.
+#[tactic(auto, using(crate::proofs::InboxLemmas::goes_on_still))]
 fn take_from(
     node: u8,
-    member: usize,
     bytes: &[u8],
-    sieve: Sieve<'_>,
+    request: Option<Request>,
     inbox: &mut Inbox,
     requests: &mut Requests,
 ) -> Came
-    ensures became { let request = request_in sieve.entry.front sieve.entry.now node member bytes.now in
-        Became node bytes.now (is_repeat request requests.old.known.items) inbox.old inbox.new result }
-    ensures dropped { let request = request_in sieve.entry.front sieve.entry.now node member bytes.now in
-        is_repeat request requests.old.known.items ≡ true → result ≡ Came.Repeated }
-    ensures noted { let request = request_in sieve.entry.front sieve.entry.now node member bytes.now in
-        requests.new.known.items
+    ensures became { Became node bytes.now (is_repeat request requests.old.known.items)
+        inbox.old inbox.new result }
+    ensures dropped { is_repeat request requests.old.known.items ≡ true
+        → result ≡ Came.Repeated }
+    ensures noted { requests.new.known.items
         ≡ known_after result request requests.old.next requests.old.known.items }
+    ensures heard { IsHeardOrLost node bytes.now inbox.old inbox.new }
+    ensures goes_on { GoesOn inbox.old inbox.new }
 {
-    let Some(request) = request_in(sieve.front, sieve.now, node, member, bytes) else {
+    let Some(request) = request else {
         return take_bytes(node, bytes, inbox);
     };
     if requests.has(&request) {
@@ -242,7 +252,9 @@ fn take_from(
 
 /// Takes these bytes, which came for the node, if they are a text of this run.
 fn take_bytes(node: u8, bytes: &[u8], inbox: &mut Inbox) -> Came
-    ensures { Became node bytes.now false inbox.old inbox.new result }
+    ensures became { Became node bytes.now false inbox.old inbox.new result }
+    ensures heard { IsHeardOrLost node bytes.now inbox.old inbox.new }
+    ensures goes_on { GoesOn inbox.old inbox.new }
 {
     inbox.take(node, bytes)
 }
