@@ -87,7 +87,7 @@ impl Sealing {
 
 /// What a datagram begins with if and only if it asks for a unit.
 fn front_of_requests() -> [u8; 5]
-    ensures { result ≡ request_front }
+    ensures front { result ≡ request_front }
     ensures alone { (d : Datagram) → begins_with result (datagram_text d) ≡ asks d }
 {
     REQUEST_FRONT

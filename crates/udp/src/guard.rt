@@ -74,9 +74,17 @@ impl Guard {
     pub fn limiting(self, front: [u8; 5]) -> Guard
         ensures { result ≡ record self { front = Some front } }
     {
+        let Guard {
+            seal,
+            most,
+            is_open,
+            front: _,
+        } = self;
         Guard {
+            seal,
+            most,
+            is_open,
             front: Some(front),
-            ..self
         }
     }
 }

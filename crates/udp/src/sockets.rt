@@ -112,7 +112,7 @@ pub fn way_of(seats: &[Seat], addresses: &[SocketAddr], from: u8, to: u8) -> Opt
 
 /// Whether what comes from there is taken.
 fn may_come(sieve: Sieve<'_>, from: &SocketAddr) -> bool
-    ensures { sieve.entry.is_open ≡ false → IsStrange sieve.entry.members.now from.now
+    ensures strangers { sieve.entry.is_open ≡ false → IsStrange sieve.entry.members.now from.now
         → result ≡ false }
     ensures members { Contains sieve.entry.members.now from.now → result ≡ true }
 {
