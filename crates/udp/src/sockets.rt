@@ -220,7 +220,7 @@ fn take_one(
 
 /// Takes these bytes, which came from a member's address for the node, and may be a request. One
 /// that came again at once is dropped, and all others are taken as they are elsewhere.
-#[tactic(auto, using(crate::proofs::InboxLemmas::goes_on_still, crate::proofs::RequestLemmas::known_after_other, crate::proofs::RequestLemmas::known_after_none,))]
+#[tactic(auto, using(crate::proofs::InboxLemmas::goes_on_still))]
 fn take_from(
     node: u8,
     bytes: &[u8],
