@@ -9,6 +9,11 @@ use Rattle.udp.specs.declared.inbox.Came.{Came}
 use Rattle.udp.specs.declared.inbox.Came.TheVariants.{Lost, Repeated, Unsealed, Waits}
 use Rattle.udp.specs.declared.requests.Request.{Request}
 
+-- what holds of no request holds of none alone
+pub none_alone : (holds : Option Request → Type 0) → ((r : Request) → ¬ (holds (Some r))) → (o : Option Request) → holds o → o ≡ None
+none_alone holds never None is = refl
+none_alone holds never (Some r) is = absurd (never r is)
+
 -- where nothing waits more, no more is known
 pub known_after_other : (came : Came) (request : Option Request) (next : ℕ) (known : List (Option Request)) → ¬ (came ≡ Waits) → known ≡ known_after came request next known
 known_after_other Waits request next known other = absurd (other refl)
