@@ -1,5 +1,5 @@
 -- Requests that are known, and datagrams that are none.
-use Rattle.std.proofs.Common.{◌≡◌, ◌&&◌, ℕ, Bool, true, false, List, Option, None, Some, refl, subst}
+use Rattle.std.proofs.Common.{◌≡◌, ℕ, Bool, false, List, Option, None, Some, refl, subst}
 use Rattle.std.specs.declared.time.Instant.{Instant}
 use Rattle.faults.specs.Bytes.{Text}
 use Rattle.udp.specs.Coming.{Became}

@@ -1,4 +1,3 @@
-use Rattle.std.proofs.Common.{◌≡◌}
 use Rattle.udp.proofs.RequestLemmas.{none_alone}
 use Rattle.udp.proofs.requests.Requests.new.Goals as goal
 
