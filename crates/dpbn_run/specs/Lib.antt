@@ -1,3 +1,4 @@
 pub mod Keys
 pub mod Starts
 pub mod Telling
+pub mod Requests

@@ -152,6 +152,7 @@ fn tell_member<E: Write>(member: usize, tally: Tally, receives: u64, err: &mut E
         heard,
         last,
         unsealed,
+        repeats,
         unsent,
     } = tally;
     let _ = write!(err, "dpbn: member {member}: heard {heard}");
@@ -159,5 +160,8 @@ fn tell_member<E: Write>(member: usize, tally: Tally, receives: u64, err: &mut E
         let ago = receives.saturating_sub(last);
         let _ = write!(err, ", last {ago} looks ago");
     }
-    let _ = writeln!(err, ", sealed otherwise {unsealed}, unsent {unsent}");
+    let _ = writeln!(
+        err,
+        ", sealed otherwise {unsealed}, asked again {repeats}, unsent {unsent}"
+    );
 }

@@ -3,6 +3,7 @@ pub mod Hosts
 pub mod Ways
 pub mod Leaving
 pub mod Inbox
+pub mod Requests
 pub mod Coming
 pub mod Outbox
 pub mod Tallies

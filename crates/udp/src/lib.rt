@@ -7,6 +7,7 @@ mod inbox;
 mod line;
 mod outbox;
 mod patience;
+mod requests;
 mod sockets;
 mod tallies;
 mod told;

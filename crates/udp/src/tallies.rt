@@ -17,6 +17,8 @@ pub struct Tally {
     /// How many came from its address, and are no texts of this run: it seals otherwise, or
     /// somebody sends in its name.
     pub unsealed: u64,
+    /// How many requests came from its address again at once, and were dropped.
+    pub repeats: u64,
     /// How many to it were lost, since the system didn't take them.
     pub unsent: u64,
 }
@@ -40,6 +42,7 @@ impl Tallies {
             heard: 0,
             last: 0,
             unsealed: 0,
+            repeats: 0,
             unsent: 0,
         };
         let members = vec![in alloc; none; members]?;
@@ -100,6 +103,10 @@ fn seen(tally: Tally, receives: u64, came: Came) -> Tally
     match came {
         Came::Unsealed => Tally {
             unsealed: tally.unsealed.saturating_add(1),
+            ..tally
+        },
+        Came::Repeated => Tally {
+            repeats: tally.repeats.saturating_add(1),
             ..tally
         },
         Came::Waits | Came::Lost => Tally {
