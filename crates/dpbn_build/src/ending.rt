@@ -88,5 +88,8 @@ fn is_done<D: Disk, P: Port>(solo: &Solo<'_, D, P>, office: &Office<'_>) -> bool
     if solo.node().open_claim().is_some() && !solo.is_in_the_way() {
         return true;
     }
-    matches!(office.desk.has_more(solo.node().member()), Ok(false))
+    match office.desk.has_more(solo.node().member()) {
+        Ok(has_more) => !has_more,
+        Err(_) => false,
+    }
 }

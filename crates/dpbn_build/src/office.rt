@@ -76,7 +76,7 @@ impl<'f> Office<'f> {
         if self.pacing.is_paused() {
             return Handed::nothing();
         }
-        match self.handed(rt, solo, err) {
+        match self.looked(rt, solo, err) {
             Ok(handed) => handed,
             Err(fault) => {
                 self.refuse(&fault, err);
@@ -87,7 +87,7 @@ impl<'f> Office<'f> {
 
     /// The same, where the work folder serves. What is wished waits for a pause in what comes, but
     /// not for long; and then, as where a question was just answered, the turn waits for nobody.
-    fn handed<D: Disk, P: Port, E: Write>(
+    fn looked<D: Disk, P: Port, E: Write>(
         &mut self,
         rt: &HostRuntime,
         solo: &Solo<'_, D, P>,
@@ -195,10 +195,7 @@ impl<'f> Office<'f> {
     fn tell_fill<E: Write>(&mut self, log_len: u64, err: &mut E) {
         if log_len > NEARLY_FULL && !self.is_full_told {
             self.is_full_told = true;
-            let _ = writeln!(
-                err,
-                "dpbn: the log has {log_len} of {MOST_BYTES} bytes"
-            );
+            let _ = writeln!(err, "dpbn: the log has {log_len} of {MOST_BYTES} bytes");
         }
     }
 

@@ -4,7 +4,7 @@ ghost use Rattle.dpbn_build.specs.Build.{HasBuilt};
 ghost use Rattle.dpbn_build.specs.Turns.{HaveTurned, IsTurn, Turn};
 
 use crate::ending::is_at_end;
-use crate::office::Office;
+use crate::office::{Handed, Office};
 use ports::Port;
 use solo::Solo;
 use stable_record::{Disk, FileDisk};
@@ -90,10 +90,14 @@ fn take_turn<D: Disk, P: Port + Hurried, E: Write>(
     ensures { (turn : Turn) × IsTurn D.is_kept D.history D.failures_of P.given P.offered P.does
         P.vouches P.hurried solo.old turn solo.new }
 {
-    let handed = office.hand_in(rt, solo, err);
-    solo.port().be_brief(handed.is_brief);
+    let Handed {
+        made,
+        wish,
+        is_brief,
+    } = office.hand_in(rt, solo, err);
+    solo.port().be_brief(is_brief);
     let before = solo.port().sends();
-    let answer = solo.turn_live(handed.made.as_ref(), handed.wish);
+    let answer = solo.turn_live(made.as_ref(), wish);
     let has_sent = solo.port().sends() != before;
     office.keep(rt, solo, answer, has_sent, err);
 }

@@ -76,7 +76,8 @@ fn run_on<E: Write>(
         (RefusesStart me (run_at tree.now given.now.weights place)) }
 {
     let telling = Telling::new(me, files.progress, place.sealing.is_watched());
-    let Begun { start, port } = begin(rt, tree, &given.weights, files.dir, me, place)?;
+    let begun = begin(rt, tree, &given.weights, files.dir, me, place)?;
+    let Begun { start, port } = begun;
     node_on_log(rt, start, port, tree, given, files, me, telling, err)
 }
 
