@@ -1,0 +1,4 @@
+pub mod Ended
+pub mod Notes
+pub mod Shown
+pub mod Turns
