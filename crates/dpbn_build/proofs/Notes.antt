@@ -17,10 +17,14 @@ module _ (i : Identity) where
       (λ b. length (if b then plain_magic else weighted_magic) ≡ 8) [ true ↦ refl | false ↦ refl ]
 
   header_len : length i.tree ≡ 32 → length (header i) ≡ 42 + length (written_weights i)
-  header_len size = omega (arith, size, magic_len,
-      length-append (magic i ++ i.tree ++ length i.weights.items ∷ i.me ∷ []) (written_weights i),
-      length-append (magic i ++ i.tree) (length i.weights.items ∷ i.me ∷ []),
-      length-append (magic i) i.tree)
+  header_len size = omega (
+    arith,
+    size,
+    magic_len,
+    length-append (magic i ++ i.tree ++ length i.weights.items ∷ i.me ∷ []) (written_weights i),
+    length-append (magic i ++ i.tree) (length i.weights.items ∷ i.me ∷ []),
+    length-append (magic i) i.tree,
+  )
 
   -- it ends behind the header's weights and a gate, and is longer where there are notes
   pub longer_with_notes : length i.tree ≡ 32 → (notes : List (Note Value)) (len : ℕ)

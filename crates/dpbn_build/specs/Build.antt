@@ -1,5 +1,5 @@
 -- What `dpbn build` prints, and what is told where it can't run.
-use Rattle.std.specs.Prelude.{◌≡◌, ◌<◌, ◌⊎◌, ◌+◌, ◌==◌, ⊤, ℕ, Bool, true, false, List, [], ◌∷◌, Option, None, Some, if◌then◌else◌, option_map}
+use Rattle.std.specs.Prelude.{◌≡◌, ◌<◌, ◌⊎◌, ◌==◌, ◌&&◌, ⊤, ℕ, Bool, true, false, List, [], ◌∷◌, Option, None, Some, if◌then◌else◌, option_map}
 use Rattle.ballots.specs.declared.message.Note.{Note}
 use Rattle.dpbn_build.specs.Turns.{HaveTurned}
 use Rattle.dpbn_node.specs.Given.{RefusesWeights}
@@ -30,7 +30,7 @@ pub record HasBuilt (rest : Option ℕ) (old new : Running) : Type 0 where
 -- the status: 0 where the node is up, and no package is queued and none waits; else 3
 abbrev pub status_of : Option Counts → ℕ
 status_of None = 3
-status_of (Some c) = if c.q + c.t == 0 then 0 else 3
+status_of (Some c) = if c.q == 0 && c.t == 0 then 0 else 3
 
 -- The line says what the node shows, and the status whether that is all that can be held.
 abbrev pub IsLineWith : ℕ → Option State → Text → ℕ → Type 0

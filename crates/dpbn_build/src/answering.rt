@@ -83,8 +83,8 @@ fn build_on<E: Write>(
     err: &mut E,
 ) -> Result<Answer, Refusal>
     requires { length place.addresses.items ≡ length weights.now }
-    ensures member { IfOk result (λ answer. me < length weights.now) }
-    ensures built { IfOk result (λ answer. IsOfNode (run_at tree.now weights.now place) me
+    ensures built { IfOk result (λ answer. (me < length weights.now)
+        × IsOfNode (run_at tree.now weights.now place) me
         (λ before. IsLineAfter site.now.rest before me answer.text.items answer.status)) }
     ensures refused { IfErr result (RefusesBuildOn (run_at tree.now weights.now place) me) }
 {
@@ -232,7 +232,7 @@ fn status_of(counts: Option<Counts>) -> u8
     ensures { result ≡ status_of counts }
 {
     match counts {
-        Some(Counts { q: 0, t: 0, .. }) => 0,
+        Some(counts) if counts.q == 0 && counts.t == 0 => 0,
         _ => 3,
     }
 }

@@ -66,16 +66,20 @@ pub(crate) fn is_at_end<D: Disk, P: Port, E: Write>(
     let Some(seconds) = rest else {
         return false;
     };
-    office.rest.is_over(office.pacing.now, seconds)
-        && !waits_for_its_build(solo)
-        && is_done(solo, office)
+    if waits_for_its_build(solo) {
+        return false;
+    }
+    office.rest.is_over(office.pacing.now, seconds) && is_done(solo, office)
 }
 
 /// Whether the node's open claim waits for its build.
 fn waits_for_its_build<D: Disk, P: Port>(solo: &Solo<'_, D, P>) -> bool
     ensures { result ≡ is_some (job_of_claim solo.now.node.node.member) }
 {
-    solo.node().member().job().is_some()
+    match solo.node().member().job() {
+        Some(_) => true,
+        None => false,
+    }
 }
 
 /// Whether nothing is left that the node could do: nothing is built here, and each queued unit

@@ -86,7 +86,7 @@ impl<'f> Office<'f> {
     }
 
     /// The same, where the work folder serves. What is wished waits for a pause in what comes, but
-    /// not for long; and then, as where a question was just answered, the turn waits for nobody.
+    /// not for long: then, and where a question was just answered, the turn waits for nobody.
     fn looked<D: Disk, P: Port, E: Write>(
         &mut self,
         rt: &HostRuntime,
@@ -97,12 +97,14 @@ impl<'f> Office<'f> {
         let member = solo.node().member();
         self.desk.tick(member, now)?;
         let made = self.made(rt, member, err)?;
-        let is_brief = self.desk.is_hit(member) || self.pacing.is_late();
-        let wish = if made.is_some() || self.pacing.is_busy() && !is_brief {
+        let is_late = self.pacing.is_late();
+        let is_hit = self.desk.is_hit(member);
+        let wish = if made.is_some() || self.pacing.is_busy() && !is_late && !is_hit {
             None
         } else {
             self.desk.wish(rt, member, solo.is_in_the_way(), now)?
         };
+        let is_brief = is_late || is_hit && wish.is_some();
         Ok(Handed {
             made,
             wish,

@@ -15,10 +15,8 @@ const PAUSE: u64 = 1_000;
 pub(crate) struct Pacing {
     /// When the turn is.
     pub now: Instant,
-    /// Whether the last turn took a datagram.
-    came: bool,
-    /// When a turn last took none.
-    quiet_at: Instant,
+    /// Since when each turn took a datagram, if the last one did.
+    busy_since: Option<Instant>,
     /// When something was refused last.
     refused_at: Option<Instant>,
 }
@@ -28,8 +26,7 @@ impl Pacing {
     pub fn new(now: Instant) -> Pacing {
         Pacing {
             now,
-            came: false,
-            quiet_at: now,
+            busy_since: None,
             refused_at: None,
         }
     }
@@ -43,34 +40,41 @@ impl Pacing {
 
     /// Whether something was refused so lately that nothing is wished yet.
     pub fn is_paused(&self) -> bool {
-        match self.refused_at {
-            Some(at) => self.now.duration_since(at) < Duration::from_millis(PAUSE),
-            None => false,
-        }
-    }
-
-    /// Whether nothing but datagrams was taken for so long that what is wished waits no longer.
-    pub fn is_late(&self) -> bool {
-        self.now.duration_since(self.quiet_at) >= Duration::from_millis(LATE)
+        self.is_less_than(PAUSE, self.refused_at)
     }
 
     /// Whether the last turn took a datagram, so that more may have come.
     pub fn is_busy(&self) -> bool {
-        self.came
+        self.busy_since.is_some()
+    }
+
+    /// Whether each turn took a datagram for so long that what is wished waits no longer.
+    pub fn is_late(&self) -> bool {
+        self.is_busy() && !self.is_less_than(LATE, self.busy_since)
+    }
+
+    /// Whether that was, and fewer milliseconds passed since.
+    fn is_less_than(&self, milliseconds: u64, then: Option<Instant>) -> bool {
+        match then {
+            Some(then) => self.now.duration_since(then) < Duration::from_millis(milliseconds),
+            None => false,
+        }
     }
 
     /// A turn took a datagram, or it didn't.
     pub fn took(&mut self, came: bool) {
-        self.came = came;
-        if !came {
-            self.quiet_at = self.now;
-        }
+        self.busy_since = match self.busy_since {
+            Some(since) if came => Some(since),
+            None if came => Some(self.now),
+            _ => None,
+        };
     }
 
-    /// A turn was refused. What others send that means nothing here keeps nothing back.
+    /// A turn was refused. A datagram that means nothing here keeps back no more than others do.
     pub fn refused(&mut self, fault: &TurnFault) {
-        self.came = false;
-        if !is_foreign(fault) {
+        let came = is_foreign(fault);
+        self.took(came);
+        if !came {
             self.pause();
         }
     }
