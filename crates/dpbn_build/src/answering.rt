@@ -1,5 +1,5 @@
 //! The answer of `dpbn build` to its words.
-ghost use Rattle.std.specs.Prelude.{◌≡◌, ◌<◌, ◌≤◌, ◌⊎◌, IfErr, IfOk, false, length};
+ghost use Rattle.std.specs.Prelude.{◌≡◌, ◌<◌, ◌≤◌, ◌⊎◌, [], IfErr, IfOk, false, if◌then◌else◌, length};
 ghost use Rattle.dpbn_build.specs.Build.{
   IsBuildText,
   IsLineAfter,
@@ -12,6 +12,7 @@ ghost use Rattle.dpbn_build.specs.Build.{
 };
 ghost use Rattle.dpbn_node.specs.Runs.{AreGood, IsOfNode, IsOfNodeOn, RefusesOnLog, letters_of, run_at};
 ghost use Rattle.program.specs.Refusals.{IsSystemRefusal};
+ghost use Rattle.stable_record.specs.Magic.{are_ones};
 
 use crate::ending::Rest;
 use crate::office::Office;
@@ -173,13 +174,27 @@ fn folder_of<'f>(
 fn has_notes<D: Disk>(node: &Node<'_, D>) -> bool
     ensures { result ≡ has_notes node.now.node.notes }
 {
-    let weights = node.weights();
-    let written = if weights.as_slice().iter().all(|weight| *weight == 1) {
+    node.log_len() > EMPTY + written(node.weights())
+}
+
+/// How many weights stand in a log of members that weigh so much: none where each weighs 1.
+fn written(weights: &Weights) -> u64
+    ensures count { result ≡ length (if are_ones weights.now then [] else weights.now) }
+    ensures few { result ≤ 9 }
+{
+    let weights = weights.as_slice();
+    if are_ones(weights) {
         0
     } else {
         weights.len() as u64
-    };
-    node.log_len() > EMPTY + written
+    }
+}
+
+/// Whether each weight is 1.
+fn are_ones(weights: &[u8]) -> bool
+    ensures { result ≡ are_ones weights.now }
+{
+    weights.iter().all(|weight| *weight == 1)
 }
 
 /// How long is waited at the site.
