@@ -1,10 +1,11 @@
 -- What matches of each subcommand name.
-use Rattle.std.proofs.Common.{◌≡◌, List, Option, Some, Result, Ok, Err, IfErr, inl, inr, ap, codes, subst, true≢false, sym}
+use Rattle.std.proofs.Common.{◌≡◌, List, None, Option, Some, Result, Ok, Err, IfErr, inl, inr, ap, codes, subst, true≢false, sym}
+use Rattle.std.specs.Prelude.{IfNone, ok_or}
 use Rattle.std.specs.Str.{bytes_eq}
-use Rattle.clap.specs.Words.{IsAmong, Row, Text}
+use Rattle.clap.specs.Words.{IsAmong, Kinds, Row, Text}
 use Rattle.clap.specs.declared.error.kind.ErrorKind.{ErrorKind}
 use Rattle.dpbn_words.specs.Calls.{call_fault}
-use Rattle.dpbn_words.specs.inside.Naming.{HasBuild, HasFiles, HasNode, HasText, NamesCall}
+use Rattle.dpbn_words.specs.inside.Naming.{HasBuild, HasFiles, HasNode, HasSite, HasText, NamesCall}
 
 cluster_files : (rows : List Row) → NamesCall (Some (codes "cluster", rows)) → HasFiles rows
 cluster_files rows (inl p) = p.1
@@ -29,6 +30,16 @@ key_file rows (inl p) = absurd (true≢false (ap (λ t. bytes_eq t (codes "key")
 key_file rows (inr (inl p)) = absurd (true≢false (ap (λ t. bytes_eq t (codes "key")) p.0))
 key_file rows (inr (inr (inl p))) = absurd (true≢false (ap (λ t. bytes_eq t (codes "key")) p.0))
 key_file rows (inr (inr (inr p))) = p.1
+
+-- where no site is found the values of no build are matched
+module _ {T : Type 0} (rows : List Row) (kinds : Kinds) (e : ErrorKind) where
+  never_built : (site : Option T) → IfNone site (HasSite rows → ⊥) → IfErr (ok_or site e) (λ kind. HasBuild rows → IsAmong kind kinds)
+  never_built None never = λ built. absurd (never built.site)
+  never_built (Some call) never = tt
+
+  pub site_kind : (site : Option T) (r : Result T ErrorKind) → r ≡ ok_or site e → IfNone site (HasSite rows → ⊥)
+      → IfErr r (λ kind. HasBuild rows → IsAmong kind kinds)
+  site_kind site r is never = subst (λ (x : Result T ErrorKind). IfErr x (λ kind. HasBuild rows → IsAmong kind kinds)) (sym is) (never_built site never)
 
 module _ {T : Type 0} (r : Result T ErrorKind) (matched : Option (Text × List Row)) (rows : List Row) where
   -- a call is made wherever its values are matched
