@@ -8,9 +8,14 @@ use Rattle.desk.proofs.desk.Desk.fail.Goals as goal
 
 pub returns-in_default-place_of-clause-failed : goal.returns-in_default-place_of-clause-failed
 returns-in_default-place_of-clause-failed c =
+    let out = c.args.self.now.out.items in
     let unit = number_found c.args.member.now.division c.args.path.now in
-    let none : place_of c.args.self.now.out.items unit ≡ None = search rules in
-    sym (none_comes c.args.self.now.out.items unit c.args.self.now.failed.items none)
+    let found : unit ≡ Some c.in-Some.unit =
+    sym (c.in-Some.ensures ∙ ap (λ d. number_found d c.args.path.now) c.units.ensures.division) in
+    let nowhere : position (λ (p : Posted). p.unit == c.in-Some.unit) out ≡ None =
+    sym (c.in_default-place_of.ensures
+    ∙ ap (position (λ (p : Posted). p.unit == c.in-Some.unit)) c.as_slice.ensures.value) in
+    sym (none_comes out unit c.args.self.now.failed.items (ap (place_of out) found ∙ nowhere))
 
 pub returns-clause-failed : goal.returns-clause-failed
 returns-clause-failed c =
