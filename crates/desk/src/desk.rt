@@ -295,7 +295,10 @@ impl<'f> Desk<'f> {
         ensures refused { IfErr result IsOfSystem }
     {
         for posted in &self.out {
-            if !is_for(member, posted.unit) && self.folder.is_answered(rt, &posted.name)? {
+            if is_for(member, posted.unit) {
+                continue;
+            }
+            if self.folder.is_answered(rt, &posted.name)? {
                 return Ok(Some(posted.unit));
             }
         }
