@@ -2,7 +2,6 @@
 fail and are mended, a host that comes late, answers that are none, how much is sent where nothing happens, and a long run."""
 import contextlib
 import fcntl
-import json
 import os
 import random
 import re
@@ -13,14 +12,14 @@ import time
 
 from topics import nodes, packages
 from topics.nodes import NODES, answer, beside, free_ports, logs_in, ordered, put, refused, taken
-from topics.programs import shown
 from topics.tally import PROGRAM, TESTS, TOP, contents, difference
 
 LIVE = f"{TESTS}/live"
 LINE = re.compile(rb"node (\d): I=(\d+) B=(\d+) Q=(\d+) T=(\d+) !=(\d+)")
 # how long something is waited for, in seconds
-LIMIT = 120
-# how much more memory a long run may have at its end than after its first part, in kB: a page or some of what is kept to be used again
+LIMIT = 300
+# how much more memory a long run may have at its end than after its first part, in kB: of what is kept to be used again some pages more may
+# have been touched
 SPARE = 64
 
 
@@ -450,8 +449,8 @@ class Lone(Host):
 
 @contextlib.contextmanager
 def lone(listing, *words, weights=(1,)):
-    """A lone node that runs, and its process ends with it."""
-    with tempfile.TemporaryDirectory() as folder:
+    """A lone node that runs, on files in memory, and its process ends with it."""
+    with tempfile.TemporaryDirectory(dir=nodes.MEMORY) as folder:
         host = Lone(folder, listing, weights)
         try:
             host.start_node(*words)
@@ -554,16 +553,116 @@ def long_run(tally, first=100, rounds=400):
     """A node without patience, at which one build never ends and another one fails over and over: what it keeps doesn't grow."""
     with lone("a/b.FULLPKGNAME=b-1\na/c.FULLPKGNAME=c-1\n", "--patience", "0", "--jobs", "2") as host:
         name, seen = host.job("a/c"), []
-        began, taken_away = time.monotonic(), 0
+        began, count = time.monotonic(), 0
         for number in range(first + rounds):
+            job = contents(f"{host.work}/jobs/{name}")
             host.hand_in("failed", name, b"again")
             if not until(lambda: host.lines().count(b"dpbn: failed a/c") > number, 20):
                 break
             os.unlink(f"{host.work}/failed/{name}")
-            taken_away += 1
-            if number + 1 in (first, first + rounds):
+            # it is claimed anew, and the job tells so
+            if not until(lambda: contents(f"{host.work}/jobs/{name}") != job, 20):
+                break
+            count += 1
+            if count in (first, first + rounds):
                 seen.append(memory_of(host.node))
-        told = f"{taken_away} rounds in {time.monotonic() - began:.1f} s, memory of {' and '.join(map(str, seen))} kB, a log of {size_of(host.log):,} bytes"
+        told = f"{count} rounds in {time.monotonic() - began:.1f} s, memory of {' and '.join(map(str, seen))} kB, a log of {size_of(host.log):,} bytes"
         print(f"tests/run: a long run: {told}", flush=True)
         right = len(seen) == 2 and seen[1] <= seen[0] + SPARE
         tally.add("a long run, its memory", "" if right else f"{told} {host.lines()[-3:]}")
+
+
+# ---- words, and what is refused before the first turn
+
+def wrong_words():
+    """Words of `dpbn build` that are no call."""
+    needed = {"--listing": "listing", "--work": "work", "--dir": "logs", "--members": "3", "--me": "0"}
+    for lacking in needed:
+        yield [*(it for pair in needed.items() if pair[0] != lacking for it in pair), "--base", "7000"]
+    build = [it for pair in needed.items() for it in pair]
+    here, there = [*build, "--base", "7000"], [*build, "--hosts", "1.2.3.4:5"]
+    yield from ([], ["--help"], build, there, [*here, "--hosts", "1.2.3.4:5"], [*here, "more"], [*here, "--work", "work"], [*here, b"\xff"], [*here, "--rest"])
+    yield from ([*there, "--key", "x", "--unsealed"], [*here, "--key", "x", "--unsealed"], [*here, "--single=yes"], [*here, "--continue", "--continue"])
+    for word, bad in (("--jobs", ("0", "65", "-1", "two", "")), ("--takeover", ("0", "1000001")), ("--rest", ("0", "1000001")),
+                      ("--progress", ("0", "1000001")), ("--patience", ("60001",)), ("--base", ("1023", "65527"))):
+        yield from ([*(build if word == "--base" else here), word, it] for it in bad)
+        yield [*here, word, "2000", word, "2000"]
+    yield from ([*here, "--turns", "1"], [*here, "--builds", "builds"], [*here, "--trace", "trace"])
+
+
+def no_calls(tally):
+    """Words that are no call: clap's text on standard error, status 2, and nothing is made."""
+    with tempfile.TemporaryDirectory() as folder:
+        nodes.lay(folder)
+        before = names_in(folder)
+        for words in wrong_words():
+            out, error, code = answer(["build", *words], folder)
+            tally.add(f"dpbn build {words}", "" if (out, code) == (b"", 2) and error else f"{out!r:.200}, {error!r:.200}, status {code}")
+        tally.add("what stands after words that are no call", "" if names_in(folder) == before and not logs_in(folder) else f"{names_in(folder)}")
+
+
+def faults(tally):
+    """What `build` refuses before the first turn, in the order in which it is looked at."""
+    with tempfile.TemporaryDirectory() as folder:
+        nodes.lay(folder)
+        nodes.bad_files(folder)
+        base = free_ports(4)
+        for name, mode in (("key", 0o600), ("open-key", 0o644), ("bad-key", 0o600)):
+            put(f"{folder}/{name}", b"no key\n" if name == "bad-key" else b"ab" * 32 + b"\n")
+            os.chmod(f"{folder}/{name}", mode)
+        for name in ("lost", "used/jobs", "used/done", "used/failed"):
+            os.makedirs(f"{folder}/{name}")
+        put(f"{folder}/lost/node-3.run", b"dpbn run 1\n")
+        put(f"{folder}/used/done/{'0' * 64}", b"")
+        good = {"--listing": "listing", "--weights": "1,2,3,4", "--hosts": nodes.places(base, 4), "--key": "key", "--me": "3", "--dir": "logs",
+                "--work": "used", "--members": "4"}
+        with taken(base + 3):
+            ordered(tally, folder, "build", good, (
+                ("2", {"--listing": "none"}), ("401 at 1", {"--listing": "bad"}), ("801", {"--weights": "1,2"}), ("2", {"--key": "none"}),
+                ("1208", {"--key": "open-key"}), ("1207", {"--key": "bad-key"}), ("1206 at 1", {"--hosts": "1.2.3.4"}), ("909", {"--me": "4"}),
+                ("2", {"--dir": "none"}), ("1007", {"--dir": "lost"}), ("1006 at 0", {"--dir": "bad-logs"}), ("1204", {})))
+        ordered(tally, folder, "build", {**good, "--work": "listing"}, (("2", {}),))
+        unkeyed = {word: it for word, it in good.items() if word not in ("--hosts", "--key")}
+        ordered(tally, folder, "build", {**unkeyed, "--base": str(base), "--dir": "bad-logs"}, (("1004", {}),))
+        shutil.rmtree(f"{folder}/logs")
+        os.mkdir(f"{folder}/logs")
+        ordered(tally, folder, "build", good, (("1209", {}),))
+        ordered(tally, folder, "build", {**good, "--continue": None}, (("1209", {}),))
+        shutil.rmtree(f"{folder}/logs")
+        os.mkdir(f"{folder}/logs")
+        ordered(tally, folder, "build", {**good, "--continue": None}, (("1008", {}),))
+
+
+# ---- what is shown
+
+def manual_page(tally):
+    """What dpbn(1) shows of hosts that build, beside what it shows before it."""
+    nodes.shown_runs(tally, f"{TOP}/man/dpbn.1", ".Ss Hosts that build\n")
+
+
+def readme(tally):
+    """The README's three hosts: its very commands, in a folder where they find what they name, print what it says."""
+    text = contents(f"{TOP}/README.md").decode()
+    block = re.search(r"^Three hosts that build this tree.*?\n\n(.*?)\n\n", text, re.DOTALL | re.MULTILINE)[1]
+    line = re.search(r"# each prints: node K: (.*)", block)[1]
+    wanted = [f"node {me}: {line}" for me in range(3)] + [re.search(r"packages/list +# (\w+)$", block)[1]]
+    with tempfile.TemporaryDirectory() as folder:
+        for name, at in (("dpbn", NODES), ("dpbr", PROGRAM), ("examples", f"{TOP}/examples"), ("tools", f"{TOP}/tools")):
+            os.symlink(at, f"{folder}/{name}")
+        script = block.replace("--base 7000", f"--base {free_ports(3)}")
+        tally.add("README.md, its ports", "" if script != block else "--base 7000 stands nowhere")
+        done = subprocess.run(["sh", "-c", script], cwd=folder, capture_output=True, text=True, timeout=300)
+        got = sorted(done.stdout.split("\n")[:-2]) + done.stdout.split("\n")[-2:-1]
+        is_right = got == wanted and "Usage" in done.stderr
+        tally.add("README.md, three hosts", "" if is_right else f"it shows {wanted}, and {got} {done.stderr} is printed")
+
+
+def run(tally):
+    for one in (no_calls, faults):
+        one(tally)
+    beside(tally, (answers, other_runs, quiet, long_run, manual_page, readme))
+    if not shutil.which("bmake"):
+        print("tests/run: no bmake here: nothing is built of Makefiles", flush=True)
+        return
+    for one in (three_hosts, kills, jobs, broken, late, with_a_key):
+        one(tally)
