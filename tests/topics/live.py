@@ -23,13 +23,13 @@ LIMIT = 300
 SPARE = 64
 
 
-def until(holds, seconds=LIMIT):
+def until(holds, seconds=LIMIT, nap=0.02):
     """Waits until something holds, and answers whether it does."""
     end = time.monotonic() + seconds
     while not holds():
         if time.monotonic() > end:
             return False
-        time.sleep(0.02)
+        time.sleep(nap)
     return True
 
 
@@ -549,7 +549,7 @@ def memory_of(process):
     return int(re.search(rb"VmRSS:\s+(\d+) kB", contents(f"/proc/{process.pid}/status"))[1])
 
 
-def long_run(tally, first=100, rounds=400):
+def long_run(tally, first=60, rounds=240):
     """A node without patience, at which one build never ends and another one fails over and over: what it keeps doesn't grow."""
     with lone("a/b.FULLPKGNAME=b-1\na/c.FULLPKGNAME=c-1\n", "--patience", "0", "--jobs", "2") as host:
         name, seen = host.job("a/c"), []
@@ -557,11 +557,11 @@ def long_run(tally, first=100, rounds=400):
         for number in range(first + rounds):
             job = contents(f"{host.work}/jobs/{name}")
             host.hand_in("failed", name, b"again")
-            if not until(lambda: host.lines().count(b"dpbn: failed a/c") > number, 20):
+            if not until(lambda: host.lines().count(b"dpbn: failed a/c") > number, 20, 0.002):
                 break
             os.unlink(f"{host.work}/failed/{name}")
             # it is claimed anew, and the job tells so
-            if not until(lambda: contents(f"{host.work}/jobs/{name}") != job, 20):
+            if not until(lambda: contents(f"{host.work}/jobs/{name}") != job, 20, 0.002):
                 break
             count += 1
             if count in (first, first + rounds):
