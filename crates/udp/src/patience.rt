@@ -1,4 +1,6 @@
 //! How long a receive waits for a datagram.
+ghost use Rattle.std.specs.Prelude.{◌≡◌};
+
 use std::thread;
 use std::time::{Clock, Duration};
 
@@ -21,7 +23,9 @@ pub struct Patience {
 
 impl Patience {
     /// Looks once.
-    pub fn none() -> Patience {
+    pub fn none() -> Patience
+        ensures { result.looks ≡ 1 }
+    {
         Patience { looks: 1 }
     }
 
@@ -38,7 +42,9 @@ impl Patience {
     }
 
     /// How often a receive looks.
-    pub fn looks(&self) -> u32 {
+    pub fn looks(&self) -> u32
+        ensures { result ≡ self.now.looks }
+    {
         self.looks
     }
 

@@ -66,7 +66,11 @@ pub struct UdpPort<'c, C: Clock> {
     /// Picks the next one to leave.
     pick: usize,
     patience: Patience,
+    /// Whether a receive looks at the sockets once, whatever the patience is.
+    is_brief: bool,
     tallies: Tallies,
+    /// How many datagrams were offered.
+    sends: u64,
     failures: u64,
 }
 
@@ -185,6 +189,22 @@ impl<'c, C: Clock> UdpPort<'c, C> {
         port_of(clock, alloc, seats, addresses, patience, guard)
     }
 
+    /// From now on a receive looks at the sockets once and naps for nobody, or it waits as the
+    /// port's patience says. At first it waits.
+    pub fn be_brief(&mut self, is_brief: bool)
+        ensures { self.new ≡ record self.old { is_brief = is_brief } }
+    {
+        self.is_brief = is_brief;
+    }
+
+    /// How many datagrams were offered to the port so far, those that it didn't take with them. The
+    /// greatest count stays.
+    pub fn sends(&self) -> u64
+        ensures { result ≡ self.now.sends }
+    {
+        self.sends
+    }
+
     /// What was seen of the members so far.
     pub fn tallies(&self) -> &Tallies
         ensures { result.now ≡ self.now.tallies }
@@ -199,7 +219,8 @@ impl<'c, C: Clock> UdpPort<'c, C> {
         ensures left { self.new.leaving.waiting.items ≡ [] }
         ensures handed { self.new.handed.all ≡ self.old.handed.all
             ++ map (λ w. w.bytes.items) self.old.leaving.waiting.items }
-        ensures failures { self.new.failures ≡ self.old.failures }
+        ensures stays { (self.new.failures ≡ self.old.failures)
+            × (self.new.sends ≡ self.old.sends) × (self.new.is_brief ≡ self.old.is_brief) }
         ensures seal_stays { (self.new.inbox ≡ self.old.inbox)
             × (self.new.outbox ≡ self.old.outbox) }
     {
@@ -214,7 +235,8 @@ impl<'c, C: Clock> UdpPort<'c, C> {
     fn let_first_leave(&mut self, naps: u32) -> u32
         ensures first { HandsOver self.old.leaving.waiting.items self.old.handed.all
             self.new.leaving.waiting.items self.new.handed.all }
-        ensures failures { self.new.failures ≡ self.old.failures }
+        ensures stays { (self.new.failures ≡ self.old.failures)
+            × (self.new.sends ≡ self.old.sends) × (self.new.is_brief ≡ self.old.is_brief) }
         ensures seal_stays { (self.new.inbox ≡ self.old.inbox)
             × (self.new.outbox ≡ self.old.outbox) }
     {
@@ -230,7 +252,8 @@ impl<'c, C: Clock> UdpPort<'c, C> {
     /// them failed.
     fn take_in(&mut self) -> bool
         ensures goes_on { GoesOn self.old.inbox self.new.inbox }
-        ensures failures { self.new.failures ≡ self.old.failures }
+        ensures stays { (self.new.failures ≡ self.old.failures)
+            × (self.new.sends ≡ self.old.sends) × (self.new.is_brief ≡ self.old.is_brief) }
         ensures leaving { (self.new.leaving ≡ self.old.leaving)
             × (self.new.handed ≡ self.old.handed) }
         ensures outbox { self.new.outbox ≡ self.old.outbox }
@@ -255,7 +278,8 @@ impl<'c, C: Clock> UdpPort<'c, C> {
     fn let_one_leave(&mut self) -> bool
         ensures left { HasLeft self.old.leaving.waiting.items self.old.handed.all
             self.new.leaving.waiting.items self.new.handed.all }
-        ensures failures { self.new.failures ≡ self.old.failures }
+        ensures stays { (self.new.failures ≡ self.old.failures)
+            × (self.new.sends ≡ self.old.sends) × (self.new.is_brief ≡ self.old.is_brief) }
         ensures seal_stays { (self.new.inbox ≡ self.old.inbox)
             × (self.new.outbox ≡ self.old.outbox) }
     {
@@ -283,26 +307,41 @@ impl<'c, C: Clock> UdpPort<'c, C> {
     fn look(&mut self) -> bool
         ensures goes_on { GoesOn self.old.inbox self.new.inbox }
         ensures outbox { self.new.outbox ≡ self.old.outbox }
-        ensures failures { self.new.failures ≡ self.old.failures }
+        ensures stays { (self.new.failures ≡ self.old.failures)
+            × (self.new.sends ≡ self.old.sends) × (self.new.is_brief ≡ self.old.is_brief) }
         ensures leaving { IsLeft self.old.leaving.waiting.items self.old.handed.all
             self.new.leaving.waiting.items self.new.handed.all }
     {
         let mut has_failed = false;
-        for look in 0..self.patience.looks() {
+        let patience = self.patience_now();
+        for look in 0..patience.looks() {
             has_failed = self.look_once() || has_failed;
             if !self.inbox.is_empty() {
                 break;
             }
-            self.patience.nap(self.clock, look);
+            patience.nap(self.clock, look);
         }
         has_failed
+    }
+
+    /// How long a receive waits at the moment.
+    fn patience_now(&self) -> Patience
+        ensures brief { self.now.is_brief ≡ true → result.looks ≡ 1 }
+        ensures patient { self.now.is_brief ≡ false → result ≡ self.now.patience }
+    {
+        if self.is_brief {
+            Patience::none()
+        } else {
+            self.patience
+        }
     }
 
     /// Looks at the sockets, and lets some leave.
     fn look_once(&mut self) -> bool
         ensures goes_on { GoesOn self.old.inbox self.new.inbox }
         ensures outbox { self.new.outbox ≡ self.old.outbox }
-        ensures failures { self.new.failures ≡ self.old.failures }
+        ensures stays { (self.new.failures ≡ self.old.failures)
+            × (self.new.sends ≡ self.old.sends) × (self.new.is_brief ≡ self.old.is_brief) }
         ensures leaving { IsLeft self.old.leaving.waiting.items self.old.handed.all
             self.new.leaving.waiting.items self.new.handed.all }
     {
@@ -315,7 +354,8 @@ impl<'c, C: Clock> UdpPort<'c, C> {
     fn let_some_leave(&mut self)
         ensures left { IsLeft self.old.leaving.waiting.items self.old.handed.all
             self.new.leaving.waiting.items self.new.handed.all }
-        ensures failures { self.new.failures ≡ self.old.failures }
+        ensures stays { (self.new.failures ≡ self.old.failures)
+            × (self.new.sends ≡ self.old.sends) × (self.new.is_brief ≡ self.old.is_brief) }
         ensures seal_stays { (self.new.inbox ≡ self.old.inbox)
             × (self.new.outbox ≡ self.old.outbox) }
     {
@@ -330,7 +370,8 @@ impl<'c, C: Clock> UdpPort<'c, C> {
     fn send_here(&mut self, way: Way) -> bool
         ensures goes_on { GoesOn self.old.inbox self.new.inbox }
         ensures outbox { self.new.outbox ≡ self.old.outbox }
-        ensures failures { self.new.failures ≡ self.old.failures }
+        ensures stays { (self.new.failures ≡ self.old.failures)
+            × (self.new.sends ≡ self.old.sends) × (self.new.is_brief ≡ self.old.is_brief) }
         ensures leaving { (self.new.leaving ≡ self.old.leaving)
             × (self.new.handed ≡ self.old.handed) }
     {
@@ -350,7 +391,8 @@ impl<'c, C: Clock> UdpPort<'c, C> {
     fn send_away(&mut self, way: Way) -> Result<bool, Memory>
         ensures goes_on { GoesOn self.old.inbox self.new.inbox }
         ensures outbox { self.new.outbox ≡ self.old.outbox }
-        ensures failures { self.new.failures ≡ self.old.failures }
+        ensures stays { (self.new.failures ≡ self.old.failures)
+            × (self.new.sends ≡ self.old.sends) × (self.new.is_brief ≡ self.old.is_brief) }
         ensures put { result ≡ Ok true → IfSome self.old.outbox.made
             (λ bytes. in_line self.new.leaving.waiting.items
             ≡ in_line self.old.leaving.waiting.items ++ (way, bytes) ∷ []) }
@@ -369,7 +411,8 @@ impl<'c, C: Clock> UdpPort<'c, C> {
     fn is_taken(&mut self, from: u8, to: u8, bytes: &[u8]) -> Result<bool, Memory>
         ensures goes_on { GoesOn self.old.inbox self.new.inbox }
         ensures key { self.new.outbox.key ≡ self.old.outbox.key }
-        ensures failures { self.new.failures ≡ self.old.failures }
+        ensures stays { (self.new.failures ≡ self.old.failures)
+            × (self.new.sends ≡ self.old.sends) × (self.new.is_brief ≡ self.old.is_brief) }
         ensures way { result ≡ Ok true
             → HasWay self.old.seats.items self.old.addresses.items from to }
         ensures away { result ≡ Ok true → HasNoSeat self.old.seats.items to
@@ -397,6 +440,8 @@ impl<'c, C: Clock> UdpPort<'c, C> {
             × (self.new.failures ≡ self.old.failures) }
         ensures same { (self.new.inbox ≡ self.old.inbox) × (self.new.outbox ≡ self.old.outbox)
             × (self.new.leaving ≡ self.old.leaving) × (self.new.handed ≡ self.old.handed) }
+        ensures stays { (self.new.sends ≡ self.old.sends)
+            × (self.new.is_brief ≡ self.old.is_brief) }
     {
         if has_failed {
             self.failures = self.failures.saturating_add(1);
@@ -436,7 +481,8 @@ fn port_of<'c, C: Clock>(
     patience: Patience,
     guard: Guard,
 ) -> Result<UdpPort<'c, C>, PortFault>
-    ensures fresh { IfOk result (λ port. port.failures ≡ 0) }
+    ensures fresh { IfOk result (λ port. (port.failures ≡ 0) × (port.sends ≡ 0)
+        × (port.is_brief ≡ false)) }
     ensures seats { IfOk result (λ port. port.seats ≡ seats) }
     ensures addresses { IfOk result (λ port. port.addresses ≡ addresses) }
     ensures leaving { IfOk result (λ port. port.leaving.waiting.items ≡ []) }
@@ -468,7 +514,9 @@ fn port_of<'c, C: Clock>(
         handed: Told::new(),
         pick: 0,
         patience,
+        is_brief: false,
         tallies,
+        sends: 0,
         failures: 0,
     })
 }
@@ -530,6 +578,10 @@ impl<'c, C: Clock> Port for UdpPort<'c, C> {
         ensures seal_stays { (self.new.inbox.key ≡ self.old.inbox.key)
             × (self.new.outbox.key ≡ self.old.outbox.key) }
 
+        // Nothing was offered.
+        ensures stays { (self.new.sends ≡ self.old.sends)
+            × (self.new.is_brief ≡ self.old.is_brief) }
+
         // Each that waited to leave is handed to the system at most once, or waits still.
         ensures leaving { IsLeft self.old.leaving.waiting.items self.old.handed.all
             self.new.leaving.waiting.items self.new.handed.all }
@@ -548,6 +600,10 @@ impl<'c, C: Clock> Port for UdpPort<'c, C> {
         ensures seal_stays { (self.new.inbox.key ≡ self.old.inbox.key)
             × (self.new.outbox.key ≡ self.old.outbox.key) }
 
+        // It was offered.
+        ensures offered { (self.new.sends ≡ one_more self.old.sends)
+            × (self.new.is_brief ≡ self.old.is_brief) }
+
         // It is from a node here to a member. What is for a node of another process waits to leave
         // by the way there, sealed where there is a seal.
         ensures way { OnOk result
@@ -559,6 +615,7 @@ impl<'c, C: Clock> Port for UdpPort<'c, C> {
         ensures lost { OnErr result
             (self.new.leaving.waiting.items ≡ self.old.leaving.waiting.items) }
     {
+        self.sends = self.sends.saturating_add(1);
         if self.is_taken(from, to, bytes)? {
             Ok(())
         } else {
