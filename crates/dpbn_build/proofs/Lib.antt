@@ -1,0 +1,5 @@
+pub mod Ended
+pub mod Notes
+pub mod Shown
+pub mod Told
+pub mod Turns

@@ -1,0 +1,19 @@
+use Rattle.std.specs.Prelude.{◌+◌}
+use Rattle.std.proofs.Common.{subst, sym}
+use Rattle.dpbn_build.proofs.Turns.{HaveLed, none_yet, one_more}
+use Rattle.dpbn_build.proofs.turning.take_turns.Goals as goal
+
+pub loop-turn-init : goal.loop-turn-init
+loop-turn-init g c =
+    none_yet g.D.Disk.is_kept g.D.Disk.history g.D.Disk.failures_of g.P.Port.given
+    g.P.Port.offered g.P.Port.does g.P.Port.vouches g.P.Hurried.hurried c.args.solo.now
+
+pub loop-turn-preserved : goal.loop-turn-preserved
+loop-turn-preserved g c =
+    subst (λ s. HaveLed g.D.Disk.is_kept g.D.Disk.history g.D.Disk.failures_of
+    g.P.Port.given g.P.Port.offered g.P.Port.does g.P.Port.vouches g.P.Hurried.hurried
+    (c.loop-turn.turn + 1) c.args.solo.now s)
+    (sym c.tell_turn.ensures)
+    (one_more g.D.Disk.is_kept g.D.Disk.history g.D.Disk.failures_of g.P.Port.given
+    g.P.Port.offered g.P.Port.does g.P.Port.vouches g.P.Hurried.hurried c.loop-turn.turn
+    c.args.solo.now c.loop-turn.solo c.take_turn.new.solo c.loop-turn.invariant c.take_turn.ensures)
