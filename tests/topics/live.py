@@ -2,6 +2,7 @@
 fail and are mended, a host that comes late, answers that are none, how much is sent where nothing happens, and a long run."""
 import contextlib
 import fcntl
+import json
 import os
 import random
 import re
@@ -15,6 +16,8 @@ from topics.nodes import NODES, answer, beside, free_ports, logs_in, ordered, pu
 from topics.tally import PROGRAM, TESTS, TOP, contents, difference
 
 LIVE = f"{TESTS}/live"
+# the kind of a datagram that asks for a unit
+ASK = 6
 LINE = re.compile(rb"node (\d): I=(\d+) B=(\d+) Q=(\d+) T=(\d+) !=(\d+)")
 # how long something is waited for, in seconds
 LIMIT = 300
@@ -262,7 +265,7 @@ def three_hosts(tally):
     name = "three hosts"
     with laid(ports=30, ignored=1, least=0.05, most=0.4) as run:
         began = time.monotonic()
-        run.start("--rest", "3")
+        run.start("--rest", "5")
         statuses = run.ends()
         tell(run, name, began)
         lines = [contents(host.out("node")) for host in run.hosts]
@@ -323,7 +326,7 @@ def broken(tally):
     name = "two broken ports"
     with laid(ports=12, seed=5, broken=2, least=0.05, most=0.2) as run:
         began = time.monotonic()
-        run.start("--rest", "3", "--takeover", "1")
+        run.start("--rest", "4", "--takeover", "1")
         statuses = run.ends()
         tally.add(f"{name}, how they end", "" if statuses == [3] * 3 else f"{statuses} {run.told()}")
         bad = run.set_broken(mended=False)
@@ -509,14 +512,38 @@ def other_runs(tally):
                 tally.add(f"{part}/{name[:2]}.. of another run", "" if right and left else f"{told}, {names_in(f'{host.work}/{part}')}")
 
 
+def beside_nodes(tally):
+    """A node that builds, and two of `dpbn node` that have no builds: all three hold what the first one built."""
+    paths = ["a/b", "a/c", "a/d"]
+    with tempfile.TemporaryDirectory(dir=nodes.MEMORY) as folder:
+        host = Lone(folder, "".join(f"{path}.FULLPKGNAME=n-1\n" for path in paths), (1, 1, 1))
+        put(f"{folder}/builds", b"{}\n")
+        words = [*host.peers, "--turns", "20000", "--patience", "5", "--progress", "20"]
+        others = []
+        try:
+            host.start_node("--takeover", "1")
+            others = [nodes.started(folder, me, words) for me in (1, 2)]
+            for path in paths:
+                host.hand_in("done", host.job(path), json.dumps({path: []}).encode())
+            tally.add("a node beside others that have no builds", "" if host.shows(I=3) else f"{host.lines()[-4:]}")
+            held = [any(line == b"node %d: I=3 B=0 Q=0 T=0 !=0\n" % me for line in iter(it.stderr.readline, b"")) for me, it in enumerate(others, 1)]
+            tally.add("the others, what they hold", "" if all(held) else f"{held}")
+        finally:
+            for it in others:
+                nodes.ended(it)
+            host.end()
+
+
 # ---- what is sent, and what is kept
 
-def came(socket):
-    """The kinds of the datagrams that wait there."""
-    kinds = []
-    with contextlib.suppress(BlockingIOError):
-        while True:
-            kinds.append(socket.recv(65_536, 0x40)[4])
+def came(ears):
+    """The kinds of the datagrams that wait at each of these sockets."""
+    kinds = [[] for _ in ears]
+    for ear, found in zip(ears, kinds):
+        ear.setblocking(False)
+        with contextlib.suppress(BlockingIOError):
+            while True:
+                found.append(ear.recv(65_536)[4])
     return kinds
 
 
@@ -529,18 +556,20 @@ def quiet(tally):
         name = host.job("a/c")
         host.hand_in("failed", name, b"on purpose")
         failed = until(lambda: b"dpbn: failed a/c" in host.lines(), 30)
-        [came(ear) for ear in ears]
-        until(lambda: all([6] == came(ear) for ear in ears), 10)
+        came(ears)
+        until(lambda: any(came(ears)), 10)
+        # now one was just asked
+        came(ears)
         time.sleep(5)
-        kinds = [came(ear) for ear in ears]
-        right = failed and all(2 <= len(it) <= 5 and set(it) == {6} for it in kinds)
+        kinds = came(ears)
+        right = failed and all(2 <= len(it) <= 6 and set(it) == {ASK} for it in kinds)
         tally.add("a node that waits, what it sends", "" if right else f"{kinds} {host.lines()[-4:]}")
         os.unlink(f"{host.work}/failed/{name}")
         host.hand_in("done", host.job("a/c"), b'{"a/c":[]}')
         held = host.shows(I=2)
-        [came(ear) for ear in ears]
+        came(ears)
         time.sleep(3)
-        kinds = [came(ear) for ear in ears]
+        kinds = came(ears)
         tally.add("a node that holds all, what it sends", "" if held and kinds == [[], []] else f"{kinds} {host.lines()[-4:]}")
 
 
@@ -660,7 +689,7 @@ def readme(tally):
 def run(tally):
     for one in (no_calls, faults):
         one(tally)
-    beside(tally, (answers, other_runs, quiet, long_run, manual_page, readme))
+    beside(tally, (answers, other_runs, beside_nodes, quiet, long_run, manual_page, readme))
     if not shutil.which("bmake"):
         print("tests/run: no bmake here: nothing is built of Makefiles", flush=True)
         return
