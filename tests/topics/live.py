@@ -12,7 +12,7 @@ import tempfile
 import time
 
 from topics import nodes, packages
-from topics.nodes import NODES, answer, beside, free_ports, logs_in, ordered, put, refused, taken
+from topics.nodes import NODES, answer, beside, free_ports, logs_in, ordered, put, taken
 from topics.tally import PROGRAM, TESTS, TOP, contents, difference
 
 LIVE = f"{TESTS}/live"
