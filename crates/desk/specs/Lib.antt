@@ -1,1 +1,6 @@
+pub mod Held
+pub mod Looking
+pub mod Posted
+pub mod Taking
+pub mod Waiting
 pub mod Wishing

@@ -1,6 +1,11 @@
 //! Units that are away: the last claim that the member promised for them is another member's.
-ghost use Rattle.std.specs.Prelude.{◌<◌, length};
+ghost use Rattle.std.specs.Prelude.{◌≡◌, ◌<◌, IfOk, IfSome, Some, length, true};
+ghost use Rattle.desk.specs.Waiting.{AreSeen, WasAway, away_for};
+ghost use Rattle.live_choice.specs.Wishes.{is_away};
+ghost use Rattle.protocol.specs.State.{facts_at};
 
+use crate::pace::is_over;
+use crate::wishing::promised;
 use claims::Claim;
 use faults::Memory;
 use live_parts::is_away;
@@ -22,7 +27,9 @@ pub(crate) fn seen_away(
     member: &Member<'_>,
     before: &[Away],
     now: Instant,
-) -> Result<Vec<Away>, Memory> {
+) -> Result<Vec<Away>, Memory>
+    ensures { IfOk result (λ seen. AreSeen member.now before.now now seen.items) }
+{
     let mut seen = Vec::new(alloc);
     let mut from = 0;
     for _ in 0..member.tree().len() {
@@ -41,17 +48,22 @@ pub(crate) fn seen_away(
 /// The package's unit and the claim that the member promised for it, if that is another's.
 fn promised_away(member: &Member<'_>, position: u32) -> Option<(u32, Claim)>
     requires { position < length member.now.division.tree }
+    ensures { IfSome result (λ away. (is_away member.now away.0 ≡ true)
+        × ((facts_at member.now away.0).promised ≡ Some away.1)) }
 {
     let unit = member.units().unit_of(position)?;
     if !is_away(member, unit) {
         return None;
     }
-    let claim = member.promised(member.units().name(unit))?;
+    let claim = promised(member, unit)?;
     Some((unit, claim))
 }
 
 /// Since when the unit is away under this claim, if it was before.
-fn since_of(all: &[Away], unit: u32, claim: Claim) -> Option<Instant> {
+fn since_of(all: &[Away], unit: u32, claim: Claim) -> Option<Instant>
+    ensures { IfSome result (λ since. WasAway all.now
+        (record { unit = unit; claim = claim; since = since })) }
+{
     for away in all {
         if away.unit == unit && away.claim == claim {
             return Some(away.since);
@@ -64,12 +76,14 @@ fn since_of(all: &[Away], unit: u32, claim: Claim) -> Option<Instant> {
 pub(crate) fn away_for(
     alloc: Global,
     all: &[Away],
-    patience: Duration,
+    wait: Duration,
     now: Instant,
-) -> Result<Vec<u32>, Memory> {
+) -> Result<Vec<u32>, Memory>
+    ensures { IfOk result (λ units. units.items ≡ away_for all.now wait now) }
+{
     let mut units = Vec::new(alloc);
     for away in all {
-        if now.duration_since(away.since) >= patience {
+        if is_over(wait, away.since, now) {
             units.push(away.unit)?;
         }
     }

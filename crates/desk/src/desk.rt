@@ -1,18 +1,27 @@
 //! What is known here of builds: which are under way, which failed, and who was asked for what.
-ghost use Rattle.std.specs.List.{list_any};
-ghost use Rattle.std.specs.Prelude.{◌≡◌, ◌==◌, IfOk, IfSome, Some, map, true};
-ghost use Rattle.desk.specs.Wishing.{IsNewClaim, IsWishOf};
+ghost use Rattle.std.specs.Prelude.{◌≡◌, ◌++◌, ◌==◌, ◌⊎◌, [], IfErr, IfOk, IfSome, None, Ok, OnErr, OnOk, Some, false, length, true};
+ghost use Rattle.desk.specs.Looking.{IsSeen, out_with_job, unit_of_job};
+ghost use Rattle.desk.specs.Posted.{not_held, units_of, with_unit};
+ghost use Rattle.desk.specs.Taking.{IsOneLess, failed_by, of_unit, without_unit};
+ghost use Rattle.desk.specs.Waiting.{AreSeen};
+ghost use Rattle.desk.specs.Wishing.{HasMore, IsAllowed, IsNewClaim, IsWishOf, has_asked, is_for, is_in, known_at};
+ghost use Rattle.engine.specs.Division.{number_found};
 ghost use Rattle.live_choice.specs.Wishes.{IsNextAsk};
+ghost use Rattle.protocol.specs.State.{is_held_any};
+ghost use Rattle.protocol.specs.Step.{job_of_claim};
+ghost use Rattle.work.specs.Refusals.{IsOfSystem};
+ghost use Rattle.work.specs.Tasks.{name_of, task_of};
 
 use crate::away::{Away, away_for, seen_away};
-use crate::out::{Posted, forget_held, is_among, is_held, push, taken, units_of};
-use crate::pace::Pace;
-use crate::wishing::{claim_of, may_claim, turn_of};
+use crate::out::{Posted, forget_held, is_among, is_held, place_of, push, units_of};
+use crate::pace::{Pace, is_over};
+use crate::wishing::{ask_from, claim_of, is_for, least_beside, may_claim, turn_of};
 use choice::Act;
+use claims::Job;
 use faults::Memory;
 use indexmap::IndexSet;
 use live_choice::Wish;
-use live_parts::{least_claim, next_ask};
+use live_parts::least_claim;
 use member::{Input, Member};
 use pkgpath::PkgPath;
 use program::Refusal;
@@ -38,7 +47,8 @@ pub enum Look {
     Bad(Refusal),
 }
 
-/// What is known here of builds.
+/// What is known here of builds. Of a unit that is held, the job and what came of it are taken out
+/// of the folder by whoever builds there, and not by a desk.
 #[derive(Drop)]
 pub struct Desk<'f> {
     folder: Folder<'f>,
@@ -60,7 +70,13 @@ pub struct Desk<'f> {
 
 impl<'f> Desk<'f> {
     /// Nothing is handed out yet.
-    pub fn new(alloc: Global, folder: Folder<'f>, pace: Pace, now: Instant) -> Desk<'f> {
+    pub fn new(alloc: Global, folder: Folder<'f>, pace: Pace, now: Instant) -> Desk<'f>
+        ensures out { result.out.items ≡ [] }
+        ensures failed { result.failed.items ≡ [] }
+        ensures asked { result.asked.keys ≡ [] }
+        ensures away { result.away.items ≡ [] }
+        ensures pace { result.pace ≡ pace }
+    {
         Desk {
             folder,
             pace,
@@ -77,12 +93,16 @@ impl<'f> Desk<'f> {
     }
 
     /// Whether nothing is out.
-    pub fn is_clear(&self) -> bool {
+    pub fn is_clear(&self) -> bool
+        ensures { result ≡ (length self.now.out.items == 0) }
+    {
         self.out.is_empty()
     }
 
     /// Whether the unit that was asked for last came to be held.
-    pub fn is_hit(&self, member: &Member<'_>) -> bool {
+    pub fn is_hit(&self, member: &Member<'_>) -> bool
+        ensures { result ≡ is_held_any member.now self.now.last }
+    {
         match self.last {
             Some(unit) => is_held(member, unit),
             None => false,
@@ -95,13 +115,32 @@ impl<'f> Desk<'f> {
     /// # Errors
     ///
     /// Memory; what the system refused.
-    pub fn look(&mut self, rt: &HostRuntime, member: &Member<'_>) -> Result<Look, WorkFault> {
+    pub fn look(&mut self, rt: &HostRuntime, member: &Member<'_>) -> Result<Look, WorkFault>
+        ensures out { OnOk result
+            (self.new.out.items ≡ out_with_job member.now self.old.out.items) }
+        ensures left { OnErr result (self.new.out.items ≡ self.old.out.items) }
+        ensures failed { self.new.failed ≡ self.old.failed }
+        ensures idle { unit_of_job member.now (job_of_claim member.now) ≡ None
+            → (result ≡ Ok Look.NotYet) × (self.new ≡ self.old) }
+        ensures refused { IfErr result IsOfSystem }
+    {
         let Some(job) = member.job() else {
             return Ok(Look::NotYet);
         };
         let Some(unit) = member.units().find(&job.path) else {
             return Ok(Look::NotYet);
         };
+        self.looked_for(rt, job, unit)
+    }
+
+    /// What there is of the build of the job, which is for the unit.
+    fn looked_for(&mut self, rt: &HostRuntime, job: &Job, unit: u32) -> Result<Look, WorkFault>
+        ensures out { OnOk result (self.new.out.items
+            ≡ with_unit self.old.out.items unit (name_of (task_of job.now))) }
+        ensures left { OnErr result (self.new.out.items ≡ self.old.out.items) }
+        ensures failed { self.new.failed ≡ self.old.failed }
+        ensures refused { IfErr result IsOfSystem }
+    {
         let name = Name::of(rt.alloc(), job)?;
         let answer = self.folder.answer(rt, &name)?;
         if !is_among(self.out.as_slice(), unit) {
@@ -127,8 +166,9 @@ impl<'f> Desk<'f> {
         gives_way: bool,
         now: Instant,
     ) -> Result<Option<Wish>, WorkFault>
-        ensures { IfOk result (λ o. IfSome o (IsWishOf member.now
-            (map (λ p. p.unit) self.now.out.items) (map (λ p. p.unit) self.now.failed.items))) }
+        ensures wish { IfOk result (λ o. IfSome o (IsWishOf member.now (known_at self.now now))) }
+        ensures allowed { IfOk result (λ o. IfSome o (IsAllowed member.now gives_way)) }
+        ensures refused { IfErr result IsOfSystem }
     {
         if may_claim(member, gives_way) {
             if let Some(wish) = self.claim(rt, member, now)? {
@@ -145,56 +185,70 @@ impl<'f> Desk<'f> {
         member: &Member<'_>,
         now: Instant,
     ) -> Result<Option<Wish>, WorkFault>
-        ensures { IfOk result (λ o. IfSome o (IsWishOf member.now
-            (map (λ p. p.unit) self.now.out.items) (map (λ p. p.unit) self.now.failed.items))) }
+        ensures wish { IfOk result (λ o. IfSome o (IsWishOf member.now (known_at self.now now))) }
+        ensures refused { IfErr result IsOfSystem }
     {
-        if let Some(unit) = self.answered(rt, member)? {
-            return Ok(claim_of(member, unit)?);
+        match self.answered(rt, member)? {
+            Some(unit) => Ok(claim_of(member, unit)?),
+            None => Ok(self.claim_new(member, now)?),
         }
-        if self.out.len() >= self.pace.jobs as usize {
-            return Ok(None);
-        }
-        Ok(self.claim_new(member, now)?)
     }
 
     /// The wish to claim what is to be built, or to ask for that before.
     fn claim_new(&self, member: &Member<'_>, now: Instant) -> Result<Option<Wish>, Memory>
-        ensures { IfOk result (λ o. IfSome o (IsWishOf member.now
-            (map (λ p. p.unit) self.now.out.items) (map (λ p. p.unit) self.now.failed.items))) }
+        ensures { IfOk result (λ o. IfSome o (IsWishOf member.now (known_at self.now now))) }
     {
+        if self.out.len() >= self.pace.jobs as usize {
+            return Ok(None);
+        }
         let Some(Wish::Claim { path, above }) = self.least_claim(member, now)? else {
             return Ok(None);
         };
-        match member.units().find(&path) {
-            Some(unit) if !self.asked.contains(&unit) => Ok(Some(Wish::Ask { path })),
-            Some(unit) if self.is_its_turn(member, unit, now) => {
-                Ok(Some(Wish::Claim { path, above }))
-            }
-            _ => Ok(None),
+        let Some(unit) = member.units().find(&path) else {
+            return Ok(None);
+        };
+        if !self.asked.contains(&unit) {
+            return Ok(Some(Wish::Ask { path }));
+        }
+        if self.is_its_turn(member, unit, now) {
+            Ok(Some(Wish::Claim { path, above }))
+        } else {
+            Ok(None)
         }
     }
 
     /// The wish to claim the least unit that is neither out, nor failed, nor away, but for what is
     /// taken over.
     fn least_claim(&self, member: &Member<'_>, now: Instant) -> Result<Option<Wish>, Memory>
-        ensures { IfOk result (IsNewClaim member.now (map (λ p. p.unit) self.now.out.items)
-            (map (λ p. p.unit) self.now.failed.items)) }
+        ensures { IfOk result (IsNewClaim member.now (known_at self.now now)) }
     {
-        let alloc = *self.asked.allocator();
-        let barred = units_of(alloc, self.out.as_slice(), self.failed.as_slice())?;
-        let over = away_for(alloc, self.away.as_slice(), self.pace.takeover, now)?;
+        let barred = self.barred()?;
+        let over = away_for(
+            *self.asked.allocator(),
+            self.away.as_slice(),
+            self.pace.takeover,
+            now,
+        )?;
         least_claim(member, barred.as_slice(), over.as_slice())
+    }
+
+    /// The units that are out, and those that failed.
+    fn barred(&self) -> Result<Vec<u32>, Memory>
+        ensures { IfOk result (λ units. units.items
+            ≡ units_of self.now.out.items ++ units_of self.now.failed.items) }
+    {
+        units_of(
+            *self.asked.allocator(),
+            self.out.as_slice(),
+            self.failed.as_slice(),
+        )
     }
 
     /// Whether the unit may be claimed for so long that it is this member's turn.
     fn is_its_turn(&self, member: &Member<'_>, unit: u32, now: Instant) -> bool {
-        let wait = self
-            .pace
-            .slot
-            .checked_mul(turn_of(member, unit))
-            .unwrap_or(self.pace.slot);
+        let wait = self.pace.slot.saturating_mul(turn_of(member, unit));
         match self.least {
-            Some((least, since)) => least == unit && now.duration_since(since) >= wait,
+            Some((least, since)) => least == unit && is_over(wait, since, now),
             None => false,
         }
     }
@@ -204,48 +258,64 @@ impl<'f> Desk<'f> {
         ensures { IfOk result (λ o. IfSome o (λ wish. (from p : _)
             × IsNextAsk member.now from (Some (p, wish)))) }
     {
-        if !self.is_hit(member) && now.duration_since(self.asked_at) < self.pace.ask {
+        if !self.is_hit(member) && !is_over(self.pace.ask, self.asked_at, now) {
             return Ok(None);
         }
-        let ask = match next_ask(member, self.next)? {
-            Some(ask) => Some(ask),
-            None => next_ask(member, 0)?,
-        };
-        match ask {
-            Some((_position, wish)) => Ok(Some(wish)),
-            None => Ok(None),
+        match ask_from(member, self.next)? {
+            Some(wish) => Ok(Some(wish)),
+            None => ask_from(member, 0),
         }
+    }
+
+    /// A unit that is out and has its answer, unless its claim is the open one.
+    fn answered(&self, rt: &HostRuntime, member: &Member<'_>) -> Result<Option<u32>, WorkFault>
+        ensures unit { IfOk result (λ o. IfSome o
+            (λ u. (is_in (units_of self.now.out.items) u ≡ true)
+            × (is_for member.now.claim u ≡ false))) }
+        ensures refused { IfErr result IsOfSystem }
+    {
+        for posted in &self.out {
+            if !is_for(member, posted.unit) && self.folder.is_answered(rt, &posted.name)? {
+                return Ok(Some(posted.unit));
+            }
+        }
+        Ok(None)
     }
 
     /// Keeps what follows of what the node did. (What it was wished it may not have done.)
     ///
     /// # Errors
     ///
-    /// Memory; what the system refused.
+    /// Memory; what the system refused. What is out and what failed is then as it was.
     pub fn took(
         &mut self,
         rt: &HostRuntime,
         member: &Member<'_>,
         act: &Act,
         now: Instant,
-    ) -> Result<(), WorkFault> {
+    ) -> Result<(), WorkFault>
+        ensures out { OnOk result (self.new.out.items
+            ≡ without_unit self.old.out.items (failed_by member.now act.now)) }
+        ensures failed { OnOk result (self.new.failed.items ≡ self.old.failed.items
+            ++ of_unit self.old.out.items (failed_by member.now act.now)) }
+        ensures left { OnErr result ((self.new.out.items ≡ self.old.out.items)
+            × (self.new.failed.items ≡ self.old.failed.items)) }
+        ensures refused { IfErr result IsOfSystem }
+    {
         match act {
-            Act::Own(Input::Ask { path }) => {
-                self.asked_for(member, path, now)?;
-                Ok(())
-            }
+            Act::Own(Input::Ask { path }) => Ok(self.asked_for(member, path, now)?),
             Act::Own(Input::Failed { path }) => self.fail(rt, member, path),
             _ => Ok(()),
         }
     }
 
     /// Keeps that the others were asked for what the path names.
-    fn asked_for(
-        &mut self,
-        member: &Member<'_>,
-        path: &PkgPath,
-        now: Instant,
-    ) -> Result<(), Memory> {
+    fn asked_for(&mut self, member: &Member<'_>, path: &PkgPath, now: Instant) -> Result<(), Memory>
+        ensures out { self.new.out ≡ self.old.out }
+        ensures failed { self.new.failed ≡ self.old.failed }
+        ensures last { OnOk result (IfSome (number_found member.now.division path.now)
+            (λ u. (self.new.last ≡ Some u) × (has_asked self.new.asked.keys u ≡ true))) }
+    {
         if let Some(unit) = member.units().find(path) {
             self.asked.insert(unit)?;
             self.last = Some(unit);
@@ -259,67 +329,79 @@ impl<'f> Desk<'f> {
     }
 
     /// The build of the unit that the path names failed: it is claimed no more, until its mark is
-    /// gone. A build that has none gets one.
+    /// gone.
     fn fail(
         &mut self,
         rt: &HostRuntime,
         member: &Member<'_>,
         path: &PkgPath,
-    ) -> Result<(), WorkFault> {
+    ) -> Result<(), WorkFault>
+        ensures out { OnOk result (self.new.out.items
+            ≡ without_unit self.old.out.items (number_found member.now.division path.now)) }
+        ensures failed { OnOk result (self.new.failed.items ≡ self.old.failed.items
+            ++ of_unit self.old.out.items (number_found member.now.division path.now)) }
+        ensures left { OnErr result ((self.new.out.items ≡ self.old.out.items)
+            × (self.new.failed.items ≡ self.old.failed.items)) }
+        ensures refused { IfErr result IsOfSystem }
+    {
         let Some(unit) = member.units().find(path) else {
             return Ok(());
         };
-        let Some(posted) = taken(&mut self.out, unit) else {
+        let Some(place) = place_of(self.out.as_slice(), unit) else {
             return Ok(());
         };
-        if !self.folder.has_failed(rt, &posted.name)? {
-            self.folder
-                .mark(rt, &posted.name, "what was handed in makes no build")?;
-        }
-        push(&mut self.failed, posted)?;
+        self.failed.reserve(1)?;
+        self.mark(rt, &self.out[place].name)?;
+        let posted = self.out.remove(place);
+        self.failed.push_reserved(posted);
         Ok(())
     }
 
-    /// Forgets what came to be held, and looks at what may be claimed and what is away.
-    pub fn tick(&mut self, member: &Member<'_>, now: Instant) -> Result<(), Memory> {
-        forget_held(&mut self.out, member);
-        let least = self.least_unit(member, now)?;
-        self.least = match (least, self.least) {
-            (Some(unit), Some((before, since))) if unit == before => Some((unit, since)),
-            (Some(unit), _) => Some((unit, now)),
-            (None, _) => None,
-        };
-        if now.duration_since(self.looked_at) < Duration::from_millis(LOOK) {
-            return Ok(());
-        }
-        self.looked_at = now;
-        self.away = seen_away(*self.asked.allocator(), member, self.away.as_slice(), now)?;
-        Ok(())
-    }
-
-    /// The least unit that may be claimed.
-    fn least_unit(&self, member: &Member<'_>, now: Instant) -> Result<Option<u32>, Memory> {
-        match self.least_claim(member, now)? {
-            Some(Wish::Claim { path, .. }) => Ok(member.units().find(&path)),
-            _ => Ok(None),
-        }
-    }
-
-    /// A unit that is out and has its answer, unless its claim is the open one.
-    fn answered(&self, rt: &HostRuntime, member: &Member<'_>) -> Result<Option<u32>, WorkFault>
-        ensures { IfOk result (λ o. IfSome o
-            (λ u. list_any (λ v. v == u) (map (λ p. p.unit) self.now.out.items) ≡ true)) }
+    /// Marks the build of this name as failed, if it has no mark.
+    fn mark(&self, rt: &HostRuntime, name: &Name) -> Result<(), WorkFault>
+        ensures { IfErr result IsOfSystem }
     {
-        let open = match member.open_claim() {
-            Some(open) => Some(open.unit),
-            None => None,
-        };
-        for posted in &self.out {
-            if open != Some(posted.unit) && self.folder.is_answered(rt, &posted.name)? {
-                return Ok(Some(posted.unit));
-            }
+        if self.folder.has_failed(rt, name)? {
+            return Ok(());
         }
-        Ok(None)
+        self.folder
+            .mark(rt, name, "what was handed in makes no build")
+    }
+
+    /// Forgets what came to be held, and looks at what may be claimed and what is away. It fails
+    /// only for want of memory.
+    pub fn tick(&mut self, member: &Member<'_>, now: Instant) -> Result<(), Memory>
+        ensures out { self.new.out.items ≡ not_held member.now self.old.out.items }
+        ensures failed { self.new.failed ≡ self.old.failed }
+        ensures away { (self.new.away ≡ self.old.away)
+            ⊎ AreSeen member.now self.old.away.items now self.new.away.items }
+    {
+        forget_held(&mut self.out, member);
+        self.least = self.least_since(member, now)?;
+        if is_over(Duration::from_millis(LOOK), self.looked_at, now) {
+            let alloc = *self.asked.allocator();
+            self.away = seen_away(alloc, member, self.away.as_slice(), now)?;
+            self.looked_at = now;
+        }
+        Ok(())
+    }
+
+    /// The least unit that may be claimed, and since when it is that.
+    fn least_since(
+        &self,
+        member: &Member<'_>,
+        now: Instant,
+    ) -> Result<Option<(u32, Instant)>, Memory> {
+        let Some(Wish::Claim { path, .. }) = self.least_claim(member, now)? else {
+            return Ok(None);
+        };
+        let Some(unit) = member.units().find(&path) else {
+            return Ok(None);
+        };
+        match self.least {
+            Some((before, since)) if before == unit => Ok(Some((unit, since))),
+            _ => Ok(Some((unit, now))),
+        }
     }
 
     /// Forgets one failed build whose mark is gone.
@@ -327,35 +409,36 @@ impl<'f> Desk<'f> {
     /// # Errors
     ///
     /// What the system refused.
-    pub fn retry(&mut self, rt: &HostRuntime) -> Result<(), WorkFault> {
-        let mut gone = None;
-        for posted in &self.failed {
-            if !self.folder.has_failed(rt, &posted.name)? {
-                gone = Some(posted.unit);
-                break;
+    pub fn retry(&mut self, rt: &HostRuntime) -> Result<(), WorkFault>
+        ensures out { self.new.out ≡ self.old.out }
+        ensures failed { IsOneLess self.old.failed.items self.new.failed.items }
+        ensures left { OnErr result (self.new ≡ self.old) }
+        ensures refused { IfErr result IsOfSystem }
+    {
+        for place in 0..self.failed.len() {
+            if !self.folder.has_failed(rt, &self.failed[place].name)? {
+                drop(self.failed.remove(place));
+                return Ok(());
             }
-        }
-        if let Some(unit) = gone {
-            drop(taken(&mut self.failed, unit));
         }
         Ok(())
     }
 
-    /// Whether a package is queued whose unit neither is out nor failed, be it away or not.
-    pub fn has_more(&self, member: &Member<'_>) -> Result<bool, Memory> {
-        let alloc = *self.asked.allocator();
-        let barred = units_of(alloc, self.out.as_slice(), self.failed.as_slice())?;
-        let mut over = Vec::new(alloc);
-        for away in &self.away {
-            over.push(away.unit)?;
-        }
-        let wish = least_claim(member, barred.as_slice(), over.as_slice())?;
-        Ok(wish.is_some())
+    /// Whether a package is queued whose unit neither is out nor failed, be it away or not. It
+    /// fails only for want of memory.
+    pub fn has_more(&self, member: &Member<'_>) -> Result<bool, Memory>
+        ensures { IfOk result (HasMore member.now
+            (units_of self.now.out.items) (units_of self.now.failed.items)) }
+    {
+        let barred = self.barred()?;
+        Ok(least_beside(member, barred.as_slice()).is_some())
     }
 }
 
 /// What an answer is, read as what it names.
-fn looked(alloc: Global, answer: Answer) -> Look {
+fn looked(alloc: Global, answer: Answer) -> Look
+    ensures { IsSeen answer result }
+{
     match answer {
         Answer::NotYet => Look::NotYet,
         Answer::Failed => Look::Failed,

@@ -1,6 +1,8 @@
 //! Jobs that are out, and builds that failed.
-ghost use Rattle.std.specs.List.{list_any};
-ghost use Rattle.std.specs.Prelude.{◌≡◌, ◌++◌, ◌==◌, IfOk, map};
+ghost use Rattle.std.specs.Prelude.{◌≡◌, ◌++◌, ◌==◌, ◌∷◌, IfOk, is_ok, if◌then◌else◌, position};
+ghost use Rattle.desk.specs.Held.{is_letter_held};
+ghost use Rattle.desk.specs.Posted.{has_unit, not_held, units_of};
+ghost use Rattle.protocol.specs.State.{is_held};
 
 use engine::Letter;
 use faults::Memory;
@@ -17,62 +19,50 @@ pub(crate) struct Posted {
 
 /// Whether the unit is among these.
 pub(crate) fn is_among(all: &[Posted], unit: u32) -> bool
-    ensures { result ≡ list_any (λ v. v == unit) (map (λ p. p.unit) all.now) }
+    ensures { result ≡ has_unit all.now unit }
 {
-    for posted in all {
-        if posted.unit == unit {
-            return true;
-        }
-    }
-    false
+    all.iter().any(|posted| posted.unit == unit)
+}
+
+/// The unit's place among these.
+pub(crate) fn place_of(all: &[Posted], unit: u32) -> Option<usize>
+    ensures { result ≡ position (λ p. p.unit == unit) all.now }
+{
+    all.iter().position(|posted| posted.unit == unit)
 }
 
 /// Adds one to these.
-pub(crate) fn push(all: &mut Vec<Posted>, posted: Posted) -> Result<(), Memory> {
+pub(crate) fn push(all: &mut Vec<Posted>, posted: Posted) -> Result<(), Memory>
+    ensures { all.new.items
+        ≡ (if is_ok result then all.old.items ++ posted ∷ [] else all.old.items) }
+{
     all.push(posted)?;
     Ok(())
 }
 
-/// Takes the unit's out of these.
-pub(crate) fn taken(all: &mut Vec<Posted>, unit: u32) -> Option<Posted> {
-    for place in 0..all.len() {
-        if all[place].unit == unit {
-            return Some(all.swap_remove(place));
-        }
-    }
-    None
-}
-
 /// Leaves those whose units are not held.
-pub(crate) fn forget_held(out: &mut Vec<Posted>, member: &Member<'_>) {
-    for _ in 0..out.len() {
-        match held_among(out.as_slice(), member) {
-            Some(unit) => drop(taken(out, unit)),
-            None => return,
-        }
-    }
-}
-
-/// The unit of one of these that is held, if one is.
-fn held_among(all: &[Posted], member: &Member<'_>) -> Option<u32> {
-    for posted in all {
-        if is_held(member, posted.unit) {
-            return Some(posted.unit);
-        }
-    }
-    None
+pub(crate) fn forget_held(all: &mut Vec<Posted>, member: &Member<'_>)
+    ensures { all.new.items ≡ not_held member.now all.old.items }
+{
+    all.retain(|posted| !is_held(member, posted.unit));
 }
 
 /// Whether the unit of this number is held.
-pub(crate) fn is_held(member: &Member<'_>, unit: u32) -> bool {
+pub(crate) fn is_held(member: &Member<'_>, unit: u32) -> bool
+    ensures { result ≡ is_held member.now unit }
+{
     let units = member.units();
     if unit >= units.len() {
         return false;
     }
-    match units.packages(unit).first() {
-        Some(position) => matches!(member.letter(*position), Letter::I | Letter::B),
-        None => false,
-    }
+    is_letter_held(member.letter(units.packages(unit)[0]))
+}
+
+/// Whether a package with this letter is held.
+fn is_letter_held(letter: Letter) -> bool
+    ensures { result ≡ is_letter_held letter }
+{
+    matches!(letter, Letter::I | Letter::B)
 }
 
 /// The units of these, and those of others behind them.
@@ -81,15 +71,14 @@ pub(crate) fn units_of(
     first: &[Posted],
     others: &[Posted],
 ) -> Result<Vec<u32>, Memory>
-    ensures { IfOk result (λ units. units.items
-        ≡ map (λ p. p.unit) first.now ++ map (λ p. p.unit) others.now) }
+    ensures { IfOk result (λ units. units.items ≡ units_of first.now ++ units_of others.now) }
 {
     let mut units = Vec::with_capacity(alloc, first.len())?;
     for posted in first {
         units.push(posted.unit)?;
     }
-    for posted in others {
-        units.push(posted.unit)?;
+    for other in others {
+        units.push(other.unit)?;
     }
     Ok(units)
 }

@@ -1,5 +1,8 @@
 //! How long a node waits that builds with others.
-use std::time::Duration;
+ghost use Rattle.std.specs.Prelude.{◌≡◌};
+ghost use Rattle.desk.specs.Waiting.{is_over};
+
+use std::time::{Duration, Instant};
 
 /// How many jobs are out at a time, and how long is waited.
 #[derive(Clone, Copy)]
@@ -11,4 +14,11 @@ pub struct Pace {
     pub takeover: Duration,
     /// Between the times at which two members claim one unit.
     pub slot: Duration,
+}
+
+/// Whether so long a wait is over that began then.
+pub(crate) fn is_over(wait: Duration, since: Instant, now: Instant) -> bool
+    ensures { result ≡ is_over wait since now }
+{
+    now.duration_since(since).checked_sub(wait).is_some()
 }

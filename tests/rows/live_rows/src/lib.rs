@@ -5,3 +5,5 @@
 mod alone;
 #[cfg(test)]
 mod desks;
+#[cfg(test)]
+mod together;

@@ -100,6 +100,31 @@ fn a_build_comes_in(rt: HostRuntime) -> Result<(), Fail> {
     Ok(())
 }
 
+/// A job is answered by what was built, and by a mark that it failed, as long as either is there.
+#[test]
+fn what_is_answered(rt: HostRuntime) -> Result<(), Fail> {
+    let folder = Folder::open(&rt, "work", 0, false)?;
+    let name = folder.post(&rt, &job(rt.alloc(), 0x3c, 3)?)?;
+    let other = folder.post(&rt, &job(rt.alloc(), 0x3d, 3)?)?;
+    let done = format!(in rt.alloc(); "work/done/{NAME}")?;
+    let half = format!(in rt.alloc(); "work/done/.{NAME}.77")?;
+    let mark = format!(in rt.alloc(); "work/failed/{NAME}")?;
+    fs::write(&rt, half.as_str(), BUILDS)?;
+    assert!(rt; !folder.is_answered(&rt, &name)?);
+    fs::write(&rt, done.as_str(), BUILDS)?;
+    assert!(rt; folder.is_answered(&rt, &name)?);
+    assert!(rt; !folder.is_answered(&rt, &other)?);
+    folder.mark(&rt, &name, "the text names no builds")?;
+    assert!(rt; folder.is_answered(&rt, &name)?);
+    fs::remove_file(&rt, mark.as_str())?;
+    assert!(rt; !folder.is_answered(&rt, &name)?);
+    fs::write(&rt, done.as_str(), "")?;
+    assert!(rt; folder.is_answered(&rt, &name)?);
+    folder.forget(&rt, &name)?;
+    assert!(rt; !folder.is_answered(&rt, &name)?);
+    Ok(())
+}
+
 /// A builder or a node that ended while it wrote left no file of the name, and is no hindrance when
 /// it is run again.
 #[test]
