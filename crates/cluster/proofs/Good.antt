@@ -7,7 +7,7 @@ use Rattle.dpbn_words.specs.declared.Call.{Call}
 use Rattle.dpbn_words.specs.declared.Call.TheVariants.{Build, Cluster, Key, Node}
 use Rattle.dpbn_words.specs.declared.Peers.{Peers}
 use Rattle.dpbn_words.specs.declared.Peers.TheVariants.{Base, Hosts}
-use Rattle.dpbn_node.specs.Node.{AreGood}
+use Rattle.dpbn_node.specs.Runs.{AreGood}
 
 good_peers : (rows : List Row) (peers : Peers) → ArePeers rows peers → AreGood peers
 good_peers rows (Base port) are = are.0.2

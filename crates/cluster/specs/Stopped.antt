@@ -5,7 +5,8 @@ use Rattle.clap.specs.Words.{IsAmong, Text as Word, kind_of}
 use Rattle.cluster.specs.Printed.{HasBegun}
 use Rattle.dpbn_build.specs.Build.{RefusesBuild}
 use Rattle.dpbn_cluster.specs.Cluster.{RefusesCluster}
-use Rattle.dpbn_node.specs.Node.{AreGood, RefusesNode}
+use Rattle.dpbn_node.specs.Node.{RefusesNode}
+use Rattle.dpbn_node.specs.Runs.{AreGood}
 use Rattle.dpbn_words.specs.Calls.{AreTaken, IsCallOf, faults_of, matched}
 use Rattle.dpbn_words.specs.declared.Call.{Call}
 use Rattle.dpbn_words.specs.declared.Call.TheVariants.{Build, Cluster, Key, Node}

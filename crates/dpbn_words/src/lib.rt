@@ -13,8 +13,6 @@ mod key;
 mod node;
 mod one_node;
 mod shared;
-#[cfg(test)]
-mod tests;
 
 use clap::error::ErrorKind;
 use clap::{ArgMatches, Command, Error};

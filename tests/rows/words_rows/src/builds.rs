@@ -1,5 +1,5 @@
 //! Words of a build that are taken, and some that are not.
-use crate::{Call, Peers, Run, Site, dpbn_words};
+use dpbn_words::{Call, Peers, Run, Site, dpbn_words};
 use clap::error::ErrorKind;
 use std::alloc::{AllocError, Global};
 use std::test::Fail;
