@@ -1,5 +1,6 @@
-"""`dpbn build` with tools/build-jobs: hosts that build a tree of Makefiles together, nodes and drivers that are killed meanwhile, ports that
-fail and are mended, a host that comes late, answers that are none, how much is sent where nothing happens, and a long run."""
+"""`dpbn build` with tools/build-jobs: hosts that build a tree of Makefiles together, nodes and drivers that are killed meanwhile,
+ports that fail and are mended, a host that comes late, answers that are none, how much is sent where nothing happens, and a long
+run."""
 import contextlib
 import fcntl
 import json
@@ -12,7 +13,7 @@ import tempfile
 import time
 
 from topics import nodes, packages
-from topics.nodes import NODES, answer, beside, free_ports, logs_in, ordered, put, taken
+from topics.nodes import NODES, answer, beside, free_ports, logs_in, ordered, put, refused, taken
 from topics.tally import PROGRAM, TESTS, TOP, contents, difference
 
 LIVE = f"{TESTS}/live"
@@ -21,8 +22,8 @@ ASK = 6
 LINE = re.compile(rb"node (\d): I=(\d+) B=(\d+) Q=(\d+) T=(\d+) !=(\d+)")
 # how long something is waited for, in seconds
 LIMIT = 300
-# how much more memory a long run may have at its end than after its first part, in kB: of what is kept to be used again some pages more may
-# have been touched
+# how much more memory a long run may have at its end than after its first part, in kB: of what is kept to be used again some
+# pages more may have been touched
 SPARE = 64
 
 
@@ -34,6 +35,11 @@ def until(holds, seconds=LIMIT, nap=0.02):
             return False
         time.sleep(nap)
     return True
+
+
+def check(tally, name, right, *told):
+    """One more test, which passed if that is right; else it is told what was seen."""
+    tally.add(name, "" if right else " ".join(f"{it!r:.800}" for it in told) or "it isn't so")
 
 
 def size_of(path):
@@ -56,15 +62,17 @@ class Host:
 
     def start_node(self, *words):
         self.began = size_of(self.out("err"))
-        words = ["--listing", "listing", "--work", self.work, "--dir", "logs", "--members", str(self.run.members), "--me", str(self.me),
-                 *self.run.peers, "--progress", "1", *words]
+        words = ["--listing", "listing", "--work", self.work, "--dir", "logs", "--members", str(self.run.members),
+                 "--me", str(self.me), *self.run.peers, "--progress", "1", *words]
         with open(self.out("node"), "ab") as out, open(self.out("err"), "ab") as err:
-            self.node = subprocess.Popen([NODES, "build", *words], cwd=self.run.folder, stdin=subprocess.DEVNULL, stdout=out, stderr=err)
+            self.node = subprocess.Popen([NODES, "build", *words], cwd=self.run.folder, stdin=subprocess.DEVNULL, stdout=out,
+                                         stderr=err)
 
     def start_driver(self):
         with open(self.out("driver"), "ab") as out:
-            self.driver = subprocess.Popen([f"{TOP}/tools/build-jobs", "-j", str(self.run.jobs), self.work, self.log, "--", f"{self.run.folder}/build"],
-                                           cwd=self.run.folder, stdin=subprocess.DEVNULL, stdout=out, stderr=out)
+            words = ["-j", str(self.run.jobs), self.work, self.log, "--", f"{self.run.folder}/build"]
+            self.driver = subprocess.Popen([f"{TOP}/tools/build-jobs", *words], cwd=self.run.folder, stdin=subprocess.DEVNULL,
+                                           stdout=out, stderr=out)
 
     def kill(self, *parts):
         for part in parts:
@@ -124,7 +132,8 @@ class Run:
                 subprocess.run(["bmake", "dump-vars"], cwd=f"{folder}/tree/{port}", stdout=dump, check=True, timeout=LIMIT)
         with open(f"{folder}/listing", "wb") as listing:
             subprocess.run([f"{TOP}/tools/expand-listing", f"{folder}/dump"], stdout=listing, check=True, timeout=LIMIT)
-        subprocess.run([f"{LIVE}/serial-build", f"{folder}/tree", f"{folder}/serial"], stdout=subprocess.DEVNULL, check=True, timeout=LIMIT)
+        subprocess.run([f"{LIVE}/serial-build", f"{folder}/tree", f"{folder}/serial"], stdout=subprocess.DEVNULL, check=True,
+                       timeout=LIMIT)
         self.paths = sorted(name.replace(":", "/") for name in os.listdir(f"{folder}/serial"))
         listed = contents(f"{folder}/listing").decode().count(".FULLPKGNAME=")
         self.ignored, self.units = listed - len(self.paths), len({path.partition(",")[0] for path in self.paths})
@@ -223,8 +232,8 @@ def listed(text):
 
 
 def package_problem(run, folder, path, signatures, built, needs):
-    """What is wrong with a package that is held, if anything: it saw what its record names, with what that needs to run, and just so; and it
-    is what a serial build makes."""
+    """What is wrong with a package that is held, if anything: it saw what its record names, with what that needs to run, and
+    nothing else; and it is what a serial build makes."""
     place = path.replace("/", ":")
     saw = set(contents(f"{folder}/{place}/built-on").decode().split("\n")) - {""}
     wanted = {signatures.get(it) for it in closed([it.split(" ")[0] for it in built], needs)}
@@ -245,7 +254,7 @@ def whole(tally, run, name):
         if said[2]:
             continue
         audit = subprocess.run([PROGRAM, "audit", "listing", f"{to}/list"], cwd=run.folder, capture_output=True, timeout=LIMIT)
-        tally.add(f"{name}, the list of host {host.me}", "" if audit.stdout == b"yes\n" else f"{audit.stdout!r:.300} {audit.stderr!r:.300}")
+        check(tally, f"{name}, the list of host {host.me}", audit.stdout == b"yes\n", audit.stdout, audit.stderr)
         signatures, built = listed(contents(f"{to}/list"))
         problems = [package_problem(run, to, path, signatures, built[path], needs) for path in signatures]
         tally.add(f"{name}, the packages of host {host.me}", next(filter(None, problems), ""))
@@ -256,8 +265,8 @@ def whole(tally, run, name):
 
 
 def tell(run, name, began):
-    print(f"tests/run: {name}: {len(run.ports)} ports, {len(run.paths)} packages of {run.units} units: {run.begun()} builds begun, "
-          f"{time.monotonic() - began:.1f} s", flush=True)
+    print(f"tests/run: {name}: {len(run.ports)} ports, {len(run.paths)} packages of {run.units} units: {run.begun()} builds "
+          f"begun, {time.monotonic() - began:.1f} s", flush=True)
 
 
 def three_hosts(tally):
@@ -270,8 +279,8 @@ def three_hosts(tally):
         tell(run, name, began)
         lines = [contents(host.out("node")) for host in run.hosts]
         wanted = [b"node %d: I=%s B=%s Q=%s T=%s !=%s\n" % (me, *run.all_held()) for me in range(3)]
-        tally.add(f"{name}, how they end", "" if (statuses, lines) == ([0] * 3, wanted) else f"{statuses} {lines} {run.told()}")
-        tally.add(f"{name}, shared builds", "" if run.begun() < 1.5 * run.units else f"{run.begun()} builds for {run.units} units")
+        check(tally, f"{name}, how they end", (statuses, lines) == ([0] * 3, wanted), statuses, lines, run.told())
+        check(tally, f"{name}, shared builds", run.begun() < 1.5 * run.units, run.begun(), run.units)
         whole(tally, run, name)
 
 
@@ -300,7 +309,7 @@ def kills(tally):
         run.start(*run.words)
         counts = killed(run, random.Random(3), 40)
         held = sum(host.holds_all() for host in run.hosts)
-        tally.add(f"{name}, all is held", "" if run.is_held() else f"{run.told()}")
+        check(tally, f"{name}, all is held", run.is_held(), run.told())
         tell(run, f"{name} ({', '.join(map(str, counts))} of nodes, drivers and both; then {held} held all)", began)
         run.end()
         whole(tally, run, name)
@@ -312,36 +321,36 @@ def jobs(tally):
     with laid(ports=20, seed=4, jobs=3, least=0.1, most=0.5) as run:
         began = time.monotonic()
         run.start("--jobs", "3")
-        tally.add(f"{name}, all is held", "" if run.is_held() else f"{run.told()}")
+        check(tally, f"{name}, all is held", run.is_held(), run.told())
         tell(run, name, began)
         several = any(re.search(rb": [23] of 3$", contents(host.out("driver")), re.MULTILINE) for host in run.hosts)
-        tally.add(f"{name}, several at a time", "" if several else f"{run.told()}")
+        check(tally, f"{name}, several at a time", several, run.told())
         run.end()
         whole(tally, run, name)
 
 
 def broken(tally):
-    """Two ports are broken: each host tries them once, and comes to rest with status 3. Run again the marks stand; they are taken away and the
-    Makefiles mended meanwhile, and all is built."""
+    """Two ports are broken: each host tries them once, and comes to rest with status 3. Run again the marks stand; they are taken
+    away and the Makefiles mended meanwhile, and all is built."""
     name = "two broken ports"
     with laid(ports=12, seed=5, broken=2, least=0.05, most=0.2) as run:
         began = time.monotonic()
         run.start("--rest", "4", "--takeover", "1")
         statuses = run.ends()
-        tally.add(f"{name}, how they end", "" if statuses == [3] * 3 else f"{statuses} {run.told()}")
+        check(tally, f"{name}, how they end", statuses == [3] * 3, statuses, run.told())
         bad = run.set_broken(mended=False)
         failed = {b"dpbn: failed " + port.encode() for port in bad}
         once = all(host.lines().count(line) == 1 for host in run.hosts for line in failed)
-        tally.add(f"{name}, each failed once at each host", "" if once else f"{run.told()}")
+        check(tally, f"{name}, each failed once at each host", once, run.told())
         run.end()
         run.start("--takeover", "1")
         again = until(lambda: all(failed <= set(host.lines()) for host in run.hosts))
-        tally.add(f"{name}, marks that stand", "" if again else f"{run.told()}")
+        check(tally, f"{name}, marks that stand", again, run.told())
         run.set_broken(mended=True)
         for host in run.hosts:
             for mark in names_in(f"{host.work}/failed"):
                 os.unlink(f"{host.work}/failed/{mark}")
-        tally.add(f"{name}, mended", "" if run.is_held() else f"{run.told()}")
+        check(tally, f"{name}, mended", run.is_held(), run.told())
         tell(run, name, began)
         run.end()
         whole(tally, run, name)
@@ -366,16 +375,16 @@ def late(tally):
         for host in early:
             host.start_node()
             host.start_driver()
-        tally.add(f"{name}, the two others", "" if run.is_held(*early) else f"{[host.lines()[-4:] for host in early]}")
+        check(tally, f"{name}, the two others", run.is_held(*early), *(host.lines()[-4:] for host in early))
         logs = settled([host.log for host in early])
         since = time.monotonic()
         last.start_node("--rest", "2")
         until(lambda: last.node.poll() is not None)
         told = last.node.poll(), last.holds_all()
         print(f"tests/run: {name}: it held {run.units} units and was at rest after {time.monotonic() - since:.1f} s", flush=True)
-        tally.add(f"{name}, how it ends", "" if told == (0, True) else f"{told} {last.lines()[-4:]}")
+        check(tally, f"{name}, how it ends", told == (0, True), told, last.lines()[-4:])
         stayed = [contents(host.log) for host in early] == logs
-        tally.add(f"{name}, the others' logs", "" if stayed else f"{[len(it) for it in logs]} bytes, and then {[size_of(host.log) for host in early]}")
+        check(tally, f"{name}, the others' logs", stayed, [len(it) for it in logs], [size_of(host.log) for host in early])
         tell(run, name, began)
         run.end()
         whole(tally, run, name)
@@ -394,10 +403,10 @@ def with_a_key(tally):
         run.hosts[1].kill("node", "driver")
         run.hosts[1].start_node("--continue")
         run.hosts[1].start_driver()
-        tally.add(f"{name}, all is held", "" if run.is_held() else f"{run.told()}")
+        check(tally, f"{name}, all is held", run.is_held(), run.told())
         tell(run, name, began)
         told = [line for host in run.hosts for line in host.lines() if b"seals otherwise" in line or b"fault" in line]
-        tally.add(f"{name}, what is told", f"{told}" if told else "")
+        check(tally, f"{name}, what is told", not told, told)
         run.end()
         whole(tally, run, name)
 
@@ -405,9 +414,15 @@ def with_a_key(tally):
 # ---- answers that the test hands in
 
 UNIT = '{"a/unit,-main":[],"a/unit,-tests":[{"hex":"78","name":"x"}]}\n'
-ANSWERED = "".join(f"a/{name}.FULLPKGNAME={name}-1\n" for name in ("bytes", "half", "held", "long", "name", "other", "unit,-main", "unit,-tests"))
-ANSWERED = ANSWERED.replace("=unit,-", "=unit-")
-GOOD = {"a/unit": UNIT, **{f"a/{name}": f'{{"a/{name}":[{{"hex":"78","name":"x"}}]}}\n' for name in ("bytes", "half", "held", "long", "name", "other")}}
+SINGLE = ("bytes", "half", "held", "long", "name", "other")
+ANSWERED = "".join(f"a/{name}.FULLPKGNAME={name}-1\n" for name in SINGLE)
+ANSWERED += "a/unit,-main.FULLPKGNAME=unit-1\na/unit,-tests.FULLPKGNAME=unit-tests-1\n"
+# what is right for each unit, and what is none, by how that is
+GOOD = {"a/unit": UNIT, **{f"a/{name}": f'{{"a/{name}":[{{"hex":"78","name":"x"}}]}}\n' for name in SINGLE}}
+BAD = {"that is no text": ("a/bytes", b"{"), "of another unit": ("a/other", b'{"a/b":[]}'),
+       "without a package": ("a/unit", b'{"a/unit,-main":[]}'),
+       "with a bad name": ("a/name", b'{"a/name":[{"hex":"","name":"@x"}]}'),
+       "that is too long": ("a/long", GOOD["a/long"].encode() + b" " * 16_777_216)}
 
 
 class Lone(Host):
@@ -463,40 +478,46 @@ def lone(listing, *words, weights=(1,)):
 
 
 def answers(tally):
-    """Answers that are half written, none, of another unit, without one of the packages, with a bad name, too long, or of a unit that is held: each
-    is told and marked, or nobody looks at it; and once the marks are gone all is built."""
+    """Answers that make no build, are half written, or are of a unit that is held: each is told and marked, or nobody looks at it;
+    and once the marks are gone all is built."""
     with lone(ANSWERED, "--jobs", "64") as host:
         all_posted = until(lambda: set(host.jobs()) == set(GOOD), 30)
-        tally.add("answers, all jobs are posted", "" if all_posted else f"{sorted(host.jobs())} {host.lines()[-4:]}")
+        check(tally, "answers, all jobs are posted", all_posted, sorted(host.jobs()), host.lines()[-4:])
         names = host.jobs()
         put(f"{host.work}/done/.{names['a/half']}.test", GOOD["a/half"][:20].encode())
-        for unit, what, text in (("a/bytes", "that are none", b"{"), ("a/other", "of another unit", b'{"a/b":[]}'),
-                                 ("a/unit", "without a package", b'{"a/unit,-main":[]}'), ("a/name", "with a bad name", b'{"a/name":[{"hex":"","name":"@x"}]}'),
-                                 ("a/long", "that are too long", GOOD["a/long"].encode() + b" " * 16_777_216)):
+        for what, (unit, text) in BAD.items():
             host.hand_in("done", names[unit], text)
-            tally.add(f"answers {what}", "" if host.is_failed(unit, names[unit]) else f"{host.lines()[-4:]} {names_in(host.work + '/failed')}")
+            failed = host.is_failed(unit, names[unit])
+            check(tally, f"an answer {what}", failed, host.lines()[-4:], names_in(f"{host.work}/failed"))
         told = [line for line in host.lines() if line.startswith(b"dpbn: fault ")]
-        tally.add("answers that are none, their faults", "" if told == [b"dpbn: fault 1305 at 0", b"dpbn: fault 907"] else f"{told}")
-        host.hand_in("done", names["a/held"], GOOD["a/held"].encode())
-        tally.add("answers, one that is good", "" if host.shows(I=1, Q=7) else f"{host.lines()[-2:]}")
-        before = settled([host.log])
-        host.hand_in("done", names["a/held"], b'{"a/held":[]}')
-        tally.add("answers for a unit that is held", "" if settled([host.log]) == before and host.node.poll() is None else f"{host.lines()[-4:]}")
-        tally.add("answers that are half written", "" if host.shows(I=1, Q=7) and names["a/half"] in host.jobs().values() else f"{host.lines()[-2:]}")
-        host.hand_in("done", names["a/half"], GOOD["a/half"].encode())
-        tally.add("answers that are whole then", "" if host.shows(I=2, Q=6) else f"{host.lines()[-2:]}")
-        for unit in ("a/bytes", "a/other", "a/unit", "a/name", "a/long"):
+        check(tally, "answers that make no build, their faults", told == [b"dpbn: fault 1305 at 0", b"dpbn: fault 907"], told)
+        late_answers(tally, host, names)
+        for unit, _ in BAD.values():
             os.unlink(f"{host.work}/failed/{names[unit]}")
             host.hand_in("done", names[unit], GOOD[unit].encode())
-        tally.add("answers once the marks are gone", "" if host.shows(I=8) else f"{host.lines()[-4:]}")
+        check(tally, "answers once the marks are gone", host.shows(I=8), host.lines()[-4:])
         host.kill("node")
         host.start_node("--rest", "1")
         until(lambda: host.node.poll() is not None, 30)
-        tally.add("a work folder beside its log", "" if host.node.poll() == 0 else f"{host.lines()[-4:]}")
+        check(tally, "a work folder beside its log", host.node.poll() == 0, host.lines()[-4:])
+
+
+def late_answers(tally, host, names):
+    """An answer that is good, another one for that unit, which is held by then, and one that was half written."""
+    host.hand_in("done", names["a/held"], GOOD["a/held"].encode())
+    check(tally, "an answer that is good", host.shows(I=1, Q=7), host.lines()[-2:])
+    before = settled([host.log])
+    host.hand_in("done", names["a/held"], b'{"a/held":[]}')
+    stays = settled([host.log]) == before and host.node.poll() is None
+    check(tally, "an answer for a unit that is held", stays, host.lines()[-4:])
+    check(tally, "an answer that is half written", host.shows(I=1, Q=7) and "a/half" in host.jobs(), host.lines()[-2:])
+    host.hand_in("done", names["a/half"], GOOD["a/half"].encode())
+    check(tally, "the same, whole", host.shows(I=2, Q=6), host.lines()[-2:])
 
 
 def other_runs(tally):
-    """A folder that has files, beside a log without notes, is that of another run, and nothing of it changes; what is half written doesn't count."""
+    """A folder that has files, beside a log without notes, is that of another run, and nothing of it changes; what is half written
+    doesn't count."""
     for part in ("jobs", "done", "failed"):
         for name, wanted in (("0" * 64, 1209), (f".{'0' * 64}.1", None)):
             with tempfile.TemporaryDirectory() as folder:
@@ -509,7 +530,7 @@ def other_runs(tally):
                 right = told == (1, [b"dpbn: fault 1209"]) if wanted else told[0] is None
                 host.end()
                 left = os.path.exists(f"{host.work}/{part}/{name}")
-                tally.add(f"{part}/{name[:2]}.. of another run", "" if right and left else f"{told}, {names_in(f'{host.work}/{part}')}")
+                check(tally, f"{part}/{name[:2]}.. of another run", right and left, told, names_in(f"{host.work}/{part}"))
 
 
 def beside_nodes(tally):
@@ -525,9 +546,9 @@ def beside_nodes(tally):
             others = [nodes.started(folder, me, words) for me in (1, 2)]
             for path in paths:
                 host.hand_in("done", host.job(path), json.dumps({path: []}).encode())
-            tally.add("a node beside others that have no builds", "" if host.shows(I=3) else f"{host.lines()[-4:]}")
-            held = [any(line == b"node %d: I=3 B=0 Q=0 T=0 !=0\n" % me for line in iter(it.stderr.readline, b"")) for me, it in enumerate(others, 1)]
-            tally.add("the others, what they hold", "" if all(held) else f"{held}")
+            check(tally, "a node beside others that have no builds", host.shows(I=3), host.lines()[-4:])
+            held = [nodes.node_line(me, i=3) in iter(it.stderr.readline, b"") for me, it in enumerate(others, 1)]
+            check(tally, "the others, what they hold", all(held), held)
         finally:
             for it in others:
                 nodes.ended(it)
@@ -563,14 +584,14 @@ def quiet(tally):
         time.sleep(5)
         kinds = came(ears)
         right = failed and all(2 <= len(it) <= 6 and set(it) == {ASK} for it in kinds)
-        tally.add("a node that waits, what it sends", "" if right else f"{kinds} {host.lines()[-4:]}")
+        check(tally, "a node that waits, what it sends", right, kinds, host.lines()[-4:])
         os.unlink(f"{host.work}/failed/{name}")
         host.hand_in("done", host.job("a/c"), b'{"a/c":[]}')
         held = host.shows(I=2)
         came(ears)
         time.sleep(3)
         kinds = came(ears)
-        tally.add("a node that holds all, what it sends", "" if held and kinds == [[], []] else f"{kinds} {host.lines()[-4:]}")
+        check(tally, "a node that holds all, what it sends", held and kinds == [[], []], kinds, host.lines()[-4:])
 
 
 def memory_of(process):
@@ -595,10 +616,11 @@ def long_run(tally, first=60, rounds=240):
             count += 1
             if count in (first, first + rounds):
                 seen.append(memory_of(host.node))
-        told = f"{count} rounds in {time.monotonic() - began:.1f} s, memory of {' and '.join(map(str, seen))} kB, a log of {size_of(host.log):,} bytes"
+        took = f"{count} rounds in {time.monotonic() - began:.1f} s"
+        told = f"{took}, memory of {' and '.join(map(str, seen))} kB, a log of {size_of(host.log):,} bytes"
         print(f"tests/run: a long run: {told}", flush=True)
         right = len(seen) == 2 and seen[1] <= seen[0] + SPARE
-        tally.add("a long run, its memory", "" if right else f"{told} {host.lines()[-3:]}")
+        check(tally, "a long run, its memory", right, told, host.lines()[-3:])
 
 
 # ---- words, and what is refused before the first turn
@@ -610,8 +632,9 @@ def wrong_words():
         yield [*(it for pair in needed.items() if pair[0] != lacking for it in pair), "--base", "7000"]
     build = [it for pair in needed.items() for it in pair]
     here, there = [*build, "--base", "7000"], [*build, "--hosts", "1.2.3.4:5"]
-    yield from ([], ["--help"], build, there, [*here, "--hosts", "1.2.3.4:5"], [*here, "more"], [*here, "--work", "work"], [*here, b"\xff"], [*here, "--rest"])
-    yield from ([*there, "--key", "x", "--unsealed"], [*here, "--key", "x", "--unsealed"], [*here, "--single=yes"], [*here, "--continue", "--continue"])
+    yield from ([], ["--help"], build, there, [*here, "--hosts", "1.2.3.4:5"], [*here, "more"], [*here, "--work", "work"])
+    yield from ([*here, b"\xff"], [*here, "--rest"], [*here, "--single=yes"], [*here, "--continue", "--continue"])
+    yield from ([*there, "--key", "x", "--unsealed"], [*here, "--key", "x", "--unsealed"])
     for word, bad in (("--jobs", ("0", "65", "-1", "two", "")), ("--takeover", ("0", "1000001")), ("--rest", ("0", "1000001")),
                       ("--progress", ("0", "1000001")), ("--patience", ("60001",)), ("--base", ("1023", "65527"))):
         yield from ([*(build if word == "--base" else here), word, it] for it in bad)
@@ -626,8 +649,9 @@ def no_calls(tally):
         before = names_in(folder)
         for words in wrong_words():
             out, error, code = answer(["build", *words], folder)
-            tally.add(f"dpbn build {words}", "" if (out, code) == (b"", 2) and error else f"{out!r:.200}, {error!r:.200}, status {code}")
-        tally.add("what stands after words that are no call", "" if names_in(folder) == before and not logs_in(folder) else f"{names_in(folder)}")
+            check(tally, f"dpbn build {words}", (out, code) == (b"", 2) and error, out, error, code)
+        stays = names_in(folder) == before and not logs_in(folder)
+        check(tally, "what stands after words that are no call", stays, names_in(folder))
 
 
 def faults(tally):
@@ -643,23 +667,22 @@ def faults(tally):
             os.makedirs(f"{folder}/{name}")
         put(f"{folder}/lost/node-3.run", b"dpbn run 1\n")
         put(f"{folder}/used/done/{'0' * 64}", b"")
-        good = {"--listing": "listing", "--weights": "1,2,3,4", "--hosts": nodes.places(base, 4), "--key": "key", "--me": "3", "--dir": "logs",
-                "--work": "used", "--members": "4"}
+        good = {"--listing": "listing", "--weights": "1,2,3,4", "--hosts": nodes.places(base, 4), "--key": "key", "--me": "3",
+                "--dir": "logs", "--work": "used", "--members": "4"}
         with taken(base + 3):
             ordered(tally, folder, "build", good, (
-                ("2", {"--listing": "none"}), ("401 at 1", {"--listing": "bad"}), ("801", {"--weights": "1,2"}), ("2", {"--key": "none"}),
-                ("1208", {"--key": "open-key"}), ("1207", {"--key": "bad-key"}), ("1206 at 1", {"--hosts": "1.2.3.4"}), ("909", {"--me": "4"}),
-                ("2", {"--dir": "none"}), ("1007", {"--dir": "lost"}), ("1006 at 0", {"--dir": "bad-logs"}), ("1204", {})))
+                ("2", {"--listing": "none"}), ("401 at 1", {"--listing": "bad"}), ("801", {"--weights": "1,2"}),
+                ("2", {"--key": "none"}), ("1208", {"--key": "open-key"}), ("1207", {"--key": "bad-key"}),
+                ("1206 at 1", {"--hosts": "1.2.3.4"}), ("909", {"--me": "4"}), ("2", {"--dir": "none"}),
+                ("1007", {"--dir": "lost"}), ("1006 at 0", {"--dir": "bad-logs"}), ("1204", {})))
         ordered(tally, folder, "build", {**good, "--work": "listing"}, (("2", {}),))
         unkeyed = {word: it for word, it in good.items() if word not in ("--hosts", "--key")}
         ordered(tally, folder, "build", {**unkeyed, "--base": str(base), "--dir": "bad-logs"}, (("1004", {}),))
-        shutil.rmtree(f"{folder}/logs")
-        os.mkdir(f"{folder}/logs")
-        ordered(tally, folder, "build", good, (("1209", {}),))
-        ordered(tally, folder, "build", {**good, "--continue": None}, (("1209", {}),))
-        shutil.rmtree(f"{folder}/logs")
-        os.mkdir(f"{folder}/logs")
-        ordered(tally, folder, "build", {**good, "--continue": None}, (("1008", {}),))
+        words = ["build", *(it for pair in good.items() for it in pair)]
+        for more, fault in (([], 1209), (["--continue"], 1209), (["--continue"], 1008)):
+            if fault == 1008 or not more:
+                nodes.lay_logs(folder)
+            tally.add(f"dpbn {' '.join([*words, *more])}", difference(answer([*words, *more], folder), refused(fault)))
 
 
 # ---- what is shown
@@ -679,11 +702,11 @@ def readme(tally):
         for name, at in (("dpbn", NODES), ("dpbr", PROGRAM), ("examples", f"{TOP}/examples"), ("tools", f"{TOP}/tools")):
             os.symlink(at, f"{folder}/{name}")
         script = block.replace("--base 7000", f"--base {free_ports(3)}")
-        tally.add("README.md, its ports", "" if script != block else "--base 7000 stands nowhere")
+        check(tally, "README.md, its ports", script != block)
         done = subprocess.run(["sh", "-c", script], cwd=folder, capture_output=True, text=True, timeout=300)
         got = sorted(done.stdout.split("\n")[:-2]) + done.stdout.split("\n")[-2:-1]
         is_right = got == wanted and "Usage" in done.stderr
-        tally.add("README.md, three hosts", "" if is_right else f"it shows {wanted}, and {got} {done.stderr} is printed")
+        check(tally, "README.md, three hosts", is_right, wanted, got, done.stderr)
 
 
 def run(tally):
