@@ -1,6 +1,6 @@
 -- Turns, one after the other.
-use Rattle.std.proofs.Common.{◌≡◌, ◌+◌, ◌++◌, ◌∙◌, ℕ, Bool, List, [], ◌∷◌, Option, length, refl, ap, subst, length-append}
-use Rattle.dpbn_build.specs.Turns.{IsTurn, Turn, TurnsLead}
+use Rattle.std.proofs.Common.{◌≡◌, ◌+◌, ◌++◌, ◌∙◌, ℕ, Bool, List, [], ◌∷◌, Option, length, refl, ap, arith, inl, inr, subst, length-append}
+use Rattle.dpbn_build.specs.Turns.{HaveTurned, IsAtEnd, IsTurn, Turn, TurnsLead}
 use Rattle.faults.specs.Bytes.{Text}
 use Rattle.ports.specs.Calls.{Call}
 use Rattle.ports.specs.Kept.{Arrived, Parcel}
@@ -48,4 +48,27 @@ module _ {D P : Type 0} (is_kept : D → Type 0) (history : D → History) (fail
       turns = so.turns ++ turn ∷ [];
       counted = length-append so.turns (turn ∷ []) ∙ ap (λ n. n + 1) so.counted;
       led = TurnsLead-append old between new so.turns turn so.led is;
+    }
+
+    abbrev Turned : Option ℕ → SoloState D P → SoloState D P → Type 0
+    Turned = HaveTurned is_kept history failures_of given offered does vouches hurried
+
+    -- behind one more the node is at its end
+    pub at_end : (rest : Option ℕ) (count : ℕ) (old new : SoloState D P) → Have (count + 1) old new
+        → IsAtEnd rest new.node.node → Turned rest old new
+    at_end rest count old new so ends = record {
+      turns = so.turns;
+      some = omega (arith, so.counted);
+      led = so.led;
+      ends = inl ends;
+    }
+
+    -- there were as many as can be counted
+    pub all_counted : (rest : Option ℕ) (old new : SoloState D P)
+        → Have 18446744073709551615 old new → Turned rest old new
+    all_counted rest old new so = record {
+      turns = so.turns;
+      some = omega (arith, so.counted);
+      led = so.led;
+      ends = inr so.counted;
     }

@@ -50,7 +50,7 @@ abbrev pub IsAtEnd : Option ℕ → NodeState → Type 0
 IsAtEnd rest n = (n.stopped ≡ true) ⊎ ((rest ≢ None) × (job_of_claim n.member ≡ None))
 
 -- Some turns, at least one, led from one state to the other, and then the node is at its end; or
--- there were more than a clock counts.
+-- there were as many as can be counted, 2^64 - 1.
 pub record HaveTurned {D P : Type 0} (is_kept : D → Type 0) (history : D → History)
     (failures_of : D → ℕ) (given : P → Option (List Arrived)) (offered : P → Option (List Parcel))
     (does : P → Call → P → Type 0) (vouches : P → Text → Type 0) (hurried : P → Bool → P)
