@@ -3,8 +3,8 @@ use Rattle.std.specs.Prelude.{◌≡◌, ◌-◌, ◌⊎◌, ℕ, Bool, true, Al
 use Rattle.std.specs.List.{Any}
 use Rattle.std.specs.Time.{instant_nanos}
 use Rattle.std.specs.declared.time.Instant.{Instant}
-use Rattle.core.specs.Duration.{as_nanos}
-use Rattle.core.specs.declared.time.Duration.{Duration}
+use Rattle.std.specs.Duration.{as_nanos}
+use Rattle.std.specs.declared.time.Duration.{Duration}
 use Rattle.live_choice.specs.Wishes.{is_away}
 use Rattle.protocol.specs.State.{State, facts_at}
 use Rattle.desk.specs.declared.away.Away.{Away}

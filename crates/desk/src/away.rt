@@ -1,5 +1,5 @@
 //! Units that are away: the last claim that the member promised for them is another member's.
-ghost use Rattle.std.specs.Prelude.{◌≡◌, ◌<◌, IfOk, IfSome, Some, length, true};
+ghost use Rattle.std.specs.Prelude.{◌≡◌, ◌<◌, ◌⊎◌, IfOk, IfSome, Some, length, true};
 ghost use Rattle.desk.specs.Waiting.{AreSeen, WasAway, away_for};
 ghost use Rattle.live_choice.specs.Wishes.{is_away};
 ghost use Rattle.protocol.specs.State.{facts_at};
@@ -36,13 +36,30 @@ pub(crate) fn seen_away(
         let Some(position) = member.queued_from(from) else {
             break;
         };
-        if let Some((unit, claim)) = promised_away(member, position) {
-            let since = since_of(before, unit, claim).unwrap_or(now);
-            seen.push(Away { unit, claim, since })?;
-        }
+        see(&mut seen, member, position, before, now)?;
         from = position + 1;
     }
     Ok(seen)
+}
+
+/// Adds the package's unit to what was seen, if it is away.
+fn see(
+    seen: &mut Vec<Away>,
+    member: &Member<'_>,
+    position: u32,
+    before: &[Away],
+    now: Instant,
+) -> Result<(), Memory>
+    requires { position < length member.now.division.tree }
+    ensures { AreSeen member.now before.now now seen.old.items
+        → AreSeen member.now before.now now seen.new.items }
+{
+    let Some((unit, claim)) = promised_away(member, position) else {
+        return Ok(());
+    };
+    let since = since_of(before, unit, claim, now);
+    seen.push(Away { unit, claim, since })?;
+    Ok(())
 }
 
 /// The package's unit and the claim that the member promised for it, if that is another's.
@@ -59,17 +76,17 @@ fn promised_away(member: &Member<'_>, position: u32) -> Option<(u32, Claim)>
     Some((unit, claim))
 }
 
-/// Since when the unit is away under this claim, if it was before.
-fn since_of(all: &[Away], unit: u32, claim: Claim) -> Option<Instant>
-    ensures { IfSome result (λ since. WasAway all.now
-        (record { unit = unit; claim = claim; since = since })) }
+/// Since when the unit is away under this claim: since it was before, or since now.
+fn since_of(all: &[Away], unit: u32, claim: Claim, now: Instant) -> Instant
+    ensures { (result ≡ now)
+        ⊎ WasAway all.now (record { unit = unit; claim = claim; since = result }) }
 {
     for away in all {
         if away.unit == unit && away.claim == claim {
-            return Some(away.since);
+            return away.since;
         }
     }
-    None
+    now
 }
 
 /// The units that are away for so long.
@@ -81,11 +98,9 @@ pub(crate) fn away_for(
 ) -> Result<Vec<u32>, Memory>
     ensures { IfOk result (λ units. units.items ≡ away_for all.now wait now) }
 {
-    let mut units = Vec::new(alloc);
-    for away in all {
-        if is_over(wait, away.since, now) {
-            units.push(away.unit)?;
-        }
-    }
-    Ok(units)
+    let units = all
+        .iter()
+        .filter(|away| is_over(wait, away.since, now))
+        .map(|away| away.unit);
+    Ok(units.collect(alloc)?)
 }

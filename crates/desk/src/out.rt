@@ -1,5 +1,5 @@
 //! Jobs that are out, and builds that failed.
-ghost use Rattle.std.specs.Prelude.{◌≡◌, ◌++◌, ◌==◌, ◌∷◌, IfOk, is_ok, if◌then◌else◌, position};
+ghost use Rattle.std.specs.Prelude.{◌≡◌, ◌++◌, ◌==◌, ◌∷◌, [], IfOk, is_ok, if◌then◌else◌, position};
 ghost use Rattle.desk.specs.Held.{is_letter_held};
 ghost use Rattle.desk.specs.Posted.{has_unit, not_held, units_of};
 ghost use Rattle.protocol.specs.State.{is_held};
@@ -73,12 +73,6 @@ pub(crate) fn units_of(
 ) -> Result<Vec<u32>, Memory>
     ensures { IfOk result (λ units. units.items ≡ units_of first.now ++ units_of others.now) }
 {
-    let mut units = Vec::with_capacity(alloc, first.len())?;
-    for posted in first {
-        units.push(posted.unit)?;
-    }
-    for other in others {
-        units.push(other.unit)?;
-    }
-    Ok(units)
+    let units = first.iter().chain(others).map(|posted| posted.unit);
+    Ok(units.collect(alloc)?)
 }

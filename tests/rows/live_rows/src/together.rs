@@ -5,7 +5,7 @@ use desk::Desk;
 use engine::Counts;
 use listing::Tree;
 use node::Node;
-use ports::MemPort;
+use ports::{MemPort, Port};
 use solo::Solo;
 use stable_record::MemDisk;
 use std::alloc::Global;
@@ -21,12 +21,10 @@ const WORKS: [&str; 3] = ["work-0", "work-1", "work-2"];
 struct Host<'a> {
     solo: Solo<'a, MemDisk, MemPort>,
     desk: Desk<'a>,
-    /// How much of what it sent was carried on.
-    carried: usize,
 }
 
 /// The node of this number, of so many members that weigh alike.
-fn host<'a>(
+fn make_host<'a>(
     rt: &HostRuntime,
     tree: &'a Tree,
     members: &[u8],
@@ -40,26 +38,21 @@ fn host<'a>(
         Ok(node) => Ok(Host {
             solo: Solo::new(node, MemPort::new(alloc)),
             desk: Desk::new(alloc, folder, pace(1), now),
-            carried: 0,
         }),
         Err((fault, _disk)) => Err(fault)?,
     }
 }
 
-/// Carries what the node sent in its last turn to the others.
+/// Carries what waits at the node's port to the nodes that it is for.
 fn carry(alloc: Global, hosts: &mut Vec<Host<'_>>, from: usize) -> Result<(), Fail> {
-    let mut sent = Vec::new(alloc);
-    let host = &mut hosts[from];
-    let carried = host.carried;
-    if let Some(offered) = host.solo.port().offered() {
-        for sending in &offered[carried..] {
-            if sending.to as usize != from {
-                sent.push((sending.to, sending.bytes.as_slice().to_vec(alloc)?))?;
-            }
+    let mut waiting = Vec::new(alloc);
+    for _ in 0..1000 {
+        match hosts[from].solo.port().receive()? {
+            Some(datagram) => waiting.push(datagram)?,
+            None => break,
         }
-        host.carried = offered.len();
     }
-    for (to, bytes) in sent {
+    for (to, bytes) in waiting {
         if let Some(host) = hosts.get_mut(to as usize) {
             host.solo.port().put_in(to, bytes)?;
         }
@@ -113,8 +106,8 @@ fn made_for_one_and_not_for_the_other(rt: HostRuntime) -> Result<(), Fail> {
     let tree = Tree::parse(alloc, TWO)?;
     let now = Instant::now(&rt)?;
     let mut hosts = Vec::new(alloc);
-    hosts.push(host(&rt, &tree, &[1, 1], 0, now)?)?;
-    hosts.push(host(&rt, &tree, &[1, 1], 1, now)?)?;
+    hosts.push(make_host(&rt, &tree, &[1, 1], 0, now)?)?;
+    hosts.push(make_host(&rt, &tree, &[1, 1], 1, now)?)?;
     rounds(&rt, &mut hosts, now, 30)?;
     // each has a job, for another unit
     let first = name_of_job(&rt, &hosts[0].solo)?;
@@ -145,8 +138,8 @@ fn a_unit_is_taken_over(rt: HostRuntime) -> Result<(), Fail> {
     let tree = Tree::parse(alloc, b"a/b.FULLPKGNAME=b-1.0\n")?;
     let now = Instant::now(&rt)?;
     let mut hosts = Vec::new(alloc);
-    hosts.push(host(&rt, &tree, &[1, 1], 0, now)?)?;
-    hosts.push(host(&rt, &tree, &[1, 1], 1, now)?)?;
+    hosts.push(make_host(&rt, &tree, &[1, 1], 0, now)?)?;
+    hosts.push(make_host(&rt, &tree, &[1, 1], 1, now)?)?;
     rounds(&rt, &mut hosts, now, 30)?;
     let is_first = hosts[0].solo.node().member().job().is_some();
     // the other sees that it is away, and leaves it to the first for 600 seconds
@@ -173,8 +166,8 @@ fn a_late_node_comes_to_hold_all(rt: HostRuntime) -> Result<(), Fail> {
     let tree = Tree::parse(alloc, TWO)?;
     let now = Instant::now(&rt)?;
     let mut hosts = Vec::new(alloc);
-    hosts.push(host(&rt, &tree, &[1, 1, 1], 0, now)?)?;
-    hosts.push(host(&rt, &tree, &[1, 1, 1], 1, now)?)?;
+    hosts.push(make_host(&rt, &tree, &[1, 1, 1], 0, now)?)?;
+    hosts.push(make_host(&rt, &tree, &[1, 1, 1], 1, now)?)?;
     for _ in 0..4 {
         rounds(&rt, &mut hosts, now, 30)?;
         for me in 0..2 {
@@ -184,7 +177,7 @@ fn a_late_node_comes_to_hold_all(rt: HostRuntime) -> Result<(), Fail> {
     let before = [installable(&hosts[0]), installable(&hosts[1])];
     let logs = [hosts[0].solo.node().log_len(), hosts[1].solo.node().log_len()];
     // it asks, and is told; the others note nothing
-    hosts.push(host(&rt, &tree, &[1, 1, 1], 2, now)?)?;
+    hosts.push(make_host(&rt, &tree, &[1, 1, 1], 2, now)?)?;
     rounds(&rt, &mut hosts, later(now, 1)?, 30)?;
     let after = installable(&hosts[2]);
     let is_silent = logs == [hosts[0].solo.node().log_len(), hosts[1].solo.node().log_len()];
