@@ -716,5 +716,6 @@ def run(tally):
     if not shutil.which("bmake"):
         print("tests/run: no bmake here: nothing is built of Makefiles", flush=True)
         return
-    for one in (three_hosts, kills, jobs, broken, late, with_a_key):
-        one(tally)
+    three_hosts(tally)
+    kills(tally)
+    beside(tally, (jobs, broken, late, with_a_key))
