@@ -710,6 +710,9 @@ def readme(tally):
 
 
 def run(tally):
+    # what a make that runs the tests would have other makes do
+    for word in ("MAKEFLAGS", "MFLAGS", "MAKELEVEL"):
+        os.environ.pop(word, None)
     for one in (no_calls, faults):
         one(tally)
     beside(tally, (answers, other_runs, beside_nodes, quiet, long_run, manual_page, readme))
