@@ -33,9 +33,9 @@ module _ (s : State) (known : Known) where
   -- the claim for a unit that is out is wished, where no claim is open for it
   pub is_claimed : (u : ℕ) (o : Option Wish) → is_in known.out u ≡ true → is_for s.claim u ≡ false
       → IfSome o (λ wish. wish ≡ claim_of_unit s u) → IfSome o (IsWishOf s known)
-  is_claimed u None out open same = same
-  is_claimed u (Some wish) out open same =
-      subst (IsWishOf s known) (sym same) (inl (u, out, open, refl))
+  is_claimed u None out other same = same
+  is_claimed u (Some wish) out other same =
+      subst (IsWishOf s known) (sym same) (inl (u, out, other, refl))
 
 -- where a claim may be opened it is allowed
 pub is_allowed : (s : State) (gives_way : Bool) (wish : Wish)

@@ -1,8 +1,8 @@
 //! What is known here of builds: which are under way, which failed, and who was asked for what.
-ghost use Rattle.std.specs.Prelude.{◌≡◌, ◌++◌, ◌==◌, ◌⊎◌, [], IfErr, IfOk, IfSome, None, Ok, OnErr, OnOk, Some, false, length, true};
+ghost use Rattle.std.specs.Prelude.{◌≡◌, ◌++◌, ◌<◌, ◌==◌, ◌⊎◌, [], IfErr, IfOk, IfSome, None, Ok, OnErr, OnOk, Some, false, length, true};
 ghost use Rattle.desk.specs.Looking.{IsSeen, out_with_job, unit_of_job};
 ghost use Rattle.desk.specs.Posted.{not_held, units_of, with_unit};
-ghost use Rattle.desk.specs.Taking.{IsOneLess, failed_by, of_unit, without_unit};
+ghost use Rattle.desk.specs.Taking.{IsOneLess, failed_by, of_unit, unit_failed, without_unit};
 ghost use Rattle.desk.specs.Waiting.{AreSeen};
 ghost use Rattle.desk.specs.Wishing.{HasMore, IsAllowed, IsNewClaim, IsWishOf, has_asked, is_for, is_in, known_at};
 ghost use Rattle.engine.specs.Division.{number_found};
@@ -143,13 +143,33 @@ impl<'f> Desk<'f> {
     {
         let name = Name::of(rt.alloc(), job)?;
         let answer = self.folder.answer(rt, &name)?;
-        if !is_among(self.out.as_slice(), unit) {
-            if matches!(&answer, Answer::NotYet) {
-                drop(self.folder.post(rt, job)?);
-            }
-            push(&mut self.out, Posted { unit, name })?;
-        }
+        let is_new = matches!(&answer, Answer::NotYet);
+        self.hand_out(rt, job, Posted { unit, name }, is_new)?;
         Ok(looked(rt.alloc(), answer))
+    }
+
+    /// Hands out the job of the unit, if that is not out: a new one is posted.
+    fn hand_out(
+        &mut self,
+        rt: &HostRuntime,
+        job: &Job,
+        posted: Posted,
+        is_new: bool,
+    ) -> Result<(), WorkFault>
+        ensures out { OnOk result
+            (self.new.out.items ≡ with_unit self.old.out.items posted.unit posted.name) }
+        ensures left { OnErr result (self.new.out.items ≡ self.old.out.items) }
+        ensures failed { self.new.failed ≡ self.old.failed }
+        ensures refused { IfErr result IsOfSystem }
+    {
+        if is_among(self.out.as_slice(), posted.unit) {
+            return Ok(());
+        }
+        if is_new {
+            drop(self.folder.post(rt, job)?);
+        }
+        push(&mut self.out, posted)?;
+        Ok(())
     }
 
     /// What the member's node is wished to do, if anything: to claim what is built and waits for
@@ -303,9 +323,31 @@ impl<'f> Desk<'f> {
         ensures refused { IfErr result IsOfSystem }
     {
         match act {
-            Act::Own(Input::Ask { path }) => Ok(self.asked_for(member, path, now)?),
-            Act::Own(Input::Failed { path }) => self.fail(rt, member, path),
-            _ => Ok(()),
+            Act::Own(input) => self.took_input(rt, member, input, now),
+            Act::Datagram(_) => Ok(()),
+        }
+    }
+
+    /// Keeps what follows of what the member was asked.
+    fn took_input(
+        &mut self,
+        rt: &HostRuntime,
+        member: &Member<'_>,
+        input: &Input,
+        now: Instant,
+    ) -> Result<(), WorkFault>
+        ensures out { OnOk result (self.new.out.items
+            ≡ without_unit self.old.out.items (unit_failed member.now input.now)) }
+        ensures failed { OnOk result (self.new.failed.items ≡ self.old.failed.items
+            ++ of_unit self.old.out.items (unit_failed member.now input.now)) }
+        ensures left { OnErr result ((self.new.out.items ≡ self.old.out.items)
+            × (self.new.failed.items ≡ self.old.failed.items)) }
+        ensures refused { IfErr result IsOfSystem }
+    {
+        match input {
+            Input::Ask { path } => Ok(self.asked_for(member, path, now)?),
+            Input::Failed { path } => self.fail(rt, member, path),
+            Input::Claim { .. } | Input::Built { .. } | Input::Nudge | Input::Message(_) => Ok(()),
         }
     }
 
@@ -316,15 +358,13 @@ impl<'f> Desk<'f> {
         ensures last { OnOk result (IfSome (number_found member.now.division path.now)
             (λ u. (self.new.last ≡ Some u) × (has_asked self.new.asked.keys u ≡ true))) }
     {
-        if let Some(unit) = member.units().find(path) {
-            self.asked.insert(unit)?;
-            self.last = Some(unit);
-        }
-        self.next = match member.tree().position(path) {
-            Some(position) => position.saturating_add(1),
-            None => 0,
-        };
+        self.next = position_behind(member, path);
         self.asked_at = now;
+        let Some(unit) = member.units().find(path) else {
+            return Ok(());
+        };
+        self.asked.insert(unit)?;
+        self.last = Some(unit);
         Ok(())
     }
 
@@ -378,11 +418,12 @@ impl<'f> Desk<'f> {
     {
         forget_held(&mut self.out, member);
         self.least = self.least_since(member, now)?;
-        if is_over(Duration::from_millis(LOOK), self.looked_at, now) {
-            let alloc = *self.asked.allocator();
-            self.away = seen_away(alloc, member, self.away.as_slice(), now)?;
-            self.looked_at = now;
+        if !is_over(Duration::from_millis(LOOK), self.looked_at, now) {
+            return Ok(());
         }
+        let alloc = *self.asked.allocator();
+        self.away = seen_away(alloc, member, self.away.as_slice(), now)?;
+        self.looked_at = now;
         Ok(())
     }
 
@@ -415,13 +456,25 @@ impl<'f> Desk<'f> {
         ensures left { OnErr result (self.new ≡ self.old) }
         ensures refused { IfErr result IsOfSystem }
     {
+        let Some(place) = self.unmarked(rt)? else {
+            return Ok(());
+        };
+        drop(self.failed.remove(place));
+        Ok(())
+    }
+
+    /// The place of a failed build whose mark is gone, if there is one.
+    fn unmarked(&self, rt: &HostRuntime) -> Result<Option<usize>, WorkFault>
+        ensures place { IfOk result
+            (λ o. IfSome o (λ place. place < length self.now.failed.items)) }
+        ensures refused { IfErr result IsOfSystem }
+    {
         for place in 0..self.failed.len() {
             if !self.folder.has_failed(rt, &self.failed[place].name)? {
-                drop(self.failed.remove(place));
-                return Ok(());
+                return Ok(Some(place));
             }
         }
-        Ok(())
+        Ok(None)
     }
 
     /// Whether a package is queued whose unit neither is out nor failed, be it away or not. It
@@ -432,6 +485,14 @@ impl<'f> Desk<'f> {
     {
         let barred = self.barred()?;
         Ok(least_beside(member, barred.as_slice()).is_some())
+    }
+}
+
+/// The position behind that of the package of this path, if there is such a package; else 0.
+fn position_behind(member: &Member<'_>, path: &PkgPath) -> u32 {
+    match member.tree().position(path) {
+        Some(position) => position.saturating_add(1),
+        None => 0,
     }
 }
 

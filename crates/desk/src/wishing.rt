@@ -3,7 +3,7 @@ ghost use Rattle.std.specs.Prelude.{◌≡◌, ◌<◌, IfOk, IfSome, Some, leng
 ghost use Rattle.choice.specs.Own.{IsLeastFree, is_barred};
 ghost use Rattle.desk.specs.Wishing.{claim_of_unit, is_for, is_in, may_claim, turn_of};
 ghost use Rattle.engine.specs.Division.{number_of};
-ghost use Rattle.live_choice.specs.Wishes.{IsNextAsk};
+ghost use Rattle.live_choice.specs.Wishes.{IsNextAsk, round_of};
 ghost use Rattle.protocol.specs.State.{facts_at};
 
 use ballots::Claimer;
@@ -45,12 +45,20 @@ pub(crate) fn claim_of(member: &Member<'_>, unit: u32) -> Result<Option<Wish>, M
     if unit >= units.len() {
         return Ok(None);
     }
-    let above = match promised(member, unit) {
-        Some(claim) => claim.round,
-        None => 0,
-    };
+    let above = promised_round(member, unit);
     let path = units.name(unit).copy()?;
     Ok(Some(Wish::Claim { path, above }))
+}
+
+/// The round of the last claim that the member promised for the unit, or 0.
+fn promised_round(member: &Member<'_>, unit: u32) -> u64
+    requires { unit < length member.now.division.units }
+    ensures { result ≡ round_of (facts_at member.now unit).promised }
+{
+    match promised(member, unit) {
+        Some(claim) => claim.round,
+        None => 0,
+    }
 }
 
 /// The last claim that the member promised for the unit.
