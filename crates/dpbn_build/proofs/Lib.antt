@@ -1,4 +1,3 @@
-pub mod Ended
 pub mod Notes
 pub mod Shown
 pub mod Told

@@ -1,6 +1,6 @@
 use Rattle.std.specs.Prelude.{◌+◌}
 use Rattle.std.proofs.Common.{subst, sym}
-use Rattle.dpbn_build.proofs.Turns.{HaveLed, none_yet, one_more}
+use Rattle.dpbn_build.proofs.Turns.{HaveLed, at_end, none_yet, one_more}
 use Rattle.dpbn_build.proofs.turning.take_turns.Goals as goal
 
 pub loop-turn-init : goal.loop-turn-init
@@ -10,10 +10,24 @@ loop-turn-init g c =
 
 pub loop-turn-preserved : goal.loop-turn-preserved
 loop-turn-preserved g c =
-    subst (λ s. HaveLed g.D.Disk.is_kept g.D.Disk.history g.D.Disk.failures_of
-    g.P.Port.given g.P.Port.offered g.P.Port.does g.P.Port.vouches g.P.Hurried.hurried
+    subst (λ s. HaveLed g.D.Disk.is_kept g.D.Disk.history g.D.Disk.failures_of g.P.Port.given
+    g.P.Port.offered g.P.Port.does g.P.Port.vouches g.P.Hurried.hurried
     (c.loop-turn.turn + 1) c.args.solo.now s)
     (sym c.tell_turn.ensures)
     (one_more g.D.Disk.is_kept g.D.Disk.history g.D.Disk.failures_of g.P.Port.given
     g.P.Port.offered g.P.Port.does g.P.Port.vouches g.P.Hurried.hurried c.loop-turn.turn
     c.args.solo.now c.loop-turn.solo c.take_turn.new.solo c.loop-turn.invariant c.take_turn.ensures)
+
+pub returns-then-is_at_end : goal.returns-then-is_at_end
+returns-then-is_at_end g c =
+    at_end g.D.Disk.is_kept g.D.Disk.history g.D.Disk.failures_of g.P.Port.given
+    g.P.Port.offered g.P.Port.does g.P.Port.vouches g.P.Hurried.hurried c.args.rest
+    c.loop-turn.turn c.args.solo.now c.tell_turn.new.solo
+    (subst (λ s. HaveLed g.D.Disk.is_kept g.D.Disk.history g.D.Disk.failures_of g.P.Port.given
+    g.P.Port.offered g.P.Port.does g.P.Port.vouches g.P.Hurried.hurried
+    (c.loop-turn.turn + 1) c.args.solo.now s)
+    (sym c.tell_turn.ensures)
+    (one_more g.D.Disk.is_kept g.D.Disk.history g.D.Disk.failures_of g.P.Port.given
+    g.P.Port.offered g.P.Port.does g.P.Port.vouches g.P.Hurried.hurried c.loop-turn.turn
+    c.args.solo.now c.loop-turn.solo c.take_turn.new.solo c.loop-turn.invariant c.take_turn.ensures))
+    (c.is_at_end.ensures c.if-is_at_end.true)
