@@ -34,7 +34,7 @@ pub(crate) fn seen_away(
     let mut from = 0;
     for _ in 0..member.tree().len() {
         let Some(position) = member.queued_from(from) else {
-            break;
+            return Ok(seen);
         };
         see(&mut seen, member, position, before, now)?;
         from = position + 1;
