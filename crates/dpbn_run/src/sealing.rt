@@ -51,8 +51,8 @@ pub fn key_of_words(rt: &HostRuntime, file: Option<&str>) -> Result<Option<[u8; 
 
 impl Sealing {
     /// What the node's port lets in, in the run over the tree among members that weigh so much:
-    /// where there is a key, what the members seal under it. A request that comes again from the same
-    /// member's address at once is dropped.
+    /// where there is a key, what the members seal under it. A request that comes again at once
+    /// from the same member's address is dropped.
     pub fn guard(&self, tree: &Tree, weights: &Weights) -> Guard
         ensures sealed { result.seal ≡ seal_of tree.now weights.now self.now.key }
         ensures closed { self.now.key ≢ None → result.is_open ≡ false }
