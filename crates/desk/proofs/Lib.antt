@@ -1,3 +1,4 @@
 pub mod Among
 pub mod HeldUnits
 pub mod Moved
+pub mod Wished

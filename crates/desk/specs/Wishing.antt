@@ -90,11 +90,15 @@ IsClaimWished s known path above =
     ⊎ ((length known.out < known.jobs) × IsNewClaim s known (Some (Claim path above))
     × IsAsked s known path true)
 
+-- It is a question for the least queued package at or behind some position.
+abbrev pub IsQuestion : State → Wish → Type 0
+IsQuestion s wish = (from p : ℕ) × IsNextAsk s from (Some (p, wish))
+
 -- It is a question for what it would claim, and for which nobody was asked; or for what is queued.
 abbrev pub IsAskWished : State → Known → List ℕ → Type 0
 IsAskWished s known path =
     ((above : ℕ) × IsNewClaim s known (Some (Claim path above)) × IsAsked s known path false)
-    ⊎ ((from p : ℕ) × IsNextAsk s from (Some (p, Ask path)))
+    ⊎ IsQuestion s (Ask path)
 
 -- It is one of these.
 abbrev pub IsWishOf : State → Known → Wish → Type 0

@@ -4,9 +4,8 @@ ghost use Rattle.desk.specs.Looking.{IsSeen, out_with_job, unit_of_job};
 ghost use Rattle.desk.specs.Posted.{not_held, units_of, with_unit};
 ghost use Rattle.desk.specs.Taking.{IsOneLess, failed_by, of_unit, unit_failed, without_unit};
 ghost use Rattle.desk.specs.Waiting.{AreSeen};
-ghost use Rattle.desk.specs.Wishing.{HasMore, IsAllowed, IsNewClaim, IsWishOf, has_asked, is_for, is_in, known_at};
+ghost use Rattle.desk.specs.Wishing.{HasMore, IsAllowed, IsNewClaim, IsQuestion, IsWishOf, has_asked, is_for, is_in, known_at};
 ghost use Rattle.engine.specs.Division.{number_found};
-ghost use Rattle.live_choice.specs.Wishes.{IsNextAsk};
 ghost use Rattle.protocol.specs.State.{is_held_any};
 ghost use Rattle.protocol.specs.Step.{job_of_claim};
 ghost use Rattle.work.specs.Refusals.{IsOfSystem};
@@ -275,8 +274,7 @@ impl<'f> Desk<'f> {
 
     /// The question that is due, if one is.
     fn ask(&self, member: &Member<'_>, now: Instant) -> Result<Option<Wish>, Memory>
-        ensures { IfOk result (λ o. IfSome o (λ wish. (from p : _)
-            × IsNextAsk member.now from (Some (p, wish)))) }
+        ensures { IfOk result (λ o. IfSome o (IsQuestion member.now)) }
     {
         if !self.is_hit(member) && !is_over(self.pace.ask, self.asked_at, now) {
             return Ok(None);

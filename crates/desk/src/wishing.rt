@@ -1,7 +1,7 @@
 //! When a unit is claimed, above which round, and what is asked for.
 ghost use Rattle.std.specs.Prelude.{◌≡◌, ◌<◌, IfOk, IfSome, Some, length};
 ghost use Rattle.choice.specs.Own.{IsLeastFree, is_barred};
-ghost use Rattle.desk.specs.Wishing.{claim_of_unit, is_for, is_in, may_claim, turn_of};
+ghost use Rattle.desk.specs.Wishing.{IsQuestion, claim_of_unit, is_for, is_in, may_claim, turn_of};
 ghost use Rattle.engine.specs.Division.{number_of};
 ghost use Rattle.live_choice.specs.Wishes.{IsNextAsk, round_of};
 ghost use Rattle.protocol.specs.State.{facts_at};
@@ -71,8 +71,9 @@ pub(crate) fn promised(member: &Member<'_>, unit: u32) -> Option<Claim>
 
 /// The wish to ask for the least package that is queued, at or behind this position.
 pub(crate) fn ask_from(member: &Member<'_>, from: u32) -> Result<Option<Wish>, Memory>
-    ensures { IfOk result (λ o. IfSome o (λ wish. (p : _)
+    ensures from { IfOk result (λ o. IfSome o (λ wish. (p : _)
         × IsNextAsk member.now from (Some (p, wish)))) }
+    ensures question { IfOk result (λ o. IfSome o (IsQuestion member.now)) }
 {
     match next_ask(member, from)? {
         Some((_position, wish)) => Ok(Some(wish)),
