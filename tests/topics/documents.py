@@ -1,4 +1,5 @@
-"""The manual pages, the width of lines, how much a reader has to believe, the one order of crates, and what documents count and name."""
+"""The manual pages, the width of lines, how much a reader has to believe, the one order of crates wherever some of them stand in a
+row, and what documents count and name."""
 import glob
 import os
 import re
@@ -8,6 +9,8 @@ import subprocess
 from topics.tally import TOP, contents
 
 WIDEST = 100
+# the most columns of a line of a document
+WIDEST_TEXT = 140
 # the most lines of a definition: the headline has nine clauses
 LONGEST = 13
 # the most lines of README.md
@@ -39,6 +42,18 @@ def width(tally):
     for path in sorted(glob.glob(f"{TOP}/crates/*/src/**/*.rt", recursive=True) + glob.glob(f"{TOP}/crates/*/specs/**/*.antt", recursive=True)):
         wide = [n for n, line in enumerate(lines_of(path), 1) if len(line) > WIDEST and not is_import(line)]
         tally.add(os.path.relpath(path, TOP), f"lines {wide} have more than {WIDEST} columns" if wide else "")
+
+
+def documents():
+    """All documents, by their paths."""
+    return [f"{TOP}/README.md", f"{TOP}/CONTRIBUTING.md", f"{TOP}/tests/README.md", *sorted(glob.glob(f"{TOP}/docs/*.md"))]
+
+
+def width_of_documents(tally):
+    """Lines of documents, tables among them: what is longer stands as a list."""
+    for path in documents():
+        wide = [n for n, line in enumerate(lines_of(path), 1) if len(line) > WIDEST_TEXT]
+        tally.add(f"{os.path.relpath(path, TOP)}, its width", f"lines {wide} have more than {WIDEST_TEXT} columns" if wide else "")
 
 
 def definitions(path):
@@ -96,6 +111,11 @@ def headings(document, form):
     return re.findall(form, contents(f"{TOP}/docs/{document}").decode(), re.MULTILINE)
 
 
+def part(document, heading):
+    """The part of a document below a heading, up to the next one."""
+    return contents(f"{TOP}/docs/{document}").decode().partition(f"\n## {heading}\n")[2].partition("\n## ")[0]
+
+
 def out_of_order(named, order):
     """What is wrong with an order of crates, if anything: the first that is none, or stands behind one that is above it."""
     for crate in named:
@@ -105,6 +125,50 @@ def out_of_order(named, order):
         if order.index(crate) < order.index(above):
             return f"{crate} stands below {above}, and in crates.txt above it"
     return ""
+
+
+def rows_of_crates(tally):
+    """Wherever three crates or more stand in a row in a document, they stand in the order of crates.txt."""
+    order = list(crates())
+    # names in code, between which nothing is but a comma, "and", "or" or "nor"
+    form = r"`\w+`(?:(?:,|,? (?:and|or|nor))\s+`\w+`){2,}"
+    for path in documents():
+        wrong = []
+        for row in re.findall(form, contents(path).decode()):
+            named = re.findall(r"\w+", " ".join(re.findall(r"`\w+`", row)))
+            if set(named) <= set(order) and out_of_order(named, order):
+                wrong.append(f"{', '.join(named)}: {out_of_order(named, order)}")
+        tally.add(f"{os.path.relpath(path, TOP)}, its rows of crates", "; ".join(wrong))
+
+
+def files_of_crates(tally):
+    """The files of definitions and proofs that documents name by their crate stand, and so do those of docs/DEFINITIONS.md."""
+    for path in documents():
+        named = re.findall(r"`(\w+)/(specs|proofs)/([\w/]+)`", contents(path).decode())
+        gone = sorted("/".join(it) for it in set(named) if not stands(*it))
+        tally.add(f"{os.path.relpath(path, TOP)}, the files of crates that it names", f"{gone} don't stand" if gone else "")
+    gone, crate = [], ""
+    for line in lines_of(f"{TOP}/docs/DEFINITIONS.md"):
+        crate = (re.match(r"## .*?\(`crates/(\w+)/specs", line) or ["", crate])[1]
+        gone += [f"{crate}/specs/{it}" for it in re.findall(r"`(\w+)`", (re.match(r"In (`.*`):$", line) or ["", ""])[1]) if not stands(crate, "specs", it)]
+    tally.add("docs/DEFINITIONS.md, the files of its parts", f"{gone} don't stand" if gone else "")
+
+
+def stands(crate, kind, name):
+    """Whether a crate has that file of definitions or of proofs, or that folder."""
+    return any(os.path.exists(f"{TOP}/crates/{crate}/{kind}/{it}") for it in (name, f"{name}.antt"))
+
+
+def promises(tally):
+    """Each call or law of docs/MAP.md that makes a promise stands in its crate, and has the clause."""
+    rows = re.findall(r"^\| ([^|]+) \| `(\w+)::(\w+)` \| (?:`(\w+)`|all of it) \|", part("MAP.md", "From a promise to its code"), re.MULTILINE)
+    for promise, crate, call, clause in rows:
+        sources = "".join(contents(path).decode() for path in sorted(glob.glob(f"{TOP}/crates/{crate}/src/**/*.rt", recursive=True)))
+        # the contract: from the call's name to its body
+        contracts = re.findall(rf"^ *pub fn {call}\b(.*?)^ *{{}}?$", sources, re.DOTALL | re.MULTILINE)
+        stands = any(f"ensures {clause} {{" in it if clause else "ensures {" in it for it in contracts)
+        tally.add(f"docs/MAP.md, {promise}", "" if stands else f"{crate}::{call} has no clause {clause or 'without a name'}")
+    tally.add("docs/MAP.md, its promises", "" if rows else "none is read")
 
 
 def one_order(tally):
@@ -118,7 +182,7 @@ def one_order(tally):
     said = set(re.findall(r"`(\w+)`", contents(f"{TOP}/docs/PROVED.md").decode()))
     lacking = [crate for crate in order if crate not in said]
     tally.add("docs/PROVED.md, its crates", f"{lacking} aren't named" if lacking else "")
-    rows = headings("MAP.md", r"^\| (`\w+`(?:, `\w+`)*) \| ")
+    rows = re.findall(r"^- (`\w+`(?:, `\w+`)*): ", part("MAP.md", "The crates"), re.MULTILINE)
     mapped = [re.findall(r"\w+", row) for row in rows]
     tally.add("docs/MAP.md, its order", out_of_order([row[0] for row in mapped], order))
     lacking = sorted(set(order) - set(sum(mapped, [])))
@@ -177,7 +241,7 @@ def leaning(tally):
 def places(tally):
     """The files that documents name stand; each tool that is installed has a page."""
     form = r"\b((?:docs|man|tools|tests|examples|bench|crates)/[\w./-]*\w)/?(?![\w*/-])"
-    for path in [f"{TOP}/README.md", f"{TOP}/tests/README.md", *sorted(glob.glob(f"{TOP}/docs/*.md"))]:
+    for path in documents():
         named = set(re.findall(form, contents(path).decode()))
         gone = sorted(it for it in named if not os.path.exists(f"{TOP}/{it}") and not re.search(r"\b[A-Z]{4,}$|/out(/|$)|/(NAME|PROGRAM|CRATE)", it))
         tally.add(f"{os.path.relpath(path, TOP)}, the files that it names", f"{gone} don't stand" if gone else "")
@@ -190,9 +254,13 @@ def places(tally):
 def run(tally):
     manual(tally)
     width(tally)
+    width_of_documents(tally)
     to_believe(tally)
     wrong_bodies(tally)
     one_order(tally)
+    rows_of_crates(tally)
+    files_of_crates(tally)
+    promises(tally)
     counted(tally)
     leaning(tally)
     places(tally)

@@ -2,6 +2,8 @@
 of its own. What runs are small scripts. And what tools/unpack-log makes of packages whose large files went another way."""
 import contextlib
 import hashlib
+import importlib.machinery
+import importlib.util
 import json
 import os
 import re
@@ -14,6 +16,8 @@ from topics import packages
 from topics.tally import TOP
 
 LIMIT = 60
+# the digest of the listing
+TREE = "5a" * 32
 # what each package was built with, as a file of it
 WRITE = 'for p in $PACKAGES; do d="$OUT/$(echo $p | tr / :)"; mkdir "$d" && ls "$DEPS" > "$d/saw" && cat "$DEPS"/*/.signature > "$d/on" 2>/dev/null; done; '
 BUILD = WRITE + "true"
@@ -47,7 +51,7 @@ class Node:
     def post(self, unit, paths=(), built=(), run=()):
         """Posts the job of a unit, on what is held of these paths, and answers its name."""
         paths = paths or (unit,)
-        task = "".join([f"@unit {unit}\n", *(f"@package {path}\n" for path in paths), *(f"@built {self.held[path]}\n" for path in built)])
+        task = "".join([f"@tree {TREE}\n@unit {unit}\n", *(f"@package {path}\n" for path in paths), *(f"@built {self.held[path]}\n" for path in built)])
         name = name_of(task)
         self.posted[name] = unit, paths, [self.held[path] for path in built], list(run)
         with open(f"{self.work}/jobs/.new", "w") as file:
@@ -162,7 +166,7 @@ def chain(tally):
         add(tally, "their signatures", sorted(made["on"].decode().splitlines()) == sorted(node.held[path] for path in ("a/b,-docs", "a/b,-main", "c/d")), made)
         add(tally, "what is held is forgotten", node.is_forgotten(first), os.listdir(f"{node.work}/done"))
         log = read(f"{node.work}/logs/c:d.log").splitlines()
-        add(tally, "a log that begins with its job", log[1:4] == ["@unit c/d", "@package c/d", f"@built {node.held['a/b,-main']}"], log)
+        add(tally, "a log that begins with its job", log[1:5] == [f"@tree {TREE}", "@unit c/d", "@package c/d", f"@built {node.held['a/b,-main']}"], log)
         ended = driver.end()
         told = driver.lines()
         wanted = ["> a/b, on 0 packages: 1 of 1", "< a/b 0 s", "> c/d, on 2 packages: 1 of 1", "< c/d 0 s", "> e/f, on 3 packages: 1 of 1", "< e/f 0 s",
@@ -210,22 +214,24 @@ def odd_jobs(tally):
         node = Node(folder)
         node.held["c/d"] = f"c/d p9-1 {'0' * 64}"
         waits = node.post("e/f", built=["c/d"])
-        for name in (f".{'0' * 64}.1", "0" * 64, "1" * 63, "README"):
+        text = "@unit a/b\n@package a/b\n"
+        for name in (f".{'0' * 64}.1", "0" * 64, name_of(text), "1" * 63, "README"):
             with open(f"{node.work}/jobs/{name}", "w") as file:
-                file.write("@unit a/b\n@package a/b\n@host 1\n@claim 1.1\n")
+                file.write(text + "@host 1\n@claim 1.1\n")
         driver = Driver(node, BUILD)
-        add(tally, "a job of another name", driver.tells(re.escape(f"? jobs/{'0' * 64} is no job: its name isn't that of its text, or a line is lacking")), driver.lines())
+        for what, name in (("of another name", "0" * 64), ("without its tree", name_of(text))):
+            add(tally, f"a job {what}", driver.tells(re.escape(f"? jobs/{name} is no job: its name isn't that of its text, or a line is lacking")), driver.lines())
         node.open()
         node.hold("a/b", {"a/b": []})
         node.note(packages.note(4, "c/d", packages.build(packages.record("c/d", "p1-1", []))), gate=b"\0")
         time.sleep(0.3)
         told = driver.lines()
-        add(tally, "a job that waits", len(told) == 1, told)
+        add(tally, "a job that waits", len(told) == 2, told)
         os.unlink(node.log)
         node.open()
         node.held.clear()
         node.hold("c/d", {"c/d": []})
-        add(tally, "other dependencies of the same path", len(driver.lines()) == 1 and not os.listdir(f"{node.work}/done"), driver.lines())
+        add(tally, "other dependencies of the same path", len(driver.lines()) == 2 and not os.listdir(f"{node.work}/done"), driver.lines())
         os.unlink(f"{node.work}/jobs/{waits}")
         add(tally, "a log that was made anew", bool(node.take(node.post("e/f", built=["c/d"]))), driver.lines())
         driver.end()
@@ -290,6 +296,119 @@ def nodes_that_go_on(tally):
         add(tally, "what was dropped", driver.lines()[-1] == "0 built, 0 failed, 2 dropped", driver.lines())
 
 
+def build_jobs():
+    """The tool as a module, so that calls of the system can be refused."""
+    loader = importlib.machinery.SourceFileLoader("build_jobs", f"{TOP}/tools/build-jobs")
+    module = importlib.util.module_from_spec(importlib.util.spec_from_loader(loader.name, loader))
+    loader.exec_module(module)
+    return module
+
+
+# folders in folders, more than a path may name
+DEEP = 'if [ $PKGPATH = c/d ]; then cd "$OUT/c:d" && python3 -c "import os\nfor _ in range(1100):\n os.mkdir(\'x\' * 9)\n os.chdir(\'x\' * 9)"; fi'
+
+
+def builds_that_misbehave(tally):
+    """What a build leaves behind ends with it; what can't be read fails it, and nothing else; and how it is named ends nothing."""
+    with laid('sleep 1000 & echo $! > "$TOP/left"; ' + BUILD) as (node, driver):
+        made = node.take(node.post("a/b"))
+        add(tally, "what a build left running", bool(made) and until(lambda: not is_alive(node.folder, "left")), made)
+        long = f"a/{'x' * 253}"
+        add(tally, "a unit of a long name", list(node.take(node.post(long))) == [long], driver.lines())
+        logs = os.listdir(f"{node.work}/logs")
+        add(tally, "its log", any(re.fullmatch("a:x{198}[.][0-9a-f]{16}[.]log", name) for name in logs), logs)
+    with laid(WRITE + DEEP) as (node, driver):
+        why = node.failed(node.post("c/d"))
+        add(tally, "what can't be read", bool(why) and why.startswith("c/d: what it made can't be read: "), (why, driver.lines()))
+        add(tally, "the next one", bool(node.take(node.post("a/b"))) and driver.process.poll() is None, driver.lines())
+        add(tally, "its folder", until(lambda: os.listdir(f"{node.work}/build") == []), os.listdir(f"{node.work}/build"))
+
+
+def what_the_system_refuses(tally):
+    """What can't be written is told, and tried again; a host that stops leaves no mark; a folder that was made anew ends it."""
+    with laid(BUILD) as (node, driver):
+        until(lambda: os.path.exists(f"{node.work}/lock"))
+        os.rename(f"{node.work}/done", f"{node.work}/gone")
+        with open(f"{node.work}/done", "w"):
+            name = node.post("a/b")
+        told = until(lambda: any(line.startswith("? ") for line in driver.lines()))
+        time.sleep(0.3)
+        add(tally, "a folder that isn't there", told and driver.process.poll() is None, driver.lines())
+        os.unlink(f"{node.work}/done")
+        os.rename(f"{node.work}/gone", f"{node.work}/done")
+        add(tally, "the same once it is there", bool(node.take(name)), driver.lines())
+    with laid(BUILD) as (node, driver):
+        os.mkdir(f"{node.work}/away")
+        until(lambda: os.path.exists(f"{node.work}/lock"))
+        with open(f"{node.work}/logs/a:b.log", "w"):
+            os.rename(f"{node.work}/logs", f"{node.work}/away/logs")
+        name = node.post("a/b")
+        add(tally, "a log that can't be written", driver.tells("[?] a/b waits: .*logs/a:b.log.*") and os.listdir(f"{node.work}/build") == [], driver.lines())
+        os.rename(f"{node.work}/away/logs", f"{node.work}/logs")
+        add(tally, "the same once it can", bool(node.take(name)), driver.lines())
+    with laid(SLOW) as (node, driver):
+        name = node.post("a/b")
+        until(lambda: os.path.exists(f"{node.folder}/pid") and read(f"{node.folder}/pid"))
+        os.kill(int(read(f"{node.folder}/pid")), signal.SIGTERM)
+        time.sleep(0.3)
+        ended = driver.end()
+        left = os.listdir(f"{node.work}/failed"), os.listdir(f"{node.work}/jobs"), os.listdir(f"{node.work}/build")
+        add(tally, "a build that is ended just before it", (ended, left) == (143, ([], [name], [])), (ended, left, driver.lines()))
+    with laid(SLOW) as (node, driver):
+        node.post("a/b")
+        until(lambda: os.path.exists(f"{node.folder}/pid") and read(f"{node.folder}/pid"))
+        os.rename(node.work, f"{node.folder}/old")
+        os.mkdir(node.work)
+        status = driver.process.wait(LIMIT)
+        told = status, driver.lines()[-1], is_alive(node.folder, "pid")
+        add(tally, "a work folder that was made anew", told == (1, f"build-jobs: {node.work} was taken away, or made anew", False), told)
+
+
+def commands(tally):
+    """A command is found from where build-jobs is started, and one that isn't there is told at once."""
+    with tempfile.TemporaryDirectory() as folder:
+        node = Node(folder)
+        node.open()
+        with open(f"{folder}/build", "w") as file:
+            file.write(f"#!/bin/sh\n{BUILD}\n")
+        os.chmod(f"{folder}/build", 0o755)
+        process = subprocess.Popen([f"{TOP}/tools/build-jobs", node.work, node.log, "--", "./build"], cwd=folder, stdin=subprocess.DEVNULL,
+                                   stdout=subprocess.DEVNULL, stderr=subprocess.DEVNULL)
+        add(tally, "a command beside it", bool(node.take(node.post("a/b"))))
+        process.kill()
+        process.wait()
+        process = subprocess.Popen([f"{TOP}/tools/build-jobs", node.work, node.log, "--", "sh", "-c", f"{BUILD}; exit 3"], stdin=subprocess.DEVNULL,
+                                   stdout=subprocess.DEVNULL, stderr=subprocess.DEVNULL, preexec_fn=lambda: signal.signal(signal.SIGCHLD, signal.SIG_IGN))
+        why = node.failed(node.post("c/d"))
+        add(tally, "a caller that ignores how others end", bool(why) and why.startswith("c/d: status 3\n"), why)
+        process.kill()
+        process.wait()
+        done = subprocess.run([f"{TOP}/tools/build-jobs", node.work, node.log, "--", "./none"], cwd=folder, capture_output=True, text=True, timeout=LIMIT)
+        right = (done.returncode, done.stderr) == (1, f"build-jobs: {folder}/none: there is no such command\n")
+        add(tally, "a command that isn't there", right, (done.returncode, done.stderr))
+
+
+def not_allowed(tally):
+    """A build that may not be ended, as where it runs as another user, keeps its folder, and nobody waits for it."""
+    module, told = build_jobs(), []
+    module.LONGEST_END = 0.2
+    with tempfile.TemporaryDirectory() as folder:
+        build = object.__new__(module.Build)
+        build.folder, build.lock, build.ended = folder, open(f"{folder}/lock", "w"), None
+        build.driver = type("Driver", (), {"tell": lambda _, line: told.append(line)})()
+        build.process = subprocess.Popen(["sleep", "60"], start_new_session=True)
+        killpg = os.killpg
+        try:
+            os.killpg = lambda *_: (_ for _ in ()).throw(PermissionError())
+            build.end()
+        finally:
+            os.killpg = killpg
+        left = build.process.poll() is None and os.path.isdir(folder)
+        add(tally, "a build that may not be ended", left and told == [f"= a build that can't be ended goes on in {folder}"], told)
+        build.process.kill()
+        build.process.wait()
+
+
 LARGE = 134_217_728
 
 
@@ -337,14 +456,17 @@ def fetched(tally, nodes, digest):
     second = Driver(nodes[1], see, "--digests", "1000000", "--fetch", get)
     name = nodes[1].post("a/z", built=["a/x", "a/y"])
     told = second.tells(re.escape(f"? a/z waits for big of a/x, {digest}, of host 1"))
-    add(tally, "a file that comes wrong", told and stored(f"{nodes[1].work}/store") == ([], True), (second.lines(), stored(f"{nodes[1].work}/store")))
+    store = f"{nodes[1].work}/store"
+    # the other's is fetched right behind it, and stands there half till it is hashed
+    whole = [it for it in os.listdir(store) if not it.startswith(".")]
+    is_gone = until(lambda: not os.listdir(store))
+    add(tally, "a file that comes wrong", told and not whole and is_gone, (second.lines(), whole, os.listdir(store)))
     with open(f"{nodes[1].folder}/up", "w"):
         made = nodes[1].take(name)
     add(tally, "a file that comes", made == {"a/z": {"saw": b"a:x:\nbig\nsmall\n\na:y:\nbig\nsmall\n", "size": b"%d\n" % (2 * LARGE)}}, made)
     asked = set(read(f"{nodes[1].folder}/asked").splitlines())
     add(tally, "what is asked for", asked == {f"1 {LARGE} big"}, asked)
     second.end()
-    store = f"{nodes[1].work}/store"
     os.chmod(f"{store}/{digest}", 0o644)
     with open(f"{store}/{digest}", "r+b") as file:
         file.write(b"X")
@@ -406,5 +528,9 @@ def run(tally):
     odd_jobs(tally)
     drivers_that_end(tally)
     nodes_that_go_on(tally)
+    builds_that_misbehave(tally)
+    what_the_system_refuses(tally)
+    commands(tally)
+    not_allowed(tally)
     large(tally)
     stand_ins(tally)

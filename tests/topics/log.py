@@ -6,7 +6,7 @@ import resource
 import subprocess
 import tempfile
 
-from topics.tally import TESTS, TOP, built_shim, contents
+from topics.tally import TESTS, TOP, built_shim, contents, text_difference
 
 LOG_PROBE = f"{TOP}/crates/log_probe/out/log_probe"
 
@@ -45,26 +45,64 @@ def opened(folder, start, owner=OWNER):
     return (refused[0] if refused else notes), contents(file)
 
 
-def stored_files(tally, folder):
-    """Files whose answers are known: the notes and the bytes after opening, or the number and the same bytes."""
+def lines_of(answer):
+    """What a file opens to, a line for each note, or one for the refusal, and one for the bytes after it."""
+    found, file = answer
+    told = [f"refused {found}"] if isinstance(found, int) else [f"note {note.hex()}" for note in found]
+    return "\n".join([*told, f"file {file.hex()}", ""]).encode()
+
+
+def opening_difference(got, wanted, start, owner):
+    """How what a file opens to differs from what is wanted, and how it is opened by hand; or nothing."""
+    if got == wanted:
+        return ""
+    tree, weights, me = owner
+    write = f"""python3 -c 'open("/tmp/log", "wb").write(bytes.fromhex("{start.hex()}"))'"""
+    if len(start) > 1_000:
+        write = f"write those {len(start)} bytes to /tmp/log"
+    return (f"it opens otherwise\n{text_difference(lines_of(got), lines_of(wanted))}\n"
+            f"    by hand: {write}; {os.path.relpath(LOG_PROBE, TOP)} /tmp/log {tree.hex()} {weights.hex()} {me}")
+
+
+def stored_lines():
+    """The stored files and what each opens to, a line each."""
     with open(f"{TESTS}/log/opening.jsonl") as lines:
-        for number, line in enumerate(lines, 1):
-            case = json.loads(line)
-            start, wanted = bytes.fromhex(case["bytes"]), case["answer"]
-            owner = bytes.fromhex(case["tree"]), bytes(case["weights"]), case["me"]
-            if "number" in wanted:
-                right = wanted["number"], start
-            else:
-                right = [bytes.fromhex(note) for note in wanted["notes"]], bytes.fromhex(wanted["file"])
-            got = opened(folder, start, owner)
-            tally.add(f"tests/log/opening.jsonl, line {number}", "" if got == right else f"{got!r:.300}, not {right!r:.300}")
+        return list(lines)
+
+
+def names():
+    """What can be run by itself: `log/NUMBER`, a line of the stored files, counted from 1."""
+    return [str(number) for number in range(1, len(stored_lines()) + 1)]
+
+
+def stored_file(tally, folder, number, line):
+    """A file whose answer is known: the notes and the bytes after opening, or the number and the same bytes."""
+    stored = json.loads(line)
+    start, wanted = bytes.fromhex(stored["bytes"]), stored["answer"]
+    owner = bytes.fromhex(stored["tree"]), bytes(stored["weights"]), stored["me"]
+    if "number" in wanted:
+        right = wanted["number"], start
+    else:
+        right = [bytes.fromhex(note) for note in wanted["notes"]], bytes.fromhex(wanted["file"])
+    tally.add(f"log/{number}", opening_difference(opened(folder, start, owner), right, start, owner))
+
+
+def case(tally, _kind, name):
+    """A stored file by its number."""
+    with tempfile.TemporaryDirectory() as folder:
+        stored_file(tally, folder, name, stored_lines()[int(name) - 1])
+
+
+def stored_files(tally, folder):
+    for name, line in zip(names(), stored_lines()):
+        stored_file(tally, folder, name, line)
 
 
 def check(tally, folder, name, start, right, owner=OWNER):
     """A file opens to these notes, or to a refusal that leaves it as it is."""
     wanted = (right, start if isinstance(right, int) else log_file(owner, right, end=start_gate(start, owner, right)))
     got = opened(folder, start, owner)
-    tally.add(name, "" if got == wanted else f"{got!r:.300}, not {wanted!r:.300}")
+    tally.add(name, opening_difference(got, wanted, start, owner))
 
 
 def start_gate(start, owner, notes):
@@ -143,7 +181,9 @@ def order(tally, folder):
             ("a log with a torn note", whole + b"\0\0\0\x0etorn", 1, opening + ["cut 63", "sync"] + note_calls(62, 14))):
         lines, told, _file = called(folder, start, count, 14)
         problem = "" if told.get("appended") == count else f"{told}"
-        tally.add(f"the calls of {name}", problem or ("" if lines == wanted else f"{lines}, not {wanted}"))
+        if not problem and lines != wanted:
+            problem = "they differ\n" + text_difference(*("\n".join(it).encode() for it in (lines, wanted)))
+        tally.add(f"the calls of {name}", problem)
 
 
 def failing(tally, folder, name, start, found, all_later):

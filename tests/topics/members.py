@@ -1,33 +1,35 @@
-"""Members, nodes and worlds whose memory runs out: each allocation of some stored rows of `probes` on them
-refused in turn. Where that falls into a step, the program gives the same input again, and has to go on as if nothing had been."""
+"""Members, nodes and worlds whose memory runs out: each allocation refused in turn of what `probes` answers to the files of
+tests/members/ and to some stored traces. Where that falls into a step, the program gives the same input again, and has to go on as
+if nothing had been."""
 import os
 import subprocess
 import tempfile
 
 from topics.memory import refusing
-from topics.tally import PROBES, TOP, built_shim, contents
+from topics.tally import PROBES, TESTS, TOP, built_shim, contents, text_difference
 
-# Rows by their place behind the topic's line, and what happens in each.
-ROWS = {
-    "members": {0: "a plain run", 4: "a unit of two packages", 8: "a job that stands on two others"},
-    "nodes": {1: "a claim that a crash ends", 4: "a unit of two packages", 5: "a build in pieces, which a stop loses"},
-    "worlds": {1: "a take-over", 10: "a build in pieces"},
-}
-# What parts rows, where it is no blank line.
-ENDS = {"worlds": b"\n"}
+# what members and nodes are asked, a file each, as `probes` reads it
+ASKED = f"{TESTS}/members"
+# the stored traces of which worlds are made, over the one package that `probes` has where no listing is told
+WORLDS = ("a_build_is_taken_over", "a_build_in_pieces")
 
 
-def stored_rows(topic):
-    """The rows that stand behind the topic's line."""
-    text = contents(f"{TOP}/crates/probes/stdin")
-    _, _, behind = text.partition(b"== %s\n" % topic.encode())
-    rows, _, _ = behind.partition(b"\n== ")
-    return rows.split(ENDS.get(topic, b"\n\n"))
+def names():
+    """What can be run by itself: `members/NAME`."""
+    return [*sorted(os.listdir(ASKED)), *WORLDS]
 
 
-def run_probe(topic, row, **more):
-    given = b"== %s\n" % topic.encode() + row
-    done = subprocess.run([PROBES], input=given, capture_output=True, timeout=60, **more)
+def asked(name):
+    """What `probes` is asked, and how that is done by hand."""
+    if name in WORLDS:
+        trace = f"{TESTS}/traces/{name}/TRACE"
+        by_hand = f"(echo == worlds; cat {os.path.relpath(trace, TOP)}) | {os.path.relpath(PROBES, TOP)}"
+        return b"== worlds\n" + contents(trace).strip() + b"\n", by_hand
+    return contents(f"{ASKED}/{name}"), f"{os.path.relpath(PROBES, TOP)} < {os.path.relpath(ASKED, TOP)}/{name}"
+
+
+def run_probe(text, **more):
+    done = subprocess.run([PROBES], input=text, capture_output=True, timeout=60, **more)
     return done.stdout, done.stderr, done.returncode
 
 
@@ -43,37 +45,46 @@ def problem_of(got, right, again):
     told, said, status = got
     if said == b"1 again\n":
         again.append(said)
-        return "" if (told, status) == (right, 0) else "a refused step changed something"
+        if (told, status) == (right, 0):
+            return ""
+        return f"a refused step changed something, status {status}\n{text_difference(told, right)}"
     if status == 0 and is_right(told, right) or status == 1 and right.startswith(told):
         return ""
-    return f"{told[-200:]!r}, {said!r:.200}, status {status}"
+    return f"status {status}, standard error {said!r:.200}\n{text_difference(told, right)}"
 
 
-def refused_in_turn(tally, folder, name, topic, row):
-    right, said, status = run_probe(topic, row)
+def refused_in_turn(tally, folder, name, text, by_hand):
+    right, said, status = run_probe(text)
     if said or status:
-        tally.add(name, f"it ended with {status}: {said!r:.200}")
+        tally.add(name, f"it ended with {status}: {said!r:.200}\n    by hand: {by_hand}")
         return
     number, again = 0, []
     while True:
         number += 1
         environment, mark = refusing(folder, number)
-        got = run_probe(topic, row, env=environment)
+        got = run_probe(text, env=environment)
         if not os.path.exists(mark):
             break
         os.remove(mark)
         problem = problem_of(got, right, again)
         if problem:
-            tally.add(f"{name}, allocation {number} refused", problem)
+            tally.add(f"{name}, allocation {number} refused", f"{problem}\n    by hand, with ample memory: {by_hand}")
             return
     print(f"tests/run: {name}: {number - 1} allocations, each refused once, {len(again)} of them in steps", flush=True)
     tally.add(name, "" if again else "no step was refused memory")
 
 
-def run(tally):
+def run_named(tally, chosen):
     with tempfile.TemporaryDirectory() as folder:
         if built_shim(tally, folder, "refuse"):
-            for topic, places in ROWS.items():
-                rows = stored_rows(topic)
-                for place, what in places.items():
-                    refused_in_turn(tally, folder, f"memory for {topic}, {what}", topic, rows[place].strip() + b"\n")
+            for name in chosen:
+                refused_in_turn(tally, folder, f"members/{name}", *asked(name))
+
+
+def case(tally, _kind, name):
+    """One of them by its name."""
+    run_named(tally, [name])
+
+
+def run(tally):
+    run_named(tally, names())

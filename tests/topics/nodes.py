@@ -15,7 +15,7 @@ import time
 from concurrent.futures import ThreadPoolExecutor
 
 from topics.programs import help_of, shown
-from topics.tally import PROGRAM, TESTS, TOP, Tally, built_shim, contents, difference, text_difference
+from topics.tally import PROGRAM, TESTS, TOP, Answer, Tally, built_shim, contents, difference, text_difference
 
 NODES = f"{TOP}/crates/dpbn/out/dpbn"
 
@@ -116,7 +116,10 @@ def case(tally, kind, name):
         for file in ("LISTING", "BUILDS"):
             shutil.copy(f"{stored}/{file}", folder)
         os.mkdir(f"{folder}/DIR")
-        tally.add(f"{kind}/{name}", difference(answer([*words, "--trace", "TRACE"], folder), (wanted, b"", 0)))
+        got = Answer(answer([*words, "--trace", "TRACE"], folder))
+        # the folder goes with the test
+        got.by_hand = f"D=$(mktemp -d) && mkdir $D/DIR && cp tests/{kind}/{name}/* $D && cd $D && {NODES} {' '.join(words)} --trace TRACE"
+        tally.add(f"{kind}/{name}", difference(got, (wanted, b"", 0)))
         lines = told_by_run(folder, "LISTING", "TRACE", ["--single"] if "--single" in words else [])
         tally.add(f"{kind}/{name}, its trace", "" if lines == wanted else f"dpbr run of it differs\n{text_difference(lines, wanted)}")
 

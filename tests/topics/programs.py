@@ -6,7 +6,7 @@ import subprocess
 import tempfile
 import time
 
-from topics.tally import EXAMPLES, PROGRAM, TESTS, TOP, answer, contents, difference
+from topics.tally import EXAMPLES, PROGRAM, TESTS, TOP, answer, contents, difference, text_difference
 
 # The folders of stored cases of `dpbr status` and `dpbr audit`, and of those that the manual page shows.
 STORED = ("status", "audit", "manual")
@@ -56,13 +56,22 @@ def stored_for(line, folders, left):
     return [contents(f"{folder}/stdout") + (contents(f"{folder}/status") if asked else b"")]
 
 
+def shown_problem(text, stored):
+    """What is wrong with a text that a page shows, of which these texts are stored; or nothing."""
+    if stored == {text}:
+        return ""
+    if len(stored) != 1:
+        return f"{len(stored)} texts are stored for it, and not one"
+    return f"it shows another text than what is stored\n{text_difference(text.encode(), stored.pop().encode())}"
+
+
 def manual_page(tally):
     """dpbr(1) shows what is stored: each case, and files of them."""
     folders = [f"{TESTS}/manual/{name}" for name in sorted(os.listdir(f"{TESTS}/manual"))]
     left = {contents(f"{folder}/words").decode().strip(): folder for folder in folders}
     for line, text in shown(contents(f"{TOP}/man/dpbr.1").decode()):
         stored = {cut_short(one.decode()) for one in stored_for(line, folders, left)}
-        tally.add(f"man/dpbr.1, {line}", "" if stored == {text} else f"it shows {text!r:.300}, not {stored!r:.300}")
+        tally.add(f"man/dpbr.1, {line}", shown_problem(text, stored))
     tally.add("man/dpbr.1, its examples", f"{list(left)} are stored, and not shown" if left else "")
 
 

@@ -1,6 +1,6 @@
-"""Rows of clusters in memory, texts that are joined with a known build and without one, and a work folder: tests of crates of their own, compiled from
-the sources as they are, before any proof. A proof of them would prove nothing of the program; that of the rows of clusters would take
-the gate twenty minutes of a processor."""
+"""Rows of clusters in memory, texts that are joined with a known build and without one, and a work folder: tests of crates of their
+own, compiled from the sources as they are, before any proof. A proof of them would prove nothing of the program; that of the rows of
+clusters would take the gate twenty minutes of a processor."""
 import os
 import re
 import shutil
@@ -46,13 +46,23 @@ def names_of_tests(crate):
     return found
 
 
+def names():
+    """The crates of rows, of which each can be run by itself: `rows/CRATE`."""
+    return sorted(it for it in os.listdir(ROWS) if os.path.isdir(f"{ROWS}/{it}"))
+
+
+def case(tally, _kind, name):
+    """The tests of one crate of rows."""
+    with tempfile.TemporaryDirectory(prefix="dpbn-") as folder:
+        laid(folder, name)
+        done = subprocess.run(["rt", "try", "--test", "--seconds", "900"], cwd=f"{folder}/crates/{name}", stdin=subprocess.DEVNULL,
+                              stdout=subprocess.PIPE, stderr=subprocess.STDOUT, text=True, errors="replace")
+        ended = dict(re.findall(r"^test (\S+) \.\.\. (\w+)", done.stdout, re.MULTILINE))
+    for test in names_of_tests(f"{ROWS}/{name}"):
+        problem = f"{ended.get(test, 'it did not run')}\n{done.stdout[-2000:]}"
+        tally.add(f"rows/{name}, {test}", "" if ended.get(test) == "ok" else problem)
+
+
 def run(tally):
-    for name in sorted(it for it in os.listdir(ROWS) if os.path.isdir(f"{ROWS}/{it}")):
-        with tempfile.TemporaryDirectory(prefix="dpbn-") as folder:
-            laid(folder, name)
-            done = subprocess.run(["rt", "try", "--test", "--seconds", "900"], cwd=f"{folder}/crates/{name}", stdin=subprocess.DEVNULL,
-                                  stdout=subprocess.PIPE, stderr=subprocess.STDOUT, text=True, errors="replace")
-            ended = dict(re.findall(r"^test (\S+) \.\.\. (\w+)", done.stdout, re.MULTILINE))
-        for test in names_of_tests(f"{ROWS}/{name}"):
-            problem = f"{ended.get(test, 'it did not run')}\n{done.stdout[-2000:]}"
-            tally.add(f"{name}, {test}", "" if ended.get(test) == "ok" else problem)
+    for name in names():
+        case(tally, "rows", name)

@@ -67,20 +67,61 @@ def picture(tally, name, listing, trace, *words):
 
 def agreed(svg):
     """How many packages the bars stand for."""
-    named, counted = re.findall(">agreed: ([^<]*)", svg), re.findall(">([0-9]+) packages agreed: ", svg)
+    named, counted = re.findall(">agreed: ([^<]*)", svg), re.findall(">([0-9]+) packages agreed<", svg)
     return sum(len(paths.split(", ")) for paths in named) + sum(map(int, counted))
 
 
+def along(part):
+    """Points of an arrow, a pixel or less from each other."""
+    if part.tagName == "line":
+        ends = [tuple(float(part.getAttribute(f"{axis}{end}")) for axis in "xy") for end in (1, 2)]
+        weights = lambda share: (1 - share, share)
+    else:
+        ends = [tuple(map(float, it)) for it in re.findall(r"([\d.]+),([\d.]+)", part.getAttribute("d"))]
+        weights = lambda share: ((1 - share) ** 3, 3 * (1 - share) ** 2 * share, 3 * (1 - share) * share ** 2, share ** 3)
+    for step in range(2001):
+        yield tuple(sum(weight * end[axis] for weight, end in zip(weights(step / 2000), ends)) for axis in (0, 1))
+
+
+def place_of(words):
+    """The place that words take: their left, top, right and foot, of letters of six pixels."""
+    x, foot = (float(words.getAttribute(it)) for it in "xy")
+    wide = 6 * len(words.firstChild.data)
+    left = x - wide if words.getAttribute("text-anchor") == "end" else x
+    return left, foot - 8, left + wide, foot
+
+
+def covered(svg):
+    """The words at arrows that lie on an arrow, on a bar or on other such words."""
+    parts = {}
+    for part in xml.dom.minidom.parseString(svg).documentElement.getElementsByTagName("*"):
+        parts.setdefault(part.getAttribute("class"), []).append(part)
+    places = {it.firstChild.data: place_of(it) for it in parts.get("words", [])}
+    points = [point for arrow in parts.get("arrow", []) for point in along(arrow)]
+    bars = [float(bar.getAttribute("y1")) for bar in parts.get("bar", [])]
+    lies = set()
+    for text, (left, top, right, foot) in places.items():
+        on_bar = any(top < y + 3 and y - 3 < foot for y in bars)
+        on_words = any(left < it[2] and it[0] < right and top < it[3] and it[1] < foot for other, it in places.items() if other != text)
+        if on_bar or on_words or any(left < x < right and top < y < foot for x, y in points):
+            lies.add(text)
+    return sorted(lies), len(places)
+
+
 def pictures(tally):
-    """The README's picture is the example's, and shows the promise that reports a vote. Ten events have a row each, and a thousand are folded into a picture of some rows."""
+    """The README's picture is the example's, shows the promise that reports a vote, and has its words where nothing else is. Ten
+    events have a row each, and a thousand are folded into a picture of some rows."""
     done = drawn(f"{EXAMPLES}/listing", f"{EXAMPLES}/trace")
     wanted = (contents(f"{EXAMPLES}/take-over.svg"), b"", 0)
     tally.add("draw-trace of the example", difference((done.stdout, done.stderr, done.returncode), wanted))
-    told = [text for text in (b">7 promise, and reports a vote<", b">8 propose the reported build<", b">deliver 7 to node 1<") if text not in done.stdout]
+    lies, count = covered(contents(f"{EXAMPLES}/take-over.svg"))
+    tally.add("draw-trace of the example, where its words stand", f"{lies} of {count} lie on something" if lies or count != 12 else "")
+    telling = (b">7 promise: it voted for node 0's build<", b">8 propose node 0's build again<", b">deliver 7 to node 1<")
+    told = [text for text in telling if text not in done.stdout]
     tally.add("draw-trace of the example, what it tells", f"{told} isn't there" if told else "")
     name = "draw-trace of ten events"
     svg, height = picture(tally, name, *builds(1, 10))
-    rows, notes = len(set(re.findall('<text x="38" y="([0-9]+)"', svg))), svg.count('width="6" height="6"')
+    rows, notes = len(set(re.findall('<text x="48" y="([0-9]+)"', svg))), svg.count('width="6" height="6"')
     if svg:
         # six notes, and the legend's
         told = (rows, agreed(svg), notes, " events<" in svg, 10 * ROW < height < 15 * ROW)
@@ -89,6 +130,8 @@ def pictures(tally):
     svg, height = picture(tally, name, *builds(84, 1008))
     if svg:
         tally.add(name, "" if agreed(svg) == 84 and height < MOST_HEIGHT else f"{agreed(svg)} packages in {height} pixels")
+        lies, count = covered(svg)
+        tally.add(f"{name}, where its words stand", f"{lies} of {count} lie on something" if lies or not count else "")
         tally.add(f"{name}, how the list grew", "" if ">84 packages after 1008 events<" in svg else "it isn't told")
     for words, wanted in ((), (0, 1)), (("--single",), (1, 0)):
         name = " ".join(["draw-trace", *words, "of one package of two"])

@@ -6,7 +6,7 @@ import tempfile
 
 from topics.memory import refusing
 from topics.programs import stored_cases
-from topics.tally import PROBES, built_shim
+from topics.tally import PROBES, built_shim, text_difference
 
 # The folders of stored cases of `dpbr run`: those whose builds go out in several pieces stand apart.
 STORED = ("traces", "pieces")
@@ -46,7 +46,7 @@ def refused_in_turn(tally, folder, name, row):
         os.remove(mark)
         met.add(got)
         if got not in allowed:
-            tally.add(f"memory for {name}, allocation {number} refused", f"{got!r:.300}")
+            tally.add(f"memory for {name}, allocation {number} refused", f"status {got[1]}\n{text_difference(got[0], right[0])}")
             return
     print(f"tests/run: memory for {name}: {number - 1} allocations, each refused once", flush=True)
     tally.add(f"memory for {name}", "" if right[1] == 0 and (b"1\n", 0) in met else "no reading was refused memory")

@@ -1,7 +1,8 @@
 -- What is wished of a node that builds with others: by whose promises it sees what they build.
-use Rattle.std.specs.Prelude.{◌≡◌, ◌==◌, ◌&&◌, ◌||◌, ℕ, Bool, false, not, List, Option, None, Some, option_map}
+use Rattle.std.specs.Prelude.{◌≡◌, ◌==◌, ◌&&◌, ◌||◌, ℕ, Bool, false, not, List, Option, None, Some, nat_le, option_map}
 use Rattle.std.specs.List.{list_any}
 use Rattle.agreement.specs.declared.claim.Claim.{Claim as BallotNumber}
+use Rattle.claims.specs.Claim.{greatest_round}
 use Rattle.listing.specs.Tree.{path_at}
 use Rattle.engine.specs.Division.{number_of}
 use Rattle.engine.specs.State.{IsQueuedFrom}
@@ -20,15 +21,23 @@ is_of_another me (Some c) = not (c.member == me)
 abbrev pub is_away : State → ℕ → Bool
 is_away s u = is_of_another s.me (facts_at s u).promised
 
--- A unit is barred that stands among these; and one that is away, unless it is to be taken over.
-abbrev pub barred_by : State → List ℕ → List ℕ → Barred
-barred_by s units over u =
-    list_any (λ v. v == u) units || (is_away s u && not (list_any (λ v. v == u) over))
-
 -- the round of the claim, or 0
 abbrev pub round_of : Option BallotNumber → ℕ
 round_of None = 0
 round_of (Some c) = c.round
+
+-- Whether the last claim that the member promised for the unit has the greatest round there is: no
+-- claim of the unit is above it.
+abbrev pub is_spent : State → ℕ → Bool
+is_spent s u = nat_le greatest_round (round_of (facts_at s u).promised)
+
+-- A unit is barred that stands among these; one that is away, unless it is to be taken over; and
+-- one that nobody can claim any more.
+abbrev pub barred_by : State → List ℕ → List ℕ → Barred
+barred_by s units over u =
+    list_any (λ v. v == u) units
+    || (is_away s u && not (list_any (λ v. v == u) over))
+    || is_spent s u
 
 -- that of the last claim that the member promised for the unit, if there is one
 abbrev pub promised_round : State → Option ℕ → ℕ

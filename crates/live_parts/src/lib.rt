@@ -6,4 +6,4 @@ mod going;
 mod wishing;
 
 pub use crate::going::{answer_if, do_wish, go_on};
-pub use crate::wishing::{is_away, least_claim, next_ask};
+pub use crate::wishing::{is_away, is_spent, least_claim, next_ask};

@@ -3,15 +3,23 @@ ghost use Rattle.std.specs.Prelude.{◌≡◌, ◌<◌, IfOk, length};
 ghost use Rattle.choice.specs.Own.{IsLeastFree, is_barred};
 ghost use Rattle.engine.specs.Division.{number_of};
 ghost use Rattle.protocol.specs.State.{facts_at};
-ghost use Rattle.live_choice.specs.Wishes.{IsLeastClaim, IsNextAsk, barred_by, is_away, promised_round};
+ghost use Rattle.live_choice.specs.Wishes.{
+  IsLeastClaim,
+  IsNextAsk,
+  barred_by,
+  is_away,
+  is_spent,
+  promised_round,
+  round_of,
+};
 
-use claims::Claim;
+use claims::{Claim, GREATEST_ROUND};
 use faults::Memory;
 use live_choice::Wish;
 use member::Member;
 
 /// The wish to claim the least queued package whose unit is not among these, nor away, unless it is
-/// to be taken over. It fails only for want of memory.
+/// to be taken over; and for which a round is left. It fails only for want of memory.
 pub fn least_claim(
     member: &Member<'_>,
     barred: &[u32],
@@ -72,12 +80,14 @@ fn is_barred(member: &Member<'_>, barred: &[u32], over: &[u32], position: u32) -
 }
 
 /// Whether the unit is among those that are barred; or is away, and not among those that are to be
-/// taken over.
+/// taken over; or no round is left for it.
 fn is_barred_by(member: &Member<'_>, barred: &[u32], over: &[u32], unit: u32) -> bool
     requires { unit < length member.now.division.units }
     ensures { result ≡ barred_by member.now barred.now over.now unit }
 {
-    barred.contains(&unit) || (is_away(member, unit) && !over.contains(&unit))
+    barred.contains(&unit)
+        || (is_away(member, unit) && !over.contains(&unit))
+        || is_spent(member, unit)
 }
 
 /// The round of the last claim that the member promised for the package's unit, or 0.
@@ -85,11 +95,8 @@ fn promised_round(member: &Member<'_>, position: u32) -> u64
     requires { position < length member.now.division.tree }
     ensures { result ≡ promised_round member.now (number_of member.now.division position) }
 {
-    let Some(unit) = member.units().unit_of(position) else {
-        return 0;
-    };
-    match promised(member, unit) {
-        Some(claim) => claim.round,
+    match member.units().unit_of(position) {
+        Some(unit) => round_promised(member, unit),
         None => 0,
     }
 }
@@ -103,6 +110,26 @@ pub fn is_away(member: &Member<'_>, unit: u32) -> bool
     match promised(member, unit) {
         Some(claim) => claim.member != member.me(),
         None => false,
+    }
+}
+
+/// Whether the last claim that the member promised for the unit has the greatest round there is:
+/// nobody can claim the unit any more.
+pub fn is_spent(member: &Member<'_>, unit: u32) -> bool
+    requires { unit < length member.now.division.units }
+    ensures { result ≡ is_spent member.now unit }
+{
+    round_promised(member, unit) >= GREATEST_ROUND
+}
+
+/// The round of the last claim that the member promised for the unit, or 0.
+fn round_promised(member: &Member<'_>, unit: u32) -> u64
+    requires { unit < length member.now.division.units }
+    ensures { result ≡ round_of (facts_at member.now unit).promised }
+{
+    match promised(member, unit) {
+        Some(claim) => claim.round,
+        None => 0,
     }
 }
 

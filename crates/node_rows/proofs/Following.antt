@@ -10,7 +10,6 @@ use Rattle.node.specs.OnLog.{IsOnLog, LeavesOneMoreAtMost, identity_of, texts_of
 use Rattle.node.specs.State.{LoggedNode, NodeState, with_note}
 use Rattle.node.specs.Step.{Asked, Taken, after}
 use Rattle.node.specs.declared.ready.Out.{Out}
-use Rattle.stable_record.proofs.Along.{along_on}
 use Rattle.stable_record.specs.Crash.{AllAlong, and_then, at_first}
 use Rattle.stable_record.specs.History.{History}
 use Rattle.stable_record.specs.Log.{HasBeforeOrAfter, HasNotes}
@@ -22,6 +21,11 @@ use Rattle.node_rows.specs.Rows.{EachCrashLeavesItsNotes, HasThese, LosesNoNote}
 along_so : (P Q : List ℕ → Type 0) (start new : History) → ((c : List ℕ) → P c → Q c) → AllAlong P start new → AllAlong Q start new
 along_so P Q start _ so (at_first leaves) = at_first (λ c left. so c (leaves c left))
 along_so P Q start _ so (and_then call h rest leaves) = and_then call h (along_so P Q start h so rest) (λ c left. so c (leaves c left))
+
+-- calls that go on with what is no worse
+along_on : (P Q : List ℕ → Type 0) (start mid new : History) → ((c : List ℕ) → Q c → P c) → AllAlong P start mid → AllAlong Q mid new → AllAlong P start new
+along_on P Q start mid _ so first (at_first leaves) = first
+along_on P Q start mid _ so first (and_then call h rest leaves) = and_then call h (along_on P Q start mid h so first rest) (λ c left. so c (leaves c left))
 
 module _ {D : Type 0} (history : D → History) (n : LoggedNode D) (on : IsOnLog history n) where
   -- a crash leaves the notes that are on the log

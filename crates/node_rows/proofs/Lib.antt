@@ -4,3 +4,4 @@ pub mod Reopening
 pub mod Left
 pub mod Whole
 pub mod Offers
+pub mod Joined

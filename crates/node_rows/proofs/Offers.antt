@@ -1,6 +1,6 @@
 -- What an offer leaves.
-use Rattle.std.proofs.Common.{◌≡◌, ◌∙◌, ℕ, List, Bool, true, false, not, ◌&&◌, Option, Some, Result, Ok, Err, if◌then◌else◌, refl, sym, ap}
-use Rattle.agreement.proofs.Kept.{put_same}
+use Rattle.std.proofs.Common.{◌≡◌, ◌∙◌, ℕ, List, Bool, true, false, not, ◌&&◌, eqb, eq-eqb, Option, Some, Result, Ok, Err, if◌then◌else◌, refl, sym, ap}
+use Rattle.std.proofs.lemmas.Bool.{cond-true}
 use Rattle.agreement.specs.Claims.{is_above, is_promised}
 use Rattle.agreement.specs.declared.claim.Claim.{Claim}
 use Rattle.agreement.specs.Member as members
@@ -8,24 +8,29 @@ use Rattle.agreement.specs.Member.{Facts, greater}
 use Rattle.agreement.specs.Nodes as nodes
 use Rattle.agreement.specs.Step.{Outcome, on_offer}
 use Rattle.agreement.specs.Votes.{is_voted}
+use Rattle.agreement.specs.World.{put}
 use Rattle.ballots.specs.declared.message.Body.{Body}
 use Rattle.ballots.specs.declared.message.Body.TheVariants.{Offer}
 use Rattle.ballots.specs.declared.message.Message.{Message}
-use Rattle.node.proofs.Finishing.{members_step}
+use Rattle.engine.specs.declared.Letter.TheVariants.{Q}
+use Rattle.node.specs.Laws.{StepsAreTheMembers}
 use Rattle.node.specs.State.{IsNode, NodeState}
 use Rattle.node.specs.Step.{Taken, after, heard}
 use Rattle.node.specs.declared.ready.Out.{Out}
 use Rattle.node_rows.specs.Rows.{TookMessage}
-use Rattle.protocol.proofs.Answering.{message_is}
 use Rattle.protocol.specs.Answers.{Answer, after as member_after}
 use Rattle.protocol.specs.InTheAgreement.{view}
-use Rattle.protocol.specs.Laws.{AnswersMessage}
+use Rattle.protocol.specs.Laws.{AnswersMessage, MessagesAreAnsweredAsInTheTheory}
 use Rattle.protocol.specs.State.{State, Value, facts_at}
 use Rattle.protocol.specs.Step as protocol
 use Rattle.protocol.specs.Step.{facts_named, facts_of_unit, outcome_of, unit_in}
 use Rattle.protocol.specs.declared.refusal.Refusal.{Refusal}
 use Rattle.engine.specs.Division.{number_found}
 use Rattle.wire.specs.declared.datagram.Piece.{Piece}
+
+-- what is put somewhere stands there
+put_same : {X : Type 0} (f : ℕ → X) (i : ℕ) (x : X) → put f i x i ≡ x
+put_same f i x = cond-true (eqb i i) x (f i) (eq-eqb i i refl)
 
 -- an offer leaves the greater of what was promised and of what was offered
 pub offered : (i : ℕ) (x : members.Member Value) (c : Claim) → (on_offer i x c).member.promised ≡ greater x.promised c
@@ -43,7 +48,8 @@ pub answer_of : (pieces : List Piece) (r : Result Answer Refusal) (step : Taken)
 answer_of pieces (Ok a) step e = (a, refl, (let two : Ok (record { answer = a; pieces = pieces }) ≡ Ok step = e in cc))
 answer_of pieces (Err r) step e = absurd (let no : heard pieces (Err r) ≡ Ok step = e in cc)
 
-module _ (old new : NodeState) (is : IsNode old) (m : Message Value) (c : Claim) (body : m.body ≡ Offer c) (out : Out) (took : TookMessage old new m out) where
+module _ (old new : NodeState) (is : IsNode old) (m : Message Value) (c : Claim) (body : m.body ≡ Offer c) (out : Out) (took : TookMessage old new m out)
+    (steps : StepsAreTheMembers) (messages : MessagesAreAnsweredAsInTheTheory) where
   abbrev s : State
   s = old.member
 
@@ -54,7 +60,7 @@ module _ (old new : NodeState) (is : IsNode old) (m : Message Value) (c : Claim)
       let now : new ≡ after old (record { answer = a; pieces = old.pieces }) = took.taken.state ∙ ap (after old) same in
       let found : number_found s.division m.path ≡ Some u = rw answers.named refl in
       let stays : facts_at (after old (record { answer = a; pieces = old.pieces })).member u ≡ facts_at (member_after s a) u =
-      ap (λ (x : State). facts_at x u) (members_step old (record { answer = a; pieces = old.pieces }) is) in
+      ap (λ (x : State). facts_at x u) (steps old (record { answer = a; pieces = old.pieces }) is) in
       let known : (facts_at (member_after s a) u).promised ≡ (outcome_of s u m.sender m.body).member.promised =
       ap (λ (n : nodes.Node Value). (n.facts u).promised) answers.is.node
       ∙ ap (λ (f : Facts Value). f.promised) (put_same (facts_at s) u _) in
@@ -69,4 +75,4 @@ module _ (old new : NodeState) (is : IsNode old) (m : Message Value) (c : Claim)
   pub promised_then : (facts_named new.member m.path).promised ≡ greater (facts_named s m.path).promised c
   promised_then =
       let given = answer_of old.pieces (protocol.heard s m) took.step took.is in
-      promised_so given.0 given.2 (message_is s m given.0 is.member given.1)
+      promised_so given.0 given.2 (messages s Q m given.0 is.member given.1)

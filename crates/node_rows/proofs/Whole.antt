@@ -1,10 +1,10 @@
 -- Bytes that spell a message.
-use Rattle.std.proofs.Common.{◌≡◌, Bool, false, None, Result, Ok, Err, IfOk, if◌then◌else◌, sym, subst, ap, ◌∙◌}
+use Rattle.std.proofs.Common.{◌≡◌, Bool, false, Result, Ok, Err, IfOk, if◌then◌else◌, sym, subst, ap, ◌∙◌}
 use Rattle.faults.specs.Bytes.{Text}
 use Rattle.ballots.specs.declared.message.Message.{Message}
-use Rattle.node.proofs.Finishing.{takes_when_running}
 use Rattle.node.specs.Arrival.{arrival_of}
 use Rattle.node.specs.Calls.{HasHandled}
+use Rattle.node.specs.Laws.{OnlyRunningNodesTake}
 use Rattle.node.specs.State.{NodeState}
 use Rattle.node.specs.Step.{Comes, heard, running_step, step_on}
 use Rattle.node.specs.declared.fault.NodeFault.{NodeFault}
@@ -13,29 +13,28 @@ use Rattle.node.specs.declared.ready.Out.{Out}
 use Rattle.node_rows.specs.Rows.{TookMessage}
 use Rattle.protocol.specs.State.{Value}
 use Rattle.protocol.specs.Step as members
-use Rattle.wire.proofs.DatagramTexts.{datagram_again}
-use Rattle.wire.specs.Messages.{IsMessage}
-use Rattle.wire.specs.Pieces.{carried_in}
 use Rattle.wire.specs.Reading.{datagram_of}
 use Rattle.wire.specs.Spelling.{datagram_text}
 use Rattle.wire.specs.declared.WireFault.{WireFault}
 use Rattle.wire.specs.declared.datagram.Datagram.{Datagram}
 use Rattle.wire.specs.declared.datagram.Datagram.TheVariants.{Whole}
 
-pub took : (old new : NodeState) (m : Message Value) (out : Out) → IsMessage m → carried_in m.body ≡ None
+-- the step on what is read as a message is that on the message
+took : (old new : NodeState) (m : Message Value) (out : Out) → datagram_of (datagram_text (Whole m)) ≡ Ok (Whole m) → OnlyRunningNodesTake
     → HasHandled old new (Comes (datagram_text (Whole m))) out → TookMessage old new m out
-took old new m out is none handled =
+took old new m out again running handled =
     let text : Text = datagram_text (Whole m) in
-    let runs : old.stopped ≡ false = takes_when_running old (Comes text) handled.step handled.takes in
-    let again : datagram_of text ≡ Ok (Whole m) = datagram_again (Whole m) (is, none) in
+    let runs : old.stopped ≡ false = running old (Comes text) handled.step handled.takes in
     let right : Ok handled.step ≡ heard old.pieces (members.heard old.member m) =
     handled.takes.right_is
     ∙ ap (λ (b : Bool). if b then Err fault.Stopped else running_step old.member old.pieces handled.takes.letter (Comes text)) runs
     ∙ ap (λ (r : Result Datagram WireFault). step_on old.member (arrival_of old.member old.pieces r)) again in
     record { step = handled.step; is = sym right; taken = handled.taken }
 
-pub if_took : (r : Result Out NodeFault) (old new : NodeState) (m : Message Value) (text : Text) → text ≡ datagram_text (Whole m) → IsMessage m → carried_in m.body ≡ None
+-- and so it is of what a call answers
+pub if_took : (r : Result Out NodeFault) (old new : NodeState) (m : Message Value) (text : Text) → text ≡ datagram_text (Whole m)
+    → datagram_of (datagram_text (Whole m)) ≡ Ok (Whole m) → OnlyRunningNodesTake
     → IfOk r (HasHandled old new (Comes text)) → IfOk r (TookMessage old new m)
-if_took (Ok out) old new m text same is none handled =
-    took old new m out is none (subst (λ (t : Text). HasHandled old new (Comes t) out) same handled)
-if_took (Err f) old new m text same is none handled = tt
+if_took (Ok out) old new m text same again running handled =
+    took old new m out again running (subst (λ (t : Text). HasHandled old new (Comes t) out) same handled)
+if_took (Err f) old new m text same again running handled = tt

@@ -2,16 +2,17 @@
 ghost use Rattle.std.specs.Prelude.{◌≡◌, IfOk, None};
 ghost use Rattle.agreement.specs.Member.{greater};
 ghost use Rattle.protocol.specs.Step.{facts_named};
-ghost use Rattle.node_rows.specs.Rows.{TookMessage};
+ghost use Rattle.node_rows.specs.Rows.{TookMessage, TookWithLast};
 ghost use Rattle.wire.specs.Messages.{IsMessage};
-ghost use Rattle.wire.specs.Pieces.{carried_in};
+ghost use Rattle.wire.specs.Pieces.{IsPiece, carried_in};
 
 use ballots::{Body, Message};
 use claims::Claim;
-use node::{Node, NodeFault, Out};
+use node::{Node, NodeFault, Out, only_running_nodes_take, steps_are_the_members};
+use protocol::members_follow_the_theory;
 use stable_record::Disk;
 use std::alloc::Global;
-use wire::{Datagram, encode};
+use wire::{Datagram, Piece, encode, pieces_join, texts_are_read_again};
 
 /// Writes a message down that carries no build, and hands it to a node.
 pub fn deliver<D: Disk>(
@@ -23,7 +24,28 @@ pub fn deliver<D: Disk>(
     requires whole { carried_in message.now.body ≡ None }
     ensures { IfOk result (TookMessage node.old.node node.new.node message.now) }
 {
+    texts_are_read_again();
+    only_running_nodes_take();
     let datagram = Datagram::Whole(message.copy()?);
+    let mut text = Vec::new(alloc);
+    encode(&datagram, &mut text)?;
+    node.handle_datagram(text.as_slice())
+}
+
+/// Writes a piece down, and hands it to a node. Where it is the last that was missing of a message,
+/// the node takes its member's step on that.
+pub fn deliver_piece<D: Disk>(
+    node: &mut Node<'_, D>,
+    alloc: Global,
+    piece: &Piece,
+) -> Result<Out, NodeFault>
+    requires piece { IsPiece piece.now }
+    ensures { IfOk result (TookWithLast node.old.node node.new.node piece.now) }
+{
+    texts_are_read_again();
+    pieces_join();
+    only_running_nodes_take();
+    let datagram = Datagram::Piece(piece.copy()?);
     let mut text = Vec::new(alloc);
     encode(&datagram, &mut text)?;
     node.handle_datagram(text.as_slice())
@@ -42,6 +64,8 @@ pub fn offer<D: Disk>(
     ensures { IfOk result (λ promised. promised
         ≡ greater (facts_named node.old.node.member message.now.path).promised claim) }
 {
+    steps_are_the_members();
+    members_follow_the_theory();
     let _len = node.log_len();
     let out = deliver(node, alloc, message)?;
     drop(out);

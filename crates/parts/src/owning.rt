@@ -7,6 +7,7 @@ ghost use Rattle.protocol.specs.State as members;
 ghost use Rattle.protocol.specs.declared.input.Input.{Input as Asks};
 ghost use Rattle.engine.specs.Division.{number_of};
 ghost use Rattle.parts.specs.Readied.{IsNoPart, IsPart};
+ghost use Rattle.parts.specs.Unfailed.{AllFailedBelow};
 
 use crate::Readied;
 use crate::readied::make_ready;
@@ -42,7 +43,37 @@ pub fn own<D: Disk>(
         × IsOwn node.old.node.member above
         (λ u. has_failed pending.now u || list_any (λ v. v == u) elsewhere.now) (Some own)) }
 {
-    match input_of(node.member(), above, pending, elsewhere)? {
+    own_from(node, above, pending, elsewhere, 0)
+}
+
+/// The same, where below this position no package is queued but those whose units failed.
+///
+/// # Errors
+///
+/// Those of `own`.
+pub fn own_from<D: Disk>(
+    node: &mut Node<'_, D>,
+    above: Option<u64>,
+    pending: &Pending,
+    elsewhere: &[u32],
+    from: u32,
+) -> Result<Option<Readied>, NodeFault>
+    requires up { node.old.node.stopped ≡ false }
+    requires below { AllFailedBelow node.old.node.member pending.now from }
+    ensures same { node.new ≡ node.old }
+    ensures part { IfOk result (λ r. (own : Option Asks)
+        × IsOwn node.old.node.member above
+        (λ u. has_failed pending.now u || list_any (λ v. v == u) elsewhere.now) own
+        × IsPart node.new own r) }
+    ensures refused { IfErr result (λ f. (own : Option Asks)
+        × IsOwn node.old.node.member above
+        (λ u. has_failed pending.now u || list_any (λ v. v == u) elsewhere.now) own
+        × IsNoPart node.new own f) }
+    ensures due { OnErr result ((own : Asks)
+        × IsOwn node.old.node.member above
+        (λ u. has_failed pending.now u || list_any (λ v. v == u) elsewhere.now) (Some own)) }
+{
+    match input_of(node.member(), above, pending, elsewhere, from)? {
         Some(input) => Ok(Some(make_ready(node, input)?)),
         None => Ok(None),
     }
@@ -54,7 +85,9 @@ fn input_of(
     above: Option<u64>,
     pending: &Pending,
     elsewhere: &[u32],
+    from: u32,
 ) -> Result<Option<Input>, Memory>
+    requires { AllFailedBelow member.now pending.now from }
     ensures own { IfOk result (IsOwn member.now above
         (λ u. has_failed pending.now u || list_any (λ v. v == u) elsewhere.now)) }
     ensures due { OnErr result ((own : Asks) × IsOwn member.now above
@@ -63,7 +96,7 @@ fn input_of(
     if let Some(open) = member.open_claim() {
         return Ok(Some(renewed(member, open.unit, above)?));
     }
-    match least_free(member, pending, elsewhere) {
+    match least_free(member, pending, elsewhere, from) {
         Some(position) => Ok(Some(claim_of(member, position)?)),
         None => Ok(None),
     }
@@ -98,12 +131,17 @@ fn claim_of(member: &Member<'_>, position: u32) -> Result<Input, Memory>
     })
 }
 
-/// The least queued position whose unit may be claimed.
-fn least_free(member: &Member<'_>, pending: &Pending, elsewhere: &[u32]) -> Option<u32>
+/// The least queued position whose unit may be claimed, looked for from this one on.
+pub(crate) fn least_free(
+    member: &Member<'_>,
+    pending: &Pending,
+    elsewhere: &[u32],
+    mut from: u32,
+) -> Option<u32>
+    requires { AllFailedBelow member.now pending.now from }
     ensures { IsLeastFree member.now
         (λ u. has_failed pending.now u || list_any (λ v. v == u) elsewhere.now) result }
 {
-    let mut from = 0;
     for _ in 0..member.tree().len() {
         let position = member.queued_from(from)?;
         if !is_barred(member, pending, elsewhere, position) {

@@ -1,3 +1,4 @@
+pub mod Below
 pub mod ByCase
 pub mod Chosen
 pub mod Coming

@@ -1,5 +1,5 @@
 -- What was chosen of a turn by what is made so far is made ready, or why it is not.
-use Rattle.std.proofs.Common.{◌≡◌, ◌≢◌, ◌==◌, ℕ, Option, None, Some, Result, Ok, Err, IfErr, IfOk, [], length, if◌then◌else◌, refl, sym, ap, subst, ◌∙◌, inl, inr, eq-eqb}
+use Rattle.std.proofs.Common.{◌≡◌, ◌≢◌, ℕ, Option, None, Some, Result, Ok, Err, IfErr, IfOk, [], length, if◌then◌else◌, refl, sym, ap, subst, ◌∙◌, inl, inr, eq-eqb}
 use Rattle.std.specs.List.{range_with_len}
 use Rattle.std.specs.Prelude.{List, option_and_then, option_map}
 use Rattle.choice.specs.Choice.{Chosen, comes_to, in_turn}

@@ -1,5 +1,5 @@
 -- What is handed in to a turn, and what it chooses by that.
-use Rattle.std.specs.Prelude.{◌≡◌, ℕ, Bool, List, [], Option, is_some, option_map}
+use Rattle.std.specs.Prelude.{◌≡◌, ℕ, Bool, Option, is_some, option_map}
 use Rattle.choice.specs.Choice.{Chosen, Here, IsChoice, has_job}
 use Rattle.choice.specs.Pending.{Pending}
 use Rattle.live_choice.specs.Live.{first_answer, live_choice}

@@ -24,6 +24,7 @@ ghost use Rattle.node.specs.Step.{Comes, Does};
 ghost use Rattle.ports.specs.Kept.{GoesOnBy, KeepsVouching};
 ghost use Rattle.protocol.specs.declared.input.Input.{Input as Asks};
 ghost use Rattle.parts.specs.Readied.{IsNoPart, IsPart};
+ghost use Rattle.parts.specs.Unfailed.{AllFailedBelow};
 ghost use Rattle.solo.specs.Faults.{IsTurnFault};
 ghost use Rattle.solo.specs.Handed.{AllBuilds};
 ghost use Rattle.solo.specs.State.{member_up, only};
@@ -31,14 +32,14 @@ ghost use Rattle.solo.specs.inside.Turning.{HasChosen, HasCome, IsMade, IsNotTak
 
 use choice::{Pending, TurnFault};
 use node::{Node, NodeFault};
-use parts::{Readied, answer, own, take_in};
+use parts::{Readied, answer, own_from, take_in, unfailed_from};
 use ports::Port;
 use protocol::Packages;
 use stable_record::Disk;
 
 /// What the node does in the turn, if anything, with its step ready. The first of these that
 /// applies: it answers its job; it takes what came for it, for which the port is asked once; it
-/// does something of itself.
+/// does something of itself. Below `unfailed` no package is queued but those whose units failed.
 ///
 /// # Errors
 ///
@@ -48,8 +49,10 @@ pub(crate) fn choose<D: Disk, P: Port>(
     node: &mut Node<'_, D>,
     port: &mut P,
     pending: &Pending,
+    unfailed: &mut u32,
     builds: &Packages,
 ) -> Result<Option<Readied>, TurnFault>
+    requires { AllFailedBelow node.old.node.member pending.now unfailed.old }
     ensures logged { IsLogged node.old }
     ensures log { node.new.log ≡ node.old.log }
     ensures offered { GoesOnBy [] (P.offered port.old) (P.offered port.new) }
@@ -60,6 +63,7 @@ pub(crate) fn choose<D: Disk, P: Port>(
         (solo_of node.old pending.now port.old) (solo_of node.new pending.now port.new)
         (AllBuilds builds.now) (λ asked. ⊥)) }
     ensures vouches_on { KeepsVouching P.vouches port.old port.new }
+    ensures below { AllFailedBelow node.old.node.member pending.now unfailed.new }
 {
     let me = node.member().me();
     if let Some(readied) = answered(node, builds)? {
@@ -69,7 +73,7 @@ pub(crate) fn choose<D: Disk, P: Port>(
     if let Some(readied) = taken_in(node, me, came)? {
         return Ok(Some(readied));
     }
-    done(node, me, pending)
+    done(node, me, pending, unfailed)
 }
 
 /// The node's answer to its job, if it is up and has one.
@@ -133,9 +137,11 @@ fn done<D: Disk>(
     node: &mut Node<'_, D>,
     me: u8,
     pending: &Pending,
+    unfailed: &mut u32,
 ) -> Result<Option<Readied>, TurnFault>
     requires me { me ≡ node.old.node.member.me }
     requires few { me < 9 }
+    requires below { AllFailedBelow node.old.node.member pending.now unfailed.old }
     ensures same { node.new ≡ node.old }
     ensures part { IfOk result (λ r. (own : Option Asks)
         × IsOwnIf (only node.old.node) (length node.old.node.member.weights) pending.now me
@@ -145,11 +151,13 @@ fn done<D: Disk>(
         × IsOwnIf (only node.old.node) (length node.old.node.member.weights) pending.now me
         (member_up node.old.node) own
         × (f ≡ told g) × IsNoPart node.old own g) }
+    ensures below { AllFailedBelow node.old.node.member pending.now unfailed.new }
 {
     if node.is_stopped() {
         return Ok(None);
     }
-    match own(node, pending.above(me), pending, &[]) {
+    *unfailed = unfailed_from(node.member(), pending, *unfailed);
+    match own_from(node, pending.above(me), pending, &[], *unfailed) {
         Ok(readied) => Ok(readied),
         Err(fault) => Err(told(fault)),
     }

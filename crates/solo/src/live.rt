@@ -122,7 +122,13 @@ impl<'a, D: Disk, P: Port> Solo<'a, D, P> {
     {
         match choose_live(&mut self.node, &mut self.port, &self.pending, made, wish)? {
             Some(readied) => {
-                let act = take(&mut self.node, &mut self.pending, &mut self.port, readied)?;
+                let act = take(
+                    &mut self.node,
+                    &mut self.pending,
+                    &mut self.port,
+                    &mut self.unfailed,
+                    readied,
+                )?;
                 Ok(Some(act))
             }
             None => Ok(None),

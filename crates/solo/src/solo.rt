@@ -43,6 +43,9 @@ pub struct Solo<'a, D: Disk, P: Port> {
     pub(crate) node: Node<'a, D>,
     pub(crate) pending: Pending,
     pub(crate) port: P,
+    /// Below this position no package is queued but those whose units failed, so that no turn looks
+    /// at these again.
+    pub(crate) unfailed: u32,
 }
 
 impl<'a, D: Disk, P: Port> Model for Solo<'a, D, P> {
@@ -51,6 +54,10 @@ impl<'a, D: Disk, P: Port> Model for Solo<'a, D, P> {
     ghost Value = { SoloState D P };
 
     ghost view = { λ s. record { node = s.node; pending = s.pending; port = s.port } };
+
+    ghost use Rattle.parts.specs.Unfailed.{AllFailedBelow};
+
+    ghost invariant = { λ s. AllFailedBelow s.node.node.member s.pending s.unfailed };
 }
 
 impl<'a, D: Disk, P: Port> Solo<'a, D, P> {
@@ -71,6 +78,7 @@ impl<'a, D: Disk, P: Port> Solo<'a, D, P> {
             node,
             pending,
             port,
+            unfailed: 0,
         }
     }
 
@@ -111,12 +119,7 @@ impl<'a, D: Disk, P: Port> Solo<'a, D, P> {
         ensures node { result.0 ≡ self.entry.node }
         ensures port { result.1 ≡ self.entry.port }
     {
-        let Solo {
-            node,
-            pending,
-            port,
-        } = self;
-        drop(pending);
+        let Solo { node, port, .. } = self;
         (node, port)
     }
 
@@ -170,9 +173,21 @@ impl<'a, D: Disk, P: Port> Solo<'a, D, P> {
         ensures kept { D.is_kept self.new.node.log.disk → D.is_kept self.old.node.log.disk }
         ensures vouches_on { KeepsVouching P.vouches self.old.port self.new.port }
     {
-        match choose(&mut self.node, &mut self.port, &self.pending, builds)? {
+        match choose(
+            &mut self.node,
+            &mut self.port,
+            &self.pending,
+            &mut self.unfailed,
+            builds,
+        )? {
             Some(readied) => {
-                let act = take(&mut self.node, &mut self.pending, &mut self.port, readied)?;
+                let act = take(
+                    &mut self.node,
+                    &mut self.pending,
+                    &mut self.port,
+                    &mut self.unfailed,
+                    readied,
+                )?;
                 Ok(Some(act))
             }
             None => Ok(None),

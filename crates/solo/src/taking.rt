@@ -7,6 +7,7 @@ ghost use Rattle.node.specs.Parcels.{datagrams_to};
 ghost use Rattle.node.specs.Step.{IsReadyFor, after, note_in, taken_by};
 ghost use Rattle.parts.specs.Offered.{WasOffered, parcels_from};
 ghost use Rattle.parts.specs.Readied.{IsReadied};
+ghost use Rattle.parts.specs.Unfailed.{AllFailedBelow};
 ghost use Rattle.ports.specs.Kept.{GoesOnBy, KeepsVouching};
 ghost use Rattle.stable_record.specs.Faults.{HasRisen};
 ghost use Rattle.solo.specs.Turn.{IsUntouched, LeavesAtMost};
@@ -15,13 +16,13 @@ ghost use Rattle.solo.specs.inside.Turning.{IsTakingFault, TookStep, solo_of};
 use crate::choosing::told;
 use choice::{Act, Pending, TurnFault};
 use node::{Node, NodeFault, Ready};
-use parts::{Readied, offer};
+use parts::{Readied, offer, unfailed_after};
 use ports::Port;
 use stable_record::{Disk, LogFault};
 
 /// The node takes the step that is ready: what follows for later turns is kept; the step's note
 /// goes to the log; and then its sends are offered to the port. Where it is refused nothing is
-/// kept or offered.
+/// kept or offered. Below `unfailed` no package is queued but those whose units failed.
 ///
 /// # Errors
 ///
@@ -30,9 +31,11 @@ pub(crate) fn take<D: Disk, P: Port>(
     node: &mut Node<'_, D>,
     pending: &mut Pending,
     port: &mut P,
+    unfailed: &mut u32,
     readied: Readied,
 ) -> Result<Act, TurnFault>
-    requires { IsReadied node.old (asked_by readied.act) readied }
+    requires readied { IsReadied node.old (asked_by readied.act) readied }
+    requires below { AllFailedBelow node.old.node.member pending.old unfailed.old }
     ensures act { IfOk result (λ act. act ≡ readied.act) }
     ensures taken { IfOk result (λ act. TookStep P.offered P.does
         (solo_of node.old pending.old port.old) (solo_of node.new pending.new port.new)
@@ -53,8 +56,10 @@ pub(crate) fn take<D: Disk, P: Port>(
         ⊎ IsUntouched D.is_kept D.history (solo_of node.old pending.old port.old)
         (solo_of node.new pending.new port.new)) }
     ensures kept { D.is_kept node.new.log.disk → D.is_kept node.old.log.disk }
+    ensures below { AllFailedBelow node.new.node.member pending.new unfailed.new }
 {
     let me = node.me();
+    *unfailed = unfailed_after(&readied.ready, *unfailed);
     let before = match pending.keep(node.member(), me, &readied.act) {
         Ok(before) => before,
         Err(memory) => {

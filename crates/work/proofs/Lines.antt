@@ -1,5 +1,5 @@
 -- Lists of lines, and the texts that they are.
-use Rattle.std.proofs.Common.{◌≡◌, ℕ, suc, Bool, true, false, ◌&&◌, not, List, [], ◌∷◌, ◌++◌, All, Ok, codes, drop, get_or, map, refl, sym, ap, ◌∙◌, append_assoc, arith}
+use Rattle.std.proofs.Common.{◌≡◌, suc, Bool, true, false, List, [], ◌∷◌, ◌++◌, All, codes, drop, get_or, map, refl, sym, ap, ◌∙◌, append_assoc, arith}
 use Rattle.std.specs.List.{list_all}
 use Rattle.std.proofs.lemmas.Bool.{and_parts, not-true}
 use Rattle.faults.specs.Bytes.{Text, has_byte}
@@ -10,7 +10,7 @@ use Rattle.package_record.specs.Reading.{cut_in}
 use Rattle.package_record.proofs.ReadFields.{cut_read}
 use Rattle.package_record.proofs.Steps.{ok_is}
 use Rattle.package_record.proofs.Texts.{ended_more}
-use Rattle.work.specs.Tasks.{Task, host_line, job_text, package_line, task_of, task_text}
+use Rattle.work.specs.Tasks.{Task, host_line, job_text, package_line, task_of, task_text, tree_line}
 
 -- no line has an LF
 abbrev pub are_lines : List Text → Bool
@@ -34,6 +34,12 @@ no_lines = refl
 nothing_ends : (l rest : Text) → [] ≡ l ++ 10 ∷ rest → ⊥
 nothing_ends [] rest is = cc
 nothing_ends (x ∷ l) rest is = cc
+
+-- texts that are the same begin with the same line
+pub same_first : (l m : Text) (ls ms : List Text) → has_byte 10 l ≡ false → has_byte 10 m ≡ false
+    → ended (l ∷ ls) ≡ ended (m ∷ ms) → l ≡ m
+same_first l m ls ms no_l no_m is =
+    (same_halves l m (ended ls) (ended ms) no_l no_m (sym (first_line l ls) ∙ is ∙ first_line m ms)).0
 
 -- lines of one text are the same lines
 pub same_lines : (ls ms : List Text) → are_lines ls ≡ true → are_lines ms ≡ true → ended ls ≡ ended ms → ls ≡ ms
@@ -82,13 +88,16 @@ same_things f Is tells (x ∷ xs) (y ∷ ys) are other is =
 -- ---- the text of a job
 
 -- the host's line and the claim's behind the text of the task
-pub job_told : (job : jobs.Task) (front mid whole : Text) → front ≡ task_text (task_of job)
-    → mid ≡ front ++ ended (host_line job.host ∷ []) → whole ≡ mid ++ ended (claim_line job.claim ∷ []) → whole ≡ job_text job
-job_told job front mid whole task host claim =
+pub job_told : (tree : Text) (job : jobs.Task) (front mid whole : Text) → front ≡ task_text tree (task_of job)
+    → mid ≡ front ++ ended (host_line job.host ∷ []) → whole ≡ mid ++ ended (claim_line job.claim ∷ []) → whole ≡ job_text tree job
+job_told tree job front mid whole task host claim =
     ended_more [] front whole _ (host_line job.host ∷ claim_line job.claim ∷ []) task (ended_more front mid whole _ _ host claim)
 
--- the lines of its packages and of its signatures behind the unit's
-pub task_told : (t : Task) (first mid whole : Text) → first ≡ ended ((codes "@unit " ++ t.unit) ∷ [])
-    → mid ≡ first ++ ended (map package_line t.packages) → whole ≡ mid ++ ended (map built_line t.built) → whole ≡ task_text t
-task_told t first mid whole unit packages built =
-    ended_more [] mid whole _ (map built_line t.built) (ended_more [] first mid ((codes "@unit " ++ t.unit) ∷ []) _ unit packages) built
+-- the lines of its packages and of its signatures behind the tree's and the unit's
+pub task_told : (tree : Text) (t : Task) (head first mid whole : Text) → head ≡ ended (tree_line tree ∷ [])
+    → first ≡ head ++ ended ((codes "@unit " ++ t.unit) ∷ []) → mid ≡ first ++ ended (map package_line t.packages)
+    → whole ≡ mid ++ ended (map built_line t.built) → whole ≡ task_text tree t
+task_told tree t head first mid whole front unit packages built =
+    let two = ended_more [] head first (tree_line tree ∷ []) ((codes "@unit " ++ t.unit) ∷ []) front unit in
+    let more = ended_more [] first mid (tree_line tree ∷ (codes "@unit " ++ t.unit) ∷ []) (map package_line t.packages) two packages in
+    ended_more [] mid whole (tree_line tree ∷ (codes "@unit " ++ t.unit) ∷ map package_line t.packages) (map built_line t.built) more built

@@ -1,6 +1,5 @@
 -- What texts of tasks and of jobs tell.
-use Rattle.std.proofs.Common.{◌≡◌, ◌≢◌, ◌⊎◌, ℕ, suc, ◌^◌, ◌<◌, ◌≤◌, true, false, List, [], ◌∷◌, ◌++◌, All, Ok, codes, decimal, drop, get_or, map, true≢false, inl, inr, refl, sym, ap, ◌∙◌, append_assoc, arith}
-use Rattle.std.specs.List.{list_all}
+use Rattle.std.proofs.Common.{◌≡◌, ℕ, suc, ◌^◌, ◌<◌, ◌≤◌, true, false, List, [], ◌∷◌, ◌++◌, All, codes, decimal, drop, get_or, map, true≢false, inl, inr, refl, sym, ap, ◌∙◌, append_assoc, arith}
 use Rattle.std.specs.Str.{bytes_eq}
 use Rattle.std.specs.Str.Parse.{digits_value}
 use Rattle.std.proofs.lemmas.Bool.{and_from, cases_Bool}
@@ -25,9 +24,9 @@ use Rattle.package_record.proofs.ReadFields.{claim_read, decimal_value, dependen
 use Rattle.package_record.proofs.ReadWhole.{line_lacks, number_lacks}
 use Rattle.package_record.proofs.Steps.{ok_is}
 use Rattle.package_record.proofs.Texts.{ended-append}
-use Rattle.work.specs.Laws.{Collide, IsJob, IsTask, NameTellsTheTask, TaskTextIsFirst, TextTellsTheJob, TextTellsTheTask}
-use Rattle.work.specs.Tasks.{Task, host_line, job_text, name_of, package_line, task_lines, task_of, task_text}
-use Rattle.work.proofs.Lines.{Stops, are_lines, heads_are, same_front, same_lines, same_things}
+use Rattle.work.specs.Laws.{IsJob, IsTask, NameTellsTheTask, TaskTextIsFirst, TextTellsTheJob, TextTellsTheTask, TextTellsTheTree}
+use Rattle.work.specs.Tasks.{Task, host_line, package_line, task_lines, task_of, task_text, tree_line}
+use Rattle.work.proofs.Lines.{Stops, are_lines, heads_are, same_first, same_front, same_lines, same_things}
 
 -- ---- lines, word first
 
@@ -46,6 +45,9 @@ kind [] = 0
 kind (line ∷ lines) = get_or line 1 0
 
 -- ---- no line has an LF
+
+tree_lacks : (tree : Text) → has_byte 10 (tree_line tree) ≡ false
+tree_lacks tree = hex_lacks 10 tree refl refl
 
 package_lacks : (path : Text) → IsPath path → has_byte 10 path ≡ false
 package_lacks path good = path_lacks 10 path refl refl refl good
@@ -72,12 +74,13 @@ are_lines_of f Is lack (x ∷ xs) are =
 lines_behind : (ls ms : List Text) → are_lines ls ≡ true → are_lines ms ≡ true → are_lines (ls ++ ms) ≡ true
 lines_behind ls ms one other = list_all-append (lacks 10) ls ms ∙ and_from _ _ one other
 
-task_has_lines : (t : Task) → IsTask t → are_lines (task_lines t) ≡ true
-task_has_lines t good =
-    and_from _ _ (line_lacks (codes "@unit " ++ t.unit) (package_lacks t.unit good.unit))
+task_has_lines : (tree : Text) (t : Task) → IsTask t → are_lines (task_lines tree t) ≡ true
+task_has_lines tree t good =
+    and_from _ _ (line_lacks (tree_line tree) (tree_lacks tree))
+    (and_from _ _ (line_lacks (codes "@unit " ++ t.unit) (package_lacks t.unit good.unit))
     (lines_behind (map package_line t.packages) (map built_line t.built)
     (are_lines_of package_line IsPath package_lacks t.packages good.packages)
-    (are_lines_of built_line IsDep built_lacks t.built good.built))
+    (are_lines_of built_line IsDep built_lacks t.built good.built)))
 
 -- the lines of a job's host and claim
 abbrev last_lines : jobs.Task → List Text
@@ -89,6 +92,16 @@ last_are_lines job good =
     (and_from _ _ (line_lacks (claim_line job.claim) (claim_lacks job.claim good.claim)) refl)
 
 -- ---- what each line tells
+
+same_digits : (xs ys : Text) → IsBytes xs → IsBytes ys → encode_lower xs ≡ encode_lower ys → xs ≡ ys
+same_digits xs ys bytes_x bytes_y is =
+    let x = decode_of-encode_lower xs bytes_x in
+    let y = decode_of-encode_lower ys bytes_y in
+    let same : decode_of (encode_lower xs) ≡ decode_of (encode_lower ys) = ap decode_of is in
+    cc
+
+tree_tells : (tree other : Text) → IsBytes tree → IsBytes other → tree_line tree ≡ tree_line other → tree ≡ other
+tree_tells tree other bytes its is = same_digits tree other bytes its (ap (drop 6) is)
 
 built_tells : (d e : Dep) → IsDep d → IsDep e → built_line d ≡ built_line e → d ≡ e
 built_tells d e good other is =
@@ -109,8 +122,8 @@ host_tells g h small other is =
 
 -- ---- a task's lines, and others behind them
 
-abbrev with_last : Task → List Text → List Text
-with_last t last = (codes "@unit " ++ t.unit) ∷ (map package_line t.packages ++ (map built_line t.built ++ last))
+abbrev with_last : Text → Task → List Text → List Text
+with_last tree t last = tree_line tree ∷ ((codes "@unit " ++ t.unit) ∷ (map package_line t.packages ++ (map built_line t.built ++ last)))
 
 -- what stands behind a task's lines goes on with none of theirs
 record IsLast (last : List Text) : Type 0 where
@@ -136,11 +149,16 @@ built_is_next (d ∷ ds) last is_last path rest is = let no : 98 ≡ 112 = ap ki
 abbrev made : Text → List Text → List Dep → Task
 made unit packages built = record { unit = unit; packages = packages; built = built }
 
-same_task : (t u : Task) (last other : List Text) → IsTask t → IsTask u → IsLast last → IsLast other
-    → with_last t last ≡ with_last u other → (t ≡ u) × (last ≡ other)
-same_task t u last other good fine is_last is_other is =
+-- the lines of the trees are the same, and so are those behind them
+same_tree : (tree its : Text) (t u : Task) (last other : List Text) → IsBytes tree → IsBytes its
+    → with_last tree t last ≡ with_last its u other → tree ≡ its
+same_tree tree its t u last other bytes fine is = tree_tells tree its bytes fine (ap (λ (ls : List Text). get_or ls 0 []) is)
+
+same_task : (tree its : Text) (t u : Task) (last other : List Text) → IsTask t → IsTask u → IsLast last → IsLast other
+    → with_last tree t last ≡ with_last its u other → (t ≡ u) × (last ≡ other)
+same_task tree its t u last other good fine is_last is_other is =
     let lines = heads_are (codes "@unit " ++ t.unit) (codes "@unit " ++ u.unit) (map package_line t.packages ++ (map built_line t.built ++ last))
-    (map package_line u.packages ++ (map built_line u.built ++ other)) is in
+    (map package_line u.packages ++ (map built_line u.built ++ other)) (ap (drop 1) is) in
     let unit : t.unit ≡ u.unit = ap (drop 6) lines.0 in
     let front = same_front package_line t.packages u.packages _ _ (built_is_next t.built last is_last) (built_is_next u.built other is_other) lines.1 in
     let behind = same_front built_line t.built u.built last other is_last.built is_other.built front.1 in
@@ -148,55 +166,65 @@ same_task t u last other good fine is_last is_other is =
     let built = same_things built_line IsDep built_tells t.built u.built good.built fine.built behind.0 in
     (ap (λ x. made x t.packages t.built) unit ∙ ap (λ x. made u.unit x t.built) packages ∙ ap (λ x. made u.unit u.packages x) built, behind.1)
 
-without_last : (t : Task) → task_lines t ≡ with_last t []
-without_last t =
-    ap (λ (ls : List Text). (codes "@unit " ++ t.unit) ∷ (map package_line t.packages ++ ls)) (sym (append-nil (map built_line t.built)))
+without_last : (tree : Text) (t : Task) → task_lines tree t ≡ with_last tree t []
+without_last tree t =
+    ap (λ (ls : List Text). tree_line tree ∷ ((codes "@unit " ++ t.unit) ∷ (map package_line t.packages ++ ls)))
+    (sym (append-nil (map built_line t.built)))
 
-behind_task : (t : Task) (last : List Text) → task_lines t ++ last ≡ with_last t last
-behind_task t last =
-    ap (λ (ls : List Text). (codes "@unit " ++ t.unit) ∷ ls) (append_assoc (map package_line t.packages) (map built_line t.built) last)
+behind_task : (tree : Text) (t : Task) (last : List Text) → task_lines tree t ++ last ≡ with_last tree t last
+behind_task tree t last =
+    ap (λ (ls : List Text). tree_line tree ∷ ((codes "@unit " ++ t.unit) ∷ ls))
+    (append_assoc (map package_line t.packages) (map built_line t.built) last)
 
 -- ---- the laws
 
+pub text_tells_the_tree : TextTellsTheTree
+text_tells_the_tree tree other t u bytes fine is =
+    tree_tells tree other bytes fine (same_first (tree_line tree) (tree_line other)
+    ((codes "@unit " ++ t.unit) ∷ (map package_line t.packages ++ map built_line t.built))
+    ((codes "@unit " ++ u.unit) ∷ (map package_line u.packages ++ map built_line u.built))
+    (tree_lacks tree) (tree_lacks other) is)
+
 pub text_tells_the_task : TextTellsTheTask
-text_tells_the_task t u good fine is =
-    let lines = same_lines (task_lines t) (task_lines u) (task_has_lines t good) (task_has_lines u fine) is in
-    (same_task t u [] [] good fine none_is_last none_is_last (sym (without_last t) ∙ lines ∙ without_last u)).0
+text_tells_the_task tree other t u bytes its good fine is =
+    let lines = same_lines (task_lines tree t) (task_lines other u) (task_has_lines tree t good) (task_has_lines other u fine) is in
+    let whole = sym (without_last tree t) ∙ lines ∙ without_last other u in (
+      same_tree tree other t u [] [] bytes its whole,
+      (same_task tree other t u [] [] good fine none_is_last none_is_last whole).0,
+    )
 
 abbrev job_of : Task → ℕ → Claim → jobs.Task
 job_of t host claim = record { path = t.unit; packages = t.packages; claim = claim; host = host; deps = t.built }
 
-job_has_lines : (job : jobs.Task) → IsJob job → are_lines (task_lines (task_of job) ++ last_lines job) ≡ true
-job_has_lines job good = lines_behind (task_lines (task_of job)) (last_lines job) (task_has_lines (task_of job) good.task) (last_are_lines job good)
+job_has_lines : (tree : Text) (job : jobs.Task) → IsJob job → are_lines (task_lines tree (task_of job) ++ last_lines job) ≡ true
+job_has_lines tree job good =
+    lines_behind (task_lines tree (task_of job)) (last_lines job) (task_has_lines tree (task_of job) good.task) (last_are_lines job good)
 
 pub text_tells_the_job : TextTellsTheJob
-text_tells_the_job j k good fine is =
-    let lines = same_lines (task_lines (task_of j) ++ last_lines j) (task_lines (task_of k) ++ last_lines k) (job_has_lines j good) (job_has_lines k fine) is in
-    let parts = same_task (task_of j) (task_of k) (last_lines j) (last_lines k) good.task fine.task (host_is_last j) (host_is_last k)
-    (sym (behind_task (task_of j) (last_lines j)) ∙ lines ∙ behind_task (task_of k) (last_lines k)) in
+text_tells_the_job tree other j k bytes its good fine is =
+    let lines = same_lines (task_lines tree (task_of j) ++ last_lines j) (task_lines other (task_of k) ++ last_lines k)
+    (job_has_lines tree j good) (job_has_lines other k fine) is in
+    let whole = sym (behind_task tree (task_of j) (last_lines j)) ∙ lines ∙ behind_task other (task_of k) (last_lines k) in
+    let parts = same_task tree other (task_of j) (task_of k) (last_lines j) (last_lines k) good.task fine.task (host_is_last j) (host_is_last k) whole in
     let hosts = heads_are (host_line j.host) (host_line k.host) (claim_line j.claim ∷ []) (claim_line k.claim ∷ []) parts.1 in
     let claims = heads_are (claim_line j.claim) (claim_line k.claim) [] [] hosts.1 in
     let host = host_tells j.host k.host (omega (arith, good.host)) (omega (arith, fine.host)) hosts.0 in
     let claim = claim_tells j.claim k.claim good.claim fine.claim claims.0 in
-    ap (λ t. job_of t j.host j.claim) parts.0 ∙ ap (λ h. job_of (task_of k) h j.claim) host ∙ ap (λ c. job_of (task_of k) k.host c) claim
-
-same_digits : (xs ys : Text) → IsBytes xs → IsBytes ys → encode_lower xs ≡ encode_lower ys → xs ≡ ys
-same_digits xs ys bytes_x bytes_y is =
-    let x = decode_of-encode_lower xs bytes_x in
-    let y = decode_of-encode_lower ys bytes_y in
-    let same : decode_of (encode_lower xs) ≡ decode_of (encode_lower ys) = ap decode_of is in
-    cc
+    let same = ap (λ t. job_of t j.host j.claim) parts.0 ∙ ap (λ h. job_of (task_of k) h j.claim) host ∙ ap (λ c. job_of (task_of k) k.host c) claim in
+    (same_tree tree other (task_of j) (task_of k) (last_lines j) (last_lines k) bytes its whole, same)
 
 pub name_tells_the_task : NameTellsTheTask
-name_tells_the_task t u good fine is =
-    let digests = same_digits (sha256 (task_text t)) (sha256 (task_text u)) (sha256_bytes (task_text t)) (sha256_bytes (task_text u)) is in
-    elim (cases_Bool (bytes_eq (task_text t) (task_text u))) [
-      | inl same ↦ inl (text_tells_the_task t u good fine ((bytes_eq-Decides (task_text t) (task_text u)).0 same))
+name_tells_the_task tree other t u bytes its good fine is =
+    let one = task_text tree t in
+    let two = task_text other u in
+    let digests = same_digits (sha256 one) (sha256 two) (sha256_bytes one) (sha256_bytes two) is in
+    elim (cases_Bool (bytes_eq one two)) [
+      | inl same ↦ inl (text_tells_the_task tree other t u bytes its good fine ((bytes_eq-Decides one two).0 same))
       | inr differ ↦ inr (record {
-        differ = λ same. true≢false (sym ((bytes_eq-Decides (task_text t) (task_text u)).1 same) ∙ differ);
+        differ = λ same. true≢false (sym ((bytes_eq-Decides one two).1 same) ∙ differ);
         same = digests;
       })
     ]
 
 pub task_text_is_first : TaskTextIsFirst
-task_text_is_first job = (ended (last_lines job), ended-append (task_lines (task_of job)) (last_lines job))
+task_text_is_first tree job = (ended (last_lines job), ended-append (task_lines tree (task_of job)) (last_lines job))

@@ -1,6 +1,7 @@
 -- What holds of tasks, of jobs, and of their texts.
 use Rattle.std.specs.Prelude.{◌≡◌, ◌≢◌, ◌≤◌, ◌⊎◌, ◌++◌, All}
 use Rattle.faults.specs.Bytes.{Text}
+use Rattle.hex.specs.Hex.{IsBytes}
 use Rattle.sha2.specs.Sha256.{sha256}
 use Rattle.pkgpath.specs.PkgPath.{IsPath}
 use Rattle.claims.specs.Claim.{IsClaim}
@@ -20,27 +21,39 @@ pub record IsJob (job : jobs.Task) : Type 0 where
   pub host : job.host ≤ greatest_host
   pub claim : IsClaim job.claim
 
--- Two tasks of one text are one.
-abbrev pub TextTellsTheTask : Type 0
-TextTellsTheTask = (t u : Task) → IsTask t → IsTask u → task_text t ≡ task_text u → t ≡ u
+-- Of another tree it is another text, whatever the tasks.
+abbrev pub TextTellsTheTree : Type 0
+TextTellsTheTree =
+    (tree other : Text) (t u : Task) → IsBytes tree → IsBytes other
+    → task_text tree t ≡ task_text other u → tree ≡ other
 
--- Two jobs of one text are one.
+-- Two tasks of one text are one, of one tree.
+abbrev pub TextTellsTheTask : Type 0
+TextTellsTheTask =
+    (tree other : Text) (t u : Task) → IsBytes tree → IsBytes other → IsTask t → IsTask u
+    → task_text tree t ≡ task_text other u → (tree ≡ other) × (t ≡ u)
+
+-- Two jobs of one text are one, of one tree.
 abbrev pub TextTellsTheJob : Type 0
 TextTellsTheJob =
-    (j k : jobs.Task) → IsJob j → IsJob k → job_text j ≡ job_text k → j ≡ k
+    (tree other : Text) (j k : jobs.Task) → IsBytes tree → IsBytes other → IsJob j → IsJob k
+    → job_text tree j ≡ job_text other k → (tree ≡ other) × (j ≡ k)
 
 -- two texts of one SHA-256
 pub record Collide (x y : Text) : Type 0 where
   pub differ : x ≢ y
   pub same : sha256 x ≡ sha256 y
 
--- Two tasks of one name are one, or else their texts are two that nobody is known to have found.
+-- Two tasks of one name are one, of one tree, or else their texts are two that nobody is known to
+-- have found.
 abbrev pub NameTellsTheTask : Type 0
 NameTellsTheTask =
-    (t u : Task) → IsTask t → IsTask u → name_of t ≡ name_of u
-    → (t ≡ u) ⊎ Collide (task_text t) (task_text u)
+    (tree other : Text) (t u : Task) → IsBytes tree → IsBytes other → IsTask t → IsTask u
+    → name_of tree t ≡ name_of other u
+    → ((tree ≡ other) × (t ≡ u)) ⊎ Collide (task_text tree t) (task_text other u)
 
 -- A job's text begins with that of its task.
 abbrev pub TaskTextIsFirst : Type 0
 TaskTextIsFirst =
-    (job : jobs.Task) → (rest : Text) × (job_text job ≡ task_text (task_of job) ++ rest)
+    (tree : Text) (job : jobs.Task)
+    → (rest : Text) × (job_text tree job ≡ task_text tree (task_of job) ++ rest)

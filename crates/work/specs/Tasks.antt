@@ -25,19 +25,26 @@ package_line path = codes "@package " ++ path
 abbrev pub host_line : ℕ → Text
 host_line host = codes "@host " ++ decimal host
 
--- a line for the unit, then one for each package, then one for each signature
-abbrev pub task_lines : Task → List Text
-task_lines t = (codes "@unit " ++ t.unit) ∷ map package_line t.packages ++ map built_line t.built
+-- the line of the digest of the tree whose unit is to be built
+abbrev pub tree_line : Text → Text
+tree_line tree = codes "@tree " ++ encode_lower tree
 
--- the text of a task: these lines
-abbrev pub task_text : Task → Text
-task_text t = ended (task_lines t)
+-- a line for the tree's digest, one for the unit, then one for each package, then one for each
+-- signature
+abbrev pub task_lines : Text → Task → List Text
+task_lines tree t =
+    tree_line tree
+    ∷ (codes "@unit " ++ t.unit) ∷ map package_line t.packages ++ map built_line t.built
+
+-- the text of a task in a tree of this digest: these lines
+abbrev pub task_text : Text → Task → Text
+task_text tree t = ended (task_lines tree t)
 
 -- the text of a job: the lines of its task, and behind them its host and its claim
-abbrev pub job_text : jobs.Task → Text
-job_text job =
-    ended (task_lines (task_of job) ++ host_line job.host ∷ claim_line job.claim ∷ [])
+abbrev pub job_text : Text → jobs.Task → Text
+job_text tree job =
+    ended (task_lines tree (task_of job) ++ host_line job.host ∷ claim_line job.claim ∷ [])
 
 -- the name of a task: the SHA-256 of its text, in hexadecimal digits
-abbrev pub name_of : Task → Text
-name_of t = encode_lower (sha256 (task_text t))
+abbrev pub name_of : Text → Task → Text
+name_of tree t = encode_lower (sha256 (task_text tree t))

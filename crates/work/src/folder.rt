@@ -80,23 +80,36 @@ impl<'f> Folder<'f> {
         Ok(folder)
     }
 
-    /// Posts a job, and answers its name. One that stands there already is replaced by it: its task
-    /// is the same, and host and claim are told anew.
+    /// Posts a job of a tree of this digest, and answers its name. One that stands there already is
+    /// replaced by it: its task is the same, and host and claim are told anew.
     ///
     /// # Errors
     ///
     /// What the system refused: then what stood there stands, or this job does.
-    pub fn post(&self, rt: &HostRuntime, job: &Job) -> Result<Name, WorkFault>
-        ensures name { IfOk result (λ name. name ≡ name_of (task_of job.now)) }
+    pub fn post(&self, rt: &HostRuntime, tree: &[u8; 32], job: &Job) -> Result<Name, WorkFault>
+        ensures name { IfOk result (λ name. name ≡ name_of tree.now (task_of job.now)) }
         ensures refused { IfErr result IsOfSystem }
     {
-        let name = Name::of(rt.alloc(), job)?;
-        let text = job_text(rt.alloc(), job)?;
+        let name = Name::of(rt.alloc(), tree, job)?;
+        let text = job_text(rt.alloc(), tree, job)?;
         self.write(rt, Part::Jobs, &name, text.as_slice())?;
         Ok(name)
     }
 
-    /// What there is of the build that has this name. That it failed goes first.
+    /// Whether the file of the job that has this name stands: somebody may have taken it away.
+    ///
+    /// # Errors
+    ///
+    /// What the system refused.
+    pub fn is_posted(&self, rt: &HostRuntime, name: &Name) -> Result<bool, WorkFault>
+        ensures { IfErr result IsOfSystem }
+    {
+        self.stands(rt, Part::Jobs, name)
+    }
+
+    /// What there is of the build that has this name. That it failed goes first. What isn't a
+    /// regular file, as a folder or a FIFO, is as a file without a byte, which names no files: it
+    /// isn't opened, since that might wait for ever.
     ///
     /// # Errors
     ///
@@ -108,7 +121,10 @@ impl<'f> Folder<'f> {
         if self.has_failed(rt, name)? {
             return Ok(Answer::Failed);
         }
-        let Some(file) = self.opened(rt, Part::Done, name)? else {
+        if self.is_no_file(rt, name)? {
+            return Ok(Answer::Made(Vec::new(rt.alloc())));
+        }
+        let Some(file) = self.opened(rt, name)? else {
             return Ok(Answer::NotYet);
         };
         let mut text = Vec::new(rt.alloc());
@@ -129,8 +145,7 @@ impl<'f> Folder<'f> {
     pub fn has_failed(&self, rt: &HostRuntime, name: &Name) -> Result<bool, WorkFault>
         ensures { IfErr result IsOfSystem }
     {
-        let path = self.path_of(rt.alloc(), Part::Failed, name)?;
-        Ok(fs::exists(rt, path.as_str())?)
+        self.stands(rt, Part::Failed, name)
     }
 
     /// Whether something stands for the job that has this name: what was built, or that it failed.
@@ -144,8 +159,7 @@ impl<'f> Folder<'f> {
         if self.has_failed(rt, name)? {
             return Ok(true);
         }
-        let path = self.path_of(rt.alloc(), Part::Done, name)?;
-        Ok(fs::exists(rt, path.as_str())?)
+        self.stands(rt, Part::Done, name)
     }
 
     /// Marks the build that has this name as failed, with a line on why, since what was handed in
@@ -179,7 +193,7 @@ impl<'f> Folder<'f> {
     }
 
     /// Writes a file: into one whose name begins with a dot, which is synced before it gets the
-    /// name, and then the folder is.
+    /// name, and then the folder is. What an earlier run left under that name goes first.
     fn write(&self, rt: &HostRuntime, part: Part, name: &Name, text: &[u8]) -> Result<(), WorkFault>
         ensures { IfErr result IsOfSystem }
     {
@@ -189,7 +203,8 @@ impl<'f> Folder<'f> {
         let digits = name.as_str();
         let me = self.me;
         let new = format!(in rt.alloc(); "{place}/.{digits}.{me}")?;
-        let mut file = File::create(rt, new.as_str())?;
+        removed(rt, new.as_str())?;
+        let mut file = File::create_new(rt, new.as_str())?;
         file.write_all(text)?;
         file.sync_all()?;
         fs::rename(rt, new.as_str(), path.as_str())?;
@@ -201,18 +216,34 @@ impl<'f> Folder<'f> {
         ensures { IfErr result IsOfSystem }
     {
         let path = self.path_of(rt.alloc(), part, name)?;
-        match fs::remove_file(rt, path.as_str()) {
-            Ok(()) => Ok(()),
-            Err(error) if error.kind() == ErrorKind::NotFound => Ok(()),
+        removed(rt, path.as_str())
+    }
+
+    /// Whether something stands in one of the three under the name.
+    fn stands(&self, rt: &HostRuntime, part: Part, name: &Name) -> Result<bool, WorkFault>
+        ensures { IfErr result IsOfSystem }
+    {
+        let path = self.path_of(rt.alloc(), part, name)?;
+        Ok(fs::exists(rt, path.as_str())?)
+    }
+
+    /// Whether something stands for the answer that is no regular file.
+    fn is_no_file(&self, rt: &HostRuntime, name: &Name) -> Result<bool, WorkFault>
+        ensures { IfErr result IsOfSystem }
+    {
+        let path = self.path_of(rt.alloc(), Part::Done, name)?;
+        match fs::metadata(rt, path.as_str()) {
+            Ok(it) => Ok(!it.is_file()),
+            Err(error) if error.kind() == ErrorKind::NotFound => Ok(false),
             Err(error) => Err(WorkFault::from(error)),
         }
     }
 
-    /// The file, to be read, or none, where none has that name.
-    fn opened(&self, rt: &HostRuntime, part: Part, name: &Name) -> Result<Option<File>, WorkFault>
+    /// The answer's file, to be read, or none, where none has that name.
+    fn opened(&self, rt: &HostRuntime, name: &Name) -> Result<Option<File>, WorkFault>
         ensures { IfErr result IsOfSystem }
     {
-        let path = self.path_of(rt.alloc(), part, name)?;
+        let path = self.path_of(rt.alloc(), Part::Done, name)?;
         match OpenOptions::new().read(true).open(rt, path.as_str()) {
             Ok(file) => Ok(Some(file)),
             Err(error) if error.kind() == ErrorKind::NotFound => Ok(None),
@@ -233,6 +264,17 @@ impl<'f> Folder<'f> {
         let path = self.path;
         let word = part.word();
         format!(in alloc; "{path}/{word}")
+    }
+}
+
+/// Removes a file, if it is there.
+fn removed(rt: &HostRuntime, path: &str) -> Result<(), WorkFault>
+    ensures { IfErr result IsOfSystem }
+{
+    match fs::remove_file(rt, path) {
+        Ok(()) => Ok(()),
+        Err(error) if error.kind() == ErrorKind::NotFound => Ok(()),
+        Err(error) => Err(WorkFault::from(error)),
     }
 }
 

@@ -4,7 +4,13 @@ ghost use Rattle.work.specs.Laws.{
   TaskTextIsFirst,
   TextTellsTheJob,
   TextTellsTheTask,
+  TextTellsTheTree,
 };
+
+/// A text is that of tasks of one tree.
+pub fn text_tells_the_tree()
+    ensures { TextTellsTheTree }
+{}
 
 /// A text is that of one task.
 pub fn text_tells_the_task()

@@ -14,6 +14,7 @@ pub use crate::fault::WorkFault;
 pub use crate::folder::Folder;
 pub use crate::laws::{
     name_tells_the_task, task_text_is_first, text_tells_the_job, text_tells_the_task,
+    text_tells_the_tree,
 };
 pub use crate::name::Name;
 pub use crate::text::{job_text, task_text};

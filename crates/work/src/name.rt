@@ -11,7 +11,8 @@ use std::marker::Model;
 
 /// The name under which a job goes out and its build comes in: the SHA-256 of its task's text, in
 /// 64 lower-case hexadecimal digits (FIPS 180-4), which contracts see as such. It is the same for
-/// each claim of the unit on the same signatures, at whichever node.
+/// each claim of the unit on the same signatures, at whichever node of a run over the tree; and
+/// another one where the tree is another.
 #[derive(Debug, Drop)]
 pub struct Name {
     digits: String,
@@ -27,11 +28,11 @@ impl Model for Name {
 }
 
 impl Name {
-    /// The name of a job's task.
-    pub fn of(alloc: Global, job: &Job) -> Result<Name, Memory>
-        ensures { IfOk result (λ name. name ≡ name_of (task_of job.now)) }
+    /// The name of a job's task, in a tree of this digest.
+    pub fn of(alloc: Global, tree: &[u8; 32], job: &Job) -> Result<Name, Memory>
+        ensures { IfOk result (λ name. name ≡ name_of tree.now (task_of job.now)) }
     {
-        let text = task_text(alloc, job)?;
+        let text = task_text(alloc, tree, job)?;
         let digest: [u8; 32] = Sha256::digest(text.as_slice());
         let digits = hex::encode(alloc, digest.as_slice())?;
         Ok(Name { digits })

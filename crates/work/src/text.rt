@@ -1,7 +1,7 @@
 //! The texts of tasks and of jobs.
 ghost use Rattle.std.specs.Prelude.{◌≡◌, ◌++◌, [], ◌∷◌, IfOk, OnOk, codes, flat_map, map};
 ghost use Rattle.package_record.specs.Content.{built_line, claim_line, ended};
-ghost use Rattle.work.specs.Tasks.{host_line, job_text, package_line, task_of, task_text};
+ghost use Rattle.work.specs.Tasks.{host_line, job_text, package_line, task_of, task_text, tree_line};
 
 use claims::{Claim, Dep, Job};
 use faults::Memory;
@@ -10,12 +10,14 @@ use package_record::digest_text;
 use pkgpath::PkgPath;
 use std::alloc::Global;
 
-/// The text of a job's task: the unit, its packages, and what they are built on. It is the same for
-/// each claim of the unit on the same signatures, at whichever node.
-pub fn task_text(alloc: Global, job: &Job) -> Result<Vec<u8>, Memory>
-    ensures { IfOk result (λ text. text.items ≡ task_text (task_of job.now)) }
+/// The text of a job's task in a tree of this digest: the tree, the unit, its packages, and what
+/// they are built on. It is the same for each claim of the unit on the same signatures, at
+/// whichever node of a run over the tree.
+pub fn task_text(alloc: Global, tree: &[u8; 32], job: &Job) -> Result<Vec<u8>, Memory>
+    ensures { IfOk result (λ text. text.items ≡ task_text tree.now (task_of job.now)) }
 {
     let mut text = Vec::new(alloc);
+    put_tree(&mut text, tree)?;
     put_unit(&mut text, &job.path)?;
     put_packages(&mut text, job.packages())?;
     put_signatures(&mut text, job.deps().as_slice())?;
@@ -23,10 +25,10 @@ pub fn task_text(alloc: Global, job: &Job) -> Result<Vec<u8>, Memory>
 }
 
 /// The text of a job: that of its task, and behind it the host and the claim for which it is given.
-pub fn job_text(alloc: Global, job: &Job) -> Result<Vec<u8>, Memory>
-    ensures { IfOk result (λ text. text.items ≡ job_text job.now) }
+pub fn job_text(alloc: Global, tree: &[u8; 32], job: &Job) -> Result<Vec<u8>, Memory>
+    ensures { IfOk result (λ text. text.items ≡ job_text tree.now job.now) }
 {
-    let mut text = task_text(alloc, job)?;
+    let mut text = task_text(alloc, tree, job)?;
     put_host(&mut text, job.host)?;
     put_claim(&mut text, job.claim)?;
     Ok(text)
@@ -50,6 +52,13 @@ fn put_field(out: &mut Vec<u8>, word: &[u8], text: &[u8]) -> Result<(), Memory>
     ensures { OnOk result (out.new.items ≡ out.old.items ++ ended ((word.now ++ text.now) ∷ [])) }
 {
     put_line(out, &[word, text])
+}
+
+fn put_tree(out: &mut Vec<u8>, tree: &[u8; 32]) -> Result<(), Memory>
+    ensures { OnOk result (out.new.items ≡ out.old.items ++ ended (tree_line tree.now ∷ [])) }
+{
+    let digest = digest_text(tree);
+    put_field(out, b"@tree ", &digest)
 }
 
 fn put_unit(out: &mut Vec<u8>, path: &PkgPath) -> Result<(), Memory>

@@ -58,7 +58,8 @@ stepped w k x t list = record (with_node w k (up_node (after (node_at w k x) t))
   agreed = list;
 }
 
--- The whole step: the note stands, the datagrams are sent, and the list goes on.
+-- The whole step: the note stands, the datagrams are sent, and the list goes on: `list` says to
+-- what, and `leaves` that all else of the later world is as the step left it.
 pub record Steps (w : World) (e : Event) (w' : World) : Type 0 where
   pub node : WorldNode
   pub taken : Taken

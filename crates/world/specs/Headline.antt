@@ -89,7 +89,7 @@ IsInRunClosure held p q = (S : Text → Bool) → S p ≡ true → IsClosed held
 -- ---- at each moment
 
 -- At each moment of the run to the last world, after each beginning of the events, P holds of the
--- world that stands.
+-- world that stands: there is one, and by law events_have_one_answer these events lead to no other.
 abbrev pub AtEachMoment : Division → List ℕ → List Event → World → (List Event → World → Type 0)
     → Type 0
 AtEachMoment division weights events last P =

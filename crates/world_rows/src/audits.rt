@@ -1,14 +1,12 @@
 //! Audits of agreed lists.
-ghost use Rattle.std.specs.Prelude.{◌≡◌, All, IfErr, IfOk};
+ghost use Rattle.std.specs.Prelude.{◌≡◌, IfErr, IfOk};
 ghost use Rattle.auditing.specs.declared.verdict.Verdict.TheVariants.{Yes};
-ghost use Rattle.package_record.specs.Content.{IsRecord};
 
 use auditing::{Verdict, only_one_verdict};
 use dpbr_audit::audit_list;
 use dpbr_run::printed_lists_are_read;
 use listing::Tree;
 use lists::{ListFault, list_text, lists_and_faults};
-use package_record::Record;
 use running::World;
 use std::alloc::Global;
 
@@ -22,16 +20,6 @@ pub fn audit_of_printed(alloc: Global, tree: &Tree, world: &World<'_>) -> Result
     printed_lists_are_read();
     only_one_verdict();
     let list = world.agreed();
-    each_is_a_record(list);
     let text = list_text(alloc, list)?;
     audit_list(alloc, tree, text.as_slice())
-}
-
-/// Each of these is a record.
-fn each_is_a_record(list: &[Record])
-    ensures { All IsRecord list.now }
-{
-    for record in list {
-        let _path = record.path();
-    }
 }

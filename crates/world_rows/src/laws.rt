@@ -1,18 +1,29 @@
 //! What follows from the public laws of worlds alone.
 ghost use Rattle.std.specs.Prelude.{◌≡◌, ℕ, Contains, List, Some, slice_get, true};
+ghost use Rattle.agreement.specs.Claims.{AtMost};
+ghost use Rattle.agreement.specs.Quorums.{is_majority};
+ghost use Rattle.agreement.specs.declared.claim.Claim.{Claim};
+ghost use Rattle.auditing.specs.Allowed.{IsAllowed};
+ghost use Rattle.auditing.specs.declared.entry.Entry.{Entry};
+ghost use Rattle.dpbr_run.specs.Run.{IsRunOfListing};
 ghost use Rattle.engine.specs.State as engine;
 ghost use Rattle.engine.specs.declared.Letter.TheVariants as letters;
 ghost use Rattle.events.specs.Events.{Event};
 ghost use Rattle.faults.specs.Bytes.{Text};
+ghost use Rattle.listing.specs.Listing.{Rules};
 ghost use Rattle.listing.specs.Tree.{position_of};
+ghost use Rattle.lists.specs.List.{AreEntries};
+ghost use Rattle.lists.specs.ListText.{list_text};
 ghost use Rattle.package_record.specs.Content.{Content};
-ghost use Rattle.protocol.specs.State.{engine_of};
+ghost use Rattle.protocol.specs.State.{Value, engine_of};
 ghost use Rattle.engine.specs.Division.{Division};
 ghost use Rattle.world.specs.Happening.{Leads};
 ghost use Rattle.world.specs.Headline.{HoldAlike, IsInRunClosure, holds};
+ghost use Rattle.world.specs.Sent.{WasProposed, voters};
 ghost use Rattle.world.specs.World.{IsMade, World, WorldNode, member_at, start};
 
-use world::{events_have_one_answer, worlds_have_one_list};
+use dpbr_run::printed_lists_are_read;
+use world::{events_have_one_answer, events_lead_to_later_worlds, worlds_have_one_list};
 
 /// What a node shows as installable is in the list, with all of its run closure.
 pub fn installable_is_listed()
@@ -37,4 +48,30 @@ pub fn never_differ()
     worlds_have_one_list();
     events_have_one_answer();
     world::events_in_parts();
+}
+
+/// Where votes that were sent under the claim of a proposal are a majority, each proposal at or
+/// above that claim repeats its build.
+pub fn sent_votes_bind_later_proposals()
+    ensures { (division : Division) (weights : List ℕ) (events : List Event) (last : World)
+        (name : Text) (c d : Claim) (a b : Value) → IsMade division weights
+        → Leads (start division weights) events last
+        → is_majority weights (voters last last.sent name c) ≡ true
+        → WasProposed last last.sent name c a → WasProposed last last.sent name d b
+        → AtMost c d → b ≡ a }
+{
+    worlds_have_one_list();
+    events_lead_to_later_worlds();
+}
+
+/// The list at the end of what `dpbr run` prints is read again, and an audit of it says yes, on the
+/// tree that the listing describes.
+pub fn printed_runs_are_allowed()
+    ensures { (rules : Rules) (listing trace text : Text)
+        (is : IsRunOfListing rules listing trace text) → (entries : List Entry)
+        × AreEntries (list_text is.run.history.world.agreed) entries
+        × IsAllowed is.tree entries }
+{
+    worlds_have_one_list();
+    printed_lists_are_read();
 }

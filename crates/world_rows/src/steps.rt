@@ -33,7 +33,6 @@ pub fn take_two_alike(
     ensures { HoldAlike world.old.world world.new.world }
 {
     events_have_one_answer();
-    let _taken = world.events();
     world.step(first)?;
     world.step(second)
 }

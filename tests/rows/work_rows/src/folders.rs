@@ -6,16 +6,21 @@ use pkgpath::PkgPath;
 use std::alloc::Global;
 use std::fs;
 use std::fs::File;
+use std::os::unix::fs::symlink;
 use std::test::Fail;
 use work::{Answer, Folder, LONGEST_ANSWER, Name, WorkFault, job_text, task_text};
 
+/// The digest of the tree.
+const TREE: [u8; 32] = [0x5a; 32];
+
 /// The task's text.
-const TASK: &str = "@unit lang/p007\n\
+const TASK: &str = "@tree 5a5a5a5a5a5a5a5a5a5a5a5a5a5a5a5a5a5a5a5a5a5a5a5a5a5a5a5a5a5a5a5a\n\
+    @unit lang/p007\n\
     @package lang/p007\n\
     @built net/p003 p003-4.0 3c3c3c3c3c3c3c3c3c3c3c3c3c3c3c3c3c3c3c3c3c3c3c3c3c3c3c3c3c3c3c3c\n";
 
 /// Its SHA-256, as sha256(1) tells it.
-const NAME: &str = "11e9df8e94505153ede41586deaa5d8f71c1fdc75d18c814ccaddd848993a6ed";
+const NAME: &str = "4e46c73beca2e526d2c45045749acf9f71b404fcdc2bce6ae47cc7f261fc7644";
 
 /// What a builder hands in.
 const BUILDS: &str = "{\"lang/p007\":[]}\n";
@@ -47,6 +52,7 @@ fn told(answer: &Answer) -> &'static str {
         Answer::Failed => "failed",
         Answer::TooLong => "too long",
         Answer::Made(text) if text.as_slice() == BUILDS.as_bytes() => "made",
+        Answer::Made(text) if text.is_empty() => "no bytes",
         Answer::Made(_) => "other bytes",
     }
 }
@@ -63,19 +69,21 @@ fn texts_and_names(rt: HostRuntime) -> Result<(), Fail> {
     let first = job(alloc, 0x3c, 3)?;
     let later = job(alloc, 0x3c, 12)?;
     let other = job(alloc, 0x3d, 3)?;
-    let text = task_text(alloc, &first)?;
+    let text = task_text(alloc, &TREE, &first)?;
     assert!(rt; text.as_slice() == TASK.as_bytes());
-    let text = job_text(alloc, &first)?;
+    let text = job_text(alloc, &TREE, &first)?;
     let whole = format!(in alloc; "{TASK}@host 1\n@claim 3.1\n")?;
     assert!(rt; text.as_slice() == whole.as_bytes());
-    let name = Name::of(alloc, &first)?;
+    let name = Name::of(alloc, &TREE, &first)?;
     assert!(rt; name.as_str() == NAME);
-    let same = Name::of(alloc, &later)?;
+    let same = Name::of(alloc, &TREE, &later)?;
     assert!(rt; same.as_str() == NAME);
     let copy = same.copy()?;
     assert!(rt; copy.as_str() == NAME);
-    let differs = Name::of(alloc, &other)?;
+    let differs = Name::of(alloc, &TREE, &other)?;
     assert!(rt; differs.as_str() != NAME);
+    let elsewhere = Name::of(alloc, &[0x5b; 32], &first)?;
+    assert!(rt; elsewhere.as_str() != NAME);
     Ok(())
 }
 
@@ -83,11 +91,11 @@ fn texts_and_names(rt: HostRuntime) -> Result<(), Fail> {
 #[test]
 fn a_build_comes_in(rt: HostRuntime) -> Result<(), Fail> {
     let folder = Folder::open(&rt, "work", 0, false)?;
-    let name = folder.post(&rt, &job(rt.alloc(), 0x3c, 3)?)?;
-    let other = folder.post(&rt, &job(rt.alloc(), 0x3d, 3)?)?;
+    let name = folder.post(&rt, &TREE, &job(rt.alloc(), 0x3c, 3)?)?;
+    let other = folder.post(&rt, &TREE, &job(rt.alloc(), 0x3d, 3)?)?;
     let path = format!(in rt.alloc(); "work/jobs/{NAME}")?;
     let text = fs::read(&rt, path.as_str())?;
-    assert!(rt; text.as_slice() == job_text(rt.alloc(), &job(rt.alloc(), 0x3c, 3)?)?.as_slice());
+    assert!(rt; text.as_slice() == job_text(rt.alloc(), &TREE, &job(rt.alloc(), 0x3c, 3)?)?.as_slice());
     assert!(rt; is_told(&rt, &folder, &name, "not yet")?);
     let done = format!(in rt.alloc(); "work/done/{NAME}")?;
     fs::write(&rt, done.as_str(), BUILDS)?;
@@ -97,6 +105,52 @@ fn a_build_comes_in(rt: HostRuntime) -> Result<(), Fail> {
     folder.forget(&rt, &name)?;
     assert!(rt; is_told(&rt, &folder, &name, "not yet")?);
     assert!(rt; !fs::exists(&rt, path.as_str())?);
+    Ok(())
+}
+
+/// A job is out as long as its file is there, and goes out again.
+#[test]
+fn what_is_posted(rt: HostRuntime) -> Result<(), Fail> {
+    let folder = Folder::open(&rt, "work", 0, false)?;
+    let job = job(rt.alloc(), 0x3c, 3)?;
+    let name = Name::of(rt.alloc(), &TREE, &job)?;
+    let half = format!(in rt.alloc(); "work/jobs/.{NAME}.0")?;
+    fs::write(&rt, half.as_str(), "@tree 5a")?;
+    assert!(rt; !folder.is_posted(&rt, &name)?);
+    drop(folder.post(&rt, &TREE, &job)?);
+    assert!(rt; folder.is_posted(&rt, &name)?);
+    let path = format!(in rt.alloc(); "work/jobs/{NAME}")?;
+    fs::remove_file(&rt, path.as_str())?;
+    assert!(rt; !folder.is_posted(&rt, &name)?);
+    drop(folder.post(&rt, &TREE, &job)?);
+    assert!(rt; folder.is_posted(&rt, &name)?);
+    folder.forget(&rt, &name)?;
+    assert!(rt; !folder.is_posted(&rt, &name)?);
+    Ok(())
+}
+
+/// A job is answered by what was built, and by a mark that it failed, as long as either is there.
+#[test]
+fn what_is_answered(rt: HostRuntime) -> Result<(), Fail> {
+    let folder = Folder::open(&rt, "work", 0, false)?;
+    let name = folder.post(&rt, &TREE, &job(rt.alloc(), 0x3c, 3)?)?;
+    let other = folder.post(&rt, &TREE, &job(rt.alloc(), 0x3d, 3)?)?;
+    let done = format!(in rt.alloc(); "work/done/{NAME}")?;
+    let half = format!(in rt.alloc(); "work/done/.{NAME}.77")?;
+    let mark = format!(in rt.alloc(); "work/failed/{NAME}")?;
+    fs::write(&rt, half.as_str(), BUILDS)?;
+    assert!(rt; !folder.is_answered(&rt, &name)?);
+    fs::write(&rt, done.as_str(), BUILDS)?;
+    assert!(rt; folder.is_answered(&rt, &name)?);
+    assert!(rt; !folder.is_answered(&rt, &other)?);
+    folder.mark(&rt, &name, "the text names no builds")?;
+    assert!(rt; folder.is_answered(&rt, &name)?);
+    fs::remove_file(&rt, mark.as_str())?;
+    assert!(rt; !folder.is_answered(&rt, &name)?);
+    fs::write(&rt, done.as_str(), "")?;
+    assert!(rt; folder.is_answered(&rt, &name)?);
+    folder.forget(&rt, &name)?;
+    assert!(rt; !folder.is_answered(&rt, &name)?);
     Ok(())
 }
 
@@ -118,10 +172,10 @@ fn what_is_half_written(rt: HostRuntime) -> Result<(), Fail> {
     let mark = format!(in rt.alloc(); "work/failed/.{NAME}.77")?;
     fs::write(&rt, mark.as_str(), "lang/p007: sta")?;
     let folder = Folder::open(&rt, "work", 0, false)?;
-    let name = folder.post(&rt, &job)?;
+    let name = folder.post(&rt, &TREE, &job)?;
     assert!(rt; is_told(&rt, &folder, &name, "not yet")?);
     let text = fs::read(&rt, path.as_str())?;
-    assert!(rt; text.as_slice() == job_text(rt.alloc(), &job)?.as_slice());
+    assert!(rt; text.as_slice() == job_text(rt.alloc(), &TREE, &job)?.as_slice());
     assert!(rt; !fs::exists(&rt, half.as_str())?);
     Ok(())
 }
@@ -131,12 +185,12 @@ fn what_is_half_written(rt: HostRuntime) -> Result<(), Fail> {
 #[test]
 fn the_node_is_run_again(rt: HostRuntime) -> Result<(), Fail> {
     let folder = Folder::open(&rt, "work", 0, false)?;
-    let before = folder.post(&rt, &job(rt.alloc(), 0x3c, 3)?)?;
+    let before = folder.post(&rt, &TREE, &job(rt.alloc(), 0x3c, 3)?)?;
     let done = format!(in rt.alloc(); "work/done/{NAME}")?;
     fs::write(&rt, done.as_str(), BUILDS)?;
     let folder = Folder::open(&rt, "work", 0, true)?;
     assert!(rt; is_told(&rt, &folder, &before, "made")?);
-    let name = folder.post(&rt, &job(rt.alloc(), 0x3c, 12)?)?;
+    let name = folder.post(&rt, &TREE, &job(rt.alloc(), 0x3c, 12)?)?;
     assert!(rt; name.as_str() == before.as_str());
     assert!(rt; is_told(&rt, &folder, &name, "made")?);
     let path = format!(in rt.alloc(); "work/jobs/{NAME}")?;
@@ -150,7 +204,7 @@ fn the_node_is_run_again(rt: HostRuntime) -> Result<(), Fail> {
 #[test]
 fn what_is_no_build(rt: HostRuntime) -> Result<(), Fail> {
     let folder = Folder::open(&rt, "work", 0, false)?;
-    let name = folder.post(&rt, &job(rt.alloc(), 0x3c, 3)?)?;
+    let name = folder.post(&rt, &TREE, &job(rt.alloc(), 0x3c, 3)?)?;
     let done = format!(in rt.alloc(); "work/done/{NAME}")?;
     fs::write(&rt, done.as_str(), "{")?;
     assert!(rt; is_told(&rt, &folder, &name, "other bytes")?);
@@ -173,6 +227,34 @@ fn what_is_no_build(rt: HostRuntime) -> Result<(), Fail> {
     assert!(rt; is_told(&rt, &folder, &name, "other bytes")?);
     file.set_len(LONGEST_ANSWER as u64 + 1)?;
     assert!(rt; is_told(&rt, &folder, &name, "too long")?);
+    Ok(())
+}
+
+/// What is no regular file is an answer without a byte, and a link to a file is that file.
+#[test]
+fn what_is_no_file(rt: HostRuntime) -> Result<(), Fail> {
+    let folder = Folder::open(&rt, "work", 0, false)?;
+    let name = folder.post(&rt, &TREE, &job(rt.alloc(), 0x3c, 3)?)?;
+    let done = format!(in rt.alloc(); "work/done/{NAME}")?;
+    fs::create_dir(&rt, done.as_str())?;
+    assert!(rt; folder.is_answered(&rt, &name)?);
+    assert!(rt; is_told(&rt, &folder, &name, "no bytes")?);
+    // the mark stands, although a folder isn't removed
+    let missed = folder.mark(&rt, &name, "the text names no builds").err();
+    assert!(rt; missed == Some(WorkFault::Files));
+    assert!(rt; is_told(&rt, &folder, &name, "failed")?);
+    fs::remove_dir(&rt, done.as_str())?;
+    let mark = format!(in rt.alloc(); "work/failed/{NAME}")?;
+    fs::remove_file(&rt, mark.as_str())?;
+    // a device that never ends
+    symlink(&rt, "/dev/zero", done.as_str())?;
+    assert!(rt; is_told(&rt, &folder, &name, "no bytes")?);
+    folder.mark(&rt, &name, "the text names no builds")?;
+    fs::remove_file(&rt, mark.as_str())?;
+    assert!(rt; is_told(&rt, &folder, &name, "not yet")?);
+    fs::write(&rt, "made", BUILDS)?;
+    symlink(&rt, "../../made", done.as_str())?;
+    assert!(rt; is_told(&rt, &folder, &name, "made")?);
     Ok(())
 }
 

@@ -2,14 +2,14 @@ use Rattle.std.specs.List.{list_any}
 use Rattle.std.proofs.Common.{◌≡◌, ◌==◌, ◌||◌, ℕ, ◌∙◌, ap, arith, false, length, rules, subst, sym, true}
 use Rattle.choice.specs.Own.{IsLeastFree}
 use Rattle.choice.specs.Pending.{has_failed}
-use Rattle.parts.proofs.Owned.{found_free, none_at_first, none_free, none_further, none_left}
+use Rattle.parts.proofs.Owned.{found_free, none_free, none_further, none_left}
+use Rattle.parts.proofs.FailedBelow.{none_free_before}
 use Rattle.parts.proofs.owning.least_free.Goals as goal
 
 pub loop-init : goal.loop-init
 loop-init c = (
-  none_at_first c.args.member.now
-      (λ u. has_failed c.args.pending.now u || list_any (λ v. v == u) c.args.elsewhere.now),
-  omega arith,
+  none_free_before c.args.member.now c.args.pending.now c.args.elsewhere.now c.args.from
+      c.requires,
   omega arith,
   c.len-end.ensures.count ∙ ap length c.tree.ensures,
 )
@@ -36,12 +36,11 @@ loop-preserved c =
       none_further c.args.member.now barred c.loop.from c.in_ok-position.position
           c.loop.invariant.0 queued (sym c.is_barred.ensures ∙ e),
       omega (arith, c.loop.invariant.1, queued.0),
-      omega (arith, queued.1),
-      c.loop.invariant.3,
+      c.loop.invariant.2,
     )
 
 pub returns : goal.returns
 returns c =
     let barred = λ (u : ℕ). has_failed c.args.pending.now u || list_any (λ (v : ℕ). v == u) c.args.elsewhere.now in
     none_left c.args.member.now barred c.loop.from c.loop.invariant.0
-    (omega (arith, c.loop.invariant.1, c.loop-test.false, c.loop.invariant.3))
+    (omega (arith, c.loop.invariant.1, c.loop-test.false, c.loop.invariant.2))

@@ -8,5 +8,5 @@ abbrev pub invariant-loop : goal.invariant-loop
 invariant-loop l =
     NoneFreeBefore l.member (λ u. has_failed l.pending u || list_any (λ v. v == u) l.elsewhere)
     l.from
-    × (l.counter ≤ l.from) × (l.from ≤ length l.member.division.tree)
+    × (l.counter ≤ l.from)
     × (l.end ≡ length l.member.division.tree)

@@ -1,7 +1,8 @@
-use Rattle.std.proofs.Common.{◌∙◌, ap, refl, subst}
+use Rattle.std.proofs.Common.{◌∙◌, ap, refl, subst, sym}
 use Rattle.std.proofs.lemmas.Result.{err_from_is_err_and}
 use Rattle.choice.specs.Choice.{comes_to}
 use Rattle.parts.specs.Readied.{IsPart}
+use Rattle.solo.proofs.Below.{still_below}
 use Rattle.solo.proofs.Chosen.{arrival_fault, arrival_made, came_of, job_made, job_wants, not_taken, own_answers, own_faults, taken_made}
 use Rattle.solo.proofs.Only.{own_answer}
 use Rattle.solo.specs.State.{only}
@@ -90,3 +91,21 @@ returns-clause-refused g c =
     c.taken_in.new.node made.0 c.me-me.result
     (c.me-me.ensures.me ∙ ap (λ s. s.me) c.member.ensures.member) c.done.ensures.same c.done.result
     c.done.ensures.refused
+
+pub done-requires-clause-below : goal.done-requires-clause-below
+done-requires-clause-below g c =
+    let n = c.args.node.now in
+    let p = c.args.pending.now in
+    let made = taken_made c.answered.new.node n c.answered.ensures.same c.taken_in.new.node
+    (came_of c.received-came.result) c.in_ok-readied-2.field-0 c.in_ok-readied-2.ensures.made in
+    still_below n.node.member c.taken_in.new.node.node.member p p c.args.unfailed.now
+    (ap (λ x. x.node.member) made.0) refl c.requires
+
+pub returns-clause-below : goal.returns-clause-below
+returns-clause-below g c =
+    let n = c.args.node.now in
+    let p = c.args.pending.now in
+    let made = taken_made c.answered.new.node n c.answered.ensures.same c.taken_in.new.node
+    (came_of c.received-came.result) c.in_ok-readied-2.field-0 c.in_ok-readied-2.ensures.made in
+    still_below c.taken_in.new.node.node.member n.node.member p p c.done.new.unfailed
+    (sym (ap (λ x. x.node.member) made.0)) refl c.done.ensures.below

@@ -1,11 +1,10 @@
-use Rattle.std.proofs.Common.{◌≡◌, ◌∙◌, All, List, map, ap, subst, sym, ⊎_elim}
+use Rattle.std.proofs.Common.{◌≡◌, ◌∙◌, List, map, ap, subst, sym, ⊎_elim}
 use Rattle.std.proofs.lemmas.Result.{IfErr-weaker, IfOk-weaker}
 use Rattle.auditing.specs.Verdicts.{IsVerdict}
 use Rattle.auditing.specs.declared.entry.Entry.{Entry}
 use Rattle.auditing.specs.declared.verdict.Verdict.TheVariants.{Yes}
 use Rattle.faults.specs.Bytes.{Text}
 use Rattle.listing.specs.Tree.{Tree}
-use Rattle.package_record.specs.Content.{Content, IsRecord}
 use Rattle.lists.specs.List.{AreEntries}
 use Rattle.lists.specs.ListText.{list_text}
 use Rattle.world.specs.Headline.{entry_of}
@@ -17,7 +16,7 @@ returns-clause-yes c =
     let text : Text = c.as_slice.result.now in
     let told : text ≡ list_text w.agreed = c.as_slice.ensures.value ∙ c.in_ok-text.ensures ∙ ap list_text c.agreed-list.ensures.list in
     let printed : AreEntries (list_text w.agreed) (map entry_of w.agreed) =
-    c.printed_lists_are_read.ensures w.agreed (subst (λ (l : List Content). All IsRecord l) c.agreed-list.ensures.list c.each_is_a_record.ensures) in
+    c.printed_lists_are_read.ensures w.agreed c.agreed-list.ensures.records in
     let also : AreEntries text (map entry_of w.agreed) = subst (λ (t : Text). AreEntries t (map entry_of w.agreed)) (sym told) printed in
     IfOk-weaker c.audit_list.result _ _
     (λ v is. c.only_one_verdict.ensures c.args.tree.now (map entry_of w.agreed) v Yes
@@ -31,7 +30,7 @@ returns-clause-memory c =
     let text : Text = c.as_slice.result.now in
     let told : text ≡ list_text w.agreed = c.as_slice.ensures.value ∙ c.in_ok-text.ensures ∙ ap list_text c.agreed-list.ensures.list in
     let printed : AreEntries (list_text w.agreed) (map entry_of w.agreed) =
-    c.printed_lists_are_read.ensures w.agreed (subst (λ (l : List Content). All IsRecord l) c.agreed-list.ensures.list c.each_is_a_record.ensures) in
+    c.printed_lists_are_read.ensures w.agreed c.agreed-list.ensures.records in
     let also : AreEntries text (map entry_of w.agreed) = subst (λ (t : Text). AreEntries t (map entry_of w.agreed)) (sym told) printed in
     IfErr-weaker c.audit_list.result _ _
     (λ e why. ⊎_elim (λ memory. memory) (λ bad. absurd (c.lists_and_faults.ensures.no_fault text (map entry_of w.agreed) e also bad)) why)

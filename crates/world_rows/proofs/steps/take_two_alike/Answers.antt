@@ -23,7 +23,7 @@ returns c =
     let led : Leads (start new.world.division new.world.weights) (taken old) old.world =
     subst (λ (d : Division). Leads (start d new.world.weights) (taken old) old.world) (sym division)
     (subst (λ (ws : List ℕ). Leads (start old.world.division ws) (taken old) old.world) (sym weights)
-    c.events-taken.ensures.history.led) in
+    c.step.ensures.before.led) in
     let same : there.0 ≡ old.world = c.events_have_one_answer.ensures.run new.world.division new.world.weights
     (taken old) there.0 old.world c.step-2.ensures.history.made there.1 led in
     subst (λ (w : World). HoldAlike w new.world) same there.3

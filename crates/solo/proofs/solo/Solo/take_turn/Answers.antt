@@ -1,4 +1,4 @@
-use Rattle.std.proofs.Common.{[], ap, subst, sym}
+use Rattle.std.proofs.Common.{[], ap, refl, subst, sym}
 use Rattle.std.proofs.lemmas.Result.{err_from_is_err_and}
 use Rattle.std.specs.Prelude.{◌≡◌, ◌⊎◌, ℕ}
 use Rattle.choice.specs.Acts.{asked_by}
@@ -6,6 +6,7 @@ use Rattle.choice.specs.declared.fault.TurnFault.TheVariants as refused
 use Rattle.node.specs.OnLog.{IsOnLog}
 use Rattle.node.specs.Step.{note_in}
 use Rattle.ports.specs.Kept.{GoesOnBy}
+use Rattle.solo.proofs.Below.{same_member, still_below}
 use Rattle.solo.proofs.Coming.{choice_heard}
 use Rattle.solo.proofs.Left.{alike, on_log_still}
 use Rattle.solo.proofs.Turned.{has_now, moments_so, readied_so, refused_so, taken_so, untouched_so}
@@ -14,8 +15,8 @@ use Rattle.solo.specs.Turn.{HasTaken, IsUntouched, LeavesAtMost}
 use Rattle.solo.specs.inside.Turning.{IsTakingFault, solo_of}
 use Rattle.solo.proofs.solo.Solo.take_turn.Goals as goal
 
-pub take-requires : goal.take-requires
-take-requires g c =
+pub take-requires-clause-readied : goal.take-requires-clause-readied
+take-requires-clause-readied g c =
     let s = c.self.inside in
     let now = c.args.self.now in
     let mid = solo_of c.choose.new.node s.pending c.choose.new.port in
@@ -107,3 +108,20 @@ returns-in_err-readied-clause-on_log g c = λ kept on runs.
     (alike g.P.Port.given g.P.Port.does g.P.Port.vouches old new (AllBuilds c.args.builds.now)
     c.in_err-readied.field-0.0 c.in_err-readied.ensures.refused)
     (subst (λ x. IsOnLog g.D.Disk.history x.node) (sym c.self.view_is) on)
+
+pub invariant_of-self : goal.invariant_of-self
+invariant_of-self g c =
+    let s = c.self.inside in
+    let old = solo_of s.node s.pending s.port in
+    let new = solo_of c.choose.new.node s.pending c.choose.new.port in
+    still_below s.node.node.member new.node.node.member s.pending s.pending c.choose.new.unfailed
+    (alike g.P.Port.given g.P.Port.does g.P.Port.vouches old new
+    (AllBuilds c.args.builds.now) c.in_err-readied.field-0.0
+    c.in_err-readied.ensures.refused).member refl c.choose.ensures.below
+
+pub take-requires-clause-below : goal.take-requires-clause-below
+take-requires-clause-below g c =
+    let s = c.self.inside in
+    still_below s.node.node.member c.choose.new.node.node.member s.pending s.pending
+    c.choose.new.unfailed (same_member s.node c.choose.new.node c.in_ok-readied.ensures.chosen.same)
+    refl c.choose.ensures.below

@@ -1,0 +1,6 @@
+mod Claimed
+mod Claiming
+mod Lists
+mod Missing
+mod Ordered
+mod Showing

@@ -1,0 +1,7 @@
+pub mod Held
+pub mod Keeping
+pub mod Looking
+pub mod Posted
+pub mod Taking
+pub mod Waiting
+pub mod Wishing

@@ -1,0 +1,51 @@
+//! The queued packages that are left where units failed.
+ghost use Rattle.std.specs.Prelude.{◌≡◌, ◌<◌, ◌≤◌, if◌then◌else◌, length};
+ghost use Rattle.choice.specs.Own.{IsFree};
+ghost use Rattle.choice.specs.Pending.{Pending as Kept, has_failed};
+ghost use Rattle.node.specs.State.{IsNode, NodeState};
+ghost use Rattle.node.specs.Step.{after, note_in, taken_by};
+ghost use Rattle.parts.specs.Unfailed.{AllFailedBelow, notes_held};
+
+use crate::owning::least_free;
+use ballots::Fact;
+use choice::Pending;
+use member::Member;
+use node::Ready;
+
+/// The least position of a queued package whose unit didn't fail, or else the number of packages.
+/// It looks from this position on, since there is none below it.
+pub fn unfailed_from(member: &Member<'_>, pending: &Pending, from: u32) -> u32
+    requires { AllFailedBelow member.now pending.now from }
+    ensures below { AllFailedBelow member.now pending.now result }
+    ensures unfailed { result < length member.now.division.tree
+        → IsFree member.now (has_failed pending.now) result }
+    ensures within { result ≤ length member.now.division.tree }
+{
+    match least_free(member, pending, &[], from) {
+        Some(position) => position,
+        None => member.tree().len(),
+    }
+}
+
+/// A position below which there is none once a node takes the step, where there was none below this
+/// one. Only where a build comes to be held then, others may be queued than before.
+pub fn unfailed_after(ready: &Ready, from: u32) -> u32
+    ensures value { result ≡ (if notes_held (note_in ready.now.step) then 0 else from) }
+    ensures taken { (n : NodeState) (p : Kept) → IsNode n → AllFailedBelow n.member p from
+        → AllFailedBelow (after n (taken_by n ready.now)).member p result }
+{
+    if notes_held(ready) { 0 } else { from }
+}
+
+/// Whether the step notes that a build is held.
+fn notes_held(ready: &Ready) -> bool
+    ensures { result ≡ notes_held (note_in ready.now.step) }
+{
+    let Some(step) = ready.step() else {
+        return false;
+    };
+    match step.note() {
+        Some(note) => matches!(&note.fact, Fact::Held(_)),
+        None => false,
+    }
+}
