@@ -123,8 +123,8 @@ def pictures(tally):
     svg, height = picture(tally, name, *builds(1, 10))
     rows, notes = len(set(re.findall('<text x="48" y="([0-9]+)"', svg))), svg.count('width="6" height="6"')
     if svg:
-        # six notes, and the legend's
-        told = (rows, agreed(svg), notes, " events<" in svg, 10 * ROW < height < 15 * ROW)
+        # six notes, and the legend's; above and below ten rows stand less than six rows of words
+        told = (rows, agreed(svg), notes, " events<" in svg, 10 * ROW < height < 16 * ROW)
         tally.add(name, "" if told == (10, 1, 7, False, True) else f"{told} in {height} pixels")
     name = "draw-trace of a thousand events"
     svg, height = picture(tally, name, *builds(84, 1008))
