@@ -1,13 +1,13 @@
 -- Where nodes listen, and what comes for them.
-use Rattle.std.proofs.Common.{◌≡◌, ◌+◌, ◌++◌, ◌∙◌, ℕ, List, [], ◌∷◌, inl, inr, map, length, refl, sym, ap, subst, append_assoc, arith}
+use Rattle.std.proofs.Common.{◌≡◌, ◌+◌, ◌++◌, ◌∙◌, ℕ, Bool, true, false, List, [], ◌∷◌, inl, inr, map, length, refl, sym, ap, subst, append_assoc, arith}
 use Rattle.std.proofs.lemmas.List.{append-nil, length-append, map-append}
 use Rattle.faults.specs.Bytes.{Text}
 use Rattle.udp.proofs.InboxLemmas.{GoesOn-same, GoesOn-takes}
-use Rattle.udp.specs.Coming.{HasCome, IsHeardOrLost}
+use Rattle.udp.specs.Coming.{Became, HasCome, IsHeardOrLost}
 use Rattle.udp.specs.Inbox.{GoesOn, InboxState, Takes, came_as}
 use Rattle.udp.specs.Ways.{CountUp}
 use Rattle.udp.specs.declared.inbox.Came.{Came}
-use Rattle.udp.specs.declared.inbox.Came.TheVariants.{Lost, Unsealed, Waits}
+use Rattle.udp.specs.declared.inbox.Came.TheVariants.{Lost, Repeated, Unsealed, Waits}
 
 -- one longer
 pub longer : {X : Type 0} (xs ys : List X) (x : X) (n : ℕ) → ys ≡ xs ++ x ∷ [] → length xs ≡ n → length ys ≡ n + 1
@@ -28,13 +28,25 @@ for_node node a b c ts us first second =
 
 -- What became of bytes is one of these.
 module _ (node : ℕ) (bytes : Text) (old new : InboxState) where
-  pub heard_or_lost : (came : Came) → (came ≡ Waits → (text : Text) × Takes old new bytes text × (new.waiting ≡ old.waiting ++ (node, text) ∷ [])) → (came ≡ Lost → (text : Text) × Takes old new bytes text × (new.waiting ≡ old.waiting)) → (came ≡ Unsealed → (new ≡ old) × ((text : Text) → ¬ (bytes ≡ came_as old.key text))) → IsHeardOrLost node bytes old new × GoesOn old new
-  heard_or_lost Waits waits lost unsealed =
-      let it = waits refl in (inl (it.0, it.1.is, it.2), GoesOn-takes old new bytes it.0 it.1)
-  heard_or_lost Lost waits lost unsealed =
-      let it = lost refl in (inr it.2, GoesOn-takes old new bytes it.0 it.1)
-  heard_or_lost Unsealed waits lost unsealed =
-      let it = unsealed refl in (inr (ap (λ (i : InboxState). i.waiting) it.0), GoesOn-same old new it.0)
+  pub Became-taken : (came : Came) → (came ≡ Waits → (text : Text) × Takes old new bytes text × (new.waiting ≡ old.waiting ++ (node, text) ∷ [])) → (came ≡ Lost → (text : Text) × Takes old new bytes text × (new.waiting ≡ old.waiting)) → (came ≡ Unsealed → (new ≡ old) × ((text : Text) → ¬ (bytes ≡ came_as old.key text))) → ¬ (came ≡ Repeated) → Became node bytes false old new came
+  Became-taken Waits waits lost unsealed never = waits refl
+  Became-taken Lost waits lost unsealed never = lost refl
+  Became-taken Unsealed waits lost unsealed never = unsealed refl
+  Became-taken Repeated waits lost unsealed never = absurd (never refl)
+
+  -- what is taken in any case is taken
+  pub Became-any : (may_drop : Bool) (came : Came) → Became node bytes false old new came → Became node bytes may_drop old new came
+  Became-any may_drop Waits became = became
+  Became-any may_drop Lost became = became
+  Became-any may_drop Unsealed became = became
+  Became-any may_drop Repeated became = absurd (let bad : false ≡ true = became.0 in cc)
+
+  -- so it is heard, or nothing more is, and what came is kept
+  pub heard_or_lost : (may_drop : Bool) (came : Came) → Became node bytes may_drop old new came → IsHeardOrLost node bytes old new × GoesOn old new
+  heard_or_lost may_drop Waits became = (inl (became.0, became.1.is, became.2), GoesOn-takes old new bytes became.0 became.1)
+  heard_or_lost may_drop Lost became = (inr became.2, GoesOn-takes old new bytes became.0 became.1)
+  heard_or_lost may_drop Unsealed became = (inr (ap (λ (i : InboxState). i.waiting) became.0), GoesOn-same old new became.0)
+  heard_or_lost may_drop Repeated became = (inr (ap (λ (i : InboxState). i.waiting) became.1), GoesOn-same old new became.1)
 
 module _ (node : ℕ) where
   -- nothing came

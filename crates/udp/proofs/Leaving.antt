@@ -1,5 +1,5 @@
 -- What waits to leave gets less.
-use Rattle.std.proofs.Common.{◌≡◌, ◌≢◌, ◌<◌, ◌∙◌, ◌++◌, List, [], ◌∷◌, inl, inr, length, map, refl, sym, ap, append_assoc, arith}
+use Rattle.std.proofs.Common.{◌≡◌, ◌≢◌, ◌<◌, ◌∙◌, ◌++◌, List, [], ◌∷◌, inl, inr, length, refl, sym, ap, append_assoc, arith}
 use Rattle.std.specs.List.Sorted.{IsPermutation}
 use Rattle.std.proofs.lemmas.List.{append-nil, map-append}
 use Rattle.std.proofs.lemmas.List.Sorted.{IsPermutation-append_right, IsPermutation-pop_more, IsPermutation-refl, IsPermutation-trans}

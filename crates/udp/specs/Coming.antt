@@ -1,9 +1,11 @@
 -- What is taken off a socket.
-use Rattle.std.specs.Prelude.{◌≡◌, ◌++◌, ◌⊎◌, ℕ, List, [], ◌∷◌, map}
+use Rattle.std.specs.Prelude.{◌≡◌, ◌≢◌, ◌++◌, ◌⊎◌, ℕ, Bool, true, List, [], ◌∷◌, map}
 use Rattle.std.specs.List.{Contains}
 use Rattle.std.specs.declared.net.socket_addr.SocketAddr.{SocketAddr}
 use Rattle.faults.specs.Bytes.{Text}
-use Rattle.udp.specs.Inbox.{InboxState, came_as}
+use Rattle.udp.specs.Inbox.{InboxState, Takes, came_as}
+use Rattle.udp.specs.declared.inbox.Came.{Came}
+use Rattle.udp.specs.declared.inbox.Came.TheVariants.{Lost, Repeated, Unsealed, Waits}
 
 -- Behind what waited for some node wait these texts, for this one.
 abbrev pub HasCome : ℕ → InboxState → InboxState → Type 0
@@ -17,6 +19,18 @@ IsHeardOrLost node bytes old new =
     ((text : Text) × (bytes ≡ came_as old.key text)
     × (new.waiting ≡ old.waiting ++ (node, text) ∷ []))
     ⊎ (new.waiting ≡ old.waiting)
+
+-- What became of bytes that came for the node: they are how a text comes, and it waits behind the
+-- others or found no room; they are none, and nothing changed; or they may be dropped, and nothing
+-- changed.
+abbrev pub Became : ℕ → Text → Bool → InboxState → InboxState → Came → Type 0
+Became node bytes may_drop old new Waits = (text : Text) × Takes old new bytes text
+    × (new.waiting ≡ old.waiting ++ (node, text) ∷ [])
+Became node bytes may_drop old new Lost = (text : Text) × Takes old new bytes text
+    × (new.waiting ≡ old.waiting)
+Became node bytes may_drop old new Unsealed =
+    (new ≡ old) × ((text : Text) → bytes ≢ came_as old.key text)
+Became node bytes may_drop old new Repeated = (may_drop ≡ true) × (new ≡ old)
 
 -- the address is no member's
 abbrev pub IsStrange : List SocketAddr → SocketAddr → Type 0

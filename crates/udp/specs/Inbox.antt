@@ -3,6 +3,7 @@ use Rattle.std.specs.Prelude.{◌≡◌, ◌++◌, ℕ, Bool, true, List, [], �
 use Rattle.faults.specs.Bytes.{Text, is_among}
 use Rattle.seals.specs.Sealed.{sealed}
 
+-- What came for the nodes of a process, and what of it was not given yet.
 pub record InboxState : Type 0 where
   -- the run's key, where there is a seal
   pub key : Option Text

@@ -3,6 +3,8 @@ pub mod Hosts
 pub mod Ways
 pub mod Leaving
 pub mod Inbox
+pub mod Requests
+pub mod Waiting
 pub mod Coming
 pub mod Outbox
 pub mod Tallies

@@ -17,6 +17,8 @@ pub enum Came {
     Lost,
     /// They are no sealed text.
     Unsealed,
+    /// They are a request that came again at once, and were dropped.
+    Repeated,
 }
 
 /// The texts that came, in order, each with the number of the node that it came for. Where there is
@@ -42,7 +44,7 @@ impl Model for Inbox {
 }
 
 impl Inbox {
-    ghost use Rattle.udp.specs.declared.inbox.Came.TheVariants.{Lost, Unsealed, Waits};
+    ghost use Rattle.udp.specs.declared.inbox.Came.TheVariants.{Lost, Repeated, Unsealed, Waits};
 
     /// Nothing came yet. So many texts may wait.
     pub fn new(alloc: Global, seal: Option<Seal>, most: usize) -> Inbox
@@ -64,6 +66,7 @@ impl Inbox {
             × (self.new.waiting ≡ self.old.waiting) }
         ensures unsealed { result ≡ Unsealed → (self.new ≡ self.old)
             × ((text : List ℕ) → bytes.now ≢ came_as self.old.key text) }
+        ensures never { result ≢ Repeated }
     {
         let Some(text) = self.opened(bytes) else {
             return Came::Unsealed;

@@ -7,6 +7,7 @@ mod inbox;
 mod line;
 mod outbox;
 mod patience;
+mod requests;
 mod sockets;
 mod tallies;
 mod told;
@@ -14,5 +15,6 @@ mod udp_port;
 
 pub use crate::guard::Guard;
 pub use crate::hosts::{HostsFault, parse_hosts};
+pub use crate::patience::Hurry;
 pub use crate::tallies::{Tallies, Tally};
 pub use crate::udp_port::{UdpPort, loopback};

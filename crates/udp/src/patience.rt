@@ -1,4 +1,7 @@
 //! How long a receive waits for a datagram.
+ghost use Rattle.std.specs.Prelude.{◌≡◌};
+ghost use Rattle.udp.specs.Waiting.{slow};
+
 use std::thread;
 use std::time::{Clock, Duration};
 
@@ -12,6 +15,21 @@ const SHORT_NAP: u64 = 100;
 /// How long another nap is, in microseconds.
 const LONG_NAP: u64 = 1_000;
 
+/// How often a receive looks that has time: its naps are a second in all.
+const SLOW_LOOKS: u32 = 1_019;
+
+/// How long a receive waits where nothing came.
+#[derive(Clone, Copy, Debug, PartialEq, Eq)]
+pub enum Hurry {
+    /// Not at all: there is something else to do.
+    Brief,
+    /// As long as the port's patience says.
+    Patient,
+    /// Up to a second, or as long as the port's patience says, if that is longer: there is nothing
+    /// to do but listen.
+    Slow,
+}
+
 /// How often a receive looks whether something came, before it says that nothing did. Between two
 /// looks it naps, so that a node with nothing to do leaves the processor to others.
 #[derive(Clone, Copy)]
@@ -21,7 +39,9 @@ pub struct Patience {
 
 impl Patience {
     /// Looks once.
-    pub fn none() -> Patience {
+    pub fn none() -> Patience
+        ensures { result.looks ≡ 1 }
+    {
         Patience { looks: 1 }
     }
 
@@ -37,8 +57,19 @@ impl Patience {
         }
     }
 
+    /// Looks at least until it napped for a second.
+    pub fn slow(self) -> Patience
+        ensures { result ≡ slow self }
+    {
+        Patience {
+            looks: self.looks.max(SLOW_LOOKS),
+        }
+    }
+
     /// How often a receive looks.
-    pub fn looks(&self) -> u32 {
+    pub fn looks(&self) -> u32
+        ensures { result ≡ self.now.looks }
+    {
         self.looks
     }
 

@@ -1,15 +1,19 @@
 //! The sockets of the nodes here.
-ghost use Rattle.std.specs.Prelude.{◌≡◌, ◌≢◌, ◌<◌, ◌↔◌, Err, IfErr, IfOk, IsTrue, MatchOption, Ok, false, length};
-ghost use Rattle.udp.specs.Coming.{HasCome, IsHeardOrLost, IsStrange};
+ghost use Rattle.std.specs.Prelude.{◌≡◌, ◌≢◌, ◌<◌, ◌≤◌, ◌↔◌, Err, IfErr, IfOk, IsTrue, MatchOption, Ok, false, length, true};
+ghost use Rattle.std.specs.List.{Contains};
+ghost use Rattle.udp.specs.Coming.{Became, HasCome, IsHeardOrLost, IsStrange};
 ghost use Rattle.udp.specs.Inbox.{GoesOn};
 ghost use Rattle.udp.specs.Refusals.{CannotStart};
+ghost use Rattle.udp.specs.Requests.{is_repeat, is_request, known_after};
 ghost use Rattle.udp.specs.Ways.{HasNoSeat, HasNoWay, IsSeatOf, IsWay};
 
 use crate::inbox::{Came, Inbox};
+use crate::requests::{Request, Requests, request_in};
 use crate::tallies::Tallies;
 use ports::PortFault;
 use std::io::ErrorKind;
 use std::net::{Net, SocketAddr, UdpSocket};
+use std::time::Instant;
 
 /// How many are taken off a socket at each look.
 const TAKEN_AT_A_LOOK: u32 = 1_024;
@@ -35,7 +39,7 @@ pub struct Way {
     pub member: u8,
 }
 
-/// Whose datagrams are taken, and how long ones.
+/// Whose datagrams are taken, how long ones, and how often.
 #[derive(Clone, Copy)]
 pub struct Sieve<'a> {
     /// Where the members' nodes listen, by number.
@@ -44,6 +48,10 @@ pub struct Sieve<'a> {
     pub most: usize,
     /// Whether those of others than the members are taken, too.
     pub is_open: bool,
+    /// What a request begins with, where one that comes again at once is dropped.
+    pub front: Option<[u8; 5]>,
+    /// When this is, where the clock tells.
+    pub now: Option<Instant>,
 }
 
 /// What the system did with a datagram.
@@ -104,8 +112,9 @@ pub fn way_of(seats: &[Seat], addresses: &[SocketAddr], from: u8, to: u8) -> Opt
 
 /// Whether what comes from there is taken.
 fn may_come(sieve: Sieve<'_>, from: &SocketAddr) -> bool
-    ensures { sieve.entry.is_open ≡ false → IsStrange sieve.entry.members.now from.now
+    ensures strangers { sieve.entry.is_open ≡ false → IsStrange sieve.entry.members.now from.now
         → result ≡ false }
+    ensures members { Contains sieve.entry.members.now from.now → result ≡ true }
 {
     sieve.is_open || sieve.members.contains(from)
 }
@@ -121,25 +130,27 @@ pub fn take_off(
     sieve: Sieve<'_>,
     buffer: &mut [u8],
     inbox: &mut Inbox,
+    requests: &mut Requests,
     tallies: &mut Tallies,
 ) -> bool
     ensures { GoesOn inbox.old inbox.new }
 {
     let mut has_failed = false;
     for seat in seats {
-        has_failed = take_all(seat, sieve, buffer, inbox, tallies) || has_failed;
+        has_failed = take_all(seat, sieve, buffer, inbox, requests, tallies) || has_failed;
     }
     has_failed
 }
 
 /// Takes some of what came off the seat's socket, and says whether the socket failed. What is no
 /// text of a member's is counted, and nothing else is done with it. What finds no room in the line,
-/// or no memory, is lost.
+/// or no memory, is lost, and so is a request that came again at once.
 fn take_all(
     seat: &Seat,
     sieve: Sieve<'_>,
     buffer: &mut [u8],
     inbox: &mut Inbox,
+    requests: &mut Requests,
     tallies: &mut Tallies,
 ) -> bool
     ensures come { HasCome seat.now.node inbox.old inbox.new }
@@ -153,7 +164,8 @@ fn take_all(
         match seat.socket.recv_from(buffer) {
             Ok((count, from)) => {
                 left = left.saturating_sub(count);
-                take_one(seat.node, &buffer[..count], &from, sieve, inbox, tallies);
+                let bytes = &buffer[..count];
+                take_one(seat.node, bytes, &from, sieve, inbox, requests, tallies);
             }
             Err(error) => return is_failure(error.kind()),
         }
@@ -170,6 +182,7 @@ fn take_one(
     from: &SocketAddr,
     sieve: Sieve<'_>,
     inbox: &mut Inbox,
+    requests: &mut Requests,
     tallies: &mut Tallies,
 )
     ensures heard { IsHeardOrLost node bytes.now inbox.old inbox.new }
@@ -177,6 +190,12 @@ fn take_one(
     ensures long { sieve.entry.most < length bytes.now → inbox.new ≡ inbox.old }
     ensures strange { sieve.entry.is_open ≡ false
         → IsStrange sieve.entry.members.now from.now → inbox.new ≡ inbox.old }
+
+    // A member's datagram that is no request is taken in any case.
+    ensures taken { length bytes.now ≤ sieve.entry.most
+        → Contains sieve.entry.members.now from.now
+        → is_request sieve.entry.front bytes.now ≡ false
+        → (came : Came) × Became node bytes.now false inbox.old inbox.new came }
 {
     if bytes.len() > sieve.most {
         tallies.note_strange();
@@ -186,15 +205,54 @@ fn take_one(
         tallies.note_strange();
         return;
     }
-    let came = take_bytes(node, bytes, inbox);
     match member_at(sieve.members, from) {
-        Some(member) => tallies.note(member, came),
-        None => tallies.note_strange(),
+        Some(member) => {
+            let request = request_in(sieve.front, sieve.now, node, member, bytes);
+            let came = take_from(node, bytes, request, inbox, requests);
+            tallies.note(member, came);
+        }
+        None => {
+            take_bytes(node, bytes, inbox);
+            tallies.note_strange();
+        }
     }
+}
+
+/// Takes these bytes, which came from a member's address for the node, and may be a request. One
+/// that came again at once is dropped, and all others are taken as they are elsewhere.
+#[tactic(auto, using(crate::proofs::InboxLemmas::goes_on_still))]
+fn take_from(
+    node: u8,
+    bytes: &[u8],
+    request: Option<Request>,
+    inbox: &mut Inbox,
+    requests: &mut Requests,
+) -> Came
+    ensures became { Became node bytes.now (is_repeat request requests.old.known.items)
+        inbox.old inbox.new result }
+    ensures dropped { is_repeat request requests.old.known.items ≡ true
+        → result ≡ Came.Repeated }
+    ensures noted { requests.new.known.items
+        ≡ known_after result request requests.old.next requests.old.known.items }
+    ensures heard { IsHeardOrLost node bytes.now inbox.old inbox.new }
+    ensures goes_on { GoesOn inbox.old inbox.new }
+{
+    let Some(request) = request else {
+        return take_bytes(node, bytes, inbox);
+    };
+    if requests.has(&request) {
+        return Came::Repeated;
+    }
+    let came = take_bytes(node, bytes, inbox);
+    if came == Came::Waits {
+        requests.note(request);
+    }
+    came
 }
 
 /// Takes these bytes, which came for the node, if they are a text of this run.
 fn take_bytes(node: u8, bytes: &[u8], inbox: &mut Inbox) -> Came
+    ensures became { Became node bytes.now false inbox.old inbox.new result }
     ensures heard { IsHeardOrLost node bytes.now inbox.old inbox.new }
     ensures goes_on { GoesOn inbox.old inbox.new }
 {

@@ -6,17 +6,20 @@ ghost use Rattle.udp.specs.Tallies.{after, unsent_once_more, with_tally};
 use crate::inbox::Came;
 use faults::Memory;
 use std::alloc::Global;
+use std::time::Instant;
 
 /// What was seen of a member. The greatest counts stay.
-#[derive(Clone, Copy, Debug, PartialEq, Eq)]
+#[derive(Clone, Copy, PartialEq, Eq)]
 pub struct Tally {
     /// How many datagrams came from its address, and are texts of this run.
     pub heard: u64,
-    /// Within which receive the last of them came, counted from 1; 0, where none did.
-    pub last: u64,
+    /// When the last of them came, if one did and the clock told.
+    pub last: Option<Instant>,
     /// How many came from its address, and are no texts of this run: it seals otherwise, or
     /// somebody sends in its name.
     pub unsealed: u64,
+    /// How many requests came from its address again at once, and were dropped.
+    pub repeats: u64,
     /// How many to it were lost, since the system didn't take them.
     pub unsent: u64,
 }
@@ -24,8 +27,8 @@ pub struct Tally {
 /// What was seen of each member, by number, and of others.
 #[derive(Drop)]
 pub struct Tallies {
-    /// How many receives there were.
-    pub receives: u64,
+    /// When the sockets were looked at last, if they were and the clock told.
+    pub now: Option<Instant>,
     /// How many datagrams came from addresses of no member, or were longer than any of a member's.
     pub strange: u64,
     pub members: Vec<Tally>,
@@ -38,30 +41,30 @@ impl Tallies {
     {
         let none = Tally {
             heard: 0,
-            last: 0,
+            last: None,
             unsealed: 0,
+            repeats: 0,
             unsent: 0,
         };
         let members = vec![in alloc; none; members]?;
         Ok(Tallies {
-            receives: 0,
+            now: None,
             strange: 0,
             members,
         })
     }
 
-    /// Another receive begins.
-    pub(crate) fn begin(&mut self)
-        ensures { (self.new.receives ≡ one_more self.old.receives)
-            × (self.new.strange ≡ self.old.strange) × (self.new.members ≡ self.old.members) }
+    /// The sockets are looked at, now, where the clock tells when that is.
+    pub(crate) fn look(&mut self, now: Option<Instant>)
+        ensures { self.new ≡ record self.old { now = now } }
     {
-        self.receives = self.receives.saturating_add(1);
+        self.now = now;
     }
 
     /// One came that is no member's.
     pub(crate) fn note_strange(&mut self)
         ensures { (self.new.strange ≡ one_more self.old.strange)
-            × (self.new.receives ≡ self.old.receives) × (self.new.members ≡ self.old.members) }
+            × (self.new.now ≡ self.old.now) × (self.new.members ≡ self.old.members) }
     {
         self.strange = self.strange.saturating_add(1);
     }
@@ -69,13 +72,13 @@ impl Tallies {
     /// This became of one that came from the member's address.
     pub(crate) fn note(&mut self, member: usize, came: Came)
         ensures members { self.new.members.items
-            ≡ with_tally (after self.old.receives came) member self.old.members.items }
-        ensures others { (self.new.receives ≡ self.old.receives)
+            ≡ with_tally (after self.old.now came) member self.old.members.items }
+        ensures others { (self.new.now ≡ self.old.now)
             × (self.new.strange ≡ self.old.strange) }
     {
         if member < self.members.len() {
             let before = self.members[member];
-            self.members[member] = seen(before, self.receives, came);
+            self.members[member] = seen(before, self.now, came);
         }
     }
 
@@ -83,7 +86,7 @@ impl Tallies {
     pub(crate) fn note_unsent(&mut self, member: usize)
         ensures members { self.new.members.items
             ≡ with_tally unsent_once_more member self.old.members.items }
-        ensures others { (self.new.receives ≡ self.old.receives)
+        ensures others { (self.new.now ≡ self.old.now)
             × (self.new.strange ≡ self.old.strange) }
     {
         if member < self.members.len() {
@@ -94,17 +97,21 @@ impl Tallies {
 }
 
 /// The tally, after this became of one more.
-fn seen(tally: Tally, receives: u64, came: Came) -> Tally
-    ensures { result ≡ after receives came tally }
+fn seen(tally: Tally, now: Option<Instant>, came: Came) -> Tally
+    ensures { result ≡ after now came tally }
 {
     match came {
         Came::Unsealed => Tally {
             unsealed: tally.unsealed.saturating_add(1),
             ..tally
         },
+        Came::Repeated => Tally {
+            repeats: tally.repeats.saturating_add(1),
+            ..tally
+        },
         Came::Waits | Came::Lost => Tally {
             heard: tally.heard.saturating_add(1),
-            last: receives,
+            last: now,
             ..tally
         },
     }

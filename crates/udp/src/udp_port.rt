@@ -4,13 +4,15 @@ ghost use Rattle.ports.specs.Kept.{counted, one_more};
 ghost use Rattle.udp.specs.Inbox.{GoesOn, StillVouches, came_as, is_vouched_for};
 ghost use Rattle.udp.specs.Leaving.{HandsOver, HasLeft, IsLeft};
 ghost use Rattle.udp.specs.Refusals.{CannotStart};
+ghost use Rattle.udp.specs.Waiting.{patience_at};
 ghost use Rattle.udp.specs.Ways.{AreInOrder, AreLocal, HasNoSeat, HasWay, IsLocal, IsSeatOf, LeavesBy, in_line};
 
 use crate::guard::Guard;
 use crate::inbox::Inbox;
 use crate::line::{Line, Waiting};
 use crate::outbox::Outbox;
-use crate::patience::Patience;
+use crate::patience::{Hurry, Patience};
+use crate::requests::Requests;
 use crate::sockets::{
     Seat, Sent, Sieve, Way, address_of, hand_over, seat_of, take_off, take_seat, way_of,
 };
@@ -22,7 +24,7 @@ use seals::Seal;
 use std::alloc::Global;
 use std::net::{Ipv4Addr, Net, SocketAddr, SocketAddrV4};
 use std::thread;
-use std::time::{Clock, Duration};
+use std::time::{Clock, Duration, Instant};
 
 /// How many datagrams that came may stand in line. What comes beyond is lost.
 const MOST_COME: usize = 65_536;
@@ -57,8 +59,11 @@ pub struct UdpPort<'c, C: Clock> {
     most: usize,
     /// Whether datagrams of others than the members are taken, too.
     is_open: bool,
+    /// What a request begins with, where one that comes again at once is dropped.
+    front: Option<[u8; 5]>,
     buffer: Vec<u8>,
     inbox: Inbox,
+    requests: Requests,
     outbox: Outbox,
     leaving: Line<Way>,
     /// What was handed to the system and left the line.
@@ -66,7 +71,11 @@ pub struct UdpPort<'c, C: Clock> {
     /// Picks the next one to leave.
     pick: usize,
     patience: Patience,
+    /// How long a receive waits at the moment where nothing came.
+    hurry: Hurry,
     tallies: Tallies,
+    /// How many datagrams were offered.
+    sends: u64,
     failures: u64,
 }
 
@@ -112,7 +121,7 @@ impl<'c, C: Clock> UdpPort<'c, C> {
         ensures sealed { IfOk result (λ port. (port.inbox.key ≡ guard.seal)
             × (port.outbox.key ≡ guard.seal)) }
         ensures guard { IfOk result (λ port. (port.most ≡ guard.most)
-            × (port.is_open ≡ guard.is_open)) }
+            × (port.is_open ≡ guard.is_open) × (port.front ≡ guard.front)) }
         ensures refused { IfErr result CannotStart }
     {
         let mut seats = Vec::with_capacity(alloc, members as usize)?;
@@ -172,7 +181,7 @@ impl<'c, C: Clock> UdpPort<'c, C> {
         ensures sealed { IfOk result (λ port. (port.inbox.key ≡ guard.seal)
             × (port.outbox.key ≡ guard.seal)) }
         ensures guard { IfOk result (λ port. (port.most ≡ guard.most)
-            × (port.is_open ≡ guard.is_open)) }
+            × (port.is_open ≡ guard.is_open) × (port.front ≡ guard.front)) }
         ensures refused { IfErr result CannotStart }
     {
         let mut seats = Vec::with_capacity(alloc, 1)?;
@@ -183,6 +192,21 @@ impl<'c, C: Clock> UdpPort<'c, C> {
             Patience::of_member(patience, me)
         };
         port_of(clock, alloc, seats, addresses, patience, guard)
+    }
+
+    /// From now on a receive waits so long where nothing came. At first it is patient.
+    pub fn set_hurry(&mut self, hurry: Hurry)
+        ensures { self.new ≡ record self.old { hurry = hurry } }
+    {
+        self.hurry = hurry;
+    }
+
+    /// How many datagrams were offered to the port so far, those that it didn't take with them. The
+    /// greatest count stays.
+    pub fn sends(&self) -> u64
+        ensures { result ≡ self.now.sends }
+    {
+        self.sends
     }
 
     /// What was seen of the members so far.
@@ -199,7 +223,8 @@ impl<'c, C: Clock> UdpPort<'c, C> {
         ensures left { self.new.leaving.waiting.items ≡ [] }
         ensures handed { self.new.handed.all ≡ self.old.handed.all
             ++ map (λ w. w.bytes.items) self.old.leaving.waiting.items }
-        ensures failures { self.new.failures ≡ self.old.failures }
+        ensures stays { (self.new.failures ≡ self.old.failures)
+            × (self.new.sends ≡ self.old.sends) × (self.new.hurry ≡ self.old.hurry) }
         ensures seal_stays { (self.new.inbox ≡ self.old.inbox)
             × (self.new.outbox ≡ self.old.outbox) }
     {
@@ -214,7 +239,8 @@ impl<'c, C: Clock> UdpPort<'c, C> {
     fn let_first_leave(&mut self, naps: u32) -> u32
         ensures first { HandsOver self.old.leaving.waiting.items self.old.handed.all
             self.new.leaving.waiting.items self.new.handed.all }
-        ensures failures { self.new.failures ≡ self.old.failures }
+        ensures stays { (self.new.failures ≡ self.old.failures)
+            × (self.new.sends ≡ self.old.sends) × (self.new.hurry ≡ self.old.hurry) }
         ensures seal_stays { (self.new.inbox ≡ self.old.inbox)
             × (self.new.outbox ≡ self.old.outbox) }
     {
@@ -230,21 +256,27 @@ impl<'c, C: Clock> UdpPort<'c, C> {
     /// them failed.
     fn take_in(&mut self) -> bool
         ensures goes_on { GoesOn self.old.inbox self.new.inbox }
-        ensures failures { self.new.failures ≡ self.old.failures }
+        ensures stays { (self.new.failures ≡ self.old.failures)
+            × (self.new.sends ≡ self.old.sends) × (self.new.hurry ≡ self.old.hurry) }
         ensures leaving { (self.new.leaving ≡ self.old.leaving)
             × (self.new.handed ≡ self.old.handed) }
         ensures outbox { self.new.outbox ≡ self.old.outbox }
     {
+        let now = Instant::now(self.clock).ok();
+        self.tallies.look(now);
         let sieve = Sieve {
             members: self.addresses.as_slice(),
             most: self.most,
             is_open: self.is_open,
+            front: self.front,
+            now,
         };
         take_off(
             &self.seats,
             sieve,
             &mut self.buffer,
             &mut self.inbox,
+            &mut self.requests,
             &mut self.tallies,
         )
     }
@@ -255,7 +287,8 @@ impl<'c, C: Clock> UdpPort<'c, C> {
     fn let_one_leave(&mut self) -> bool
         ensures left { HasLeft self.old.leaving.waiting.items self.old.handed.all
             self.new.leaving.waiting.items self.new.handed.all }
-        ensures failures { self.new.failures ≡ self.old.failures }
+        ensures stays { (self.new.failures ≡ self.old.failures)
+            × (self.new.sends ≡ self.old.sends) × (self.new.hurry ≡ self.old.hurry) }
         ensures seal_stays { (self.new.inbox ≡ self.old.inbox)
             × (self.new.outbox ≡ self.old.outbox) }
     {
@@ -283,26 +316,40 @@ impl<'c, C: Clock> UdpPort<'c, C> {
     fn look(&mut self) -> bool
         ensures goes_on { GoesOn self.old.inbox self.new.inbox }
         ensures outbox { self.new.outbox ≡ self.old.outbox }
-        ensures failures { self.new.failures ≡ self.old.failures }
+        ensures stays { (self.new.failures ≡ self.old.failures)
+            × (self.new.sends ≡ self.old.sends) × (self.new.hurry ≡ self.old.hurry) }
         ensures leaving { IsLeft self.old.leaving.waiting.items self.old.handed.all
             self.new.leaving.waiting.items self.new.handed.all }
     {
         let mut has_failed = false;
-        for look in 0..self.patience.looks() {
+        let patience = self.patience_now();
+        for look in 0..patience.looks() {
             has_failed = self.look_once() || has_failed;
             if !self.inbox.is_empty() {
                 break;
             }
-            self.patience.nap(self.clock, look);
+            patience.nap(self.clock, look);
         }
         has_failed
+    }
+
+    /// How long a receive waits at the moment.
+    fn patience_now(&self) -> Patience
+        ensures { result ≡ patience_at self.now.hurry self.now.patience }
+    {
+        match self.hurry {
+            Hurry::Brief => Patience::none(),
+            Hurry::Patient => self.patience,
+            Hurry::Slow => self.patience.slow(),
+        }
     }
 
     /// Looks at the sockets, and lets some leave.
     fn look_once(&mut self) -> bool
         ensures goes_on { GoesOn self.old.inbox self.new.inbox }
         ensures outbox { self.new.outbox ≡ self.old.outbox }
-        ensures failures { self.new.failures ≡ self.old.failures }
+        ensures stays { (self.new.failures ≡ self.old.failures)
+            × (self.new.sends ≡ self.old.sends) × (self.new.hurry ≡ self.old.hurry) }
         ensures leaving { IsLeft self.old.leaving.waiting.items self.old.handed.all
             self.new.leaving.waiting.items self.new.handed.all }
     {
@@ -315,7 +362,8 @@ impl<'c, C: Clock> UdpPort<'c, C> {
     fn let_some_leave(&mut self)
         ensures left { IsLeft self.old.leaving.waiting.items self.old.handed.all
             self.new.leaving.waiting.items self.new.handed.all }
-        ensures failures { self.new.failures ≡ self.old.failures }
+        ensures stays { (self.new.failures ≡ self.old.failures)
+            × (self.new.sends ≡ self.old.sends) × (self.new.hurry ≡ self.old.hurry) }
         ensures seal_stays { (self.new.inbox ≡ self.old.inbox)
             × (self.new.outbox ≡ self.old.outbox) }
     {
@@ -330,7 +378,8 @@ impl<'c, C: Clock> UdpPort<'c, C> {
     fn send_here(&mut self, way: Way) -> bool
         ensures goes_on { GoesOn self.old.inbox self.new.inbox }
         ensures outbox { self.new.outbox ≡ self.old.outbox }
-        ensures failures { self.new.failures ≡ self.old.failures }
+        ensures stays { (self.new.failures ≡ self.old.failures)
+            × (self.new.sends ≡ self.old.sends) × (self.new.hurry ≡ self.old.hurry) }
         ensures leaving { (self.new.leaving ≡ self.old.leaving)
             × (self.new.handed ≡ self.old.handed) }
     {
@@ -350,7 +399,8 @@ impl<'c, C: Clock> UdpPort<'c, C> {
     fn send_away(&mut self, way: Way) -> Result<bool, Memory>
         ensures goes_on { GoesOn self.old.inbox self.new.inbox }
         ensures outbox { self.new.outbox ≡ self.old.outbox }
-        ensures failures { self.new.failures ≡ self.old.failures }
+        ensures stays { (self.new.failures ≡ self.old.failures)
+            × (self.new.sends ≡ self.old.sends) × (self.new.hurry ≡ self.old.hurry) }
         ensures put { result ≡ Ok true → IfSome self.old.outbox.made
             (λ bytes. in_line self.new.leaving.waiting.items
             ≡ in_line self.old.leaving.waiting.items ++ (way, bytes) ∷ []) }
@@ -369,7 +419,8 @@ impl<'c, C: Clock> UdpPort<'c, C> {
     fn is_taken(&mut self, from: u8, to: u8, bytes: &[u8]) -> Result<bool, Memory>
         ensures goes_on { GoesOn self.old.inbox self.new.inbox }
         ensures key { self.new.outbox.key ≡ self.old.outbox.key }
-        ensures failures { self.new.failures ≡ self.old.failures }
+        ensures stays { (self.new.failures ≡ self.old.failures)
+            × (self.new.sends ≡ self.old.sends) × (self.new.hurry ≡ self.old.hurry) }
         ensures way { result ≡ Ok true
             → HasWay self.old.seats.items self.old.addresses.items from to }
         ensures away { result ≡ Ok true → HasNoSeat self.old.seats.items to
@@ -397,6 +448,8 @@ impl<'c, C: Clock> UdpPort<'c, C> {
             × (self.new.failures ≡ self.old.failures) }
         ensures same { (self.new.inbox ≡ self.old.inbox) × (self.new.outbox ≡ self.old.outbox)
             × (self.new.leaving ≡ self.old.leaving) × (self.new.handed ≡ self.old.handed) }
+        ensures stays { (self.new.sends ≡ self.old.sends)
+            × (self.new.hurry ≡ self.old.hurry) }
     {
         if has_failed {
             self.failures = self.failures.saturating_add(1);
@@ -436,22 +489,25 @@ fn port_of<'c, C: Clock>(
     patience: Patience,
     guard: Guard,
 ) -> Result<UdpPort<'c, C>, PortFault>
-    ensures fresh { IfOk result (λ port. port.failures ≡ 0) }
+    ensures fresh { IfOk result (λ port. (port.failures ≡ 0) × (port.sends ≡ 0)
+        × (port.hurry ≡ Hurry.Patient)) }
     ensures seats { IfOk result (λ port. port.seats ≡ seats) }
     ensures addresses { IfOk result (λ port. port.addresses ≡ addresses) }
     ensures leaving { IfOk result (λ port. port.leaving.waiting.items ≡ []) }
     ensures sealed { IfOk result (λ port. (port.inbox.key ≡ guard.seal)
         × (port.outbox.key ≡ guard.seal)) }
     ensures guard { IfOk result (λ port. (port.most ≡ guard.most)
-        × (port.is_open ≡ guard.is_open)) }
+        × (port.is_open ≡ guard.is_open) × (port.front ≡ guard.front)) }
     ensures refused { IfErr result CannotStart }
 {
     let Guard {
         seal,
         most,
         is_open,
+        front,
     } = guard;
     let tallies = Tallies::new(alloc, addresses.len())?;
+    let requests = Requests::new(alloc)?;
     let outbox = Outbox::new(alloc, copy_of(&seal));
     Ok(UdpPort {
         clock,
@@ -460,15 +516,19 @@ fn port_of<'c, C: Clock>(
         addresses,
         most,
         is_open,
+        front,
         // One byte longer than the longest datagram: what is longer yet is cut to that.
         buffer: vec![in alloc; 0; most + 1]?,
         inbox: Inbox::new(alloc, seal, MOST_COME),
+        requests,
         outbox,
         leaving: Line::new(alloc, MOST_LEAVING),
         handed: Told::new(),
         pick: 0,
         patience,
+        hurry: Hurry::Patient,
         tallies,
+        sends: 0,
         failures: 0,
     })
 }
@@ -530,11 +590,14 @@ impl<'c, C: Clock> Port for UdpPort<'c, C> {
         ensures seal_stays { (self.new.inbox.key ≡ self.old.inbox.key)
             × (self.new.outbox.key ≡ self.old.outbox.key) }
 
+        // Nothing was offered.
+        ensures stays { (self.new.sends ≡ self.old.sends)
+            × (self.new.hurry ≡ self.old.hurry) }
+
         // Each that waited to leave is handed to the system at most once, or waits still.
         ensures leaving { IsLeft self.old.leaving.waiting.items self.old.handed.all
             self.new.leaving.waiting.items self.new.handed.all }
     {
-        self.tallies.begin();
         let has_failed = self.look();
         match self.inbox.take_first() {
             Some(first) => Ok(Some(first)),
@@ -548,6 +611,10 @@ impl<'c, C: Clock> Port for UdpPort<'c, C> {
         ensures seal_stays { (self.new.inbox.key ≡ self.old.inbox.key)
             × (self.new.outbox.key ≡ self.old.outbox.key) }
 
+        // It was offered.
+        ensures offered { (self.new.sends ≡ one_more self.old.sends)
+            × (self.new.hurry ≡ self.old.hurry) }
+
         // It is from a node here to a member. What is for a node of another process waits to leave
         // by the way there, sealed where there is a seal.
         ensures way { OnOk result
@@ -559,6 +626,7 @@ impl<'c, C: Clock> Port for UdpPort<'c, C> {
         ensures lost { OnErr result
             (self.new.leaving.waiting.items ≡ self.old.leaving.waiting.items) }
     {
+        self.sends = self.sends.saturating_add(1);
         if self.is_taken(from, to, bytes)? {
             Ok(())
         } else {

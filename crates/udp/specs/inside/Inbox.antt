@@ -5,6 +5,7 @@ use Rattle.udp.specs.Inbox.{InboxState, is_vouched_for}
 use Rattle.udp.specs.Ways.{in_line}
 use Rattle.udp.specs.declared.inbox.Inbox.TheInside.{Inside}
 
+-- what stands in an inbox: its key, all bytes that were a text, and the line of texts
 abbrev pub inbox_view : Inside → InboxState
 inbox_view i = record {
   key = i.seal;

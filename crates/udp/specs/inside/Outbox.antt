@@ -4,6 +4,7 @@ use Rattle.udp.specs.Inbox.{came_as}
 use Rattle.udp.specs.Outbox.{OutboxState}
 use Rattle.udp.specs.declared.outbox.Outbox.TheInside.{Inside}
 
+-- what stands in an outbox: its key, and the last bytes, if any were made
 abbrev pub outbox_view : Inside → OutboxState
 outbox_view o = record {
   key = o.seal;

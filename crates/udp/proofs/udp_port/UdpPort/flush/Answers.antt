@@ -14,7 +14,11 @@ loop-self-preserved g c = record {
   all = HandsOver-all c.loop-self.self.leaving.waiting.items c.let_first_leave-naps.new.self.leaving.waiting.items
       c.loop-self.self.handed.all c.let_first_leave-naps.new.self.handed.all
       (c.args.self.now.handed.all ++ texts_of c.args.self.now.leaving.waiting.items) c.let_first_leave-naps.ensures.first c.loop-self.invariant.all;
-  failures = c.let_first_leave-naps.ensures.failures ∙ c.loop-self.invariant.failures;
+  stays = (
+    c.let_first_leave-naps.ensures.stays.0 ∙ c.loop-self.invariant.stays.0,
+    c.let_first_leave-naps.ensures.stays.1 ∙ c.loop-self.invariant.stays.1,
+    c.let_first_leave-naps.ensures.stays.2 ∙ c.loop-self.invariant.stays.2,
+  );
   inbox = c.let_first_leave-naps.ensures.seal_stays.0 ∙ c.loop-self.invariant.inbox;
   outbox = c.let_first_leave-naps.ensures.seal_stays.1 ∙ c.loop-self.invariant.outbox;
 }

@@ -5,7 +5,7 @@ use Rattle.udp.proofs.udp_port.UdpPort.flush.Given as goal
 abbrev pub invariant-loop-self : goal.invariant-loop-self
 invariant-loop-self g l = record {
   all : l.fn.self.handed.all ++ texts_of l.fn.self.leaving.waiting.items ≡ l.self.handed.all ++ texts_of l.self.leaving.waiting.items;
-  failures : l.self.failures ≡ l.fn.self.failures;
+  stays : (l.self.failures ≡ l.fn.self.failures) × (l.self.sends ≡ l.fn.self.sends) × (l.self.hurry ≡ l.fn.self.hurry);
   inbox : l.self.inbox ≡ l.fn.self.inbox;
   outbox : l.self.outbox ≡ l.fn.self.outbox;
 }

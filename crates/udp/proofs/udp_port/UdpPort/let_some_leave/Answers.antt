@@ -5,7 +5,7 @@ use Rattle.udp.proofs.udp_port.UdpPort.let_some_leave.Goals as goal
 pub loop-init : goal.loop-init
 loop-init g c = record {
   left = IsLeft-none c.args.self.now.leaving.waiting.items c.args.self.now.handed.all;
-  failures = refl;
+  stays = (refl, refl, refl);
   inbox = refl;
   outbox = refl;
 }
@@ -14,7 +14,11 @@ pub loop-preserved : goal.loop-preserved
 loop-preserved g c = record {
   left = IsLeft-one c.args.self.now.leaving.waiting.items c.loop.self.leaving.waiting.items c.let_one_leave.new.self.leaving.waiting.items
       c.args.self.now.handed.all c.loop.self.handed.all c.let_one_leave.new.self.handed.all c.loop.invariant.left c.let_one_leave.ensures.left;
-  failures = c.let_one_leave.ensures.failures ∙ c.loop.invariant.failures;
+  stays = (
+    c.let_one_leave.ensures.stays.0 ∙ c.loop.invariant.stays.0,
+    c.let_one_leave.ensures.stays.1 ∙ c.loop.invariant.stays.1,
+    c.let_one_leave.ensures.stays.2 ∙ c.loop.invariant.stays.2,
+  );
   inbox = c.let_one_leave.ensures.seal_stays.0 ∙ c.loop.invariant.inbox;
   outbox = c.let_one_leave.ensures.seal_stays.1 ∙ c.loop.invariant.outbox;
 }

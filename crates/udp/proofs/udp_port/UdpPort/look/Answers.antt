@@ -7,7 +7,7 @@ pub loop-look-init : goal.loop-look-init
 loop-look-init g c = record {
   goes_on = GoesOn-same c.args.self.now.inbox c.args.self.now.inbox refl;
   outbox = refl;
-  failures = refl;
+  stays = (refl, refl, refl);
   leaving = IsLeft-none c.args.self.now.leaving.waiting.items c.args.self.now.handed.all;
 }
 
@@ -15,7 +15,11 @@ pub loop-look-preserved : goal.loop-look-preserved
 loop-look-preserved g c = record {
   goes_on = GoesOn-more c.args.self.now.inbox c.loop-look.self.inbox c.look_once.new.self.inbox c.loop-look.invariant.goes_on c.look_once.ensures.goes_on;
   outbox = c.look_once.ensures.outbox ∙ c.loop-look.invariant.outbox;
-  failures = c.look_once.ensures.failures ∙ c.loop-look.invariant.failures;
+  stays = (
+    c.look_once.ensures.stays.0 ∙ c.loop-look.invariant.stays.0,
+    c.look_once.ensures.stays.1 ∙ c.loop-look.invariant.stays.1,
+    c.look_once.ensures.stays.2 ∙ c.loop-look.invariant.stays.2,
+  );
   leaving = IsLeft-more c.args.self.now.leaving.waiting.items c.loop-look.self.leaving.waiting.items c.look_once.new.self.leaving.waiting.items
       c.args.self.now.handed.all c.loop-look.self.handed.all c.look_once.new.self.handed.all c.loop-look.invariant.leaving c.look_once.ensures.leaving;
 }

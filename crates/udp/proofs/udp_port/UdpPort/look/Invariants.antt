@@ -7,6 +7,6 @@ abbrev pub invariant-loop-look : goal.invariant-loop-look
 invariant-loop-look g l = record {
   goes_on : GoesOn l.fn.self.inbox l.self.inbox;
   outbox : l.self.outbox ≡ l.fn.self.outbox;
-  failures : l.self.failures ≡ l.fn.self.failures;
+  stays : (l.self.failures ≡ l.fn.self.failures) × (l.self.sends ≡ l.fn.self.sends) × (l.self.hurry ≡ l.fn.self.hurry);
   leaving : IsLeft l.fn.self.leaving.waiting.items l.fn.self.handed.all l.self.leaving.waiting.items l.self.handed.all;
 }
