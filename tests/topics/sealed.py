@@ -1,5 +1,5 @@
-"""Nodes of a run with a key: what is forged, flipped, replayed or sealed otherwise changes nothing; files of keys; run files beside logs
-that are lost, swapped, emptied and copied back."""
+"""Nodes of a run with a key: what is forged, flipped, replayed or sealed otherwise changes nothing; requests that come again at once;
+faults that come again; files of keys; run files beside logs that are lost, swapped, emptied and copied back."""
 import hashlib
 import hmac
 import json
@@ -22,8 +22,8 @@ FORGED = FLIPPED = 1_000_000
 # after so many a sender naps, so that what it sends finds room in the socket's line
 AT_ONCE, NAP = 64, 0.001
 STRANGER = "127.0.0.9"
-TALLY = re.compile(rb"^dpbn: member (\d): heard (\d+)(?:, last \d+ looks ago)?, sealed otherwise (\d+), unsent (\d+)$")
-NOTHING = b"".join(b"dpbn: member %d: heard 0, sealed otherwise 0, unsent 0\n" % me for me in (1, 2)) + b"dpbn: strangers: 0\n"
+TALLY = re.compile(rb"^dpbn: member (\d): heard (\d+)(?:, last \d+ s ago)?, sealed otherwise (\d+), asked again (\d+), unsent (\d+)$")
+NOTHING = b"".join(b"dpbn: member %d: heard 0, sealed otherwise 0, asked again 0, unsent 0\n" % me for me in (1, 2)) + b"dpbn: strangers: 0\n"
 
 
 # ---- what goes over the line
@@ -110,7 +110,7 @@ def lines_of(folder, me):
 
 
 def seen(folder, me):
-    """What it told last of each other member (heard, sealed otherwise, unsent), and of strangers."""
+    """What it told last of each other member (heard, sealed otherwise, asked again, unsent), and of strangers."""
     tallies, strangers = {}, 0
     for line in lines_of(folder, me):
         found = TALLY.match(line)
@@ -468,7 +468,100 @@ def beside_a_flood(tally, packages=150):
     print(f"tests/run: two nodes, {packages} packages: {took[0][0]:.1f} s, and beside {took[1][1]:,} forged datagrams {took[1][0]:.1f} s", flush=True)
 
 
+# ---- requests that come again
+
+def asked_for(mouth, to, request, seconds):
+    """Sends a member's request about every millisecond, and gives how often it was sent, and when datagrams with an agreed build came."""
+    sent, came, began = 0, [], time.monotonic()
+    while time.monotonic() < began + seconds:
+        mouth.sendto(request, to)
+        sent += 1
+        try:
+            if mouth.recv(65_536)[:5] == b"DPB2\5":
+                came.append(time.monotonic() - began)
+        except TimeoutError:
+            pass
+    return sent, came
+
+
+def comes(mouth, front, seconds):
+    """Whether a datagram that begins so comes within so many seconds."""
+    until = time.monotonic() + seconds
+    while time.monotonic() < until:
+        try:
+            if mouth.recv(65_536).startswith(front):
+                return True
+        except TimeoutError:
+            pass
+    return False
+
+
+def repeated(tally, seconds=4):
+    """A member that is in sends one request over and over: a node answers it once in a second, and drops and counts the others. It answers
+    at once what is asked of another unit, and what comes from another member's address."""
+    with tempfile.TemporaryDirectory() as folder:
+        key = lay_run(folder, *many(2))
+        port = free_ports(1)
+        node = ("127.0.0.1", port)
+        two = [begun(folder, me, keyed(port)) for me in (0, 1)]
+        held = [has_told(folder, me, node_line(me, i=2)[:-1]) for me in (0, 1)]
+        over(two[1])
+        tally.add("two nodes that are asked", "" if all(held) else f"{held}")
+        tree = tree_of(folder)
+
+        def request(path):
+            return sealed(run_key(key, tree, (1, 1, 1)), datagrams_of(tree, path, b"", 2)["a request"])
+
+        with taken(port, "127.0.0.3") as mouth, taken(port, "127.0.0.2") as other:
+            for it in (mouth, other):
+                it.settimeout(0.001)
+            before = settled(folder, 0)[0]
+            sent, came = asked_for(mouth, node, request(b"p/n0"), seconds)
+            print(f"tests/run: one request, sent {sent:,} times in {seconds} s, was answered {len(came)} times", flush=True)
+            tally.add("a request sent over and over", "" if seconds - 1 <= len(came) <= seconds + 1 and sent > 200 * seconds else f"sent {sent}, {came}")
+            for name, it, path in (("for another unit", mouth, b"p/n1"), ("from another member's address", other, b"p/n0")):
+                it.sendto(request(path), node)
+                tally.add(f"a request {name} behind it", "" if comes(mouth, front(b"DPB2", 5, 0, tree, path), 0.9) else "it isn't answered at once")
+            heard, otherwise, again = [now - then for now, then in zip(settled(folder, 0)[0][2][:3], before[2])]
+            # the request for the other unit is one more that is heard; an answer may have been overlooked
+            right = otherwise == 0 and heard + again == sent + 1 and len(came) + 1 <= heard <= len(came) + 2
+            tally.add("what is counted of requests", "" if right else f"sent {sent}, answered {len(came)}, heard {heard}, {otherwise}, again {again}")
+        over(two[0])
+
+
+def silent_for(folder, me, member):
+    """For how many seconds it heard nothing of a member, as it told last."""
+    told = re.findall(rb"^dpbn: member %d: heard \d+, last (\d+) s ago" % member, contents(f"{folder}/err-{me}"), re.MULTILINE)
+    return int(told[-1]) if told else 0
+
+
+def faults_again(tally, count=50):
+    """A member that is in sends what means nothing: the fault is told once, and then how often it came again; and how many seconds ago
+    the member was heard."""
+    with tempfile.TemporaryDirectory() as folder:
+        key = lay_run(folder)
+        port = free_ports(1)
+        with taken(port, "127.0.0.2") as mouth:
+            node = begun(folder, 0, keyed(port))
+            at_rest(folder, 0)
+            run = run_key(key, tree_of(folder), (1, 1, 1))
+            for number in range(count):
+                mouth.sendto(sealed(run, b"noise %d" % number), ("127.0.0.1", port))
+            sent = time.monotonic()
+            again = has_told(folder, 0, b"dpbn: fault 1202 came %d times more" % (count - 1))
+            silent, passed = 0, 0
+            while silent < 2 and passed < 60:
+                time.sleep(0.1)
+                silent, passed = silent_for(folder, 0, 1), time.monotonic() - sent
+        over(node)
+        told = [line for line in lines_of(folder, 0) if others(line)]
+        once = told.count(b"dpbn: fault 1202")
+        right = once == 1 and all(line.startswith(b"dpbn: fault 1202") for line in told)
+        tally.add("a fault that comes again", "" if again and right else f"{told[:5]}")
+        tally.add("since when a member is silent", "" if 2 <= silent <= passed else f"for {silent} s, and {passed:.1f} s passed")
+
+
 def run(tally):
-    for one in (keys, runs, believed, forged, flipped, strangers_of_the_run, replayed, beside_a_flood):
+    for one in (keys, runs, believed, forged, flipped, strangers_of_the_run, replayed, repeated, faults_again, beside_a_flood):
         one(tally)
     nodes.kills(tally, 20, 2, sealing=True)

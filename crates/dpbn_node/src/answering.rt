@@ -152,7 +152,7 @@ fn run_on<E: Write>(
     let identity = identity_of(tree, &given.weights, me);
     let start = start_of(rt, files.dir, &identity, &place.sealing, place.is_continued)?;
     let guard = place.sealing.guard(tree, &given.weights);
-    let telling = Telling::new(me, files.progress, place.sealing.is_watched());
+    let telling = Telling::new(rt.alloc(), me, files.progress, place.sealing.is_watched());
     let port = port_of(rt, place.addresses, me, place.patience, guard)?;
     node_on_log(rt, start, port, tree, given, files, me, telling, err)
 }

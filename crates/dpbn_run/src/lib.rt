@@ -2,10 +2,14 @@
 //! goes.
 #![tactic(auto)]
 
+mod laws;
+mod repeats;
 mod sealing;
 mod starting;
 mod telling;
 
+pub use crate::laws::faults_are_counted;
+pub use crate::repeats::{Repeated, Repeats};
 pub use crate::sealing::{Sealing, key_of_words};
 pub use crate::starting::{identity_of, start_of, write_unwritten};
 pub use crate::telling::Telling;

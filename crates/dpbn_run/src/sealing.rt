@@ -1,6 +1,10 @@
 //! The key of a node's run, and what its port lets in.
-ghost use Rattle.std.specs.Prelude.{◌≡◌, ◌≢◌, IfErr, IfOk, None, false, option_map, true};
+ghost use Rattle.std.specs.Prelude.{◌≡◌, ◌≢◌, IfErr, IfOk, None, Some, false, option_map, true};
+ghost use Rattle.wire.specs.declared.datagram.Datagram.{Datagram};
+ghost use Rattle.wire.specs.Spelling.{datagram_text};
+ghost use Rattle.faults.specs.Bytes.{begins_with};
 ghost use Rattle.dpbn_run.specs.Keys.{IsKeyOf, RefusesKeyFile, seal_of, shown_of};
+ghost use Rattle.dpbn_run.specs.Requests.{asks, request_front};
 
 use ballots::Weights;
 use dpbn_key::key_of_file;
@@ -14,6 +18,9 @@ use udp::Guard;
 /// claims and a byte between them in 19, the length of the build in 4, the piece's number in 2, and
 /// 32,768 bytes of the build.
 const LONGEST: usize = 33_088;
+
+/// What a datagram begins with that asks for a unit: as all that go out in whole, and its kind.
+const REQUEST_FRONT: [u8; 5] = [b'D', b'P', b'B', b'1', 6];
 
 /// Under which key a node seals what it sends, and whom it hears.
 #[derive(Drop)]
@@ -44,16 +51,19 @@ pub fn key_of_words(rt: &HostRuntime, file: Option<&str>) -> Result<Option<[u8; 
 
 impl Sealing {
     /// What the node's port lets in, in the run over the tree among members that weigh so much:
-    /// where there is a key, what the members seal under it.
+    /// where there is a key, what the members seal under it. A request that comes again at once
+    /// from the same member's address is dropped.
     pub fn guard(&self, tree: &Tree, weights: &Weights) -> Guard
         ensures sealed { result.seal ≡ seal_of tree.now weights.now self.now.key }
         ensures closed { self.now.key ≢ None → result.is_open ≡ false }
         ensures members { self.now.is_open ≡ false → result.is_open ≡ false }
+        ensures limited { result.front ≡ Some request_front }
     {
-        match &self.key {
+        let guard = match &self.key {
             Some(key) => Guard::sealed(seal_under(key, tree, weights), LONGEST),
             None => unsealed(self.is_open),
-        }
+        };
+        guard.limiting(front_of_requests())
     }
 
     /// Whether members alone are heard, so that what is seen of them tells something.
@@ -73,6 +83,14 @@ impl Sealing {
             None => None,
         }
     }
+}
+
+/// What a datagram begins with if and only if it asks for a unit.
+fn front_of_requests() -> [u8; 5]
+    ensures front { result ≡ request_front }
+    ensures alone { (d : Datagram) → begins_with result (datagram_text d) ≡ asks d }
+{
+    REQUEST_FRONT
 }
 
 /// What a port of a run without a key lets in.

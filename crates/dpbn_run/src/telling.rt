@@ -1,11 +1,13 @@
 //! What a node tells as it goes.
-ghost use Rattle.std.specs.Prelude.{◌≡◌, None, false};
-ghost use Rattle.dpbn_run.specs.Telling.{is_due, left_after};
+ghost use Rattle.std.specs.Prelude.{◌≡◌, []};
+ghost use Rattle.dpbn_run.specs.Telling.{IsToldNow, is_due, left_after, seconds_since};
 
+use crate::repeats::{Repeated, Repeats};
 use engine::Counts;
 use program::{Refusal, node_text};
 use std::alloc::Global;
 use std::io::Write;
+use std::time::Instant;
 use udp::{Tallies, Tally};
 
 /// What is told of a node, and what was.
@@ -17,30 +19,27 @@ pub struct Telling {
     pub progress: Option<u32>,
     /// In how many turns the next line is due.
     pub left: u32,
-    /// Whether what is seen of the members is told, too, and a fault that repeats is told once.
+    /// Whether what is seen of the members is told, too, and of each number just the first fault.
     pub is_watching: bool,
-    /// The fault that was told last.
-    pub last: Option<Refusal>,
-    /// How often it came again since.
-    pub repeats: u64,
+    /// The faults that came, where just the first of a number is told.
+    pub repeats: Repeats,
     /// Of which members it was told that they seal otherwise.
     pub otherwise: [bool; 9],
 }
 
 impl Telling {
     /// Of the member's node nothing was told yet.
-    pub fn new(me: u8, progress: Option<u32>, is_watching: bool) -> Telling
+    pub fn new(alloc: Global, me: u8, progress: Option<u32>, is_watching: bool) -> Telling
         ensures of { (result.me ≡ me) × (result.progress ≡ progress)
             × (result.is_watching ≡ is_watching) }
-        ensures nothing { (result.last ≡ None) × (result.repeats ≡ 0) }
+        ensures nothing { result.repeats.known.items ≡ [] }
     {
         Telling {
             me,
             progress,
             left: progress.unwrap_or(0),
             is_watching,
-            last: None,
-            repeats: 0,
+            repeats: Repeats::new(alloc),
             otherwise: [false; 9],
         }
     }
@@ -63,15 +62,26 @@ impl Telling {
         }
     }
 
-    /// Tells why a turn was refused; where the one that was told last was the same, it is counted.
+    /// Tells why a turn was refused; or counts that, where members are watched and a fault of the
+    /// same number was told before.
     pub fn refused<E: Write>(&mut self, refusal: Refusal, err: &mut E) {
-        if self.is_watching && self.last == Some(refusal) {
-            self.repeats = self.repeats.saturating_add(1);
-            return;
+        if self.is_told_now(refusal) {
+            let _ = writeln!(err, "dpbn: {refusal}");
         }
-        self.tell_repeats(err);
-        let _ = writeln!(err, "dpbn: {refusal}");
-        self.last = Some(refusal);
+    }
+
+    /// Whether the fault is told at once. Where members are watched it is noted; one for which
+    /// there is no memory is told.
+    fn is_told_now(&mut self, fault: Refusal) -> bool
+        ensures told { IsToldNow fault self.old.is_watching self.old.repeats.known.items
+            self.new.repeats.known.items result }
+        ensures stays { (self.new.is_watching ≡ self.old.is_watching)
+            × (self.new.me ≡ self.old.me) }
+    {
+        if !self.is_watching {
+            return true;
+        }
+        self.repeats.note(fault).unwrap_or(true)
     }
 
     /// Tells of each member, once, that what comes from its address is sealed otherwise.
@@ -101,8 +111,8 @@ impl Telling {
         self.tell_members(tallies, err);
     }
 
-    /// Tells what was seen of each other member, how many datagrams came from strangers, and how
-    /// often the last fault came again.
+    /// Tells which faults came again, and how often so far, what was seen of each other member, and
+    /// how many datagrams came from strangers.
     pub fn tell_members<E: Write>(&mut self, tallies: &Tallies, err: &mut E) {
         if !self.is_watching {
             return;
@@ -110,23 +120,22 @@ impl Telling {
         self.tell_repeats(err);
         for (member, tally) in tallies.members.iter().enumerate() {
             if member != self.me as usize {
-                tell_member(member, *tally, tallies.receives, err);
+                tell_member(member, *tally, tallies.now, err);
             }
         }
         let strange = tallies.strange;
         let _ = writeln!(err, "dpbn: strangers: {strange}");
     }
 
-    /// Tells how often the fault that was told last came again, if it did.
-    fn tell_repeats<E: Write>(&mut self, err: &mut E) {
-        if self.repeats == 0 {
-            return;
+    /// Tells which faults came again, and how often so far.
+    fn tell_repeats<E: Write>(&self, err: &mut E) {
+        for repeated in self.repeats.known() {
+            let Repeated { first, again } = *repeated;
+            if again > 0 {
+                let number = first.number;
+                let _ = writeln!(err, "dpbn: fault {number} came {again} times more");
+            }
         }
-        if let Some(last) = self.last {
-            let repeats = self.repeats;
-            let _ = writeln!(err, "dpbn: {last}, {repeats} times more");
-        }
-        self.repeats = 0;
     }
 }
 
@@ -146,18 +155,30 @@ fn is_otherwise(tallies: &Tallies, member: usize) -> bool {
     }
 }
 
-/// Tells what was seen of a member in so many receives.
-fn tell_member<E: Write>(member: usize, tally: Tally, receives: u64, err: &mut E) {
+/// Tells what was seen of a member up to now.
+fn tell_member<E: Write>(member: usize, tally: Tally, now: Option<Instant>, err: &mut E) {
     let Tally {
         heard,
         last,
         unsealed,
+        repeats,
         unsent,
     } = tally;
     let _ = write!(err, "dpbn: member {member}: heard {heard}");
-    if heard > 0 {
-        let ago = receives.saturating_sub(last);
-        let _ = write!(err, ", last {ago} looks ago");
+    if let Some(seconds) = seconds_since(last, now) {
+        let _ = write!(err, ", last {seconds} s ago");
     }
-    let _ = writeln!(err, ", sealed otherwise {unsealed}, unsent {unsent}");
+    let _ = writeln!(
+        err,
+        ", sealed otherwise {unsealed}, asked again {repeats}, unsent {unsent}"
+    );
+}
+
+/// How many whole seconds lie between the last time and now, where both are known.
+fn seconds_since(last: Option<Instant>, now: Option<Instant>) -> Option<u64>
+    ensures { result ≡ seconds_since last now }
+{
+    let last = last?;
+    let now = now?;
+    Some(now.duration_since(last).as_secs())
 }
