@@ -8,4 +8,5 @@ pub mod Jobs
 pub mod Owns
 pub mod Places
 pub mod Ranges
+pub mod Unfailed
 pub mod Asking

@@ -2,4 +2,5 @@ pub mod Events
 pub mod Here
 pub mod Choosing
 pub mod Recording
+pub mod Unfailed
 pub mod inside

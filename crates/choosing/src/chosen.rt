@@ -11,13 +11,16 @@ ghost use Rattle.std.specs.Prelude.{
   IfErr,
   IfOk,
   OnOk,
+  Some,
   is_some,
   length,
   option_and_then,
   option_map,
+  slice_get,
 };
 ghost use Rattle.choice.specs.Choice.{comes_to, first_job, in_turn, is_elsewhere};
 ghost use Rattle.faults.specs.Bytes.{is_among};
+ghost use Rattle.parts.specs.Unfailed.{AllFailedBelow};
 ghost use Rattle.ports.specs.Kept.{GoesOnBy};
 ghost use Rattle.choosing.specs.Choosing.{
   ByReceives,
@@ -29,6 +32,7 @@ ghost use Rattle.choosing.specs.Choosing.{
   told,
 };
 ghost use Rattle.choosing.specs.Here.{here_in};
+ghost use Rattle.choosing.specs.Unfailed.{EachFailedBelow};
 ghost use Rattle.choosing.specs.inside.Cases.{
   IsFirstFault,
   IsFirstPart,
@@ -47,7 +51,7 @@ use choice::{Pending, TurnFault};
 use datagrams::{DatagramBytes, Datagrams};
 use faults::Memory;
 use node::{Node, NodeFault};
-use parts::{Readied, answer, own, take_in};
+use parts::{Readied, answer, own_from, take_in, unfailed_from};
 use ports::Port;
 use protocol::Packages;
 use stable_record::Disk;
@@ -63,7 +67,9 @@ pub struct Chosen {
 /// What the turn does, if anything: a node, and its part, with its step ready. The first of these
 /// that applies: the least node that has a job answers it; a node takes what came, for which the
 /// port is asked once; the first of the nodes that does anything of itself does so, beginning
-/// behind the one that last did. `nodes` are by number; no node changes.
+/// behind the one that last did. `nodes` are by number; no node changes. Below the position of each
+/// node in `unfailed` no package is queued there but those whose units failed: no turn looks at
+/// these again.
 ///
 /// # Errors
 ///
@@ -75,12 +81,15 @@ pub fn choose<D: Disk, P: Port>(
     port: &mut P,
     sent: &Datagrams,
     pending: &Pending,
+    unfailed: &mut [u32; 9],
     builds: &Packages,
 ) -> Result<Option<Chosen>, TurnFault>
     requires few { length nodes.old.items ≤ 9 }
     requires next { pending.now.next ≤ length nodes.old.items }
     requires known { NoneIsForeign nodes.old.items sent.now }
+    requires below { EachFailedBelow nodes.old.items pending.now unfailed.old }
     ensures same { nodes.new.items ≡ nodes.old.items }
+    ensures below { EachFailedBelow nodes.old.items pending.now unfailed.new }
     ensures offered { GoesOnBy [] (P.offered port.old) (P.offered port.new) }
     ensures chosen { IfOk result (HasChosen nodes.new.items sent.now pending.now builds.now
         (P.given port.old) (P.given port.new)) }
@@ -102,7 +111,7 @@ pub fn choose<D: Disk, P: Port>(
     if let Some(chosen) = taken_in(alloc, nodes, sent, came)? {
         return Ok(Some(chosen));
     }
-    own_in_turn(nodes, pending)
+    own_in_turn(nodes, pending, unfailed)
 }
 
 /// The answer of the least node that has a job.
@@ -212,39 +221,45 @@ fn is_up<D: Disk>(nodes: &[Node<'_, D>], at: usize) -> bool
 fn own_in_turn<D: Disk>(
     nodes: &mut Vec<Node<'_, D>>,
     pending: &Pending,
+    unfailed: &mut [u32; 9],
 ) -> Result<Option<Chosen>, TurnFault>
     requires few { length nodes.old.items ≤ 9 }
     requires next { pending.now.next ≤ length nodes.old.items }
+    requires below { EachFailedBelow nodes.old.items pending.now unfailed.old }
     ensures same { nodes.new.items ≡ nodes.old.items }
+    ensures below { EachFailedBelow nodes.old.items pending.now unfailed.new }
     ensures chosen { IfOk result (IsFirstPart nodes.old.items pending.now
         (in_turn pending.now.next (length nodes.old.items))) }
     ensures refused { IfErr result (IsFirstFault nodes.old.items pending.now
         (in_turn pending.now.next (length nodes.old.items))) }
 {
     let next = pending.next() as usize;
-    if let Some(chosen) = own_among(nodes, pending, next, nodes.len())? {
+    if let Some(chosen) = own_among(nodes, pending, unfailed, next, nodes.len())? {
         return Ok(Some(chosen));
     }
-    own_among(nodes, pending, 0, next)
+    own_among(nodes, pending, unfailed, 0, next)
 }
 
 /// The same of the nodes from the first number on, below the second.
 fn own_among<D: Disk>(
     nodes: &mut Vec<Node<'_, D>>,
     pending: &Pending,
+    unfailed: &mut [u32; 9],
     from: usize,
     below: usize,
 ) -> Result<Option<Chosen>, TurnFault>
     requires few { length nodes.old.items ≤ 9 }
     requires there { below ≤ length nodes.old.items }
+    requires below { EachFailedBelow nodes.old.items pending.now unfailed.old }
     ensures same { nodes.new.items ≡ nodes.old.items }
+    ensures below { EachFailedBelow nodes.old.items pending.now unfailed.new }
     ensures chosen { IfOk result (IsFirstPart nodes.old.items pending.now
         (range_with_len from (below - from))) }
     ensures refused { IfErr result (IsFirstFault nodes.old.items pending.now
         (range_with_len from (below - from))) }
 {
     for node in from..below {
-        if let Some(readied) = own_at(nodes, pending, node)? {
+        if let Some(readied) = own_at(nodes, pending, unfailed, node)? {
             return Ok(Some(Chosen { node, readied }));
         }
     }
@@ -255,23 +270,47 @@ fn own_among<D: Disk>(
 fn own_at<D: Disk>(
     nodes: &mut Vec<Node<'_, D>>,
     pending: &Pending,
+    unfailed: &mut [u32; 9],
     at: usize,
 ) -> Result<Option<Readied>, TurnFault>
     requires few { length nodes.old.items ≤ 9 }
     requires there { at < length nodes.old.items }
+    requires below { EachFailedBelow nodes.old.items pending.now unfailed.old }
     ensures same { nodes.new.items ≡ nodes.old.items }
     ensures part { IfOk result (IsOwnPart nodes.old.items pending.now at) }
     ensures refused { IfErr result (IsOwnFault nodes.old.items pending.now at) }
+    ensures below { EachFailedBelow nodes.old.items pending.now unfailed.new }
 {
     if !is_up(nodes.as_slice(), at) {
         return Ok(None);
     }
     let elsewhere = open_elsewhere(nodes.as_slice(), at);
     let above = pending.above(at as u8);
-    match own(&mut nodes[at], above, pending, elsewhere.as_slice()) {
+    let from = unfailed_at(nodes.as_slice(), pending, unfailed, at);
+    match own_from(&mut nodes[at], above, pending, elsewhere.as_slice(), from) {
         Ok(readied) => Ok(readied),
         Err(fault) => Err(told(fault)),
     }
+}
+
+/// The least position of a package that is queued at this node and whose unit didn't fail, or else
+/// the number of packages. The next turn begins there.
+fn unfailed_at<D: Disk>(
+    nodes: &[Node<'_, D>],
+    pending: &Pending,
+    unfailed: &mut [u32; 9],
+    at: usize,
+) -> u32
+    requires few { length nodes.now ≤ 9 }
+    requires there { at < length nodes.now }
+    requires below { EachFailedBelow nodes.now pending.now unfailed.old }
+    ensures each { EachFailedBelow nodes.now pending.now unfailed.new }
+    ensures below { (n : _) → slice_get nodes.now at ≡ Some n
+        → AllFailedBelow n.node.member pending.now result }
+{
+    let from = unfailed_from(nodes[at].member(), pending, unfailed[at]);
+    unfailed[at] = from;
+    from
 }
 
 /// The units for which other nodes that are up have open claims.

@@ -1,4 +1,5 @@
 pub mod AnyCase
+pub mod Below
 pub mod Disks
 pub mod EventOf
 pub mod Fresh

@@ -2,6 +2,8 @@
 use Rattle.std.proofs.Common.{◌≡◌, ◌≢◌, ◌+◌, ℕ, suc, List, [], ◌∷◌, Some, length, map, replicate, slice_get, refl, sym, ap, subst, ◌∙◌, arith, if◌then◌else◌}
 use Rattle.ballots.specs.declared.message.Note.{Note}
 use Rattle.choice.specs.Pending.{Pending, nothing_kept}
+use Rattle.choosing.proofs.Unfailed.{none_yet}
+use Rattle.choosing.specs.Unfailed.{EachFailedBelow}
 use Rattle.events.specs.Events.{event_view}
 use Rattle.listing.specs.Tree.{Tree}
 use Rattle.node.proofs.Opened.{one_way}
@@ -110,7 +112,8 @@ module _ {D P : Type 0} (is_kept : D → Type 0) (history : D → History) (tree
     (own : c.tree.now ≡ tree) (made : IsMade c.units weights) (weigh : c.weights ≡ weights)
     (count : length c.nodes.items ≡ length weights)
     (fresh : AreFresh is_kept history tree weights disks c.nodes.items) (sent : c.sent ≡ [])
-    (events : c.events.items ≡ []) (pending : c.pending ≡ nothing_kept) where
+    (events : c.events.items ≡ []) (pending : c.pending ≡ nothing_kept)
+    (unfailed : c.unfailed ≡ replicate 9 0) where
   -- it is one
   pub is_cluster : IsCluster c
   is_cluster = record {
@@ -124,4 +127,6 @@ module _ {D P : Type 0} (is_kept : D → Type 0) (history : D → History) (tree
     any_case = starts_in_any (cluster_of c) (start c.units weights)
         (starts is_kept history tree weights disks (cluster_of c) of_tree made weigh count fresh
         sent events) (ap (map event_view) events);
+    below = subst (EachFailedBelow c.nodes.items c.pending) (sym unfailed)
+        (none_yet c.nodes.items c.pending 9);
   }

@@ -1,5 +1,5 @@
 -- A cluster that is a world: its nodes stand there.
-use Rattle.std.proofs.Common.{◌≡◌, ℕ, zero, suc, Bool, true, false, List, [], ◌∷◌, Option, None, Some, map, slice_get, slice_set, refl, sym, ap, subst, ◌∙◌, if◌then◌else◌}
+use Rattle.std.proofs.Common.{◌≡◌, ℕ, zero, suc, false, List, [], ◌∷◌, None, Some, map, slice_get, slice_set, refl, sym, ap, subst, ◌∙◌, if◌then◌else◌}
 use Rattle.std.proofs.lemmas.Option.{slice_get-map}
 use Rattle.std.specs.Prelude.{option_map}
 use Rattle.world.proofs.Hosting.{IsHosted}
@@ -7,7 +7,6 @@ use Rattle.world.proofs.Members.{node_is_member}
 use Rattle.world.proofs.OneList.{each_run_is_acts}
 use Rattle.node.specs.State.{LoggedNode, NodeState}
 use Rattle.protocol.specs.Member.{IsMember}
-use Rattle.protocol.specs.State.{State}
 use Rattle.turns.specs.State.{ClusterState, IsWorldOf, here_of, node_view, taken}
 use Rattle.choosing.specs.Here.{member_up}
 use Rattle.world.proofs.Growing.{leads_later}

@@ -42,6 +42,9 @@ pub struct Cluster<'a, D: Disk, P: Port> {
     pub(crate) sent: Datagrams,
     pub(crate) events: Vec<Event>,
     pub(crate) pending: Pending,
+    /// By number, a position below which no package is queued at the node but those whose units
+    /// failed, so that no turn looks at these again.
+    pub(crate) unfailed: [u32; 9],
     pub(crate) port: P,
 }
 
@@ -110,6 +113,7 @@ impl<'a, D: Disk, P: Port> Cluster<'a, D, P> {
             sent: Datagrams::new(alloc),
             events: Vec::new(alloc),
             pending: Pending::new(alloc),
+            unfailed: [0; 9],
             port,
         })
     }

@@ -25,6 +25,7 @@ ghost use Rattle.choice.specs.PuttingBack.{put_back};
 ghost use Rattle.choosing.specs.Choosing.{IsReadiedAt};
 ghost use Rattle.choosing.specs.Events.{event_of};
 ghost use Rattle.choosing.specs.Recording.{IsRecorded};
+ghost use Rattle.choosing.specs.Unfailed.{EachFailedBelow};
 ghost use Rattle.datagrams.specs.Growing.{HasGrown};
 ghost use Rattle.node.specs.OnLog.{IsLogged};
 ghost use Rattle.node.specs.Parcels.{datagrams_to};
@@ -38,6 +39,7 @@ ghost use Rattle.turns.specs.inside.Turning.{
   IsTakenByCalls,
   KeepsStop,
   StopsAs,
+  as_turning,
 };
 ghost use Rattle.world.specs.Sent.{with_sends};
 
@@ -48,7 +50,7 @@ use events::Event;
 use faults::Memory;
 use member::Input;
 use node::{Node, NodeFault, Ready};
-use parts::{Readied, offer};
+use parts::{Readied, offer, unfailed_after};
 use ports::Port;
 use stable_record::{Disk, LogFault};
 use std::alloc::Global;
@@ -63,7 +65,8 @@ struct Grown {
 }
 
 /// What was chosen happens: all that its step needs is grown; then the node takes it; then its
-/// sends are offered to the port. It is refused before that, or the node goes down.
+/// sends are offered to the port. It is refused before that, or the node goes down. Below the
+/// position of each node in `unfailed` no package is queued there but those whose units failed.
 pub(crate) fn take<D: Disk, P: Port>(
     alloc: Global,
     nodes: &mut Vec<Node<'_, D>>,
@@ -71,6 +74,7 @@ pub(crate) fn take<D: Disk, P: Port>(
     sent: &mut Datagrams,
     events: &mut Vec<Event>,
     pending: &mut Pending,
+    unfailed: &mut [u32; 9],
     chosen: Chosen,
 ) -> Result<Event, TurnFault>
     requires few { length nodes.old.items ≤ 9 }
@@ -78,39 +82,21 @@ pub(crate) fn take<D: Disk, P: Port>(
         chosen.readied }
     requires event { is_some (event_of sent.old (chosen.node, asked_by chosen.readied.act))
         ≡ true }
+    requires below { EachFailedBelow nodes.old.items pending.old unfailed.old }
+    ensures below { EachFailedBelow nodes.new.items pending.new unfailed.new }
     ensures taken { IsTakenAs D.is_kept D.history D.failures_of P.offered
-        (record {
-          nodes = nodes.old.items;
-          sent = sent.old;
-          events = events.old.items;
-          pending = pending.old;
-          port = port.old;
-        })
-        (record {
-          nodes = nodes.new.items;
-          sent = sent.new;
-          events = events.new.items;
-          pending = pending.new;
-          port = port.new;
-        }) chosen result }
+        (as_turning nodes.old.items sent.old events.old.items pending.old port.old)
+        (as_turning nodes.new.items sent.new events.new.items pending.new port.new)
+        chosen result }
     ensures given { GoesOnBy [] (P.given port.old) (P.given port.new) }
     ensures calls { IsTakenByCalls D.is_kept D.history D.failures_of P.does
-        (record {
-          nodes = nodes.old.items;
-          sent = sent.old;
-          events = events.old.items;
-          pending = pending.old;
-          port = port.old;
-        })
-        (record {
-          nodes = nodes.new.items;
-          sent = sent.new;
-          events = events.new.items;
-          pending = pending.new;
-          port = port.new;
-        }) chosen result }
+        (as_turning nodes.old.items sent.old events.old.items pending.old port.old)
+        (as_turning nodes.new.items sent.new events.new.items pending.new port.new)
+        chosen result }
 {
     host_fits(&chosen.readied.act);
+    let from = unfailed[chosen.node];
+    unfailed[chosen.node] = unfailed_after(&chosen.readied.ready, from);
     match grown_for(alloc, nodes.as_slice(), sent, events, pending, &chosen) {
         Ok(grown) => {
             let Chosen { node, readied } = chosen;

@@ -1,6 +1,7 @@
 //! The turns of a cluster.
 ghost use Rattle.std.specs.Prelude.{◌≡◌, ◌≤◌, ◌++◌, ◌∷◌, [], IfErr, IfNone, IfOk, IfSome, None, length};
 ghost use Rattle.choosing.specs.Choosing.{NoneIsForeign};
+ghost use Rattle.choosing.specs.Unfailed.{EachFailedBelow};
 ghost use Rattle.events.specs.Events.{event_view, node_of};
 ghost use Rattle.turns.specs.Calls.{HasCalled};
 ghost use Rattle.turns.specs.Disks.{LeavesDisks};
@@ -8,7 +9,7 @@ ghost use Rattle.turns.specs.Faults.{IsLeftBy, IsTurnFault};
 ghost use Rattle.turns.specs.Headline.{HasHeadline};
 ghost use Rattle.turns.specs.State.{AreOnLogs, taken};
 ghost use Rattle.turns.specs.Turn.{HasHappened, IsChosen, IsEventChosen, IsSame, KeepsWith, Offers, OthersStay};
-ghost use Rattle.turns.specs.inside.Turning.{IsTurn, IsTurnByCalls};
+ghost use Rattle.turns.specs.inside.Turning.{IsTurn, IsTurnByCalls, as_turning};
 
 use crate::Cluster;
 use crate::taking::take;
@@ -69,12 +70,14 @@ impl<'a, D: Disk, P: Port> Cluster<'a, D, P> {
             &mut self.sent,
             &mut self.events,
             &mut self.pending,
+            &mut self.unfailed,
             builds,
         )
     }
 }
 
-/// One turn of these nodes: what is chosen happens.
+/// One turn of these nodes: what is chosen happens. Below the position of each node in `unfailed`
+/// no package is queued there but those whose units failed.
 fn take_turn<D: Disk, P: Port>(
     alloc: Global,
     nodes: &mut Vec<Node<'_, D>>,
@@ -82,45 +85,26 @@ fn take_turn<D: Disk, P: Port>(
     sent: &mut Datagrams,
     events: &mut Vec<Event>,
     pending: &mut Pending,
+    unfailed: &mut [u32; 9],
     builds: &Packages,
 ) -> Result<Option<Event>, TurnFault>
     requires few { length nodes.old.items ≤ 9 }
     requires next { pending.old.next ≤ length nodes.old.items }
     requires known { NoneIsForeign nodes.old.items sent.old }
+    requires below { EachFailedBelow nodes.old.items pending.old unfailed.old }
+    ensures below { EachFailedBelow nodes.new.items pending.new unfailed.new }
     ensures turn { IsTurn D.is_kept D.history D.failures_of P.given P.offered
-        (record {
-          nodes = nodes.old.items;
-          sent = sent.old;
-          events = events.old.items;
-          pending = pending.old;
-          port = port.old;
-        })
-        (record {
-          nodes = nodes.new.items;
-          sent = sent.new;
-          events = events.new.items;
-          pending = pending.new;
-          port = port.new;
-        }) builds.now result }
+        (as_turning nodes.old.items sent.old events.old.items pending.old port.old)
+        (as_turning nodes.new.items sent.new events.new.items pending.new port.new)
+        builds.now result }
     ensures calls { IsTurnByCalls D.is_kept D.history D.failures_of P.does
-        (record {
-          nodes = nodes.old.items;
-          sent = sent.old;
-          events = events.old.items;
-          pending = pending.old;
-          port = port.old;
-        })
-        (record {
-          nodes = nodes.new.items;
-          sent = sent.new;
-          events = events.new.items;
-          pending = pending.new;
-          port = port.new;
-        }) builds.now result }
+        (as_turning nodes.old.items sent.old events.old.items pending.old port.old)
+        (as_turning nodes.new.items sent.new events.new.items pending.new port.new)
+        builds.now result }
 {
-    match choose(alloc, nodes, port, sent, pending, builds)? {
+    match choose(alloc, nodes, port, sent, pending, unfailed, builds)? {
         Some(chosen) => {
-            let event = take(alloc, nodes, port, sent, events, pending, chosen)?;
+            let event = take(alloc, nodes, port, sent, events, pending, unfailed, chosen)?;
             Ok(Some(event))
         }
         None => Ok(None),

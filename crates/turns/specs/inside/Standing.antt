@@ -1,5 +1,6 @@
 -- What a contract sees of a cluster's fields, and what holds of them.
 use Rattle.std.specs.Prelude.{◌≡◌, ◌+◌, ◌<◌, length}
+use Rattle.choosing.specs.Unfailed.{EachFailedBelow}
 use Rattle.turns.specs.AnyCase.{StandsInAnyCase}
 use Rattle.turns.specs.State.{ClusterState, IsWorldOf}
 use Rattle.turns.specs.declared.cluster.Cluster.TheInside.{Inside}
@@ -19,7 +20,8 @@ cluster_of c = record {
 }
 
 -- What holds of each cluster: it is some world, and so it is whatever was left of each step inside
--- which a node went down.
+-- which a node went down; and below the position of each node no package is queued there but those
+-- whose units failed.
 pub record IsCluster {D P : Type 0} (c : Inside D P) : Type 0 where
   pub tree : c.units.tree ≡ c.tree.now
   pub divided : IsDivision c.units
@@ -28,3 +30,4 @@ pub record IsCluster {D P : Type 0} (c : Inside D P) : Type 0 where
   pub count : length c.nodes.items ≡ length c.weights
   pub placed : c.pending.next < length c.nodes.items + 1
   pub any_case : StandsInAnyCase (cluster_of c)
+  pub below : EachFailedBelow c.nodes.items c.pending c.unfailed

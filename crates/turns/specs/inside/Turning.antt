@@ -37,6 +37,17 @@ pub record Turning (D P : Type 0) : Type 0 where
   pub pending : Pending
   pub port : P
 
+-- these, as that
+abbrev pub as_turning : {D P : Type 0} → List (LoggedNode D) → List Text → List declared.Event
+    → Pending → P → Turning D P
+as_turning nodes sent events pending port = record {
+  nodes = nodes;
+  sent = sent;
+  events = events;
+  pending = pending;
+  port = port;
+}
+
 -- that of the cluster
 abbrev pub turning_of : {D P : Type 0} → ClusterState D P → Turning D P
 turning_of c = record {

@@ -1,6 +1,7 @@
-use Rattle.std.proofs.Common.{◌∙◌, arith, inr, refl, subst}
+use Rattle.std.proofs.Common.{◌∙◌, arith, inr, refl, subst, sym}
 use Rattle.std.proofs.lemmas.Result.{err_from_is_err_and}
 use Rattle.choosing.proofs.Owns.{nothing_more, own_chosen, own_refused}
+use Rattle.choosing.specs.Unfailed.{EachFailedBelow}
 use Rattle.choosing.specs.inside.Cases.{IsOwnFault, IsOwnPart}
 use Rattle.choosing.proofs.chosen.own_among.Goals as goal
 
@@ -34,4 +35,19 @@ loop-node-preserved g c = (
       c.loop-node.invariant.1 c.loop-node.invariant.3 c.in_ok-readied.field-0 c.in_default.is
       (subst (λ xs. IsOwnPart xs c.args.pending.now c.loop-node.node c.in_ok-readied.field-0)
       c.loop-node.invariant.0 c.in_ok-readied.ensures.part),
+  subst (λ xs. EachFailedBelow xs c.args.pending.now c.own_at.new.unfailed)
+      c.loop-node.invariant.0 c.own_at.ensures.below,
 )
+
+pub own_at-requires-clause-below : goal.own_at-requires-clause-below
+own_at-requires-clause-below g c =
+    subst (λ xs. EachFailedBelow xs c.args.pending.now c.loop-node.unfailed)
+    (sym c.loop-node.invariant.0) c.loop-node.invariant.4
+
+pub returns-in-Some-clause-below : goal.returns-in-Some-clause-below
+returns-in-Some-clause-below g c =
+    subst (λ xs. EachFailedBelow xs c.args.pending.now c.own_at.new.unfailed)
+    c.loop-node.invariant.0 c.own_at.ensures.below
+
+pub returns-clause-below : goal.returns-clause-below
+returns-clause-below g c = c.loop-node.invariant.4

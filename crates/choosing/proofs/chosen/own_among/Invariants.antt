@@ -2,6 +2,7 @@ use Rattle.std.proofs.Common.{◌≡◌, ◌≤◌, ◌-◌, ◌⊎◌, None, le
 use Rattle.std.specs.List.{range_with_len}
 use Rattle.choice.specs.Choice.{IsFirstOwn}
 use Rattle.choosing.specs.Here.{here_in}
+use Rattle.choosing.specs.Unfailed.{EachFailedBelow}
 use Rattle.choosing.proofs.chosen.own_among.Given as goal
 
 abbrev pub invariant-loop-node : goal.invariant-loop-node
@@ -11,3 +12,4 @@ invariant-loop-node g l =
     × ((l.node ≡ l.from) ⊎ (l.node ≤ l.below))
     × IsFirstOwn (here_in l.initial.nodes.items) (length l.initial.nodes.items) l.pending
     (range_with_len l.from (l.node - l.from)) None
+    × EachFailedBelow l.initial.nodes.items l.pending l.unfailed

@@ -1,6 +1,7 @@
-use Rattle.std.proofs.Common.{[], None, Some, inl, map, refl, subst}
+use Rattle.std.proofs.Common.{[], None, Some, inl, map, refl, subst, sym}
 use Rattle.std.proofs.lemmas.Result.{err_from_is_err_and}
 use Rattle.choosing.specs.Choosing.{HasChosen}
+use Rattle.choosing.specs.Unfailed.{EachFailedBelow}
 use Rattle.parts.specs.Calls.{came_by, given_in, no_calls, offered_in}
 use Rattle.parts.specs.Offered.{sends_of}
 use Rattle.ports.proofs.Calls.{WentThrough-append}
@@ -175,3 +176,20 @@ returns-in-None-clause-calls g c =
         },
       );
     }
+
+-- ---- below the position of each node all failed
+
+pub take-requires-clause-below : goal.take-requires-clause-below
+take-requires-clause-below g c =
+    subst (λ ns. EachFailedBelow ns c.args.pending.now c.choose.new.unfailed)
+    (sym c.choose.ensures.same) c.choose.ensures.below
+
+pub returns-in_err-chosen-clause-below : goal.returns-in_err-chosen-clause-below
+returns-in_err-chosen-clause-below g c =
+    subst (λ ns. EachFailedBelow ns c.args.pending.now c.choose.new.unfailed)
+    (sym c.choose.ensures.same) c.choose.ensures.below
+
+pub returns-in-None-clause-below : goal.returns-in-None-clause-below
+returns-in-None-clause-below g c =
+    subst (λ ns. EachFailedBelow ns c.args.pending.now c.choose.new.unfailed)
+    (sym c.choose.ensures.same) c.choose.ensures.below

@@ -1,4 +1,4 @@
-use Rattle.std.proofs.Common.{◌∙◌, refl}
+use Rattle.std.proofs.Common.{◌∙◌, refl, replicate}
 use Rattle.turns.proofs.Disks.{all_stand}
 use Rattle.turns.proofs.Openings.{fresh_on_logs, is_cluster, starts}
 use Rattle.turns.specs.State.{ClusterState}
@@ -18,6 +18,7 @@ invariant_of-result g c =
       sent = c.new-2.result;
       events = c.new-3.result;
       pending = c.new-4.result;
+      unfailed = replicate 9 0;
       port = c.args.port;
     } in
     let made : IsMade c.in_ok-units.units c.args.weights.now = record {
@@ -27,7 +28,7 @@ invariant_of-result g c =
       is_cluster g.D.Disk.is_kept g.D.Disk.history c.args.tree.now c.args.weights.now
           c.args.disks.items i c.in_ok-units.ensures refl made c.copy.ensures
           (c.in_ok-nodes.ensures.count ∙ c.requires) c.in_ok-nodes.ensures.fresh c.new-2.ensures
-          c.new-3.ensures.items c.new-4.ensures,
+          c.new-3.ensures.items c.new-4.ensures refl,
       fresh_on_logs g.D.Disk.is_kept g.D.Disk.history c.args.tree.now c.args.weights.now
           c.args.disks.items (cluster_of i) c.in_ok-nodes.ensures.fresh,
     )

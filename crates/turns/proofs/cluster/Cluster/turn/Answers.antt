@@ -60,6 +60,7 @@ invariant_of-self g c =
         count = s.count ∙ i.count;
         placed = s.placed i.placed;
         any_case = s.any_case i.any_case;
+        below = c.take_turn.ensures.below;
       },
       s.on_logs,
     )
