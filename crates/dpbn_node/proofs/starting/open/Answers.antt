@@ -1,4 +1,4 @@
-use Rattle.dpbn_node.proofs.answering.open.Goals as goal
+use Rattle.dpbn_node.proofs.starting.open.Goals as goal
 
 pub returns-in-Ok-clause-opened : goal.returns-in-Ok-clause-opened
 returns-in-Ok-clause-opened c =
