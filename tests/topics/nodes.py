@@ -499,7 +499,7 @@ def sockets(tally):
 
 def nothing_seen(me):
     """What a node of three whose peers have hosts tells at the end, where nothing came."""
-    return b"".join(b"dpbn: member %d: heard 0, sealed otherwise 0, unsent 0\n" % it for it in range(3) if it != me) + b"dpbn: strangers: 0\n"
+    return b"".join(b"dpbn: member %d: heard 0, sealed otherwise 0, asked again 0, unsent 0\n" % it for it in range(3) if it != me) + b"dpbn: strangers: 0\n"
 
 
 def hosts(tally):

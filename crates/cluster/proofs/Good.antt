@@ -17,7 +17,7 @@ pub good_call : (o : Option (Text × List Row)) (call : Call) → IsCallOf o cal
 good_call None call is = absurd is
 good_call (Some (name, rows)) (Cluster files trace) is = is.1.members.2
 good_call (Some (name, rows)) (Node files me peers patience run) is =
-    (is.1.members.2, good_peers rows peers is.3)
+    (is.1.members.2, good_peers rows peers is.2.1)
 good_call (Some (name, rows)) (Build site me peers patience run) is =
-    (is.1.members.2, good_peers rows peers is.3)
+    (is.1.members.2, good_peers rows peers is.2.1)
 good_call (Some (name, rows)) (Key file) is = tt
