@@ -132,8 +132,10 @@ class Run:
                 subprocess.run(["bmake", "dump-vars"], cwd=f"{folder}/tree/{port}", stdout=dump, check=True, timeout=LIMIT)
         with open(f"{folder}/listing", "wb") as listing:
             subprocess.run([f"{TOP}/tools/expand-listing", f"{folder}/dump"], stdout=listing, check=True, timeout=LIMIT)
+        began = time.monotonic()
         subprocess.run([f"{LIVE}/serial-build", f"{folder}/tree", f"{folder}/serial"], stdout=subprocess.DEVNULL, check=True,
                        timeout=LIMIT)
+        self.makes = time.monotonic() - began
         self.paths = sorted(name.replace(":", "/") for name in os.listdir(f"{folder}/serial"))
         listed = contents(f"{folder}/listing").decode().count(".FULLPKGNAME=")
         self.ignored, self.units = listed - len(self.paths), len({path.partition(",")[0] for path in self.paths})
@@ -141,6 +143,20 @@ class Run:
         os.chmod(f"{folder}/build", 0o755)
         os.mkdir(f"{folder}/logs")
         self.hosts = [Host(self, me) for me in range(members)]
+
+    def alone(self):
+        """How long one host takes that builds the ports one after the other, and how long the longest chain of builds is of which
+        each needs the one before, in seconds; what a build takes beside its wait is that of a serial build, on the average."""
+        texts = {port: contents(f"{self.folder}/tree/{port}/Makefile").decode() for port in self.ports}
+        texts = {port: text for port, text in texts.items() if "IGNORE = " not in text}
+        each, needs = self.makes / len(self.ports), needs_of(contents(f"{self.folder}/listing"))
+        takes, chain = {}, {}
+        for port, text in texts.items():
+            takes[port] = each + float(re.search(r"SECONDS = (.*)", text)[1])
+            named = re.search(r"NEEDS = (.*)", text)
+            below = {path.partition(",")[0] for path in closed(named[1].split() if named else [], needs)} - {port}
+            chain[port] = takes[port] + max((chain[it] for it in below), default=0)
+        return sum(takes.values()), max(chain.values())
 
     def all_held(self):
         """What a node's line says where all is held that isn't ignored."""
@@ -265,8 +281,9 @@ def whole(tally, run, name):
 
 
 def tell(run, name, began):
+    took, (serial, chain) = time.monotonic() - began, run.alone()
     print(f"tests/run: {name}: {len(run.ports)} ports, {len(run.paths)} packages of {run.units} units: {run.begun()} builds "
-          f"begun, {time.monotonic() - began:.1f} s", flush=True)
+          f"begun, {took:.1f} s; one after the other {serial:.1f} s, the longest chain {chain:.1f} s", flush=True)
 
 
 def three_hosts(tally):
