@@ -513,6 +513,17 @@ def hosts(tally):
         tally.add("three nodes on three addresses", "" if out == ALL else f"{out!r}")
 
 
+def refused_sends(tally):
+    """What the system refuses to send is counted by member: to the address of all hosts of a network a socket may not send."""
+    with tempfile.TemporaryDirectory() as folder:
+        lay(folder)
+        base = free_ports(1)
+        words = ["--hosts", f"127.0.0.1:{base},127.255.255.255:{base}", "--unsealed", "--patience", "1", "--turns", "50"]
+        out, error, status = answer(["node", *SHARED, "--members", "2", "--me", "0", *words], folder)
+        found = re.fullmatch(rb"dpbn: member 1: heard 0, sealed otherwise 0, asked again 0, unsent ([1-9]\d*)\ndpbn: strangers: 0\n", error)
+        tally.add("sends that the system refuses", "" if found and (out, status) == (node_line(0, q=1), 0) else f"{out!r}, {error!r}, {status}")
+
+
 def stops(tally, packages=12):
     """Three nodes on three addresses, of which one is stopped in the middle, and started again on its folder: in the end all hold all."""
     listing = "".join(f"p/n{k}.FULLPKGNAME=n{k}-1\n" + (f"p/n{k}.LIB_DEPENDS=p/n{k - 1}\n" if k else "") for k in range(packages))
@@ -835,5 +846,5 @@ def run(tally):
         case(tally, "nodes", name)
     for one in (no_calls, helps, faults, cluster_faults, bad_words, refused_logs, alone, cluster, exact_turns, progress, failing, sockets, kills):
         one(tally)
-    beside(tally, (hosts, stops, noise, patience, manual_page))
+    beside(tally, (hosts, refused_sends, stops, noise, patience, manual_page))
     second_start(tally)
