@@ -2,7 +2,7 @@ use Rattle.std.proofs.Common.{◌≡◌, false, map, subst, sym}
 use Rattle.faults.specs.Bytes.{is_among}
 use Rattle.listing.specs.Tree.{path_at}
 use Rattle.parts.proofs.GivenFiles.{some_lack}
-use Rattle.parts.proofs.answering.by_numbers.Goals as goal
+use Rattle.parts.proofs.answering.found.Goals as goal
 
 pub returns-in_default : goal.returns-in_default
 returns-in_default c =

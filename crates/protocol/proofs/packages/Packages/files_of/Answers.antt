@@ -1,11 +1,11 @@
 use Rattle.std.proofs.Common.{◌≡◌, ◌<◌, ◌∙◌, ap, arith, get_or, length, subst, sym, true}
 use Rattle.std.specs.Str.{bytes_eq}
-use Rattle.parts.proofs.GivenFiles.{first_has, none_has}
-use Rattle.parts.proofs.answering.files_of.Goals as goal
+use Rattle.protocol.proofs.FirstFiles.{first_has, none_has}
+use Rattle.protocol.proofs.packages.Packages.files_of.Goals as goal
 
 pub returns-then-eq : goal.returns-then-eq
 returns-then-eq c =
-    let builds = c.args.builds.now in
+    let builds = c.args.self.now in
     let path = c.args.path.now in
     let i = c.loop-given.given-index in
     let g = c.given-item.result in
@@ -20,7 +20,7 @@ returns-then-eq c =
 
 pub returns : goal.returns
 returns c =
-    let long : length c.as_slice-given-items.result.now ≡ length c.args.builds.now =
+    let long : length c.as_slice-given-items.result.now ≡ length c.args.self.now =
     ap length c.as_slice-given-items.ensures in
-    none_has c.args.builds.now c.args.path.now
+    none_has c.args.self.now c.args.path.now
     (λ k d a b. c.loop-given.invariant k d (omega (arith, a, long, c.loop-given-test.false)) b)

@@ -2,7 +2,7 @@ use Rattle.std.proofs.Common.{◌≡◌, map, take, true}
 use Rattle.choice.specs.Answering.{has_files}
 use Rattle.listing.specs.Tree.{path_at}
 use Rattle.protocol.specs.Jobs.{files_for}
-use Rattle.parts.proofs.answering.by_numbers.Given as goal
+use Rattle.parts.proofs.answering.found.Given as goal
 
 abbrev pub invariant-loop-position : goal.invariant-loop-position
 invariant-loop-position l =

@@ -3,9 +3,9 @@ use Rattle.std.specs.Str.{bytes_eq}
 use Rattle.faults.specs.Bytes.{Text}
 use Rattle.package_record.specs.Content.{NamedFile}
 use Rattle.indexmap.specs.IndexMap.{get}
-use Rattle.dpbr_wayon.specs.inside.First.{IsFirst}
-use Rattle.dpbr_wayon.proofs.GivenFiles.{first_has, none_has}
-use Rattle.dpbr_wayon.proofs.handed.files_of.Goals as goal
+use Rattle.protocol.specs.inside.First.{IsFirst}
+use Rattle.protocol.proofs.FirstFiles.{first_has, none_has}
+use Rattle.protocol.proofs.by_path.files_by_number.Goals as goal
 
 pub files_at-requires : goal.files_at-requires
 files_at-requires c =

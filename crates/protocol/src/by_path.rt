@@ -5,19 +5,64 @@ ghost use Rattle.std.specs.Str.{bytes_eq};
 ghost use Rattle.faults.specs.Bytes.{Text, is_among};
 ghost use Rattle.indexmap.specs.IndexMap.{get};
 ghost use Rattle.package_record.specs.Content.{NamedFile};
-ghost use Rattle.parts.specs.inside.First.{IsFirst};
 ghost use Rattle.protocol.specs.Jobs.{files_for};
+ghost use Rattle.protocol.specs.inside.First.{IsFirst};
 
+use crate::packages::Packages;
 use faults::Memory;
 use indexmap::IndexMap;
 use package_record::Files;
 use pkgpath::PkgPath;
-use protocol::Packages;
 use std::alloc::Global;
+use std::marker::Model;
 
-/// The files that are given for the path, if some are: those of the first entry with it, by these
-/// numbers.
-pub(crate) fn files_by_number<'b>(
+/// What is handed in, by path: the files of a path are those of the first entry that has it, and
+/// are found without a look at the others. Contracts see what is handed in.
+#[derive(Drop)]
+pub struct ByPath<'b> {
+    builds: &'b Packages,
+    /// The number of the first entry with each path.
+    numbers: IndexMap<PkgPath, usize>,
+}
+
+impl<'b> Model for ByPath<'b> {
+    ghost use Rattle.std.specs.Prelude.{length};
+    ghost use Rattle.std.specs.Str.{bytes_eq};
+    ghost use Rattle.faults.specs.Bytes.{Text};
+    ghost use Rattle.indexmap.specs.IndexMap.{get};
+    ghost use Rattle.protocol.specs.Given.{Given};
+    ghost use Rattle.protocol.specs.inside.First.{IsFirst};
+
+    ghost Value = { Given };
+
+    ghost view = { λ b. b.builds.now };
+
+    ghost invariant = { λ b. (path : Text)
+        → IsFirst b.builds.now path (length b.builds.now) (get bytes_eq b.numbers path) };
+}
+
+impl<'b> ByPath<'b> {
+    /// What is handed in, by path. It fails only for want of memory.
+    pub fn new(alloc: Global, builds: &'b Packages) -> Result<ByPath<'b>, Memory>
+        ensures { IfOk result (λ given. given ≡ builds.entry.now) }
+    {
+        let numbers = numbers_of(alloc, builds)?;
+        Ok(ByPath { builds, numbers })
+    }
+
+    /// The files that are handed in for the path, if some are.
+    pub fn files(&self, path: &PkgPath) -> Option<&'b Files>
+        ensures { MatchOption result
+            (is_among (map (λ g. g.0) self.now) path.now ≡ false)
+            (λ files. (is_among (map (λ g. g.0) self.now) path.now ≡ true)
+            × (files.now ≡ files_for self.now path.now)) }
+    {
+        files_by_number(self.builds, &self.numbers, path)
+    }
+}
+
+/// The files that are handed in for the path, if some are, by these numbers.
+fn files_by_number<'b>(
     builds: &'b Packages,
     numbers: &IndexMap<PkgPath, usize>,
     path: &PkgPath,
@@ -45,7 +90,7 @@ fn files_at<'b>(builds: &'b Packages, number: usize) -> &'b Files
 }
 
 /// The number of the first entry with each path.
-pub(crate) fn by_path(alloc: Global, builds: &Packages) -> Result<IndexMap<PkgPath, usize>, Memory>
+fn numbers_of(alloc: Global, builds: &Packages) -> Result<IndexMap<PkgPath, usize>, Memory>
     ensures { IfOk result (λ numbers. (path : Text)
         → IsFirst builds.now path (length builds.now) (get bytes_eq numbers path)) }
 {
