@@ -14,7 +14,7 @@ import time
 import xml.dom.minidom
 
 from topics import packages
-from topics.tally import EXAMPLES, TESTS, TOP, Answer, answer, contents, difference
+from topics.tally import EXAMPLES, PROBES, TESTS, TOP, Answer, answer, contents, difference
 
 ROW, MOST_HEIGHT = 24, 1700
 SIGNALS = (signal.SIGHUP, signal.SIGINT, signal.SIGTERM)
@@ -25,6 +25,8 @@ UNIT = "a/b,-docs.FULLPKGNAME=b-docs-1\na/b,-main.FULLPKGNAME=b-1\n"
 
 
 def drawn(*words):
+    """What draw-trace answers by the program that it asks, which has to be built: it looks at its sources else, for minutes each time."""
+    os.stat(os.environ.get("PROBES", PROBES))
     return subprocess.run([f"{TOP}/tools/draw-trace", *words], capture_output=True, timeout=120)
 
 
@@ -363,11 +365,11 @@ def case(tally, kind, name):
 
 
 def run(tally):
-    pictures(tally)
     for kind in STORED:
         for name in sorted(os.listdir(f"{TESTS}/{kind}")):
-            case(tally, kind, name)
+            tally.run(f"{kind}/{name}", case, kind, name)
     shown(tally)
-    packages.run(tally)
+    tally.run("packages", packages.run)
     brought(tally)
     taken_away(tally)
+    tally.run("pictures", pictures)
