@@ -6,7 +6,7 @@ import re
 import shutil
 import subprocess
 
-from topics.tally import TOP, contents
+from topics.tally import TESTS, TOP, contents
 
 WIDEST = 100
 # the most columns of a line of a document
@@ -202,16 +202,17 @@ def below(crate, named):
 
 
 def counted(tally):
-    """What documents count: the crates of the program, and stored cases."""
+    """What documents count: the crates of the program, stored cases, and the wrong bodies that the gate doesn't try."""
     def cases(*kinds):
         return sum(len(os.listdir(f"{TOP}/tests/{kind}")) for kind in kinds)
 
     program = (len(below("dpbr", crates())),)
     for name, form, counts in (("README.md", r"its\s+(\d+)\s+crates", program), ("docs/TIMES.md", r"proves\s+(\d+)\s+crates", program),
                                ("docs/TESTED.md", r"(\d+) stored cases of `dpbr status` and `dpbr audit` and (\d+) of `dpbr run`, (\d+) of `dpbr wayon`",
-                                (cases("status", "audit"), cases("traces", "pieces"), cases("wayon")))):
+                                (cases("status", "audit"), cases("traces", "pieces"), cases("wayon"))),
+                               ("docs/TESTED.md", r"There are (\d+) in tests/wrong-bodies", (len(glob.glob(f"{TESTS}/wrong-bodies/*/*.edit")),))):
         told = re.search(form, contents(f"{TOP}/{name}").decode())
-        tally.add(f"{name}, what it counts", "" if told and tuple(map(int, told.groups())) == counts else f"{told and told[0]}, and there are {counts}")
+        tally.add(f"{name}, what it counts: {form}", "" if told and tuple(map(int, told.groups())) == counts else f"{told and told[0]}, and there are {counts}")
     lines = len(lines_of(f"{TOP}/README.md")) - 1
     tally.add("README.md, its length", "" if lines <= FRONT_PAGE else f"{lines} lines, and more than {FRONT_PAGE} aren't read")
 
