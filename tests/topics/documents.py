@@ -159,6 +159,18 @@ def stands(crate, kind, name):
     return any(os.path.exists(f"{TOP}/crates/{crate}/{kind}/{it}") for it in (name, f"{name}.antt"))
 
 
+def proofs_of_the_headline(tally):
+    """docs/HEADLINE.md has each file of proofs of crate `world` in one place of its list, behind those that it builds on."""
+    folder = f"{TOP}/crates/world/proofs"
+    rows = re.findall(r"^- [^:`]*: (`.*)$", part("HEADLINE.md", "Where its proofs stand"), re.MULTILINE)
+    named = [it for row in rows for it in re.findall(r"`(\w+)`", row)]
+    standing = sorted(it[:-5] for it in os.listdir(folder) if it.endswith(".antt") and it != "Lib.antt")
+    tally.add("docs/HEADLINE.md, its proofs", "" if sorted(named) == standing else f"{sorted(set(named) ^ set(standing))} are named or stand, or some are named twice")
+    early = [f"{name} before {it}" for name in set(named) & set(standing)
+             for it in set(re.findall(r"Rattle\.world\.proofs\.(\w+)", contents(f"{folder}/{name}.antt").decode())) & set(named) if named.index(it) > named.index(name)]
+    tally.add("docs/HEADLINE.md, the order of its proofs", ", ".join(sorted(early)))
+
+
 def promises(tally):
     """Each call or law of docs/MAP.md that makes a promise stands in its crate, and has the clause."""
     rows = re.findall(r"^\| ([^|]+) \| `(\w+)::(\w+)` \| (?:`(\w+)`|all of it) \|", part("MAP.md", "From a promise to its code"), re.MULTILINE)
@@ -262,6 +274,7 @@ def run(tally):
     rows_of_crates(tally)
     files_of_crates(tally)
     promises(tally)
+    proofs_of_the_headline(tally)
     counted(tally)
     leaning(tally)
     places(tally)
