@@ -112,7 +112,7 @@ def covered(svg):
 
 def pictures(tally):
     """The README's picture is the example's, shows the promise that reports a vote, and has its words where nothing else is. Ten
-    events have a row each, and a thousand are folded into a picture of some rows."""
+    events have a row each, and a thousand, or twenty thousand, are folded into a picture of some rows."""
     done = drawn(f"{EXAMPLES}/listing", f"{EXAMPLES}/trace")
     wanted = (contents(f"{EXAMPLES}/take-over.svg"), b"", 0)
     tally.add("draw-trace of the example", difference((done.stdout, done.stderr, done.returncode), wanted))
@@ -128,19 +128,26 @@ def pictures(tally):
         # six notes, and the legend's; above and below ten rows stand less than six rows of words
         told = (rows, agreed(svg), notes, " events<" in svg, 10 * ROW < height < 16 * ROW)
         tally.add(name, "" if told == (10, 1, 7, False, True) else f"{told} in {height} pixels")
-    name = "draw-trace of a thousand events"
-    svg, height = picture(tally, name, *builds(84, 1008))
-    if svg:
-        tally.add(name, "" if agreed(svg) == 84 and height < MOST_HEIGHT else f"{agreed(svg)} packages in {height} pixels")
-        lies, count = covered(svg)
-        tally.add(f"{name}, where its words stand", f"{lies} of {count} lie on something" if lies or not count else "")
-        tally.add(f"{name}, how the list grew", "" if ">84 packages after 1008 events<" in svg else "it isn't told")
+    for count in (84, 1667):
+        folded(tally, count)
     for words, wanted in ((), (0, 1)), (("--single",), (1, 0)):
         name = " ".join(["draw-trace", *words, "of one package of two"])
         svg, _ = picture(tally, name, UNIT, lone(), *words)
         if svg:
             told = (agreed(svg), svg.count("refused: 910"))
             tally.add(name, "" if told == wanted else f"{told}, not {wanted}")
+
+
+def folded(tally, count):
+    """A picture of the builds of so many packages, of twelve events each: a page, whose bars stand for all of them, with its words where
+    nothing else is and how the list grew."""
+    name = f"draw-trace of {12 * count} events"
+    svg, height = picture(tally, name, *builds(count, 12 * count))
+    if svg:
+        tally.add(name, "" if agreed(svg) == count and height < MOST_HEIGHT else f"{agreed(svg)} packages in {height} pixels")
+        lies, words = covered(svg)
+        tally.add(f"{name}, where its words stand", f"{lies} of {words} lie on something" if lies or not words else "")
+        tally.add(f"{name}, how the list grew", "" if f">{count} packages after {12 * count} events<" in svg else "it isn't told")
 
 
 def asked(tool, file):
