@@ -11,4 +11,4 @@ pub mod Waiting
 pub mod InMemory
 pub mod Offered
 pub mod Crashing
-pub mod Mixed
+pub mod Answered

@@ -1,6 +1,6 @@
 use Rattle.std.proofs.lemmas.Result.{err_from_is_err_and}
 use Rattle.turns_rows.proofs.Going.{answered, both}
-use Rattle.turns_rows.proofs.Mixed.{answered_for}
+use Rattle.turns_rows.proofs.Answered.{answered_for}
 use Rattle.turns_rows.specs.Going.{event_in}
 use Rattle.turns_rows.proofs.mixed.turn_then_live.Goals as goal
 
