@@ -7,13 +7,13 @@ use Rattle.turns_rows.proofs.mixed.turn_then_live.Goals as goal
 pub returns-in_err-one : goal.returns-in_err-one
 returns-in_err-one g c =
     let p = err_from_is_err_and c.from_residual.result c.from_residual.ensures.1 in
-    rw (p.1, p.2) (record { goes_on = tt; chosen = tt; headline = c.turn.ensures.headline })
+    rw p.1 (record { goes_on = tt; chosen = tt; headline = c.turn.ensures.headline })
 
 pub returns-in_err-other : goal.returns-in_err-other
 returns-in_err-other g c =
     let p = err_from_is_err_and c.from_residual-in_err-other.result
     c.from_residual-in_err-other.ensures.1 in
-    rw (p.1, p.2) (record { goes_on = tt; chosen = tt; headline = c.turn_live.ensures.headline })
+    rw p.1 (record { goes_on = tt; chosen = tt; headline = c.turn_live.ensures.headline })
 
 pub returns : goal.returns
 returns g c =
