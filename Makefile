@@ -34,6 +34,7 @@ bench: all
 	-bench/way
 	./dpbn node --help 2>/dev/null; [ $$? -eq 2 ]
 	-bench/nodes
+	-bench/live
 	-bench/link
 	-bench/seals
 

@@ -6,7 +6,7 @@ import re
 import shutil
 import subprocess
 
-from topics.tally import TOP, contents
+from topics.tally import TESTS, TOP, contents
 
 WIDEST = 100
 # the most columns of a line of a document
@@ -159,6 +159,18 @@ def stands(crate, kind, name):
     return any(os.path.exists(f"{TOP}/crates/{crate}/{kind}/{it}") for it in (name, f"{name}.antt"))
 
 
+def proofs_of_the_headline(tally):
+    """docs/HEADLINE.md has each file of proofs of crate `world` in one place of its list, behind those that it builds on."""
+    folder = f"{TOP}/crates/world/proofs"
+    rows = re.findall(r"^- [^:`]*: (`.*)$", part("HEADLINE.md", "Where its proofs stand"), re.MULTILINE)
+    named = [it for row in rows for it in re.findall(r"`(\w+)`", row)]
+    standing = sorted(it[:-5] for it in os.listdir(folder) if it.endswith(".antt") and it != "Lib.antt")
+    tally.add("docs/HEADLINE.md, its proofs", "" if sorted(named) == standing else f"{sorted(set(named) ^ set(standing))} are named or stand, or some are named twice")
+    early = [f"{name} before {it}" for name in set(named) & set(standing)
+             for it in set(re.findall(r"Rattle\.world\.proofs\.(\w+)", contents(f"{folder}/{name}.antt").decode())) & set(named) if named.index(it) > named.index(name)]
+    tally.add("docs/HEADLINE.md, the order of its proofs", ", ".join(sorted(early)))
+
+
 def promises(tally):
     """Each call or law of docs/MAP.md that makes a promise stands in its crate, and has the clause."""
     rows = re.findall(r"^\| ([^|]+) \| `(\w+)::(\w+)` \| (?:`(\w+)`|all of it) \|", part("MAP.md", "From a promise to its code"), re.MULTILINE)
@@ -202,16 +214,17 @@ def below(crate, named):
 
 
 def counted(tally):
-    """What documents count: the crates of the program, and stored cases."""
+    """What documents count: the crates of the program, stored cases, and the wrong bodies that the gate doesn't try."""
     def cases(*kinds):
         return sum(len(os.listdir(f"{TOP}/tests/{kind}")) for kind in kinds)
 
     program = (len(below("dpbr", crates())),)
     for name, form, counts in (("README.md", r"its\s+(\d+)\s+crates", program), ("docs/TIMES.md", r"proves\s+(\d+)\s+crates", program),
                                ("docs/TESTED.md", r"(\d+) stored cases of `dpbr status` and `dpbr audit` and (\d+) of `dpbr run`, (\d+) of `dpbr wayon`",
-                                (cases("status", "audit"), cases("traces", "pieces"), cases("wayon")))):
+                                (cases("status", "audit"), cases("traces", "pieces"), cases("wayon"))),
+                               ("docs/TESTED.md", r"There are (\d+) in tests/wrong-bodies", (len(glob.glob(f"{TESTS}/wrong-bodies/*/*.edit")),))):
         told = re.search(form, contents(f"{TOP}/{name}").decode())
-        tally.add(f"{name}, what it counts", "" if told and tuple(map(int, told.groups())) == counts else f"{told and told[0]}, and there are {counts}")
+        tally.add(f"{name}, what it counts: {form}", "" if told and tuple(map(int, told.groups())) == counts else f"{told and told[0]}, and there are {counts}")
     lines = len(lines_of(f"{TOP}/README.md")) - 1
     tally.add("README.md, its length", "" if lines <= FRONT_PAGE else f"{lines} lines, and more than {FRONT_PAGE} aren't read")
 
@@ -261,6 +274,7 @@ def run(tally):
     rows_of_crates(tally)
     files_of_crates(tally)
     promises(tally)
+    proofs_of_the_headline(tally)
     counted(tally)
     leaning(tally)
     places(tally)

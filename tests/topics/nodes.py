@@ -513,6 +513,17 @@ def hosts(tally):
         tally.add("three nodes on three addresses", "" if out == ALL else f"{out!r}")
 
 
+def refused_sends(tally):
+    """What the system refuses to send is counted by member: to the address of all hosts of a network a socket may not send."""
+    with tempfile.TemporaryDirectory() as folder:
+        lay(folder)
+        base = free_ports(1)
+        words = ["--hosts", f"127.0.0.1:{base},127.255.255.255:{base}", "--unsealed", "--patience", "1", "--turns", "50"]
+        out, error, status = answer(["node", *SHARED, "--members", "2", "--me", "0", *words], folder)
+        found = re.fullmatch(rb"dpbn: member 1: heard 0, sealed otherwise 0, asked again 0, unsent ([1-9]\d*)\ndpbn: strangers: 0\n", error)
+        tally.add("sends that the system refuses", "" if found and (out, status) == (node_line(0, q=1), 0) else f"{out!r}, {error!r}, {status}")
+
+
 def stops(tally, packages=12):
     """Three nodes on three addresses, of which one is stopped in the middle, and started again on its folder: in the end all hold all."""
     listing = "".join(f"p/n{k}.FULLPKGNAME=n{k}-1\n" + (f"p/n{k}.LIB_DEPENDS=p/n{k - 1}\n" if k else "") for k in range(packages))
@@ -675,23 +686,6 @@ def second_start(tally):
         tally.add("its log, opened again", difference(got, (node_line(0, i=1), b"", 0)))
 
 
-def readme(tally):
-    """The README's three nodes: its very commands, in a folder where they find what they name, print what it says."""
-    text = contents(f"{TOP}/README.md").decode()
-    block = re.search(r"^Three nodes that build this tree.*?\n\n(.*?)\n\n", text, re.DOTALL | re.MULTILINE)[1]
-    line = re.search(r"# each prints: node K: (.*)", block)[1]
-    wanted = [f"node {me}: {line}" for me in range(3)] + [re.search(r"packages/list +# (\w+)$", block)[1]]
-    with tempfile.TemporaryDirectory() as folder:
-        for name, at in (("dpbn", NODES), ("dpbr", PROGRAM), ("examples", f"{TOP}/examples"), ("tools", f"{TOP}/tools")):
-            os.symlink(at, f"{folder}/{name}")
-        script = block.replace("--base 7000", f"--base {free_ports(3)}")
-        tally.add("README.md, its ports", "" if script != block else "--base 7000 stands nowhere")
-        done = subprocess.run(["sh", "-c", script], cwd=folder, capture_output=True, text=True, timeout=300)
-        got = sorted(done.stdout.split("\n")[:-2]) + done.stdout.split("\n")[-2:-1]
-        is_right = got == wanted and "Usage" in done.stderr
-        tally.add("README.md, three nodes", "" if is_right else f"it shows {wanted}, and {got} {done.stderr} is printed")
-
-
 def is_filled(log, room):
     """Whether the last note in a log of all weights 1 had no room: what is there of it goes on to the last byte, and it is longer."""
     with open(log, "rb") as file:
@@ -804,25 +798,34 @@ def agreed(tally, folder, when):
     tally.add(f"{when}: one package a path", f"{several} have several" if several else "")
 
 
-def manual_page(tally):
-    """What dpbn(1) shows: its commands run in a folder, one after the other, and print what stands there. A copy to another host is none."""
-    page = contents(f"{TOP}/man/dpbn.1").decode()
+def shown_runs(tally, path, behind, until=None):
+    """What a page shows behind this line, and before that one: its commands run in a folder, one after the other, and print what stands
+    there. Files that it shows before are there, too. A copy to another host is none."""
+    page = contents(path).decode()
+    before, _, part = page.partition(behind)
+    part = part.partition(until)[0] if until else part
     with tempfile.TemporaryDirectory() as folder, tempfile.TemporaryDirectory() as aside:
         with open(f"{aside}/scp", "w") as file:
             file.write("#!/bin/sh\n")
         os.chmod(f"{aside}/scp", 0o755)
-        path = f"{aside}:{os.path.dirname(NODES)}:{os.path.dirname(PROGRAM)}:{TOP}/tools:{os.environ['PATH']}"
-        for line, text in shown(page):
+        programs = f"{aside}:{os.path.dirname(NODES)}:{os.path.dirname(PROGRAM)}:{TOP}/tools:{os.environ['PATH']}"
+        for line, text in [it for it in shown(before) if it[0].startswith(("cat ", "expand-listing "))] + list(shown(part)):
             if line.startswith("cat "):
                 with open(f"{folder}/{line[4:]}", "w") as file:
-                    file.write(text)
+                    file.write(text.replace("\\e", "\\"))
                 continue
             more = [it for it in text.split("\n") if it.startswith("> ")]
             command = "\n".join([line, *(it[2:] for it in more)]).replace("\\e", "\\").replace("--base 7000", f"--base {free_ports(3)}")
             wanted = sorted(it for it in text.split("\n") if it and not it.startswith("> "))
-            done = subprocess.run(["sh", "-c", command], cwd=folder, capture_output=True, text=True, timeout=300, env={**os.environ, "PATH": path})
+            done = subprocess.run(["sh", "-c", command], cwd=folder, capture_output=True, text=True, timeout=300, env={**os.environ, "PATH": programs})
             got = sorted(done.stdout.split("\n"))
-            tally.add(f"man/dpbn.1, {line}", "" if [it for it in got if it] == wanted and not done.stderr else f"it shows {wanted}, and {got} {done.stderr} is printed")
+            right = [it for it in got if it] == wanted and not done.stderr
+            tally.add(f"man/{os.path.basename(path)}, {line}", "" if right else f"it shows {wanted}, and {got} {done.stderr} is printed")
+
+
+def manual_page(tally):
+    """What dpbn(1) shows, up to hosts that build."""
+    shown_runs(tally, f"{TOP}/man/dpbn.1", ".Sh EXAMPLES\n", ".Ss Hosts that build\n")
 
 
 def beside(tally, several):
@@ -843,5 +846,5 @@ def run(tally):
         case(tally, "nodes", name)
     for one in (no_calls, helps, faults, cluster_faults, bad_words, refused_logs, alone, cluster, exact_turns, progress, failing, sockets, kills):
         one(tally)
-    beside(tally, (hosts, stops, noise, patience, manual_page, readme))
+    beside(tally, (hosts, refused_sends, stops, noise, patience, manual_page))
     second_start(tally)

@@ -1,8 +1,10 @@
 """What the topics share: where things are, how the program is run, and what passed and failed."""
 import difflib
 import os
+import re
 import shlex
 import subprocess
+import traceback
 
 TOP = os.path.dirname(os.path.dirname(os.path.dirname(os.path.abspath(__file__))))
 TESTS = f"{TOP}/tests"
@@ -22,14 +24,33 @@ class Tally:
     def __init__(self):
         self.passed = 0
         self.failed = 0
+        # the names of those that failed
+        self.names = []
 
     def add(self, name, problem):
         """One more test, which passed where there is no problem to tell."""
         if problem:
             self.failed += 1
+            self.names.append(name)
             print(f"tests/run: FAILED: {name}: {problem}", flush=True)
         else:
             self.passed += 1
+
+    def run(self, name, part, *more):
+        """Runs a part of the tests. One that breaks off is a failure, and what stands behind it goes on."""
+        try:
+            part(self, *more)
+        except Exception as error:
+            self.add(name, broken_off(error))
+
+
+def broken_off(error):
+    """Where tests broke off, and why; and what builds the program that they lack, if that is why."""
+    frames = [frame for frame in traceback.extract_tb(error.__traceback__) if frame.filename.startswith(TESTS)]
+    place = max(frames, key=lambda frame: (frame.filename != os.path.abspath(__file__), frames.index(frame)))
+    told = f"it broke off at {os.path.relpath(place.filename, TOP)}:{place.lineno}: {type(error).__name__}: {cut(str(error))}"
+    program = re.search(r"/crates/(\w+)/out/\1$", str(getattr(error, "filename", "")))
+    return told + (f"\n    not built: `tools/prove {program[1]}`" if program else "")
 
 
 def contents(path):

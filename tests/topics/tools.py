@@ -14,7 +14,7 @@ import time
 import xml.dom.minidom
 
 from topics import packages
-from topics.tally import EXAMPLES, TESTS, TOP, Answer, answer, contents, difference
+from topics.tally import EXAMPLES, PROBES, TESTS, TOP, Answer, answer, contents, difference
 
 ROW, MOST_HEIGHT = 24, 1700
 SIGNALS = (signal.SIGHUP, signal.SIGINT, signal.SIGTERM)
@@ -25,6 +25,8 @@ UNIT = "a/b,-docs.FULLPKGNAME=b-docs-1\na/b,-main.FULLPKGNAME=b-1\n"
 
 
 def drawn(*words):
+    """What draw-trace answers by the program that it asks, which has to be built: it looks at its sources else, for minutes each time."""
+    os.stat(os.environ.get("PROBES", PROBES))
     return subprocess.run([f"{TOP}/tools/draw-trace", *words], capture_output=True, timeout=120)
 
 
@@ -110,7 +112,7 @@ def covered(svg):
 
 def pictures(tally):
     """The README's picture is the example's, shows the promise that reports a vote, and has its words where nothing else is. Ten
-    events have a row each, and a thousand are folded into a picture of some rows."""
+    events have a row each, and a thousand, or twenty thousand, are folded into a picture of some rows."""
     done = drawn(f"{EXAMPLES}/listing", f"{EXAMPLES}/trace")
     wanted = (contents(f"{EXAMPLES}/take-over.svg"), b"", 0)
     tally.add("draw-trace of the example", difference((done.stdout, done.stderr, done.returncode), wanted))
@@ -126,19 +128,26 @@ def pictures(tally):
         # six notes, and the legend's; above and below ten rows stand less than six rows of words
         told = (rows, agreed(svg), notes, " events<" in svg, 10 * ROW < height < 16 * ROW)
         tally.add(name, "" if told == (10, 1, 7, False, True) else f"{told} in {height} pixels")
-    name = "draw-trace of a thousand events"
-    svg, height = picture(tally, name, *builds(84, 1008))
-    if svg:
-        tally.add(name, "" if agreed(svg) == 84 and height < MOST_HEIGHT else f"{agreed(svg)} packages in {height} pixels")
-        lies, count = covered(svg)
-        tally.add(f"{name}, where its words stand", f"{lies} of {count} lie on something" if lies or not count else "")
-        tally.add(f"{name}, how the list grew", "" if ">84 packages after 1008 events<" in svg else "it isn't told")
+    for count in (84, 1667):
+        folded(tally, count)
     for words, wanted in ((), (0, 1)), (("--single",), (1, 0)):
         name = " ".join(["draw-trace", *words, "of one package of two"])
         svg, _ = picture(tally, name, UNIT, lone(), *words)
         if svg:
             told = (agreed(svg), svg.count("refused: 910"))
             tally.add(name, "" if told == wanted else f"{told}, not {wanted}")
+
+
+def folded(tally, count):
+    """A picture of the builds of so many packages, of twelve events each: a page, whose bars stand for all of them, with its words where
+    nothing else is and how the list grew."""
+    name = f"draw-trace of {12 * count} events"
+    svg, height = picture(tally, name, *builds(count, 12 * count))
+    if svg:
+        tally.add(name, "" if agreed(svg) == count and height < MOST_HEIGHT else f"{agreed(svg)} packages in {height} pixels")
+        lies, words = covered(svg)
+        tally.add(f"{name}, where its words stand", f"{lies} of {words} lie on something" if lies or not words else "")
+        tally.add(f"{name}, how the list grew", "" if f">{count} packages after {12 * count} events<" in svg else "it isn't told")
 
 
 def asked(tool, file):
@@ -363,11 +372,11 @@ def case(tally, kind, name):
 
 
 def run(tally):
-    pictures(tally)
     for kind in STORED:
         for name in sorted(os.listdir(f"{TESTS}/{kind}")):
-            case(tally, kind, name)
+            tally.run(f"{kind}/{name}", case, kind, name)
     shown(tally)
-    packages.run(tally)
+    tally.run("packages", packages.run)
     brought(tally)
     taken_away(tally)
+    tally.run("pictures", pictures)

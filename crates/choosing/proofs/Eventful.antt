@@ -61,7 +61,7 @@ module _ (sent : List Text) where
       absurd (let no : ◌≡◌ {A = Option Input} None (Some input) = is in cc)
   member_is k s builds (Some o) input is = answer_is k s builds o o.progress input is
 
-  job_is : (builds : Given) (k : ℕ) (here : Option State) (x : ℕ × Asked)
+  pub job_is : (builds : Given) (k : ℕ) (here : Option State) (x : ℕ × Asked)
       → option_map (λ (input : Input). (k, Does input))
       (option_and_then (λ s. answer_of s builds) here) ≡ Some x
       → IsEventful x

@@ -4,7 +4,10 @@ pub mod Choosings
 pub mod Elsewhere
 pub mod Eventful
 pub mod FirstOwn
+pub mod Firsts
+pub mod Going
 pub mod Jobs
+pub mod LiveEvents
 pub mod Owns
 pub mod Places
 pub mod Ranges

@@ -193,7 +193,7 @@ module _ {D : Type 0} (nodes : List (LoggedNode D)) (p : Pending) where
         start : 0 + next ≡ next
         start = omega arith
 
-    turn_is : in_turn p.next count
+    pub turn_is : in_turn p.next count
         ≡ range_with_len next (all - next) ++ range_with_len 0 (next - 0)
     turn_is =
         ap (λ n. in_turn n count) (sym is_next)

@@ -1,6 +1,6 @@
 -- What was chosen, with its step ready.
 use Rattle.std.specs.Prelude.{◌≡◌, ℕ, Bool, true, false, List, Option, None, Some, Result, Err, [], ◌∷◌, if◌then◌else◌, is_some, length, map, slice_get}
-use Rattle.choice.specs.Choice.{Chosen, Here, IsChoice, has_job}
+use Rattle.choice.specs.Choice.{Chosen, Here}
 use Rattle.choice.specs.Pending.{Pending}
 use Rattle.choice.specs.declared.fault.TurnFault.{TurnFault}
 use Rattle.choice.specs.declared.fault.TurnFault.TheVariants as refused
@@ -15,8 +15,8 @@ use Rattle.parts.specs.declared.readied.Readied.{Readied}
 use Rattle.ports.specs.Calls.{Call, Received, WentThrough}
 use Rattle.ports.specs.Kept.{Arrived, GoesOnBy}
 use Rattle.ports.specs.declared.fault.PortFault.{PortFault}
-use Rattle.protocol.specs.Given.{Given}
 use Rattle.protocol.specs.declared.input.Input.{Input}
+use Rattle.choosing.specs.Handed.{Handed, IsChoiceBy, answers_first}
 use Rattle.choosing.specs.Here.{here_in}
 use Rattle.choosing.specs.Events.{event_of}
 use Rattle.choosing.specs.declared.chosen.Chosen.{Chosen as Ready}
@@ -72,48 +72,48 @@ told fault.Stopped = refused.Node fault.Stopped
 told (fault.Foreign f) = refused.Node (fault.Foreign f)
 
 -- It is the turn's choice, by what the port gave from the old moment to the new one.
-pub record IsChosenBy (here : Here) (count : ℕ) (p : Pending) (builds : Given)
+pub record IsChosenBy (here : Here) (count : ℕ) (p : Pending) (handed : Handed)
     (old new : Option (List Arrived)) (chosen : Chosen) : Type 0 where
   pub came : Arrived
-  pub looked : GoesOnBy (looked_for (has_job here count builds) came) old new
-  pub choice : IsChoice here count p builds came chosen
+  pub looked : GoesOnBy (looked_for (answers_first handed here count) came) old new
+  pub choice : IsChoiceBy handed here count p came chosen
 
 -- What was chosen is the turn's choice, its step is ready, and it is an event.
 pub record HasChosen {D : Type 0} (nodes : List (LoggedNode D)) (sent : List Text) (p : Pending)
-    (builds : Given) (old new : Option (List Arrived)) (r : Option Ready) : Type 0 where
+    (handed : Handed) (old new : Option (List Arrived)) (r : Option Ready) : Type 0 where
   pub chosen : Chosen
-  pub is_chosen : IsChosenBy (here_in nodes) (length nodes) p builds old new chosen
+  pub is_chosen : IsChosenBy (here_in nodes) (length nodes) p handed old new chosen
   pub readied : IsChosenAs nodes chosen r
   pub event : (x : _) → chosen ≡ Some x → is_some (event_of sent x) ≡ true
 
 -- the chosen node takes no step on what it would do of itself
-abbrev pub IsRefusedOwn : {D : Type 0} → List (LoggedNode D) → List Text → Pending → Given
+abbrev pub IsRefusedOwn : {D : Type 0} → List (LoggedNode D) → List Text → Pending → Handed
     → Option (List Arrived) → Option (List Arrived) → NodeFault → Type 0
-IsRefusedOwn nodes sent p builds old new f =
+IsRefusedOwn nodes sent p handed old new f =
     (k : ℕ) × (input : Input)
-    × IsChosenBy (here_in nodes) (length nodes) p builds old new (Some (k, Does input))
+    × IsChosenBy (here_in nodes) (length nodes) p handed old new (Some (k, Does input))
     × (is_some (event_of sent (k, Does input)) ≡ true) × RefusesAt nodes k (Does input) f
 
 -- bytes came, for a node that is up, that none of the nodes sent
-abbrev pub HasForeign : {D : Type 0} → List (LoggedNode D) → List Text → Pending → Given
+abbrev pub HasForeign : {D : Type 0} → List (LoggedNode D) → List Text → Pending → Handed
     → Option (List Arrived) → Option (List Arrived) → Type 0
-HasForeign nodes sent p builds old new =
+HasForeign nodes sent p handed old new =
     (k : ℕ) × (text : Text)
-    × IsChosenBy (here_in nodes) (length nodes) p builds old new (Some (k, Comes text))
+    × IsChosenBy (here_in nodes) (length nodes) p handed old new (Some (k, Comes text))
     × (is_among sent text ≡ false)
 
 -- Why nothing was made ready: memory was wanting for what there is to do, or one of these two.
-abbrev pub IsChoosingFault : {D : Type 0} → List (LoggedNode D) → List Text → Pending → Given
+abbrev pub IsChoosingFault : {D : Type 0} → List (LoggedNode D) → List Text → Pending → Handed
     → Option (List Arrived) → Option (List Arrived) → TurnFault → Type 0
-IsChoosingFault nodes sent p builds old new refused.Memory =
+IsChoosingFault nodes sent p handed old new refused.Memory =
     (chosen : ℕ × Asked)
-    × IsChosenBy (here_in nodes) (length nodes) p builds old new (Some chosen)
-IsChoosingFault nodes sent p builds old new (refused.Node f) =
-    IsRefusedOwn nodes sent p builds old new f
-IsChoosingFault nodes sent p builds old new (refused.Down k) = ⊥
-IsChoosingFault nodes sent p builds old new refused.NotSent =
-    HasForeign nodes sent p builds old new
-IsChoosingFault nodes sent p builds old new refused.NotFresh = ⊥
+    × IsChosenBy (here_in nodes) (length nodes) p handed old new (Some chosen)
+IsChoosingFault nodes sent p handed old new (refused.Node f) =
+    IsRefusedOwn nodes sent p handed old new f
+IsChoosingFault nodes sent p handed old new (refused.Down k) = ⊥
+IsChoosingFault nodes sent p handed old new refused.NotSent =
+    HasForeign nodes sent p handed old new
+IsChoosingFault nodes sent p handed old new refused.NotFresh = ⊥
 
 -- The port answered some receives, and nothing else was asked of it; and by what they gave, where
 -- nothing had been given before, this is so.

@@ -31,6 +31,7 @@ ghost use Rattle.choosing.specs.Choosing.{
   NoneIsForeign,
   told,
 };
+ghost use Rattle.choosing.specs.Handed.{AllBuilds};
 ghost use Rattle.choosing.specs.Here.{here_in};
 ghost use Rattle.choosing.specs.Unfailed.{EachFailedBelow};
 ghost use Rattle.choosing.specs.inside.Cases.{
@@ -91,18 +92,18 @@ pub fn choose<D: Disk, P: Port>(
     ensures same { nodes.new.items ≡ nodes.old.items }
     ensures below { EachFailedBelow nodes.old.items pending.now unfailed.new }
     ensures offered { GoesOnBy [] (P.offered port.old) (P.offered port.new) }
-    ensures chosen { IfOk result (HasChosen nodes.new.items sent.now pending.now builds.now
-        (P.given port.old) (P.given port.new)) }
-    ensures refused { IfErr result (IsChoosingFault nodes.old.items sent.now pending.now builds.now
-        (P.given port.old) (P.given port.new)) }
+    ensures chosen { IfOk result (HasChosen nodes.new.items sent.now pending.now
+        (AllBuilds builds.now) (P.given port.old) (P.given port.new)) }
+    ensures refused { IfErr result (IsChoosingFault nodes.old.items sent.now pending.now
+        (AllBuilds builds.now) (P.given port.old) (P.given port.new)) }
 
     // The same by its calls, whatever it keeps of them: it was asked to receive, and nothing else.
     ensures calls { IfOk result (λ r. ByReceives P.does port.old port.new
-        (λ before after.
-        HasChosen nodes.new.items sent.now pending.now builds.now before after r)) }
+        (λ before after. HasChosen nodes.new.items sent.now pending.now
+        (AllBuilds builds.now) before after r)) }
     ensures calls_refused { IfErr result (λ f. ByReceives P.does port.old port.new
-        (λ before after.
-        IsChoosingFault nodes.old.items sent.now pending.now builds.now before after f)) }
+        (λ before after. IsChoosingFault nodes.old.items sent.now pending.now
+        (AllBuilds builds.now) before after f)) }
 {
     if let Some(chosen) = answered(alloc, nodes, builds)? {
         return Ok(Some(chosen));
@@ -158,7 +159,7 @@ fn answer_at<D: Disk>(
 }
 
 /// What came. A receive that fails gave nothing.
-fn received<P: Port>(port: &mut P) -> Option<(u8, Vec<u8>)>
+pub(crate) fn received<P: Port>(port: &mut P) -> Option<(u8, Vec<u8>)>
     ensures given { GoesOnBy (arrived result ∷ []) (P.given port.old) (P.given port.new) }
     ensures offered { GoesOnBy [] (P.offered port.old) (P.offered port.new) }
     ensures calls { WasReceived P.does port.old (arrived result) port.new }
@@ -170,7 +171,7 @@ fn received<P: Port>(port: &mut P) -> Option<(u8, Vec<u8>)>
 }
 
 /// That the node takes what came for it, if it is up. It was sent by one of the nodes.
-fn taken_in<D: Disk>(
+pub(crate) fn taken_in<D: Disk>(
     alloc: Global,
     nodes: &mut Vec<Node<'_, D>>,
     sent: &Datagrams,
@@ -208,7 +209,7 @@ fn is_sent(alloc: Global, sent: &Datagrams, bytes: &[u8]) -> Result<bool, Memory
 }
 
 /// Whether there is such a node, and it is up.
-fn is_up<D: Disk>(nodes: &[Node<'_, D>], at: usize) -> bool
+pub(crate) fn is_up<D: Disk>(nodes: &[Node<'_, D>], at: usize) -> bool
     ensures { result ≡ is_some (here_in nodes.now at) }
 {
     match nodes.get(at) {

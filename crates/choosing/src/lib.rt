@@ -3,7 +3,9 @@
 #![tactic(auto)]
 
 mod chosen;
+mod live;
 mod recording;
 
 pub use crate::chosen::{Chosen, choose, told};
+pub use crate::live::choose_live;
 pub use crate::recording::{Recorded, events_of};

@@ -4,10 +4,10 @@ use Rattle.clap.specs.Words.{Row, Text}
 use Rattle.cluster.specs.Stopped.{IsGood}
 use Rattle.dpbn_words.specs.Calls.{ArePeers, IsCallOf}
 use Rattle.dpbn_words.specs.declared.Call.{Call}
-use Rattle.dpbn_words.specs.declared.Call.TheVariants.{Cluster, Key, Node}
+use Rattle.dpbn_words.specs.declared.Call.TheVariants.{Build, Cluster, Key, Node}
 use Rattle.dpbn_words.specs.declared.Peers.{Peers}
 use Rattle.dpbn_words.specs.declared.Peers.TheVariants.{Base, Hosts}
-use Rattle.dpbn_node.specs.Node.{AreGood}
+use Rattle.dpbn_build.specs.Build.{AreGood}
 
 good_peers : (rows : List Row) (peers : Peers) → ArePeers rows peers → AreGood peers
 good_peers rows (Base port) are = are.0.2
@@ -17,5 +17,7 @@ pub good_call : (o : Option (Text × List Row)) (call : Call) → IsCallOf o cal
 good_call None call is = absurd is
 good_call (Some (name, rows)) (Cluster files trace) is = is.1.members.2
 good_call (Some (name, rows)) (Node files me peers patience run) is =
-    (is.1.members.2, good_peers rows peers is.3)
+    (is.1.members.2, good_peers rows peers is.2.1)
+good_call (Some (name, rows)) (Build site me peers patience run) is =
+    (is.1.members.2, good_peers rows peers is.2.1)
 good_call (Some (name, rows)) (Key file) is = tt

@@ -1,15 +1,15 @@
 -- Why the program stops before its lines are printed, and what it has written then.
-use Rattle.std.specs.Prelude.{◌≡◌, ◌≤◌, ◌⊎◌, ⊤, ℕ, List, Option}
+use Rattle.std.specs.Prelude.{◌≡◌, ◌≤◌, ◌⊎◌, ⊤, ℕ, List, Option, codes}
 use Rattle.std.specs.Io.KnownBytes.{Keeps}
 use Rattle.clap.specs.Words.{IsAmong, Text as Word, kind_of}
 use Rattle.cluster.specs.Printed.{HasBegun}
+use Rattle.dpbn_build.specs.Build.{AreGood, RefusesBuild, RefusesNode}
 use Rattle.dpbn_cluster.specs.Cluster.{RefusesCluster}
-use Rattle.dpbn_node.specs.Node.{AreGood, RefusesNode}
 use Rattle.dpbn_words.specs.Calls.{AreTaken, IsCallOf, faults_of, matched}
 use Rattle.dpbn_words.specs.declared.Call.{Call}
-use Rattle.dpbn_words.specs.declared.Call.TheVariants.{Cluster, Key, Node}
+use Rattle.dpbn_words.specs.declared.Call.TheVariants.{Build, Cluster, Key, Node}
 use Rattle.program.specs.Refusals.{IsSystemRefusal, device_refusal, memory_refusal}
-use Rattle.program.specs.Stops.{status_after}
+use Rattle.program.specs.Stops.{IsBegun, status_after}
 use Rattle.program.specs.declared.refusal.Refusal.{Refusal}
 use Rattle.program.specs.declared.stop.Stop.{Stop}
 use Rattle.program.specs.declared.stop.Stop.TheVariants.{Refused, Unwritten, WrongWords}
@@ -18,12 +18,14 @@ use Rattle.program.specs.declared.stop.Stop.TheVariants.{Refused, Unwritten, Wro
 abbrev pub IsGood : Call → Type 0
 IsGood (Cluster files trace) = files.members ≤ 9
 IsGood (Node files me peers patience run) = (files.members ≤ 9) × AreGood peers
+IsGood (Build site me peers patience run) = (site.members ≤ 9) × AreGood peers
 IsGood (Key file) = ⊤
 
 -- what is told of what a call is given
 abbrev pub RefusesCall : Call → Refusal → Type 0
 RefusesCall (Cluster files trace) r = RefusesCluster files r
 RefusesCall (Node files me peers patience run) r = RefusesNode files me peers run r
+RefusesCall (Build site me peers patience run) r = RefusesBuild site me peers run r
 RefusesCall (Key file) r = IsSystemRefusal r
 
 -- A refusal comes before anything was written, but for one that is told as fault 2: then a
@@ -50,7 +52,11 @@ HasStopped words (Refused r) before after =
     ((r ≡ memory_refusal) × Keeps before after) ⊎ HasFailedAt words (Refused r) before after
 HasStopped words (Unwritten r) before after = HasFailedAt words (Unwritten r) before after
 
--- the program stopped, and not for its words
-abbrev pub HasFailed : List Word → Option (List ℕ) → Option (List ℕ) → Type 0
-HasFailed words before after =
-    (stop : Stop) × (status_after stop ≡ 1) × HasStopped words stop before after
+-- The program stopped, and not for its words; behind what was told while it ran stands a beginning
+-- of the one line that tells why.
+pub record HasFailed (words : List Word) (before after told_after : Option (List ℕ)) : Type 0 where
+  pub stop : Stop
+  pub status : status_after stop ≡ 1
+  pub stopped : HasStopped words stop before after
+  pub told_before : Option (List ℕ)
+  pub told : IsBegun (codes "dpbn") stop told_before told_after

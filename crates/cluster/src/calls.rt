@@ -1,5 +1,5 @@
 //! The calls of `dpbn`.
-ghost use Rattle.std.specs.Prelude.{◌≡◌, ◌≤◌, [], IfErr, IfOk, OnOk, map, string_bytes};
+ghost use Rattle.std.specs.Prelude.{◌≡◌, ◌≤◌, ◌⊎◌, [], IfErr, IfOk, map, string_bytes};
 ghost use Rattle.std.specs.Io.KnownBytes.{Keeps};
 ghost use Rattle.cluster.specs.Printed.{HasCarriedOut, HasPrinted, IsOutputOf};
 ghost use Rattle.cluster.specs.Stopped.{
@@ -12,17 +12,18 @@ ghost use Rattle.cluster.specs.Stopped.{
 ghost use Rattle.dpbn_words.specs.Calls.{AreTaken};
 ghost use Rattle.program.specs.Refusals.{IsSystemRefusal};
 
+use dpbn_build::{build_of_words, node_of_words};
 use dpbn_cluster::cluster_of_words;
 use dpbn_key::make_key;
-use dpbn_node::node_of_words;
 use dpbn_words::{Call, dpbn_words};
 use program::{Answer, Refusal, Stop, print};
 use std::io::Write;
 
-/// Carries out the call that the words make, and gives the status with which the program ends: 0;
-/// 1 after a fault, of which it writes one line to `err`, `dpbn: fault N` or `dpbn: fault N at K`;
-/// 2 where the words make no call, or ask for help, after clap's text on `err`. A fault of a turn
-/// is written to `err`, too, and the turns go on.
+/// Carries out the call that the words make, and gives the status with which the program ends: 0; 3
+/// after a build that says that something isn't held; 1 after a fault, of which it writes one line
+/// to `err`, `dpbn: fault N` or `dpbn: fault N at K`; 2 where the words make no call, or ask for
+/// help, after clap's text on `err`. A fault of a turn is written to `err`, too, and the turns go
+/// on.
 ///
 /// The first word is the program's name. The nodes' lines are made before any of them is written
 /// to `out`; lines that can't be written are fault 2.
@@ -32,16 +33,18 @@ pub fn dpbn_main<O: Write, E: Write>(
     out: &mut O,
     err: &mut E,
 ) -> u8
-    ensures status { result ≤ 2 }
-    ensures done { result ≡ 0 → HasCarriedOut (map string_bytes words.now) (O.contents out.old)
+    ensures status { result ≤ 3 }
+    ensures done { result ≡ 0 → HasCarriedOut (map string_bytes words.now) 0 (O.contents out.old)
+        (O.contents out.new) }
+    ensures unheld { result ≡ 3 → HasCarriedOut (map string_bytes words.now) 3 (O.contents out.old)
         (O.contents out.new) }
     ensures fault { result ≡ 1 → HasFailed (map string_bytes words.now) (O.contents out.old)
-        (O.contents out.new) }
+        (O.contents out.new) (E.contents err.new) }
     ensures wrong_words { result ≡ 2 → ¬ AreTaken (map string_bytes words.now) }
     ensures quiet { result ≡ 2 → Keeps (O.contents out.old) (O.contents out.new) }
 {
     match dpbn_call(rt, words, out, err) {
-        Ok(()) => 0,
+        Ok(status) => status,
         Err(stop) => {
             let status = stop.status();
             let _ = stop.tell("dpbn", err);
@@ -50,7 +53,9 @@ pub fn dpbn_main<O: Write, E: Write>(
     }
 }
 
-/// Carries out the call that the words make, the first of which is the program's name.
+/// Carries out the call that the words make, the first of which is the program's name, and gives
+/// the status with which the program then ends: 0, or 3 after a build that says that something
+/// isn't held.
 ///
 /// # Errors
 ///
@@ -61,9 +66,10 @@ fn dpbn_call<O: Write, E: Write>(
     words: &[String],
     out: &mut O,
     err: &mut E,
-) -> Result<(), Stop>
-    ensures done { OnOk result (HasCarriedOut (map string_bytes words.now) (O.contents out.old)
-        (O.contents out.new)) }
+) -> Result<u8, Stop>
+    ensures status { IfOk result (λ status. (status ≡ 0) ⊎ (status ≡ 3)) }
+    ensures done { IfOk result (λ status. HasCarriedOut (map string_bytes words.now) status
+        (O.contents out.old) (O.contents out.new)) }
     ensures stopped { IfErr result (λ stop. HasStopped (map string_bytes words.now) stop
         (O.contents out.old) (O.contents out.new)) }
 {
@@ -71,28 +77,32 @@ fn dpbn_call<O: Write, E: Write>(
     carry_out(rt, &call, out, err)
 }
 
-/// Prints what the call asks for.
+/// Prints what the call asks for, and gives the status that goes with it.
 fn carry_out<O: Write, E: Write>(
     rt: &HostRuntime,
     call: &Call<'_>,
     out: &mut O,
     err: &mut E,
-) -> Result<(), Stop>
+) -> Result<u8, Stop>
     requires { IsGood call.now }
-    ensures printed { OnOk result (HasPrinted call.now (O.contents out.old) (O.contents out.new)) }
+    ensures status { IfOk result (λ status. (status ≡ 0) ⊎ (status ≡ 3)) }
+    ensures printed { IfOk result
+        (λ status. HasPrinted call.now status (O.contents out.old) (O.contents out.new)) }
     ensures stopped { IfErr result
         (λ stop. CannotCarryOut call.now stop (O.contents out.old) (O.contents out.new)) }
 {
     let answer = answer_to(rt, call, err)?;
     match print(out, answer.text.as_slice()) {
-        Ok(()) => Ok(()),
+        Ok(()) => Ok(answer.status),
         Err(_) => Err(Stop::Unwritten(Refusal::device())),
     }
 }
 
 fn answer_to<E: Write>(rt: &HostRuntime, call: &Call<'_>, err: &mut E) -> Result<Answer, Refusal>
     requires { IsGood call.now }
-    ensures output { IfOk result (λ answer. IsOutputOf call.now answer.text.items) }
+    ensures output { IfOk result
+        (λ answer. IsOutputOf call.now answer.status answer.text.items) }
+    ensures status { IfOk result (λ answer. (answer.status ≡ 0) ⊎ (answer.status ≡ 3)) }
     ensures refused { IfErr result (RefusesCall call.now) }
 {
     match call {
@@ -104,13 +114,20 @@ fn answer_to<E: Write>(rt: &HostRuntime, call: &Call<'_>, err: &mut E) -> Result
             patience,
             run,
         } => node_of_words(rt, files, *me, peers, *patience, run, err),
+        Call::Build {
+            site,
+            me,
+            peers,
+            patience,
+            run,
+        } => build_of_words(rt, site, *me, peers, *patience, run, err),
         Call::Key { file } => made_key(rt, file),
     }
 }
 
 /// Nothing, once a file with a new key is made.
 fn made_key(rt: &HostRuntime, file: &str) -> Result<Answer, Refusal>
-    ensures output { IfOk result (λ answer. answer.text.items ≡ []) }
+    ensures output { IfOk result (λ answer. (answer.status ≡ 0) × (answer.text.items ≡ [])) }
     ensures refused { IfErr result IsSystemRefusal }
 {
     match make_key(rt, file) {

@@ -1,6 +1,6 @@
 -- The line on a node.
 use Rattle.std.proofs.Common.{◌≡◌, ℕ, Bool, true, false, Option, None, Some, MatchOption, sym, ap, subst, if◌then◌else◌}
-use Rattle.dpbn_node.specs.Node.{letters_of}
+use Rattle.dpbn_node.specs.Runs.{letters_of}
 use Rattle.engine.specs.State.{AreCounts, State}
 use Rattle.engine.specs.declared.Counts.{Counts}
 use Rattle.faults.specs.Bytes.{Text}

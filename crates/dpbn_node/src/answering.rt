@@ -1,33 +1,15 @@
 //! The answer of `dpbn node` to its words.
-ghost use Rattle.std.specs.Prelude.{◌≡◌, ◌<◌, ◌≤◌, ◌⊎◌, IfErr, IfOk, length, string_bytes};
-ghost use Rattle.dpbn_node.specs.Node.{
-  AreGood,
-  IsHostsRefusal,
-  IsLineAfter,
-  IsLogRefusal,
-  IsNodeOf,
-  IsNodeText,
-  IsShown,
-  IsShownOn,
-  RefusesNode,
-  RefusesOnLog,
-  RefusesStart,
-  is_local,
-  letters_of,
-  member_refusal,
-  run_at,
-  socket_refusal,
-};
+ghost use Rattle.std.specs.Prelude.{◌≡◌, ◌<◌, ◌≤◌, IfErr, IfOk, length, string_bytes};
+ghost use Rattle.dpbn_node.specs.Node.{IsLineAfter, IsNodeText, IsShown, IsShownOn, RefusesNode};
+ghost use Rattle.dpbn_node.specs.Runs.{AreGood, RefusesOnLog, RefusesStart, letters_of, run_at};
 ghost use Rattle.program.specs.NodeLine.{IsLineOf};
-ghost use Rattle.program.specs.Refusals.{memory_refusal};
 
 use crate::given::{Given, given_of_words};
+use crate::starting::{Begun, Place, begin, open, place_of_words};
 use crate::turning::run;
-use ballots::Weights;
-use dpbn_run::{Sealing, Telling, identity_of, key_of_words, start_of, write_unwritten};
+use dpbn_run::{Telling, write_unwritten};
 use dpbn_words::{Files, Peers, Run};
 use listing::Tree;
-use node::Node;
 use ports::Port;
 use program::{Answer, Refusal, node_text, tree_of_file};
 use protocol::Packages;
@@ -36,11 +18,7 @@ use solo::Solo;
 use stable_record::{Disk, FileDisk};
 use std::alloc::{AllocError, Global};
 use std::io::Write;
-use std::net::SocketAddr;
-use udp::{Guard, UdpPort, loopback, parse_hosts};
-
-/// For how many milliseconds a turn waits for a datagram, where it isn't told.
-const PATIENCE: u16 = 20;
+use udp::UdpPort;
 
 /// Runs the member's node for so many turns, and answers the line on it. What a turn refuses is
 /// told on `err`, and uses the turn up.
@@ -69,62 +47,13 @@ pub fn node_of_words<E: Write>(
 {
     let tree = tree_of_file(rt, files.listing, files.is_single)?;
     let given = given_of_words(rt, files)?;
-    let key = key_of_words(rt, run.key)?;
-    let addresses = addresses_of(rt.alloc(), files.members, peers)?;
-    let place = Place {
-        sealing: Sealing {
-            key,
-            is_open: is_local(peers),
-        },
-        addresses,
-        patience: patience.unwrap_or(PATIENCE),
-        is_continued: run.is_continued,
-    };
+    let place = place_of_words(rt, files.members, peers, patience, run)?;
     match run_on(rt, &tree, &given, files, me, place, err) {
         Ok(text) => Ok(Answer {
             text: text.into_bytes(),
             status: 0,
         }),
         Err(refusal) => Err(refusal),
-    }
-}
-
-/// Where a node stands among its peers, and of which run it is.
-#[derive(Drop)]
-pub struct Place {
-    pub sealing: Sealing,
-    /// Where the members listen, by number.
-    pub addresses: Vec<SocketAddr>,
-    /// For how many milliseconds a turn waits for a datagram.
-    pub patience: u16,
-    /// Whether a log of the run has to be there.
-    pub is_continued: bool,
-}
-
-/// Whether all members are on this host.
-fn is_local(peers: &Peers<'_>) -> bool
-    ensures { result ≡ is_local peers.now }
-{
-    match peers {
-        Peers::Base(_) => true,
-        Peers::Hosts(_) => false,
-    }
-}
-
-/// Where the members listen.
-fn addresses_of(alloc: Global, members: u8, peers: &Peers<'_>) -> Result<Vec<SocketAddr>, Refusal>
-    requires few { members ≤ 9 }
-    requires peers { AreGood peers.now }
-    ensures count { IfOk result (λ addresses. length addresses.items ≡ members) }
-    ensures refused { IfErr result
-        (λ r. (r ≡ memory_refusal) ⊎ IsHostsRefusal members peers.now r) }
-{
-    match peers {
-        Peers::Base(base) => Ok(loopback(alloc, members, *base)?),
-        Peers::Hosts(text) => match parse_hosts(alloc, text, members) {
-            Ok(hosts) => Ok(hosts),
-            Err(fault) => Err(Refusal::of(&fault)),
-        },
     }
 }
 
@@ -144,16 +73,11 @@ fn run_on<E: Write>(
     ensures shown { IfOk result (λ text. IsShown (run_at tree.now given.now.weights place) me
         given.now.builds files.now.turns (string_bytes text)) }
     ensures refused { IfErr result
-        (RefusesStart files.now me (run_at tree.now given.now.weights place)) }
+        (RefusesStart me (run_at tree.now given.now.weights place)) }
 {
-    if me >= files.members {
-        return Err(not_a_member());
-    }
-    let identity = identity_of(tree, &given.weights, me);
-    let start = start_of(rt, files.dir, &identity, &place.sealing, place.is_continued)?;
-    let guard = place.sealing.guard(tree, &given.weights);
     let telling = Telling::new(rt.alloc(), me, files.progress, place.sealing.is_watched());
-    let port = port_of(rt, place.addresses, me, place.patience, guard)?;
+    let begun = begin(rt, tree, &given.weights, files.dir, me, place)?;
+    let Begun { start, port } = begun;
     node_on_log(rt, start, port, tree, given, files, me, telling, err)
 }
 
@@ -228,55 +152,4 @@ fn line_of<D: Disk, P: Port>(
         IsLineOf me (letters_of solo.now.node.node) (string_bytes text)) }
 {
     node_text(alloc, me, solo.counts())
-}
-
-/// No member has this number.
-fn not_a_member() -> Refusal
-    ensures { result ≡ member_refusal }
-{
-    Refusal {
-        number: 909,
-        place: None,
-    }
-}
-
-/// The port of the member's node, which lets in what the guard does.
-fn port_of<'c>(
-    rt: &'c HostRuntime,
-    addresses: Vec<SocketAddr>,
-    me: u8,
-    patience: u16,
-    guard: Guard,
-) -> Result<UdpPort<'c, HostRuntime>, Refusal>
-    requires { me < length addresses.items }
-    ensures sealed { IfOk result (λ port. (port.inbox.key ≡ guard.seal)
-        × (port.outbox.key ≡ guard.seal)) }
-    ensures open { IfOk result (λ port. port.is_open ≡ guard.is_open) }
-    ensures refused { IfErr result (λ r. (r ≡ memory_refusal) ⊎ (r ≡ socket_refusal)) }
-{
-    match UdpPort::alone_behind(rt, rt, rt.alloc(), addresses, me, patience, guard) {
-        Ok(port) => Ok(port),
-        Err(fault) => Err(Refusal::of(&fault)),
-    }
-}
-
-/// The member's node on its log.
-fn open<'a>(
-    alloc: Global,
-    disk: FileDisk,
-    tree: &'a Tree,
-    weights: &Weights,
-    me: u8,
-) -> Result<Node<'a, FileDisk>, Refusal>
-    requires { me < length weights.now }
-    ensures opened { IfOk result (IsNodeOf tree.entry.now weights.now me disk) }
-    ensures refused { IfErr result IsLogRefusal }
-{
-    match Node::open(alloc, disk, tree, weights, me) {
-        Ok(node) => Ok(node),
-        Err((fault, disk)) => {
-            drop(disk);
-            Err(Refusal::of(&fault))
-        }
-    }
 }

@@ -61,7 +61,7 @@ fn builds_of_file<R: Files + AllocGlobal>(rt: &R, builds: &str) -> Result<Packag
 ///
 /// Memory; that of bad weights, also where they aren't as many as members, or a weight is not
 /// spelled as a number is printed.
-fn weights_of_words(alloc: Global, members: u8, told: Option<&str>) -> Result<Weights, Refusal>
+pub fn weights_of_words(alloc: Global, members: u8, told: Option<&str>) -> Result<Weights, Refusal>
     requires { members ≤ 9 }
     ensures ok { IfOk result (λ w. AreTold members (option_map (λ t. t.now) told.entry) w) }
     ensures refused { IfErr result RefusesWeights }

@@ -10,6 +10,6 @@ mod telling;
 
 pub use crate::laws::faults_are_counted;
 pub use crate::repeats::{Repeated, Repeats};
-pub use crate::sealing::{Sealing, key_of_words};
+pub use crate::sealing::{Sealing, front_of_requests, key_of_words};
 pub use crate::starting::{identity_of, start_of, write_unwritten};
 pub use crate::telling::Telling;

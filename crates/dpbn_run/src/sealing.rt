@@ -86,7 +86,7 @@ impl Sealing {
 }
 
 /// What a datagram begins with if and only if it asks for a unit.
-fn front_of_requests() -> [u8; 5]
+pub fn front_of_requests() -> [u8; 5]
     ensures front { result ≡ request_front }
     ensures alone { (d : Datagram) → begins_with result (datagram_text d) ≡ asks d }
 {

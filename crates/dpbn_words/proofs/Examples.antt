@@ -11,7 +11,7 @@ name_at words = option_map (λ (p : Text × List Row). p.0) (matched words)
 abbrev value_at : Text → List Text → Option Text
 value_at id words = option_and_then (λ (p : Text × List Row). first_of id p.1) (matched words)
 
--- what both subcommands have to be told
+-- what has to be told of nodes whose turns are counted
 abbrev shared_words : List Text
 shared_words =
     codes "--listing" ∷ codes "F" ∷ codes "--builds" ∷ codes "B" ∷ codes "--members" ∷ codes "3"
@@ -88,6 +88,45 @@ example_no_key = refl
 example_key_and_none : faults_of (node_words (codes "--base" ∷ codes "5000" ∷ codes "--unsealed" ∷ codes "--key=K" ∷ [])) ≡ kind.ArgumentConflict ∷ []
 unfolding faults_of matched dpbn_app clap_on_literals
 example_key_and_none = refl
+
+-- a build: its folders, and its own numbers
+abbrev build_words : List Text → List Text
+build_words more =
+    codes "dpbn" ∷ codes "build" ∷ codes "--listing" ∷ codes "L" ∷ codes "--work" ∷ codes "W" ∷ codes "--dir" ∷ codes "D"
+    ∷ codes "--members" ∷ codes "3" ∷ codes "--me" ∷ codes "1" ∷ more
+
+example_build : AreTaken (build_words (codes "--base" ∷ codes "5000" ∷ []))
+unfolding faults_of matched dpbn_app clap_on_literals
+example_build = refl
+
+example_build_name : name_at (build_words (codes "--base" ∷ codes "5000" ∷ [])) ≡ Some (codes "build")
+unfolding matched dpbn_app clap_on_literals
+example_build_name = refl
+
+example_work : value_at (codes "work") (build_words (codes "--base" ∷ codes "5000" ∷ [])) ≡ Some (codes "W")
+unfolding matched dpbn_app clap_on_literals
+example_work = refl
+
+example_times : AreTaken (build_words (codes "--hosts=h:1" ∷ codes "--key=K" ∷ codes "--jobs=64" ∷ codes "--takeover=1" ∷ codes "--rest=1000000" ∷ codes "--progress=5" ∷ []))
+unfolding faults_of matched dpbn_app clap_on_literals
+example_times = refl
+
+-- it has to be told what a node has to be told, and has no turns
+example_build_no_peers : faults_of (build_words []) ≡ kind.MissingRequiredArgument ∷ []
+unfolding faults_of matched dpbn_app clap_on_literals
+example_build_no_peers = refl
+
+example_build_no_key : faults_of (build_words (codes "--hosts=h:1" ∷ [])) ≡ kind.MissingRequiredArgument ∷ []
+unfolding faults_of matched dpbn_app clap_on_literals
+example_build_no_key = refl
+
+example_no_jobs : faults_of (build_words (codes "--base" ∷ codes "5000" ∷ codes "--jobs" ∷ codes "0" ∷ [])) ≡ kind.ValueValidation ∷ []
+unfolding faults_of matched dpbn_app clap_on_literals
+example_no_jobs = refl
+
+example_no_turns : faults_of (build_words (codes "--base" ∷ codes "5000" ∷ codes "--turns" ∷ codes "200" ∷ [])) ≡ kind.UnknownArgument ∷ []
+unfolding faults_of matched dpbn_app clap_on_literals
+example_no_turns = refl
 
 -- a new key's file
 abbrev key_words : List Text

@@ -15,8 +15,8 @@ use Rattle.clap.proofs.ValueTestLemmas.{accepts-Accepts}
 use Rattle.words.specs.Calls.{single}
 use Rattle.words.proofs.Entering.{Enters, enters_one, none_lacks}
 use Rattle.words.proofs.Uses.{AllFit, AreKnown, given_matched, known, none_or_matched, rows_fit}
-use Rattle.dpbn_words.specs.Calls.{cluster_command, dpbn_app, matched, needed, number, option, shared}
-use Rattle.dpbn_words.specs.inside.Naming.{HasFiles, HasNumber, HasText, MayHaveNumber, NamesCall}
+use Rattle.dpbn_words.specs.Calls.{cluster_command, dpbn_app, matched, needed, number, option, shared, site}
+use Rattle.dpbn_words.specs.inside.Naming.{HasFiles, HasNumber, HasOneNode, HasSite, HasText, MayHaveNumber, NamesCall}
 
 -- ---- values that were matched
 
@@ -49,11 +49,22 @@ module _ (c : List Rule) (rows : List Row) (fit : AllFit c rows) where
     | inr there ↦ inr (there.text, accepts-Accepts false (Signed (pos least) (pos most)) there.text (passed _ _ there.passes), there.one)
   ]
 
+  -- what both subcommands on one node take
+  node_there : arg_by_id c (codes "me") ≡ Some (filled (needed (number (codes "me") 0 255)))
+      → arg_by_id c (codes "base") ≡ Some (filled (number (codes "base") 1024 65526))
+      → arg_by_id c (codes "patience") ≡ Some (filled (number (codes "patience") 0 60000))
+      → is_given (codes "me") rows ≡ true → HasOneNode rows
+  node_there me base patience given = record {
+    me = number_there (codes "me") 0 255 me given;
+    base = number_if_there (codes "base") 1024 65526 base;
+    patience = number_if_there (codes "patience") 0 60000 patience;
+  }
+
 -- one that has to be given lacks
 abbrev lacks : List Row → Rule → Bool
 lacks rows a = a.required && not (is_given a.id rows)
 
--- the values that both subcommands take, where others follow
+-- the values on nodes whose turns are counted, where others follow
 files_there : (more : List Rule) (rows : List Row) → AllFit (filled_from 1 shared ++ more) rows → list_any (lacks rows) (filled_from 1 shared ++ more) ≡ false
     → HasFiles rows × (list_any (lacks rows) more ≡ false)
 files_there more rows fit none =
@@ -72,7 +83,25 @@ files_there more rows fit none =
       turns.1,
     )
 
--- ---- the subcommands as they are built: the program's three, and clap's own
+-- the values on a site, where others follow
+site_there : (more : List Rule) (rows : List Row) → AllFit (filled_from 1 site ++ more) rows → list_any (lacks rows) (filled_from 1 site ++ more) ≡ false
+    → HasSite rows × (list_any (lacks rows) more ≡ false)
+site_there more rows fit none =
+    let c : List Rule = filled_from 1 site ++ more in
+    let listing = is_there (is_given (codes "listing") rows) _ none in
+    let work = is_there (is_given (codes "work") rows) _ listing.1 in
+    let dir = is_there (is_given (codes "dir") rows) _ work.1 in
+    let members = is_there (is_given (codes "members") rows) _ dir.1 in (
+      record {
+        paths = (text_there c rows fit _ refl listing.0, text_there c rows fit _ refl work.0, text_there c rows fit _ refl dir.0);
+        members = number_there c rows fit _ _ _ refl members.0;
+        jobs = number_if_there c rows fit _ _ _ refl;
+        times = (number_if_there c rows fit _ _ _ refl, number_if_there c rows fit _ _ _ refl, number_if_there c rows fit _ _ _ refl);
+      },
+      members.1,
+    )
+
+-- ---- the subcommands as they are built: the program's four, and clap's own
 
 abbrev subcommand_at : ℕ → Shape
 subcommand_at k = slice_index_or (built dpbn_app).subs k cluster_command
@@ -85,18 +114,27 @@ node_known : AreKnown (subcommand_at 1).rules (subcommand_at 1).rules
 unfolding dpbn_app
 node_known = known (subcommand_at 1).rules refl
 
+build_known : AreKnown (subcommand_at 2).rules (subcommand_at 2).rules
+unfolding dpbn_app
+build_known = known (subcommand_at 2).rules refl
+
 abbrev rows_at_sub : ℕ → List Text → List Row
 rows_at_sub k rest = rows_after (subcommand_at k).rules [] rest
 
-cluster_values : (rest : List Text) → level_fault (subcommand_at 0) [] nothing_held rest false [] ≡ []
-    → NamesCall (Some (rows_at (subcommand_at 0) rest))
+abbrev NamedBy : Shape → List Text → Type 0
+NamedBy shape rest = NamesCall (Some (rows_at shape rest))
+
+-- faultless words of the subcommand have all values of its call
+abbrev HasValues : ℕ → Type 0
+HasValues k = (rest : List Text) → level_fault (subcommand_at k) [] nothing_held rest false [] ≡ [] → NamedBy (subcommand_at k) rest
+
+cluster_values : HasValues 0
 unfolding dpbn_app
 cluster_values rest none =
     let fit = rows_fit (subcommand_at 0) rest cluster_known none in
     inl (refl, (files_there (drop 8 (subcommand_at 0).rules) (rows_at_sub 0 rest) fit (none_lacks (subcommand_at 0) rest refl none)).0)
 
-node_values : (rest : List Text) → level_fault (subcommand_at 1) [] nothing_held rest false [] ≡ []
-    → NamesCall (Some (rows_at (subcommand_at 1) rest))
+node_values : HasValues 1
 unfolding dpbn_app
 node_values rest none =
     let c : List Rule = (subcommand_at 1).rules in
@@ -104,47 +142,50 @@ node_values rest none =
     let fit : AllFit c rows = rows_fit (subcommand_at 1) rest node_known none in
     let files = files_there (drop 8 c) rows fit (none_lacks (subcommand_at 1) rest refl none) in
     let me = is_there (is_given (codes "me") rows) _ files.1 in
-    inr (inl (
-      refl,
-      record {
-        files = files.0;
-        me = number_there c rows fit _ _ _ refl me.0;
-        base = number_if_there c rows fit _ _ _ refl;
-        patience = number_if_there c rows fit _ _ _ refl;
-      },
-    ))
+    inr (inl (refl, record { files = files.0; node = node_there c rows fit refl refl refl me.0 }))
 
-key_values : (rest : List Text) → level_fault (subcommand_at 2) [] nothing_held rest false [] ≡ []
-    → NamesCall (Some (rows_at (subcommand_at 2) rest))
+build_values : HasValues 2
 unfolding dpbn_app
-key_values rest none =
+build_values rest none =
     let c : List Rule = (subcommand_at 2).rules in
     let rows : List Row = rows_at_sub 2 rest in
-    let fit : AllFit c rows = rows_fit (subcommand_at 2) rest (known c refl) none in
-    let file = is_there (is_given (codes "FILE") rows) _ (none_lacks (subcommand_at 2) rest refl none) in
+    let fit : AllFit c rows = rows_fit (subcommand_at 2) rest build_known none in
+    let site = site_there (drop 10 c) rows fit (none_lacks (subcommand_at 2) rest refl none) in
+    let me = is_there (is_given (codes "me") rows) _ site.1 in
+    inr (inr (inl (refl, record { site = site.0; node = node_there c rows fit refl refl refl me.0 })))
+
+key_values : HasValues 3
+unfolding dpbn_app
+key_values rest none =
+    let c : List Rule = (subcommand_at 3).rules in
+    let rows : List Row = rows_at_sub 3 rest in
+    let fit : AllFit c rows = rows_fit (subcommand_at 3) rest (known c refl) none in
+    let file = is_there (is_given (codes "FILE") rows) _ (none_lacks (subcommand_at 3) rest refl none) in
     let there = given_matched c (slice_index_or c 0 single) refl rows fit file.0 in
-    inr (inr (refl, (there.text, there.first)))
+    inr (inr (inr (refl, (there.text, there.first))))
 
 -- ---- which subcommand is entered
 
--- which one of four is found: the last passes the test
-abbrev IsOneOf : {X : Type 0} → (X → Bool) → X → X → X → X → X → Type 0
-IsOneOf p a b c d x = (a ≡ x) ⊎ ((b ≡ x) ⊎ ((c ≡ x) ⊎ ((d ≡ x) × (p d ≡ true))))
+-- which one of five is found: the last passes the test
+abbrev IsOneOf : {X : Type 0} → (X → Bool) → X → X → X → X → X → X → Type 0
+IsOneOf p a b c d f x = (a ≡ x) ⊎ ((b ≡ x) ⊎ ((c ≡ x) ⊎ ((d ≡ x) ⊎ ((f ≡ x) × (p f ≡ true)))))
 
-found_among : {X : Type 0} (p : X → Bool) (a b c d x : X) → find p (a ∷ b ∷ c ∷ d ∷ []) ≡ Some x → IsOneOf p a b c d x
-found_among {X} p a b c d x = by (p a) (p b) (p c) (p d) refl
+found_among : {X : Type 0} (p : X → Bool) (a b c d f x : X) → find p (a ∷ b ∷ c ∷ d ∷ f ∷ []) ≡ Some x → IsOneOf p a b c d f x
+found_among {X} p a b c d f x = by (p a) (p b) (p c) (p d) (p f) refl
   where
     same : (u v : X) → Some u ≡ Some v → u ≡ v
     same u v e = cc
 
-    by : (i j k l : Bool) → p d ≡ l → cond i (Some a) (cond j (Some b) (cond k (Some c) (cond l (Some d) None))) ≡ Some x → IsOneOf p a b c d x
-    by true j k l at e = inl (same a x e)
-    by false true k l at e = inr (inl (same b x e))
-    by false false true l at e = inr (inr (inl (same c x e)))
-    by false false false true at e = inr (inr (inr (same d x e, at)))
-    by false false false false at e = absurd (let no : None ≡ Some x = e in cc)
+    by : (i j k l m : Bool) → p f ≡ m → cond i (Some a) (cond j (Some b) (cond k (Some c) (cond l (Some d) (cond m (Some f) None)))) ≡ Some x
+        → IsOneOf p a b c d f x
+    by true j k l m at e = inl (same a x e)
+    by false true k l m at e = inr (inl (same b x e))
+    by false false true l m at e = inr (inr (inl (same c x e)))
+    by false false false true m at e = inr (inr (inr (inl (same d x e))))
+    by false false false false true at e = inr (inr (inr (inr (same f x e, at))))
+    by false false false false false at e = absurd (let no : None ≡ Some x = e in cc)
 
-help_is_met : (name : Text) → answers_to name (label_of (subcommand_at 3)) ≡ true → name ≡ codes "help"
+help_is_met : (name : Text) → answers_to name (label_of (subcommand_at 4)) ≡ true → name ≡ codes "help"
 unfolding dpbn_app
 help_is_met name met = sym ((bytes_eq-Decides (codes "help") name).0 (by (bytes_eq (codes "help") name) met))
   where
@@ -155,21 +196,19 @@ help_is_met name met = sym ((bytes_eq-Decides (codes "help") name).0 (by (bytes_
 never_help : (name : Text) → name ≡ codes "help" → (bytes_eq name (codes "help") && true) ≡ false → ⊥
 never_help name is no_help = true≢false (subst (λ (t : Text). (bytes_eq t (codes "help") && true) ≡ false) is no_help)
 
-abbrev NamedBy : Shape → List Text → Type 0
-NamedBy shape rest = NamesCall (Some (rows_at shape rest))
+entered : (k : ℕ) → HasValues k → (words : List Text) (e : Enters (built dpbn_app) words) → subcommand_at k ≡ e.shape → NamedBy e.shape e.rest
+entered k values words e is =
+    subst (λ s. NamedBy s e.rest) is (values e.rest (subst (λ s. level_fault s [] nothing_held e.rest false [] ≡ []) (sym is) e.faultless))
 
 shape_values : (words : List Text) (e : Enters (built dpbn_app) words) → NamedBy e.shape e.rest
 unfolding dpbn_app
 shape_values words e =
-    elim (found_among (λ s. answers_to e.name (label_of s)) (subcommand_at 0) (subcommand_at 1) (subcommand_at 2) (subcommand_at 3) e.shape e.found) [
-      | inl is ↦ subst (λ s. NamedBy s e.rest) is (cluster_values e.rest (subst (λ s. level_fault s [] nothing_held e.rest false [] ≡ []) (sym is) e.faultless))
-      | inr rest ↦ elim rest [
-        | inl is ↦ subst (λ s. NamedBy s e.rest) is (node_values e.rest (subst (λ s. level_fault s [] nothing_held e.rest false [] ≡ []) (sym is) e.faultless))
-        | inr last ↦ elim last [
-          | inl is ↦ subst (λ s. NamedBy s e.rest) is (key_values e.rest (subst (λ s. level_fault s [] nothing_held e.rest false [] ≡ []) (sym is) e.faultless))
-          | inr own ↦ absurd (never_help e.name (help_is_met e.name own.1) e.no_help)
-        ]
-      ]
+    elim (found_among (λ s. answers_to e.name (label_of s)) (subcommand_at 0) (subcommand_at 1) (subcommand_at 2) (subcommand_at 3) (subcommand_at 4) e.shape e.found) [
+      | inl is ↦ entered 0 cluster_values words e is
+      | inr (inl is) ↦ entered 1 node_values words e is
+      | inr (inr (inl is)) ↦ entered 2 build_values words e is
+      | inr (inr (inr (inl is))) ↦ entered 3 key_values words e is
+      | inr (inr (inr (inr own))) ↦ absurd (never_help e.name (help_is_met e.name own.1) e.no_help)
     ]
 
 pub taken_names_call : (words : List Text) → fault_of dpbn_app words ≡ [] → NamesCall (matched words)

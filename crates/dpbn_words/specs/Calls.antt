@@ -1,5 +1,5 @@
 -- The calls of `dpbn`, as clap matches their words.
-use Rattle.std.specs.Prelude.{◌≡◌, ◌≤◌, ◌++◌, ℕ, codes, if◌then◌else◌, is_some, List, [], ◌∷◌, Bool, Option, None, Some, option_map, pos, true, false}
+use Rattle.std.specs.Prelude.{◌≡◌, ◌≤◌, ◌++◌, ◌||◌, ℕ, codes, if◌then◌else◌, is_some, List, [], ◌∷◌, Bool, Option, None, Some, option_map, pos, true, false}
 use Rattle.std.specs.Option.{option_map_or}
 use Rattle.std.specs.Str.{bytes_eq}
 use Rattle.clap.specs.Kinds.{or_else}
@@ -7,11 +7,12 @@ use Rattle.clap.specs.Words.{App, Kinds, Row, Rule, Shape, Text, fault_of, first
 use Rattle.clap.specs.declared.builder.value_parser.ValueParser.TheVariants.{Signed}
 use Rattle.clap.specs.declared.error.kind.ErrorKind.TheVariants.{ArgumentConflict, MissingRequiredArgument}
 use Rattle.dpbn_words.specs.declared.Call.{Call}
-use Rattle.dpbn_words.specs.declared.Call.TheVariants.{Cluster, Key, Node}
+use Rattle.dpbn_words.specs.declared.Call.TheVariants.{Build, Cluster, Key, Node}
 use Rattle.dpbn_words.specs.declared.Files.{Files}
 use Rattle.dpbn_words.specs.declared.Peers.{Peers}
 use Rattle.dpbn_words.specs.declared.Peers.TheVariants.{Base, Hosts}
 use Rattle.dpbn_words.specs.declared.Run.{Run}
+use Rattle.dpbn_words.specs.declared.Site.{Site}
 use Rattle.words.specs.Calls.{IsFlag, IsNumber, command, flag, single, word}
 
 -- ---- what clap is told
@@ -28,7 +29,7 @@ number id least most = record (option id) { parser = Some (Signed (pos least) (p
 abbrev pub needed : Rule → Rule
 needed rule = record rule { required = true }
 
--- what both subcommands take
+-- what the subcommands take on nodes whose turns are counted
 abbrev pub shared : List Rule
 shared =
     needed (option (codes "listing"))
@@ -41,22 +42,44 @@ shared =
     ∷ single
     ∷ []
 
--- `dpbn cluster`
-abbrev pub cluster_command : Shape
-cluster_command = command (codes "cluster") (shared ++ option (codes "trace") ∷ [])
-
--- `dpbn node`
-abbrev pub node_command : Shape
-node_command = command (codes "node") (
-    shared
-    ++ needed (number (codes "me") 0 255)
+-- what the subcommands take on the node of one member
+abbrev pub one_node : List Rule
+one_node =
+    needed (number (codes "me") 0 255)
     ∷ number (codes "base") 1024 65526
     ∷ option (codes "hosts")
     ∷ number (codes "patience") 0 60000
     ∷ option (codes "key")
     ∷ flag (codes "unsealed")
     ∷ flag (codes "continue")
-    ∷ [])
+    ∷ []
+
+-- what a node that has its claims built takes of where it runs
+abbrev pub site : List Rule
+site =
+    needed (option (codes "listing"))
+    ∷ needed (option (codes "work"))
+    ∷ needed (option (codes "dir"))
+    ∷ needed (number (codes "members") 1 9)
+    ∷ option (codes "weights")
+    ∷ number (codes "jobs") 1 64
+    ∷ number (codes "takeover") 1 1000000
+    ∷ number (codes "rest") 1 1000000
+    ∷ number (codes "progress") 1 1000000
+    ∷ single
+    ∷ []
+
+-- `dpbn cluster`
+abbrev pub cluster_command : Shape
+cluster_command = command (codes "cluster") (shared ++ option (codes "trace") ∷ [])
+
+-- `dpbn node`
+abbrev pub node_command : Shape
+node_command = command (codes "node") (shared ++ one_node)
+
+-- `dpbn build`
+abbrev pub build_command : Shape
+build_command = command (codes "build") (site ++ one_node)
 
 -- `dpbn key`
 abbrev pub key_command : Shape
@@ -69,9 +92,13 @@ cluster_app =
     with_subcommand
     (record program { top = record program.top { subcommand_required = true } }) cluster_command
 
+-- the program with its subcommands on nodes whose turns are counted alone
+abbrev pub counted_app : App
+counted_app = with_subcommand cluster_app node_command
+
 -- the program with its subcommands on nodes alone
 abbrev pub nodes_app : App
-nodes_app = with_subcommand cluster_app node_command
+nodes_app = with_subcommand counted_app build_command
 
 -- the program
 unfoldable pub dpbn_app : App
@@ -103,19 +130,24 @@ sealing_fault has_hosts true true = ArgumentConflict ∷ []
 sealing_fault true false false = MissingRequiredArgument ∷ []
 sealing_fault _ _ _ = []
 
--- a node has to be told either the first port of all members or their hosts, and then of its key
-abbrev pub node_fault : Option (Text × List Row) → Kinds
-node_fault None = []
-node_fault (Some (name, rows)) =
-    if bytes_eq name (codes "node")
-    then or_else (choice_fault (is_given rows (codes "base")) (is_given rows (codes "hosts")))
+-- The node of one member has to be told either the first port of all members or their hosts, and
+-- then of its key.
+abbrev pub one_node_fault : List Row → Kinds
+one_node_fault rows =
+    or_else (choice_fault (is_given rows (codes "base")) (is_given rows (codes "hosts")))
     (sealing_fault (is_given rows (codes "hosts")) (is_given rows (codes "key"))
     (is_set rows (codes "unsealed")))
+
+-- that is what `node` and `build` have to be told
+abbrev pub call_fault : Option (Text × List Row) → Kinds
+call_fault None = []
+call_fault (Some (name, rows)) =
+    if bytes_eq name (codes "node") || bytes_eq name (codes "build") then one_node_fault rows
     else []
 
--- the kinds of fault that clap finds in the words, of which it names one, or else that of a node
+-- the kinds of fault that clap finds in the words, of which it names one, or else that of the call
 unfoldable pub faults_of : List Text → Kinds
-faults_of words = or_else (fault_of dpbn_app words) (node_fault (matched words))
+faults_of words = or_else (fault_of dpbn_app words) (call_fault (matched words))
 
 -- the words are taken: no fault is found in them
 abbrev pub AreTaken : List Text → Type 0
@@ -140,7 +172,7 @@ abbrev pub IsNumberIf : List Row → Text → ℕ → ℕ → Option ℕ → Typ
 IsNumberIf rows id least most None = first_of id rows ≡ None
 IsNumberIf rows id least most (Some n) = IsNumberIn rows id least most n
 
--- what both subcommands take
+-- what the subcommands take on nodes whose turns are counted
 pub record AreFiles (rows : List Row) (f : Files) : Type 0 where
   pub listing : IsText rows (codes "listing") f.listing.now
   pub builds : IsText rows (codes "builds") f.builds.now
@@ -150,6 +182,19 @@ pub record AreFiles (rows : List Row) (f : Files) : Type 0 where
   pub weights : IsTextIf rows (codes "weights") (option_map (λ t. t.now) f.weights)
   pub progress : IsNumberIf rows (codes "progress") 1 1000000 f.progress
   pub single : IsFlag rows (codes "single") f.is_single
+
+-- what a node that has its claims built takes of where it runs
+pub record IsSite (rows : List Row) (s : Site) : Type 0 where
+  pub listing : IsText rows (codes "listing") s.listing.now
+  pub work : IsText rows (codes "work") s.work.now
+  pub dir : IsText rows (codes "dir") s.dir.now
+  pub members : IsNumberIn rows (codes "members") 1 9 s.members
+  pub weights : IsTextIf rows (codes "weights") (option_map (λ t. t.now) s.weights)
+  pub jobs : IsNumberIf rows (codes "jobs") 1 64 s.jobs
+  pub takeover : IsNumberIf rows (codes "takeover") 1 1000000 s.takeover
+  pub rest : IsNumberIf rows (codes "rest") 1 1000000 s.rest
+  pub progress : IsNumberIf rows (codes "progress") 1 1000000 s.progress
+  pub single : IsFlag rows (codes "single") s.is_single
 
 -- where the members listen: what was given, and the other was not
 abbrev pub ArePeers : List Row → Peers → Type 0
@@ -163,13 +208,20 @@ pub record IsRun (rows : List Row) (run : Run) : Type 0 where
   pub key : IsTextIf rows (codes "key") (option_map (λ t. t.now) run.key)
   pub continues : run.is_continued ≡ is_set rows (codes "continue")
 
+-- what the subcommands take on the node of one member: its number, its peers, how long a turn of it
+-- waits, and of which run it is
+abbrev pub IsOneNode : List Row → ℕ → Peers → Option ℕ → Run → Type 0
+IsOneNode rows me peers patience run = IsNumberIn rows (codes "me") 0 255 me × ArePeers rows peers
+    × IsNumberIf rows (codes "patience") 0 60000 patience × IsRun rows run
+
 -- clap matched the call's subcommand, and the call's values are those of its matches
 abbrev pub IsCallOf : Option (Text × List Row) → Call → Type 0
 IsCallOf None call = ⊥
 IsCallOf (Some (name, rows)) (Cluster files trace) = (name ≡ codes "cluster") × AreFiles rows files
     × IsTextIf rows (codes "trace") (option_map (λ t. t.now) trace)
 IsCallOf (Some (name, rows)) (Node files me peers patience run) = (name ≡ codes "node")
-    × AreFiles rows files × IsNumberIn rows (codes "me") 0 255 me × ArePeers rows peers
-    × IsNumberIf rows (codes "patience") 0 60000 patience × IsRun rows run
+    × AreFiles rows files × IsOneNode rows me peers patience run
+IsCallOf (Some (name, rows)) (Build site me peers patience run) = (name ≡ codes "build")
+    × IsSite rows site × IsOneNode rows me peers patience run
 IsCallOf (Some (name, rows)) (Key file) =
     (name ≡ codes "key") × IsText rows (codes "FILE") file.now

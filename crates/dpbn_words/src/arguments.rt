@@ -4,7 +4,7 @@ ghost use Rattle.clap.specs.Words.{app_of, found_of, rows_of, rule_of};
 ghost use Rattle.clap.specs.declared.builder.command.Command.TheViews.{out-Command as fields_of};
 ghost use Rattle.dpbn_words.specs.Calls.{IsNumberIf, IsNumberIn, is_set, needed as needed_rule, option as option_rule};
 ghost use Rattle.dpbn_words.specs.inside.Apps.{with_rules};
-ghost use Rattle.dpbn_words.specs.inside.Naming.{HasNumber, MayHaveNumber};
+ghost use Rattle.dpbn_words.specs.inside.Naming.{AreTexts, HasNumber, HaveTexts, MayHaveNumber};
 ghost use Rattle.words.specs.Calls.{flag as flag_rule, word as word_rule};
 
 use clap::{Arg, ArgAction, ArgMatches, Command};
@@ -62,6 +62,24 @@ pub fn with_options<'a>(
     ensures local { IfOk result (λ more. (fields_of more).has_globals ≡ false) }
 {
     command.arg(first)?.arg(second)?.arg(third)
+}
+
+/// The texts that were matched under three names.
+pub fn texts_of<'a>(
+    found: &ArgMatches<'a>,
+    first: &str,
+    second: &str,
+    third: &str,
+) -> Option<(&'a str, &'a str, &'a str)>
+    ensures some { IfSome result
+        (AreTexts (rows_of (found_of found.now)) first.now second.now third.now) }
+    ensures none { IfNone result
+        (¬ HaveTexts (rows_of (found_of found.now)) first.now second.now third.now) }
+{
+    let first = text_of(found, first)?;
+    let second = text_of(found, second)?;
+    let third = text_of(found, third)?;
+    Some((first, second, third))
 }
 
 /// The number between these that was matched under a name.

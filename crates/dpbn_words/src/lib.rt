@@ -3,13 +3,15 @@
 
 ghost use Rattle.std.specs.Prelude.{◌≡◌, IfErr, IfOk, [], map};
 ghost use Rattle.clap.specs.Words.{FailsBy, IsAmong, app_of, fault_of, kind_of, subcommand_rows_of};
-ghost use Rattle.dpbn_words.specs.Calls.{IsCallOf, cluster_app, dpbn_app, faults_of, matched, node_fault, nodes_app};
+ghost use Rattle.dpbn_words.specs.Calls.{IsCallOf, call_fault, cluster_app, counted_app, dpbn_app, faults_of, matched, nodes_app};
 ghost use Rattle.dpbn_words.specs.inside.Naming.{NamesCall};
 
 mod arguments;
+mod build;
 mod cluster;
 mod key;
 mod node;
+mod one_node;
 mod shared;
 
 use clap::error::ErrorKind;
@@ -17,7 +19,7 @@ use clap::{ArgMatches, Command, Error};
 use std::alloc::{AllocError, Global};
 use std::convert::AsStr;
 
-/// What the subcommands on nodes take.
+/// What the subcommands take on nodes whose turns are counted.
 #[derive(Debug, Drop)]
 pub struct Files<'a> {
     pub listing: &'a str,
@@ -31,6 +33,32 @@ pub struct Files<'a> {
     /// What the members weigh, as it was written.
     pub weights: Option<&'a str>,
     /// After each how many turns the nodes' lines are told: 1 to 1,000,000.
+    pub progress: Option<u32>,
+    /// Whether each path of the listing is a group of its own.
+    pub is_single: bool,
+}
+
+/// What a node that has its claims built takes of where it runs.
+#[derive(Debug, Drop)]
+pub struct Site<'a> {
+    pub listing: &'a str,
+    /// The folder by which jobs go out and builds come in.
+    pub work: &'a str,
+    /// The folder of the logs.
+    pub dir: &'a str,
+    /// How many members there are: 1 to 9.
+    pub members: u8,
+    /// What the members weigh, as it was written.
+    pub weights: Option<&'a str>,
+    /// How many units are built here at a time: 1 to 64.
+    pub jobs: Option<u8>,
+    /// For how many seconds a unit that was promised to another member is left to that one: 1 to
+    /// 1,000,000.
+    pub takeover: Option<u32>,
+    /// After how many seconds without anything to do the node ends: 1 to 1,000,000; none, where
+    /// only a signal ends it.
+    pub rest: Option<u32>,
+    /// After each how many seconds the node's line is told: 1 to 1,000,000.
     pub progress: Option<u32>,
     /// Whether each path of the listing is a group of its own.
     pub is_single: bool,
@@ -71,6 +99,14 @@ pub enum Call<'a> {
         patience: Option<u16>,
         run: Run<'a>,
     },
+    /// The same node, which has built here what it claims.
+    Build {
+        site: Site<'a>,
+        me: u8,
+        peers: Peers<'a>,
+        patience: Option<u16>,
+        run: Run<'a>,
+    },
     /// A file with a new key.
     Key {
         file: &'a str,
@@ -80,8 +116,8 @@ pub enum Call<'a> {
 /// The call that the words make, the first of which is the program's name.
 ///
 /// Words that make no call, and those that ask for help, are refused with clap's text; so are those
-/// of a node that name neither the first port nor the hosts of its peers, or both; or its hosts,
-/// and neither a key nor that there is none; or both of these.
+/// of one node, to run or to build with, that name neither the first port nor the hosts of its
+/// peers, or both; or its hosts, and neither a key nor that there is none; or both of these.
 pub fn dpbn_words<'a, S: AsStr>(alloc: Global, words: &'a [S]) -> Result<Call<'a>, Error>
     ensures call { IfOk result (IsCallOf (matched (map S.text words.entry.now))) }
     // Where there is a call no fault is found in the words, and a refusal is for want of memory
@@ -108,13 +144,14 @@ fn matches_of<'a, S: AsStr>(alloc: Global, words: &'a [S]) -> Result<ArgMatches<
 /// The call with the values that were found, or the kind of fault in them.
 fn call_of<'a>(matches: &ArgMatches<'a>) -> Result<Call<'a>, ErrorKind>
     ensures call { IfOk result (IsCallOf (subcommand_rows_of matches.now)) }
-    ensures sound { IfOk result (λ call. node_fault (subcommand_rows_of matches.now) ≡ []) }
+    ensures sound { IfOk result (λ call. call_fault (subcommand_rows_of matches.now) ≡ []) }
     ensures kind { IfErr result (λ kind. NamesCall (subcommand_rows_of matches.now)
-        → IsAmong kind (node_fault (subcommand_rows_of matches.now))) }
+        → IsAmong kind (call_fault (subcommand_rows_of matches.now))) }
 {
     match matches.subcommand() {
         Some(("cluster", found)) => cluster::call_of(found).ok_or(ErrorKind::MissingSubcommand),
         Some(("node", found)) => node::call_of(found),
+        Some(("build", found)) => build::call_of(found),
         Some(("key", found)) => key::call_of(found).ok_or(ErrorKind::MissingSubcommand),
         _ => Err(ErrorKind::MissingSubcommand),
     }
@@ -147,6 +184,13 @@ fn dpbn_command<'a>(alloc: Global) -> Result<Command<'a>, AllocError>
 /// The same of its subcommands on nodes alone.
 fn with_nodes<'a>(alloc: Global) -> Result<Command<'a>, AllocError>
     ensures { IfOk result (λ command. app_of command ≡ nodes_app) }
+{
+    with_counted(alloc)?.subcommand(build::command(alloc)?)
+}
+
+/// The same of its subcommands on nodes whose turns are counted alone.
+fn with_counted<'a>(alloc: Global) -> Result<Command<'a>, AllocError>
+    ensures { IfOk result (λ command. app_of command ≡ counted_app) }
 {
     with_cluster(alloc)?.subcommand(node::command(alloc)?)
 }

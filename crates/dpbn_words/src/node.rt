@@ -1,18 +1,16 @@
 //! `dpbn node`.
 ghost use Rattle.std.specs.Prelude.{◌≡◌, IfErr, IfNone, IfOk, IfSome, Some, [], codes, false};
-ghost use Rattle.clap.specs.Words.{IsAmong, app_of, found_of, rows_of, rule_of, shape_of};
+ghost use Rattle.clap.specs.Words.{IsAmong, found_of, rows_of, shape_of};
 ghost use Rattle.clap.specs.declared.builder.command.Command.TheViews.{out-Command as fields_of};
-ghost use Rattle.dpbn_words.specs.Calls.{ArePeers, IsCallOf, IsNumberIf, IsRun, choice_fault, is_given, is_set, needed as needed_rule, node_command, node_fault, number, sealing_fault};
-ghost use Rattle.dpbn_words.specs.inside.Apps.{run, with_rules};
-ghost use Rattle.dpbn_words.specs.inside.Naming.{HasNode, MayHaveNumber};
+ghost use Rattle.dpbn_words.specs.Calls.{IsCallOf, IsOneNode, call_fault, node_command};
+ghost use Rattle.dpbn_words.specs.inside.Naming.{HasFiles, HasNode};
 
-use crate::arguments::{flag, is_set, needed, number_if, number_of, option, with_options};
+use crate::Call;
+use crate::one_node::{OneNode, one_node_of, with_node};
 use crate::shared::{self, files_of};
-use crate::{Call, Peers, Run};
 use clap::error::ErrorKind;
-use clap::{Arg, ArgMatches, Command, value_parser};
+use clap::{ArgMatches, Command};
 use std::alloc::{AllocError, Global};
-use words::text_of;
 
 /// What clap is told of the subcommand.
 pub fn command<'a>(alloc: Global) -> Result<Command<'a>, AllocError>
@@ -20,151 +18,33 @@ pub fn command<'a>(alloc: Global) -> Result<Command<'a>, AllocError>
     ensures local { IfOk result (λ command. (fields_of command).has_globals ≡ false) }
 {
     let about = "Runs the node of one member, and prints what it shows.";
-    let hosts = option(
-        alloc,
-        "hosts",
-        "A0:P0,A1:P1,..",
-        "where each member listens, where --base is not given",
-    );
-    let command = shared::command(alloc, "node", about)?;
-    let command = with_options(command, me(alloc), base(alloc), hosts)?.arg(patience(alloc))?;
-    with_run(alloc, command)
-}
-
-/// The command with the options on the run behind those that it takes.
-fn with_run<'a>(alloc: Global, command: Command<'a>) -> Result<Command<'a>, AllocError>
-    requires local { (fields_of command).has_globals ≡ false }
-    ensures app { IfOk result (λ more. app_of more ≡ with_rules (app_of command.entry) run) }
-    ensures local { IfOk result (λ more. (fields_of more).has_globals ≡ false) }
-{
-    let key = option(
-        alloc,
-        "key",
-        "FILE",
-        "the file of the run's key, as `dpbn key` makes it",
-    );
-    let unsealed = flag(alloc, "unsealed", "there is no key: what comes is believed");
-    let continued = flag(alloc, "continue", "refuse to start where no log stands");
-    with_options(command, key, unsealed, continued)
-}
-
-/// The number of the node's own member.
-fn me<'a>(alloc: Global) -> Arg<'a>
-    ensures rule { rule_of result ≡ needed_rule (number (codes "me") 0 255) }
-    ensures local { result.global ≡ false }
-{
-    let range = value_parser!(u8);
-    needed(alloc, "me", "K", "the number of this member, from 0 on").value_parser(range)
-}
-
-/// The first port of all members.
-fn base<'a>(alloc: Global) -> Arg<'a>
-    ensures rule { rule_of result ≡ number (codes "base") 1024 65526 }
-    ensures local { result.global ≡ false }
-{
-    let range = value_parser!(u16).range(1024..=65_526);
-    let help = "member K listens at PORT + K: 1024 to 65526";
-    option(alloc, "base", "PORT", help).value_parser(range)
-}
-
-/// For how many milliseconds a turn waits for a datagram.
-fn patience<'a>(alloc: Global) -> Arg<'a>
-    ensures rule { rule_of result ≡ number (codes "patience") 0 60000 }
-    ensures local { result.global ≡ false }
-{
-    let range = value_parser!(u16).range(0..=60_000);
-    let help = "how long a turn may wait, 0 to 60000 [default: 20]";
-    option(alloc, "patience", "MS", help).value_parser(range)
+    with_node(alloc, shared::command(alloc, "node", about)?)
 }
 
 /// The call with the values that were found, or the kind of fault in them.
 pub fn call_of<'a>(found: &ArgMatches<'a>) -> Result<Call<'a>, ErrorKind>
     ensures call { IfOk result (IsCallOf (Some (codes "node", rows_of (found_of found.now)))) }
     ensures sound { IfOk result
-        (λ call. node_fault (Some (codes "node", rows_of (found_of found.now))) ≡ []) }
+        (λ call. call_fault (Some (codes "node", rows_of (found_of found.now))) ≡ []) }
     ensures kind { IfErr result (λ kind. HasNode (rows_of (found_of found.now))
-        → IsAmong kind (node_fault (Some (codes "node", rows_of (found_of found.now))))) }
+        → IsAmong kind (call_fault (Some (codes "node", rows_of (found_of found.now))))) }
 {
-    let peers = peers_of(found)?;
-    let run = run_of(found)?;
-    with_peers(found, peers, run).ok_or(ErrorKind::MissingRequiredArgument)
+    let node = one_node_of(found)?;
+    with_files(found, node).ok_or(ErrorKind::MissingRequiredArgument)
 }
 
-/// The first port of all members, or their hosts: one of the two has to be given.
-fn peers_of<'a>(found: &ArgMatches<'a>) -> Result<Peers<'a>, ErrorKind>
-    ensures peers { IfOk result (ArePeers (rows_of (found_of found.now))) }
-    ensures sound { IfOk result (λ peers.
-        choice_fault (is_given (rows_of (found_of found.now)) (codes "base"))
-        (is_given (rows_of (found_of found.now)) (codes "hosts")) ≡ []) }
-    ensures kind { IfErr result (λ kind.
-        MayHaveNumber (rows_of (found_of found.now)) (codes "base") 1024 65526
-        → IsAmong kind (choice_fault (is_given (rows_of (found_of found.now)) (codes "base"))
-        (is_given (rows_of (found_of found.now)) (codes "hosts")))) }
-{
-    match (
-        number_if(found, "base", 1024, 65_526),
-        text_of(found, "hosts"),
-    ) {
-        (Some(Some(base)), None) => Ok(Peers::Base(base as u16)),
-        (Some(None), Some(hosts)) => Ok(Peers::Hosts(hosts)),
-        (Some(Some(_)), Some(_)) => Err(ErrorKind::ArgumentConflict),
-        _ => Err(ErrorKind::MissingRequiredArgument),
-    }
-}
-
-/// The key's file and whether the run is continued. With hosts there has to be a key, or that there
-/// is none has to be told; never both.
-fn run_of<'a>(found: &ArgMatches<'a>) -> Result<Run<'a>, ErrorKind>
-    ensures run { IfOk result (IsRun (rows_of (found_of found.now))) }
-    ensures sound { IfOk result (λ run.
-        sealing_fault (is_given (rows_of (found_of found.now)) (codes "hosts"))
-        (is_given (rows_of (found_of found.now)) (codes "key"))
-        (is_set (rows_of (found_of found.now)) (codes "unsealed")) ≡ []) }
-    ensures kind { IfErr result (λ kind. IsAmong kind
-        (sealing_fault (is_given (rows_of (found_of found.now)) (codes "hosts"))
-        (is_given (rows_of (found_of found.now)) (codes "key"))
-        (is_set (rows_of (found_of found.now)) (codes "unsealed")))) }
-{
-    let key = text_of(found, "key");
-    let hosts = text_of(found, "hosts");
-    match (key.is_some(), is_set(found, "unsealed")) {
-        (true, true) => Err(ErrorKind::ArgumentConflict),
-        (false, false) if hosts.is_some() => Err(ErrorKind::MissingRequiredArgument),
-        _ => Ok(Run {
-            key,
-            is_continued: is_set(found, "continue"),
-        }),
-    }
-}
-
-/// The call with these peers, of this run, and the values that were found.
-fn with_peers<'a>(found: &ArgMatches<'a>, peers: Peers<'a>, run: Run<'a>) -> Option<Call<'a>>
-    requires peers { ArePeers (rows_of (found_of found.now)) peers }
-    requires run { IsRun (rows_of (found_of found.now)) run }
+/// The call on this node with the files that were found.
+fn with_files<'a>(found: &ArgMatches<'a>, node: OneNode<'a>) -> Option<Call<'a>>
+    requires { IsOneNode (rows_of (found_of found.now)) node.me node.peers node.patience node.run }
     ensures some { IfSome result (IsCallOf (Some (codes "node", rows_of (found_of found.now)))) }
-    ensures none { IfNone result (¬ HasNode (rows_of (found_of found.now))) }
+    ensures none { IfNone result (¬ HasFiles (rows_of (found_of found.now))) }
 {
     let files = files_of(found)?;
-    let me = number_of(found, "me", 0, 255)? as u8;
-    let patience = patience_of(found)?;
     Some(Call::Node {
         files,
-        me,
-        peers,
-        patience,
-        run,
+        me: node.me,
+        peers: node.peers,
+        patience: node.patience,
+        run: node.run,
     })
-}
-
-/// For how many milliseconds a turn waits, if that was given.
-fn patience_of(found: &ArgMatches<'_>) -> Option<Option<u16>>
-    ensures some { IfSome result
-        (IsNumberIf (rows_of (found_of found.now)) (codes "patience") 0 60000) }
-    ensures none { IfNone result
-        (¬ MayHaveNumber (rows_of (found_of found.now)) (codes "patience") 0 60000) }
-{
-    match number_if(found, "patience", 0, 60_000)? {
-        Some(patience) => Some(Some(patience as u16)),
-        None => Some(None),
-    }
 }

@@ -1,36 +1,42 @@
-//! What both subcommands take.
+//! What several subcommands take.
 ghost use Rattle.std.specs.Prelude.{◌≡◌, IfNone, IfOk, IfSome, codes, false};
 ghost use Rattle.clap.specs.Words.{app_of, found_of, rows_of, rule_of};
 ghost use Rattle.clap.specs.declared.builder.command.Command.TheViews.{out-Command as fields_of};
-ghost use Rattle.dpbn_words.specs.Calls.{AreFiles, needed as needed_rule, number};
+ghost use Rattle.dpbn_words.specs.Calls.{AreFiles, needed as needed_rule, number, option as option_rule};
 ghost use Rattle.dpbn_words.specs.inside.Apps.{counts, paths, shared_app, with_rules};
-ghost use Rattle.dpbn_words.specs.inside.Naming.{ArePaths, HasFiles, HasPaths};
+ghost use Rattle.dpbn_words.specs.inside.Naming.{HasFiles};
 
 use crate::Files;
-use crate::arguments::{needed, number_if, number_of, option, with_options};
+use crate::arguments::{needed, number_if, number_of, option, texts_of, with_options};
 use clap::{Arg, ArgMatches, Command, value_parser};
 use std::alloc::{AllocError, Global};
 use words::{is_single, single, text_of};
 
-/// What clap is told of a subcommand that takes what both take.
+/// What clap is told of a subcommand on nodes whose turns are counted.
 pub fn command<'a>(alloc: Global, name: &'a str, about: &'a str) -> Result<Command<'a>, AllocError>
     ensures app { IfOk result (λ command. app_of command ≡ shared_app name.entry.now) }
     ensures local { IfOk result (λ command. (fields_of command).has_globals ≡ false) }
 {
+    let builds = needed(alloc, "builds", "FILE", "files for package paths, as JSON");
     let command = Command::new(alloc, name).about(about);
-    with_counts(alloc, with_paths(alloc, command)?)
+    with_counts(alloc, with_paths(alloc, command, builds)?)
 }
 
-/// The command with the options that name files and folders.
-fn with_paths<'a>(alloc: Global, command: Command<'a>) -> Result<Command<'a>, AllocError>
+/// The command with the options that name files and folders, one of which is its own.
+pub fn with_paths<'a>(
+    alloc: Global,
+    command: Command<'a>,
+    own: Arg<'a>,
+) -> Result<Command<'a>, AllocError>
     requires local { (fields_of command).has_globals ≡ false }
-    ensures app { IfOk result (λ more. app_of more ≡ with_rules (app_of command.entry) paths) }
+    requires own { own.global ≡ false }
+    ensures app { IfOk result
+        (λ more. app_of more ≡ with_rules (app_of command.entry) (paths (rule_of own.entry))) }
     ensures local { IfOk result (λ more. (fields_of more).has_globals ≡ false) }
 {
     let listing = needed(alloc, "listing", "FILE", "a listing of the ports tree");
-    let builds = needed(alloc, "builds", "FILE", "files for package paths, as JSON");
     let dir = needed(alloc, "dir", "FOLDER", "the folder of the nodes' logs");
-    with_options(command, listing, builds, dir)
+    with_options(command, listing, own, dir)
 }
 
 /// The command with the options on members and turns.
@@ -39,20 +45,27 @@ fn with_counts<'a>(alloc: Global, command: Command<'a>) -> Result<Command<'a>, A
     ensures app { IfOk result (λ more. app_of more ≡ with_rules (app_of command.entry) counts) }
     ensures local { IfOk result (λ more. (fields_of more).has_globals ≡ false) }
 {
-    let weighs = "what each member weighs, 1 to 100 [default: 1 each]";
-    let weights = option(alloc, "weights", "W0,W1,..", weighs);
-    with_options(command, members(alloc), turns(alloc), weights)?
+    with_options(command, members(alloc), turns(alloc), weights(alloc))?
         .arg(progress(alloc))?
         .arg(single(alloc))
 }
 
 /// How many members there are.
-fn members<'a>(alloc: Global) -> Arg<'a>
+pub fn members<'a>(alloc: Global) -> Arg<'a>
     ensures rule { rule_of result ≡ needed_rule (number (codes "members") 1 9) }
     ensures local { result.global ≡ false }
 {
     let range = value_parser!(u8).range(1..=9);
     needed(alloc, "members", "N", "how many members there are, 1 to 9").value_parser(range)
+}
+
+/// What the members weigh.
+pub fn weights<'a>(alloc: Global) -> Arg<'a>
+    ensures rule { rule_of result ≡ option_rule (codes "weights") }
+    ensures local { result.global ≡ false }
+{
+    let help = "what each member weighs, 1 to 100 [default: 1 each]";
+    option(alloc, "weights", "W0,W1,..", help)
 }
 
 /// How many turns are taken.
@@ -80,7 +93,7 @@ pub fn files_of<'a>(found: &ArgMatches<'a>) -> Option<Files<'a>>
     ensures some { IfSome result (AreFiles (rows_of (found_of found.now))) }
     ensures none { IfNone result (¬ HasFiles (rows_of (found_of found.now))) }
 {
-    let (listing, builds, dir) = paths_of(found)?;
+    let (listing, builds, dir) = texts_of(found, "listing", "builds", "dir")?;
     let members = number_of(found, "members", 1, 9)? as u8;
     let turns = number_of(found, "turns", 0, 1_000_000)?;
     let progress = number_if(found, "progress", 1, 1_000_000)?;
@@ -94,15 +107,4 @@ pub fn files_of<'a>(found: &ArgMatches<'a>) -> Option<Files<'a>>
         progress,
         is_single: is_single(found),
     })
-}
-
-/// The names of files and folders that were found.
-fn paths_of<'a>(found: &ArgMatches<'a>) -> Option<(&'a str, &'a str, &'a str)>
-    ensures some { IfSome result (ArePaths (rows_of (found_of found.now))) }
-    ensures none { IfNone result (¬ HasPaths (rows_of (found_of found.now))) }
-{
-    let listing = text_of(found, "listing")?;
-    let builds = text_of(found, "builds")?;
-    let dir = text_of(found, "dir")?;
-    Some((listing, builds, dir))
 }

@@ -1,5 +1,5 @@
 //! What a turn is to do where builds are made while nodes run: definitions, and what holds of them.
-//! No turn takes this choice yet.
+//! The turns of a lone node and of a cluster take this choice.
 #![tactic(auto)]
 
 mod laws;

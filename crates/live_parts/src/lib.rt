@@ -1,5 +1,5 @@
 //! A node's part in a turn where builds are made while nodes run, with its step ready; and what is
-//! wished of a node that builds with others. No turn takes it yet.
+//! wished of a node that builds with others.
 #![tactic(auto)]
 
 mod going;

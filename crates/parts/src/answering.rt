@@ -11,33 +11,27 @@ ghost use Rattle.std.specs.Prelude.{
   false,
   length,
   map,
-  true,
 };
 ghost use Rattle.choice.specs.Answering.{answer_of, built_of, given_for};
-ghost use Rattle.faults.specs.Bytes.{Text, is_among};
-ghost use Rattle.indexmap.specs.IndexMap.{get};
 ghost use Rattle.listing.specs.Tree.{path_at};
 ghost use Rattle.node.specs.Step.{Does};
 ghost use Rattle.node.specs.declared.fault.NodeFault.TheVariants.{Memory as out_of_memory};
 ghost use Rattle.protocol.specs.Given.{Given};
-ghost use Rattle.protocol.specs.Jobs.{files_for, paths_at};
+ghost use Rattle.protocol.specs.Jobs.{paths_at};
 ghost use Rattle.protocol.specs.State.{name_at};
 ghost use Rattle.parts.specs.Readied.{IsPart, IsReadied};
 ghost use Rattle.parts.specs.inside.Answering.{AreParts, IsWaiting, is_bad_files};
-ghost use Rattle.parts.specs.inside.First.{IsFirst};
-ghost use Rattle.std.specs.Str.{bytes_eq};
 
 use crate::Readied;
-use crate::handed::{by_path, files_by_number};
 use crate::readied::make_ready;
 use ballots::Claimer;
 use faults::Memory;
-use indexmap::IndexMap;
 use listing::Tree;
 use member::{Input, Member, Packages, Refusal};
 use node::{Node, NodeFault};
 use package_record::Files;
 use pkgpath::PkgPath;
+use protocol::ByPath;
 use stable_record::Disk;
 use std::alloc::Global;
 
@@ -107,8 +101,8 @@ fn given_to(
     if positions.len() < 2 {
         return looked_up(alloc, tree, positions, builds);
     }
-    let numbers = by_path(alloc, builds)?;
-    by_numbers(alloc, tree, positions, builds, &numbers)
+    let given = ByPath::new(alloc, builds)?;
+    found(alloc, tree, positions, &given)
 }
 
 /// The same, by looking through all that is handed in for each.
@@ -124,7 +118,7 @@ fn looked_up(
 {
     let mut items = Vec::with_capacity(alloc, positions.len())?;
     for position in positions {
-        let Some(files) = files_of(builds, tree.path(*position)) else {
+        let Some(files) = builds.files_of(tree.path(*position)) else {
             return Ok(None);
         };
         items.push(with_path(tree.path(*position), files)?)?;
@@ -132,23 +126,20 @@ fn looked_up(
     Ok(Some(Packages::new(items)))
 }
 
-/// The same, by the numbers of the first entries with each path.
-fn by_numbers(
+/// The same, of what is handed in by path.
+fn found(
     alloc: Global,
     tree: &Tree,
     positions: &[u32],
-    builds: &Packages,
-    numbers: &IndexMap<PkgPath, usize>,
+    builds: &ByPath<'_>,
 ) -> Result<Option<Packages>, Memory>
-    requires listed { All (λ p. p < length tree.now) positions.now }
-    requires numbers { (path : Text) → IsFirst builds.now path (length builds.now)
-        (get bytes_eq numbers.now path) }
+    requires { All (λ p. p < length tree.now) positions.now }
     ensures { IfOk result (λ given.
         given ≡ given_for builds.now (map (path_at tree.now) positions.now)) }
 {
     let mut items = Vec::with_capacity(alloc, positions.len())?;
     for position in positions {
-        let Some(files) = files_by_number(builds, numbers, tree.path(*position)) else {
+        let Some(files) = builds.files(tree.path(*position)) else {
             return Ok(None);
         };
         items.push(with_path(tree.path(*position), files)?)?;
@@ -163,21 +154,6 @@ fn with_path(path: &PkgPath, files: &Files) -> Result<(PkgPath, Files), Memory>
     let path = path.copy()?;
     let files = files.copy()?;
     Ok((path, files))
-}
-
-/// The files that are given for the path, if some are.
-fn files_of<'b>(builds: &'b Packages, path: &PkgPath) -> Option<&'b Files>
-    ensures { MatchOption result
-        (is_among (map (λ g. g.0) builds.entry.now) path.now ≡ false)
-        (λ files. (is_among (map (λ g. g.0) builds.entry.now) path.now ≡ true)
-        × (files.now ≡ files_for builds.entry.now path.now)) }
-{
-    for given in builds.as_slice() {
-        if given.0 == *path {
-            return Some(&given.1);
-        }
-    }
-    None
 }
 
 /// The step by which the unit was built of these files, ready; or that by which it could not be,

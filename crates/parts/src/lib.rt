@@ -2,7 +2,6 @@
 #![tactic(auto)]
 
 mod answering;
-mod handed;
 mod offering;
 mod owning;
 mod readied;

@@ -1,6 +1,7 @@
 pub mod Answering
 pub mod Asked
 mod Examples
+pub mod FirstFiles
 pub mod GivenJobs
 pub mod GoodClaims
 pub mod HeldRecords

@@ -9,3 +9,4 @@ pub mod Answers
 pub mod Step
 pub mod Restoring
 pub mod Laws
+pub mod inside

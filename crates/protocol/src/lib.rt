@@ -7,6 +7,7 @@
 //! stands above.
 #![tactic(auto)]
 
+mod by_path;
 mod input;
 mod laws;
 mod outcome;
@@ -14,6 +15,7 @@ mod packages;
 mod refusal;
 mod sends;
 
+pub use crate::by_path::ByPath;
 pub use crate::input::Input;
 pub use crate::laws::{
     jobs_stay, members_answer, members_follow_the_theory, notes_restore_members,

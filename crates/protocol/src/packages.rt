@@ -1,5 +1,7 @@
 //! The files of some packages.
-ghost use Rattle.std.specs.Prelude.{◌≡◌, IfOk};
+ghost use Rattle.std.specs.Prelude.{◌≡◌, IfOk, MatchOption, false, map, true};
+ghost use Rattle.faults.specs.Bytes.{is_among};
+ghost use Rattle.protocol.specs.Jobs.{files_for};
 
 use faults::Memory;
 use package_record::Files;
@@ -41,6 +43,22 @@ impl Packages {
         ensures { result.now ≡ self.now }
     {
         self.items.as_slice()
+    }
+
+    /// The files of the path, if some are handed in: those of the first entry that has it. All
+    /// entries before it are looked at; who looks up more than one path takes `ByPath`.
+    pub fn files_of(&self, path: &PkgPath) -> Option<&Files>
+        ensures { MatchOption result
+            (is_among (map (λ g. g.0) self.now) path.now ≡ false)
+            (λ files. (is_among (map (λ g. g.0) self.now) path.now ≡ true)
+            × (files.now ≡ files_for self.now path.now)) }
+    {
+        for given in self.as_slice() {
+            if given.0 == *path {
+                return Some(&given.1);
+            }
+        }
+        None
     }
 
     /// Equal packages. It fails only for want of memory.

@@ -4,11 +4,12 @@ use Rattle.std.proofs.lemmas.List.{append-nil}
 use Rattle.std.proofs.lemmas.Option.{slice_get-get_or, slice_get_within}
 use Rattle.ballots.specs.declared.message.Note.{Note}
 use Rattle.choice.specs.Acts.{asked_by}
-use Rattle.choice.specs.Choice.{Chosen, has_job}
+use Rattle.choice.specs.Choice.{Chosen}
 use Rattle.choice.specs.Pending.{Pending, kept_after}
 use Rattle.choice.specs.declared.fault.TurnFault.{TurnFault}
 use Rattle.choice.specs.declared.fault.TurnFault.TheVariants as refused
 use Rattle.choosing.specs.Choosing.{HasChosen, IsChosenAs, IsReadiedAt, looked_for, told}
+use Rattle.choosing.specs.Handed.{Handed, answers_first}
 use Rattle.choosing.specs.Here.{here_in}
 use Rattle.choosing.specs.Recording.{IsRecorded, IsStopOf}
 use Rattle.choosing.specs.declared.chosen.Chosen.{Chosen as Ready}
@@ -25,7 +26,6 @@ use Rattle.node.specs.declared.fault.NodeFault.{NodeFault}
 use Rattle.node.specs.declared.fault.NodeFault.TheVariants as fault
 use Rattle.parts.specs.Offered.{parcels_from}
 use Rattle.ports.specs.Kept.{Arrived, GoesOnBy, Parcel}
-use Rattle.protocol.specs.Given.{Given}
 use Rattle.protocol.specs.State.{Value}
 use Rattle.stable_record.specs.Faults.{HasRisen}
 use Rattle.stable_record.specs.History.{History}
@@ -255,10 +255,10 @@ module _ {D P : Type 0} (is_kept : D → Type 0) (history : D → History) (fail
 
 -- what was chosen is ready
 pub ready_as : {D : Type 0} (nodes : List (LoggedNode D)) (sent : List Text) (p : Pending)
-    (builds : Given) (a b : Option (List Arrived)) (r : Ready)
-    → HasChosen nodes sent p builds a b (Some r)
+    (handed : Handed) (a b : Option (List Arrived)) (r : Ready)
+    → HasChosen nodes sent p handed a b (Some r)
     → IsReadiedAt nodes r.node (asked_by r.readied.act) r.readied
-ready_as nodes sent p builds a b r made = by made.chosen made.readied
+ready_as nodes sent p handed a b r made = by made.chosen made.readied
   where
     by : (chosen : Chosen) → IsChosenAs nodes chosen (Some r)
         → IsReadiedAt nodes r.node (asked_by r.readied.act) r.readied
@@ -269,14 +269,14 @@ ready_as nodes sent p builds a b r made = by made.chosen made.readied
 
 -- and nothing more was received
 pub made_later : {D : Type 0} (nodes : List (LoggedNode D)) (sent : List Text) (p : Pending)
-    (builds : Given) (a b c : Option (List Arrived)) (o : Option Ready)
-    → HasChosen nodes sent p builds a b o → GoesOnBy [] b c → HasChosen nodes sent p builds a c o
-made_later nodes sent p builds a b c o made goes = record {
+    (handed : Handed) (a b c : Option (List Arrived)) (o : Option Ready)
+    → HasChosen nodes sent p handed a b o → GoesOnBy [] b c → HasChosen nodes sent p handed a c o
+made_later nodes sent p handed a b c o made goes = record {
   chosen = made.chosen;
   is_chosen = record {
     came = made.is_chosen.came;
     looked = goes_on_then
-        (looked_for (has_job (here_in nodes) (length nodes) builds) made.is_chosen.came) a b c
+        (looked_for (answers_first handed (here_in nodes) (length nodes)) made.is_chosen.came) a b c
         made.is_chosen.looked goes;
     choice = made.is_chosen.choice;
   };
@@ -337,16 +337,16 @@ module _ {D P : Type 0} (is_kept : D → Type 0) (history : D → History) (fail
   taken_before (Err refused.NotSent) t = absurd t
   taken_before (Err refused.NotFresh) t = absurd t
 
-  module _ (builds : Given) (nodes : List (LoggedNode D)) (same : old.nodes ≡ nodes)
-      (made : HasChosen old.nodes old.sent old.pending builds (given p) (given old.port) (Some r))
+  module _ (handed : Handed) (nodes : List (LoggedNode D)) (same : old.nodes ≡ nodes)
+      (made : HasChosen old.nodes old.sent old.pending handed (given p) (given old.port) (Some r))
       (goes : GoesOnBy [] (given old.port) (given new.port)) where
     abbrev at_first : List (LoggedNode D) → Turning D P
     at_first ns = record old { nodes = ns; port = p }
 
-    made_first : IsMadeReady given (at_first nodes) new builds (Some r)
+    made_first : IsMadeReady given (at_first nodes) new handed (Some r)
     made_first =
-        subst (λ ns. IsMadeReady given (at_first ns) new builds (Some r)) same
-        (made_later old.nodes old.sent old.pending builds (given p) (given old.port)
+        subst (λ ns. IsMadeReady given (at_first ns) new handed (Some r)) same
+        (made_later old.nodes old.sent old.pending handed (given p) (given old.port)
         (given new.port) (Some r) made goes)
 
     taken_first : (result : Result declared.Event TurnFault)
@@ -359,12 +359,12 @@ module _ {D P : Type 0} (is_kept : D → Type 0) (history : D → History) (fail
     -- it is the turn
     pub turned : (e : declared.Event)
         → IsTakenAs is_kept history failures offered old new r (Ok e)
-        → IsTurn is_kept history failures given offered (at_first nodes) new builds (Ok (Some e))
+        → IsTurn is_kept history failures given offered (at_first nodes) new handed (Ok (Some e))
     turned e t = (r, made_first, taken_first (Ok e) t)
 
     pub turned_not : (f : TurnFault)
         → IsTakenAs is_kept history failures offered old new r (Err f)
-        → IsTurn is_kept history failures given offered (at_first nodes) new builds (Err f)
+        → IsTurn is_kept history failures given offered (at_first nodes) new handed (Err f)
     turned_not f t = inr (r, made_first, taken_first (Err f) t)
 
 -- ---- how it is told

@@ -4,12 +4,13 @@ use Rattle.std.proofs.lemmas.List.{length-set}
 use Rattle.std.proofs.lemmas.Option.{slice_get_within}
 use Rattle.std.specs.Prelude.{IfErr, IfNone, IfOk, IfSome, is_some}
 use Rattle.choice.specs.Acts.{asked_by}
-use Rattle.choice.specs.Choice.{Chosen, IsChoice, has_job}
+use Rattle.choice.specs.Choice.{Chosen}
 use Rattle.choice.specs.Pending.{Pending, has_failed, kept_after, with_failed}
 use Rattle.choice.specs.declared.fault.TurnFault.{TurnFault}
 use Rattle.choice.specs.declared.fault.TurnFault.TheVariants as refused
 use Rattle.choosing.specs.Choosing.{IsChosenAs, IsChosenBy, NoneIsForeign, RefusesAt, looked_for}
 use Rattle.choosing.specs.Events.{event_of}
+use Rattle.choosing.specs.Handed.{Handed, IsChoiceBy, answers_first}
 use Rattle.choosing.specs.Here.{here_in}
 use Rattle.choosing.specs.declared.chosen.Chosen.{Chosen as Ready}
 use Rattle.events.specs.Events.{Event, StopIn, event_view, node_of}
@@ -30,7 +31,6 @@ use Rattle.node.specs.declared.fault.NodeFault.TheVariants as fault
 use Rattle.package_record.proofs.BuildsRead.{build_is_read}
 use Rattle.ports.specs.Kept.{Arrived, GoesOnBy, Parcel}
 use Rattle.protocol.specs.Answers.{Answer}
-use Rattle.protocol.specs.Given.{Given}
 use Rattle.protocol.specs.State.{OpenClaim, State}
 use Rattle.protocol.specs.Step as members
 use Rattle.protocol.specs.declared.input.Input.TheVariants as inputs
@@ -42,9 +42,9 @@ use Rattle.turns.proofs.Moving.{down_in_any, down_on_logs, full_there, down_were
 use Rattle.turns.proofs.Standing.{hosted, led_there, made_there}
 use Rattle.turns.proofs.Still.{are_untouched, is_same, same_count, still_on_logs, still_world}
 use Rattle.turns.specs.AnyCase.{StandsInAnyCase}
-use Rattle.turns.specs.Faults.{IsLeftBy, IsTurnFault}
+use Rattle.turns.specs.Faults.{IsLeftBy, IsTurnFaultFor}
 use Rattle.turns.specs.State.{AreOnLogs, ClusterState, IsWorldOf, taken}
-use Rattle.turns.specs.Turn.{AreUntouched, HasFailedAt, HasHappened, IsChosen, IsEventChosen, IsSame, KeepsWith, LeavesItsNotes, Offers, OffersNothing, OthersStay, WentDown, WereKept}
+use Rattle.turns.specs.Turn.{AreUntouched, HasFailedAt, HasHappened, IsChosenFor, IsEventChosenFor, IsSame, KeepsWith, LeavesItsNotes, Offers, OffersNothing, OthersStay, WentDown, WereKept}
 use Rattle.turns.specs.inside.Turning.{GoesDown, IsDue, IsMadeReady, IsTurn, StandsStill, TakesStep, turning_of}
 use Rattle.wire.specs.Reading.{datagram_of}
 use Rattle.wire.specs.declared.datagram.Piece.{Piece}
@@ -146,17 +146,17 @@ next_after p k s (Does (inputs.Message m)) = inl refl
 -- What a turn promises where it answers this.
 pub record Promises {D P : Type 0} (is_kept : D → Type 0) (history : D → History)
     (failures : D → ℕ) (given : P → Option (List Arrived)) (offered : P → Option (List Parcel))
-    (old new : ClusterState D P) (builds : Given)
+    (old new : ClusterState D P) (handed : Handed)
     (result : Result (Option declared.Event) TurnFault) : Type 0 where
   pub chosen : IfOk result (λ o. IfSome o
-      (λ e. IsEventChosen given old new builds (event_view e)))
-  pub nothing : IfOk result (λ o. IfNone o (IsChosen given old new builds None))
+      (λ e. IsEventChosenFor given old new handed (event_view e)))
+  pub nothing : IfOk result (λ o. IfNone o (IsChosenFor given old new handed None))
   pub happened : IfOk result (λ o. IfSome o (λ e. HasHappened old new (event_view e)))
   pub others : IfOk result (λ o. IfSome o (λ e. OthersStay old new (node_of (event_view e))))
   pub offers : Offers offered old new result
   pub pending : IfOk result (λ o. IfSome o (λ e. KeepsWith old new (event_view e)))
   pub same : IfOk result (λ o. IfNone o (IsSame old new))
-  pub faults : IfErr result (IsTurnFault given old new builds)
+  pub faults : IfErr result (IsTurnFaultFor given old new handed)
   pub leaves : IfErr result (IsLeftBy old new)
   pub untouched : IfErr result
       (λ f. ((k : ℕ) × (f ≡ refused.Down k)) ⊎ AreUntouched is_kept history old new)
@@ -182,12 +182,12 @@ pub record StandsThen {D P : Type 0} (is_kept : D → Type 0) (history : D → H
 
 module _ {D P : Type 0} (is_kept : D → Type 0) (history : D → History) (failures : D → ℕ)
     (given : P → Option (List Arrived)) (offered : P → Option (List Parcel))
-    (old new : ClusterState D P) (builds : Given) (division : new.division ≡ old.division)
+    (old new : ClusterState D P) (handed : Handed) (division : new.division ≡ old.division)
     (weights : new.weights ≡ old.weights) (count : length old.nodes ≡ length old.weights)
     (w : World) (is : IsWorldOf old w) (on_logs : AreOnLogs is_kept history old) where
   abbrev IsTurnOf : Result (Option declared.Event) TurnFault → Type 0
   IsTurnOf result =
-      IsTurn is_kept history failures given offered (turning_of old) (turning_of new) builds result
+      IsTurn is_kept history failures given offered (turning_of old) (turning_of new) handed result
 
   abbrev StandsStillHere : Type 0
   StandsStillHere = StandsStill is_kept history offered (turning_of old) (turning_of new)
@@ -195,12 +195,12 @@ module _ {D P : Type 0} (is_kept : D → Type 0) (history : D → History) (fail
   -- ---- the choice
 
   chosen_is : (chosen : Chosen) → IsChosenBy (here_in old.nodes) (length old.nodes) old.pending
-      builds (given old.port) (given new.port) chosen → IsChosen given old new builds chosen
+      handed (given old.port) (given new.port) chosen → IsChosenFor given old new handed chosen
   chosen_is chosen by = record {
     came = by.came;
-    looked = subst (λ m. GoesOnBy (looked_for (has_job (here_in old.nodes) m builds) by.came)
+    looked = subst (λ m. GoesOnBy (looked_for (answers_first handed (here_in old.nodes) m) by.came)
         (given old.port) (given new.port)) count by.looked;
-    choice = subst (λ m. IsChoice (here_in old.nodes) m old.pending builds by.came chosen) count
+    choice = subst (λ m. IsChoiceBy handed (here_in old.nodes) m old.pending by.came chosen) count
         by.choice;
   }
 
@@ -217,12 +217,12 @@ module _ {D P : Type 0} (is_kept : D → Type 0) (history : D → History) (fail
       λ i. Some (number i, asked i)
 
   event_chosen : (r : Ready) (e : Event)
-      → IsMadeReady given (turning_of old) (turning_of new) builds (Some r)
+      → IsMadeReady given (turning_of old) (turning_of new) handed (Some r)
       → IsDue old.nodes old.sent r e
-      → IsEventChosen given old new builds e
+      → IsEventChosenFor given old new handed e
   event_chosen r e made due = record {
     chosen = (r.node, asked_by r.readied.act);
-    is_chosen = subst (IsChosen given old new builds) (chosen_some made.chosen r made.readied)
+    is_chosen = subst (IsChosenFor given old new handed) (chosen_some made.chosen r made.readied)
         (chosen_is made.chosen made.is_chosen);
     event = due.event;
   }
@@ -238,11 +238,11 @@ module _ {D P : Type 0} (is_kept : D → Type 0) (history : D → History) (fail
 
   -- ---- refusals
 
-  fault_is : (f : TurnFault) → IsTurnOf (Err f) → IsTurnFault given old new builds f
+  fault_is : (f : TurnFault) → IsTurnOf (Err f) → IsTurnFaultFor given old new handed f
   fault_is refused.Memory (inl t) = (t.0.0, chosen_is (Some t.0.0) t.0.1)
   fault_is refused.Memory (inr t) = (
     (t.0.node, asked_by t.0.readied.act),
-    subst (IsChosen given old new builds) (chosen_some t.1.chosen t.0 t.1.readied)
+    subst (IsChosenFor given old new handed) (chosen_some t.1.chosen t.0 t.1.readied)
         (chosen_is t.1.chosen t.1.is_chosen),
   )
   fault_is (refused.Node f) (inl (refuses, still)) =
@@ -324,10 +324,10 @@ module _ {D P : Type 0} (is_kept : D → Type 0) (history : D → History) (fail
   -- ---- by what it answers
 
   pub promises : (result : Result (Option declared.Event) TurnFault) → IsTurnOf result
-      → Promises is_kept history failures given offered old new builds result
+      → Promises is_kept history failures given offered old new handed result
   promises (Ok None) t = record {
     chosen = tt;
-    nothing = subst (IsChosen given old new builds) (chosen_none t.0.chosen t.0.readied)
+    nothing = subst (IsChosenFor given old new handed) (chosen_none t.0.chosen t.0.readied)
         (chosen_is t.0.chosen t.0.is_chosen);
     happened = tt;
     others = tt;

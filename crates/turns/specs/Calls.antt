@@ -1,14 +1,15 @@
 -- What a turn asks of the port, by its calls.
 use Rattle.std.specs.Prelude.{Option, None, Some, Result, Ok, Err}
 use Rattle.choice.specs.declared.fault.TurnFault.{TurnFault}
+use Rattle.choosing.specs.Handed.{AllBuilds, Handed}
 use Rattle.events.specs.Events.{event_view}
 use Rattle.events.specs.declared.event.Event as declared
 use Rattle.parts.specs.Calls.{TurnCalls, calls_of, given_in, no_calls, offered_in}
 use Rattle.ports.specs.Calls.{Call, WentThrough}
 use Rattle.protocol.specs.Given.{Given}
-use Rattle.turns.specs.Faults.{IsTurnFault}
+use Rattle.turns.specs.Faults.{IsTurnFaultFor}
 use Rattle.turns.specs.State.{ClusterState}
-use Rattle.turns.specs.Turn.{IsChosen, IsEventChosen, OffersItsSends, OffersNothing}
+use Rattle.turns.specs.Turn.{IsChosenFor, IsEventChosenFor, OffersItsSends, OffersNothing}
 
 -- the cluster, with these calls of its port in the place of it
 abbrev pub with_calls : {D P : Type 0} → ClusterState D P → TurnCalls → ClusterState D TurnCalls
@@ -24,21 +25,31 @@ with_calls c calls = record {
 
 -- Seen by its calls, the turn is this: its choice is by what they gave, and just what its step
 -- sends was offered by them, where it took one, and else nothing.
+abbrev pub IsByCallsFor : {D : Type 0} → ClusterState D TurnCalls → ClusterState D TurnCalls
+    → Handed → Result (Option declared.Event) TurnFault → Type 0
+IsByCallsFor old new handed (Ok None) =
+    IsChosenFor given_in old new handed None × OffersNothing offered_in old new
+IsByCallsFor old new handed (Ok (Some e)) =
+    IsEventChosenFor given_in old new handed (event_view e)
+    × OffersItsSends offered_in old new (event_view e)
+IsByCallsFor old new handed (Err f) =
+    IsTurnFaultFor given_in old new handed f × OffersNothing offered_in old new
+
+-- that where all builds are there from the start
 abbrev pub IsByCalls : {D : Type 0} → ClusterState D TurnCalls → ClusterState D TurnCalls → Given
     → Result (Option declared.Event) TurnFault → Type 0
-IsByCalls old new builds (Ok None) =
-    IsChosen given_in old new builds None × OffersNothing offered_in old new
-IsByCalls old new builds (Ok (Some e)) =
-    IsEventChosen given_in old new builds (event_view e)
-    × OffersItsSends offered_in old new (event_view e)
-IsByCalls old new builds (Err f) =
-    IsTurnFault given_in old new builds f × OffersNothing offered_in old new
+IsByCalls old new builds result = IsByCallsFor old new (AllBuilds builds) result
 
 -- The port went through just these calls in the turn, and seen by them it is this turn: so it was
 -- asked to receive once, or not at all where a job waited for its answer, and then to send each of
 -- the datagrams that the step sends, once and in order.
-pub record HasCalled {D P : Type 0} (does : P → Call → P → Type 0) (old new : ClusterState D P)
-    (builds : Given) (result : Result (Option declared.Event) TurnFault) : Type 0 where
+pub record HasCalledFor {D P : Type 0} (does : P → Call → P → Type 0) (old new : ClusterState D P)
+    (handed : Handed) (result : Result (Option declared.Event) TurnFault) : Type 0 where
   pub calls : TurnCalls
   pub went : WentThrough does old.port (calls_of calls) new.port
-  pub by_calls : IsByCalls (with_calls old no_calls) (with_calls new calls) builds result
+  pub by_calls : IsByCallsFor (with_calls old no_calls) (with_calls new calls) handed result
+
+-- that where all builds are there from the start
+abbrev pub HasCalled : {D P : Type 0} → (P → Call → P → Type 0) → ClusterState D P
+    → ClusterState D P → Given → Result (Option declared.Event) TurnFault → Type 0
+HasCalled does old new builds result = HasCalledFor does old new (AllBuilds builds) result

@@ -1,9 +1,10 @@
 -- A turn of a cluster.
 use Rattle.std.specs.Prelude.{◌≡◌, ◌++◌, ℕ, true, List, [], ◌∷◌, Option, None, Some, Result, Ok, Err, length, map, slice_get, slice_set}
-use Rattle.choice.specs.Choice.{Chosen, IsChoice, has_job}
+use Rattle.choice.specs.Choice.{Chosen}
 use Rattle.choice.specs.Pending.{kept_after}
 use Rattle.choice.specs.declared.fault.TurnFault.{TurnFault}
 use Rattle.choosing.specs.Choosing.{looked_for}
+use Rattle.choosing.specs.Handed.{AllBuilds, Handed, IsChoiceBy, answers_first}
 use Rattle.choosing.specs.Events.{event_of}
 use Rattle.events.specs.Events.{Event, StopIn, event_view, node_of}
 use Rattle.events.specs.declared.event.Event as declared
@@ -25,20 +26,30 @@ use Rattle.world.specs.World.{World, WorldNode}
 
 -- ---- what was chosen
 
--- It is the turn's choice, by what the port gave in the turn.
-pub record IsChosen {D P : Type 0} (given : P → Option (List Arrived)) (old new : ClusterState D P)
-    (builds : Given) (chosen : Chosen) : Type 0 where
+-- It is the turn's choice, for what is handed in, by what the port gave in the turn.
+pub record IsChosenFor {D P : Type 0} (given : P → Option (List Arrived))
+    (old new : ClusterState D P) (handed : Handed) (chosen : Chosen) : Type 0 where
   pub came : Arrived
-  pub looked : GoesOnBy (looked_for (has_job (here_of old) (length old.weights) builds) came)
+  pub looked : GoesOnBy (looked_for (answers_first handed (here_of old) (length old.weights)) came)
       (given old.port) (given new.port)
-  pub choice : IsChoice (here_of old) (length old.weights) old.pending builds came chosen
+  pub choice : IsChoiceBy handed (here_of old) (length old.weights) old.pending came chosen
 
--- The event is the turn's choice.
-pub record IsEventChosen {D P : Type 0} (given : P → Option (List Arrived))
-    (old new : ClusterState D P) (builds : Given) (e : Event) : Type 0 where
+-- that where all builds are there from the start
+abbrev pub IsChosen : {D P : Type 0} → (P → Option (List Arrived)) → ClusterState D P
+    → ClusterState D P → Given → Chosen → Type 0
+IsChosen given old new builds chosen = IsChosenFor given old new (AllBuilds builds) chosen
+
+-- The event is the turn's choice, for what is handed in.
+pub record IsEventChosenFor {D P : Type 0} (given : P → Option (List Arrived))
+    (old new : ClusterState D P) (handed : Handed) (e : Event) : Type 0 where
   pub chosen : ℕ × Asked
-  pub is_chosen : IsChosen given old new builds (Some chosen)
+  pub is_chosen : IsChosenFor given old new handed (Some chosen)
   pub event : event_of old.sent chosen ≡ Some e
+
+-- that where all builds are there from the start
+abbrev pub IsEventChosen : {D P : Type 0} → (P → Option (List Arrived)) → ClusterState D P
+    → ClusterState D P → Given → Event → Type 0
+IsEventChosen given old new builds e = IsEventChosenFor given old new (AllBuilds builds) e
 
 -- ---- what a turn leaves
 

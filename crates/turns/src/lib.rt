@@ -2,6 +2,7 @@
 #![tactic(auto)]
 
 mod cluster;
+mod live;
 mod opening;
 mod taking;
 mod turning;

@@ -11,3 +11,4 @@ pub mod Waiting
 pub mod InMemory
 pub mod Offered
 pub mod Crashing
+pub mod Answered

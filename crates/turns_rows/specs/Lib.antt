@@ -4,3 +4,4 @@ pub mod Heard
 pub mod InMemory
 pub mod Reopened
 pub mod Shown
+pub mod Mixed

@@ -3,6 +3,7 @@
 
 mod heard;
 mod in_memory;
+mod mixed;
 mod reopened;
 mod run;
 mod shown;
@@ -10,6 +11,7 @@ mod two;
 
 pub use crate::heard::hear_next;
 pub use crate::in_memory::{hear_what_was_offered, turn_in_memory};
+pub use crate::mixed::turn_then_live;
 pub use crate::reopened::{Reopened, turn_then_crash, turn_then_reopen};
 pub use crate::run::{run_until_nothing, take_turns};
 pub use crate::shown::turn_then_count;

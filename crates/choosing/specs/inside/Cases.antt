@@ -18,6 +18,7 @@ use Rattle.ports.specs.declared.fault.PortFault.{PortFault}
 use Rattle.protocol.specs.Given.{Given}
 use Rattle.protocol.specs.declared.input.Input.{Input}
 use Rattle.choosing.specs.Choosing.{IsChosenAs, IsPartAt, RefusesAt}
+use Rattle.choosing.specs.Handed.{Handed, IsLeftToDo}
 use Rattle.choosing.specs.Here.{here_in}
 use Rattle.choosing.specs.declared.chosen.Chosen.{Chosen as Ready}
 
@@ -91,3 +92,29 @@ IsFirstFault nodes p ks f =
     ⊎ ((k : ℕ) × (input : Input) × (g : NodeFault) × (f ≡ Node g)
     × IsFirstOwn (here_in nodes) (length nodes) p ks (Some (k, Does input))
     × RefusesAt nodes k (Does input) g)
+
+-- What is left to do was made ready, if anything is.
+abbrev pub IsLeftPart : {D : Type 0} → List (LoggedNode D) → Pending → Handed → Option Ready
+    → Type 0
+IsLeftPart nodes p handed r =
+    (chosen : Chosen) × IsLeftToDo handed (here_in nodes) (length nodes) p chosen
+    × IsChosenAs nodes chosen r
+
+-- Memory was wanting for what is left to do, or the chosen node takes no step on that.
+abbrev pub IsLeftFault : {D : Type 0} → List (LoggedNode D) → Pending → Handed → TurnFault
+    → Type 0
+IsLeftFault nodes p handed f =
+    ((f ≡ Memory) × ((k : ℕ) × (input : Input)
+    × IsLeftToDo handed (here_in nodes) (length nodes) p (Some (k, Does input))))
+    ⊎ ((k : ℕ) × (input : Input) × (g : NodeFault) × (f ≡ Node g)
+    × IsLeftToDo handed (here_in nodes) (length nodes) p (Some (k, Does input))
+    × RefusesAt nodes k (Does input) g)
+
+-- ---- where builds are made while nodes run
+
+-- Memory was wanting for what a node is to do, or it takes no step on that.
+abbrev pub IsNotDone : {D : Type 0} → List (LoggedNode D) → Chosen → TurnFault → Type 0
+IsNotDone nodes chosen f =
+    ((f ≡ Memory) × ((k : ℕ) × (input : Input) × (chosen ≡ Some (k, Does input))))
+    ⊎ ((k : ℕ) × (input : Input) × (g : NodeFault) × (f ≡ Node g)
+    × (chosen ≡ Some (k, Does input)) × RefusesAt nodes k (Does input) g)

@@ -1,6 +1,6 @@
 use Rattle.std.proofs.Common.{◌≡◌, List, Some, codes, rules}
 use Rattle.clap.specs.Words.{Row, found_of, rows_of, subcommand_rows_of}
-use Rattle.dpbn_words.proofs.Named.{cluster_kind, key_kind, node_kind}
+use Rattle.dpbn_words.proofs.Named.{build_kind, cluster_kind, key_kind, node_kind}
 use Rattle.dpbn_words.proofs.call_of.Goals as goal
 
 pub returns-in-Some-cluster-default-clause-kind : goal.returns-in-Some-cluster-default-clause-kind
@@ -15,6 +15,13 @@ returns-in-Some-node-default-clause-kind c =
     let is : subcommand_rows_of c.args.matches.now ≡ Some (codes "node", rows) = search rules in
     node_kind c.call_of-in-Some-node-default.result (subcommand_rows_of c.args.matches.now) rows is
     c.call_of-in-Some-node-default.ensures.kind
+
+pub returns-in-Some-build-default-clause-kind : goal.returns-in-Some-build-default-clause-kind
+returns-in-Some-build-default-clause-kind c =
+    let rows : List Row = rows_of (found_of c.in-Some-build-default.found.now) in
+    let is : subcommand_rows_of c.args.matches.now ≡ Some (codes "build", rows) = search rules in
+    build_kind c.call_of-in-Some-build-default.result (subcommand_rows_of c.args.matches.now) rows is
+    c.call_of-in-Some-build-default.ensures.kind
 
 pub returns-in-Some-key-default-clause-kind : goal.returns-in-Some-key-default-clause-kind
 returns-in-Some-key-default-clause-kind c =

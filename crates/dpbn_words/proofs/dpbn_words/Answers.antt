@@ -2,7 +2,7 @@ use Rattle.std.proofs.Common.{List, map}
 use Rattle.clap.specs.Words.{Text, subcommand_rows_of}
 use Rattle.clap.proofs.KindLemmas.{fails_by_from}
 use Rattle.dpbn_words.specs.Calls.{faults_of}
-use Rattle.dpbn_words.proofs.Refused.{by_clap, by_node, nothing_left}
+use Rattle.dpbn_words.proofs.Refused.{by_call, by_clap, nothing_left}
 use Rattle.dpbn_words.proofs.dpbn_words.Goals as goal
 
 pub returns-in_err-matches-clause-faults : goal.returns-in_err-matches-clause-faults
@@ -20,5 +20,5 @@ returns-in-Ok-clause-faults g c =
 pub returns-clause-faults : goal.returns-clause-faults
 returns-clause-faults g c =
     let words : List Text = map g.S.AsStr.text c.args.words.now in
-    by_node words (subcommand_rows_of c.in_ok-matches.matches) c.in_ok-matches.ensures.faults c.in_ok-matches.ensures.matched
+    by_call words (subcommand_rows_of c.in_ok-matches.matches) c.in_ok-matches.ensures.faults c.in_ok-matches.ensures.matched
     c.in_ok-refusal-in-Err.field-0 c.in-Err.kind c.in_ok-refusal-in-Err.ensures c.in-Err.ensures.kind

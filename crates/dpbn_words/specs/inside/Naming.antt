@@ -2,7 +2,7 @@
 use Rattle.std.specs.Prelude.{◌≡◌, ◌⊎◌, ℕ, codes, pos, List, Option, None, Some}
 use Rattle.std.specs.Borrow.{Bor}
 use Rattle.clap.specs.Words.{IsSignedIn, Row, Text, first_of, one_of, without_minus}
-use Rattle.dpbn_words.specs.Calls.{IsText}
+use Rattle.dpbn_words.specs.Calls.{IsNumberIf, IsText}
 
 -- a text was matched under the name
 abbrev pub HasText : List Row → Text → Type 0
@@ -18,29 +18,56 @@ abbrev pub MayHaveNumber : List Row → Text → ℕ → ℕ → Type 0
 MayHaveNumber rows id least most =
     (first_of id rows ≡ None) ⊎ HasNumber rows id least most
 
--- a name was matched for each file and folder
-abbrev pub HasPaths : List Row → Type 0
-HasPaths rows =
-    HasText rows (codes "listing") × HasText rows (codes "builds") × HasText rows (codes "dir")
+-- a text was matched under each of three names
+abbrev pub HaveTexts : List Row → Text → Text → Text → Type 0
+HaveTexts rows first second third = HasText rows first × HasText rows second × HasText rows third
 
--- these three are the names
-abbrev pub ArePaths : List Row → Bor Text × Bor Text × Bor Text → Type 0
-ArePaths rows (listing, builds, dir) = IsText rows (codes "listing") listing.now
-    × IsText rows (codes "builds") builds.now × IsText rows (codes "dir") dir.now
+-- these three are the texts
+abbrev pub AreTexts : List Row → Text → Text → Text → Bor Text × Bor Text × Bor Text → Type 0
+AreTexts rows first second third (a, b, c) =
+    IsText rows first a.now × IsText rows second b.now × IsText rows third c.now
 
--- a value was matched for each field of what both subcommands take
+-- a value was matched for each field of what is told of nodes whose turns are counted
 pub record HasFiles (rows : List Row) : Type 0 where
-  pub paths : HasPaths rows
+  pub paths : HaveTexts rows (codes "listing") (codes "builds") (codes "dir")
   pub members : HasNumber rows (codes "members") 1 9
   pub turns : HasNumber rows (codes "turns") 0 1000000
   pub progress : MayHaveNumber rows (codes "progress") 1 1000000
 
--- and for each other field of a node's call
-pub record HasNode (rows : List Row) : Type 0 where
-  pub files : HasFiles rows
+-- a value was matched for each field of what is told of the node of one member
+pub record HasOneNode (rows : List Row) : Type 0 where
   pub me : HasNumber rows (codes "me") 0 255
   pub base : MayHaveNumber rows (codes "base") 1024 65526
   pub patience : MayHaveNumber rows (codes "patience") 0 60000
+
+-- nothing was matched under the name of each time, or a number of seconds
+abbrev pub HaveTimes : List Row → Type 0
+HaveTimes rows = MayHaveNumber rows (codes "takeover") 1 1000000
+    × MayHaveNumber rows (codes "rest") 1 1000000
+    × MayHaveNumber rows (codes "progress") 1 1000000
+
+-- these three are the times
+abbrev pub AreTimes : List Row → Option ℕ × Option ℕ × Option ℕ → Type 0
+AreTimes rows (takeover, rest, progress) = IsNumberIf rows (codes "takeover") 1 1000000 takeover
+    × IsNumberIf rows (codes "rest") 1 1000000 rest
+    × IsNumberIf rows (codes "progress") 1 1000000 progress
+
+-- a value was matched for each field of what is told of a site
+pub record HasSite (rows : List Row) : Type 0 where
+  pub paths : HaveTexts rows (codes "listing") (codes "work") (codes "dir")
+  pub members : HasNumber rows (codes "members") 1 9
+  pub jobs : MayHaveNumber rows (codes "jobs") 1 64
+  pub times : HaveTimes rows
+
+-- a value was matched for each field of a node's call
+pub record HasNode (rows : List Row) : Type 0 where
+  pub files : HasFiles rows
+  pub node : HasOneNode rows
+
+-- a value was matched for each field of a build's call
+pub record HasBuild (rows : List Row) : Type 0 where
+  pub site : HasSite rows
+  pub node : HasOneNode rows
 
 -- clap matched a call's subcommand, and a value for each of the call's fields
 abbrev pub NamesCall : Option (Text × List Row) → Type 0
@@ -48,4 +75,5 @@ NamesCall None = ⊥
 NamesCall (Some (name, rows)) =
     ((name ≡ codes "cluster") × HasFiles rows)
     ⊎ (((name ≡ codes "node") × HasNode rows)
-    ⊎ ((name ≡ codes "key") × HasText rows (codes "FILE")))
+    ⊎ (((name ≡ codes "build") × HasBuild rows)
+    ⊎ ((name ≡ codes "key") × HasText rows (codes "FILE"))))

@@ -6,6 +6,7 @@ use Rattle.choice.specs.declared.fault.TurnFault.{TurnFault}
 use Rattle.choice.specs.declared.fault.TurnFault.TheVariants as refused
 use Rattle.choosing.specs.Choosing.{HasChosen, IsChoosingFault, IsReadiedAt, told}
 use Rattle.choosing.specs.Events.{event_of}
+use Rattle.choosing.specs.Handed.{Handed}
 use Rattle.choosing.specs.declared.chosen.Chosen.{Chosen as Ready}
 use Rattle.events.specs.Events.{Event, StopIn, event_view}
 use Rattle.events.specs.declared.event.Event as declared
@@ -22,7 +23,6 @@ use Rattle.parts.specs.Offered.{Answered, parcels_from, sends_of}
 use Rattle.ports.specs.Calls.{Call, WentThrough}
 use Rattle.ports.specs.Kept.{Arrived, GoesOnBy, Parcel}
 use Rattle.ports.specs.declared.fault.PortFault.{PortFault}
-use Rattle.protocol.specs.Given.{Given}
 use Rattle.stable_record.specs.Faults.{HasRisen}
 use Rattle.stable_record.specs.History.{History}
 use Rattle.stable_record.specs.declared.log_fault.LogFault.TheVariants as log
@@ -214,29 +214,29 @@ IsTakenAs is_kept history failures offered old new r (Err refused.NotFresh) = �
 
 -- This was made ready, as the turn's choice.
 abbrev pub IsMadeReady : {D P : Type 0} → (P → Option (List Arrived)) → Turning D P → Turning D P
-    → Given → Option Ready → Type 0
-IsMadeReady given old new builds r =
-    HasChosen old.nodes old.sent old.pending builds (given old.port) (given new.port) r
+    → Handed → Option Ready → Type 0
+IsMadeReady given old new handed r =
+    HasChosen old.nodes old.sent old.pending handed (given old.port) (given new.port) r
 
 -- Nothing was made ready.
 abbrev pub IsNotMadeReady : {D P : Type 0} → (P → Option (List Arrived)) → Turning D P → Turning D P
-    → Given → TurnFault → Type 0
-IsNotMadeReady given old new builds f =
-    IsChoosingFault old.nodes old.sent old.pending builds (given old.port) (given new.port) f
+    → Handed → TurnFault → Type 0
+IsNotMadeReady given old new handed f =
+    IsChoosingFault old.nodes old.sent old.pending handed (given old.port) (given new.port) f
 
 -- What a turn is: nothing was made ready, and all stands still; there was nothing to do; or what
 -- was chosen was taken, or was not.
 abbrev pub IsTurn : {D P : Type 0} → (D → Type 0) → (D → History) → (D → ℕ)
     → (P → Option (List Arrived)) → (P → Option (List Parcel)) → Turning D P → Turning D P
-    → Given → Result (Option declared.Event) TurnFault → Type 0
-IsTurn is_kept history failures given offered old new builds (Ok None) =
-    IsMadeReady given old new builds None × StandsStill is_kept history offered old new
-IsTurn is_kept history failures given offered old new builds (Ok (Some e)) =
-    (r : Ready) × IsMadeReady given old new builds (Some r)
+    → Handed → Result (Option declared.Event) TurnFault → Type 0
+IsTurn is_kept history failures given offered old new handed (Ok None) =
+    IsMadeReady given old new handed None × StandsStill is_kept history offered old new
+IsTurn is_kept history failures given offered old new handed (Ok (Some e)) =
+    (r : Ready) × IsMadeReady given old new handed (Some r)
     × IsTakenAs is_kept history failures offered old new r (Ok e)
-IsTurn is_kept history failures given offered old new builds (Err f) =
-    (IsNotMadeReady given old new builds f × StandsStill is_kept history offered old new)
-    ⊎ ((r : Ready) × IsMadeReady given old new builds (Some r)
+IsTurn is_kept history failures given offered old new handed (Err f) =
+    (IsNotMadeReady given old new handed f × StandsStill is_kept history offered old new)
+    ⊎ ((r : Ready) × IsMadeReady given old new handed (Some r)
     × IsTakenAs is_kept history failures offered old new r (Err f))
 
 -- ---- by the calls of the port
@@ -265,9 +265,9 @@ pub record IsTakenByCalls {D P : Type 0} (is_kept : D → Type 0) (history : D �
 
 -- The port answered these calls, and nothing else was asked of it; and seen by them it is the turn.
 pub record IsTurnByCalls {D P : Type 0} (is_kept : D → Type 0) (history : D → History)
-    (failures : D → ℕ) (does : P → Call → P → Type 0) (old new : Turning D P) (builds : Given)
+    (failures : D → ℕ) (does : P → Call → P → Type 0) (old new : Turning D P) (handed : Handed)
     (result : Result (Option declared.Event) TurnFault) : Type 0 where
   pub calls : TurnCalls
   pub went : WentThrough does old.port (calls_of calls) new.port
   pub so : IsTurn is_kept history failures given_in offered_in (by_calls old no_calls)
-      (by_calls new calls) builds result
+      (by_calls new calls) handed result

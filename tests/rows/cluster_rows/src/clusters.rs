@@ -92,7 +92,7 @@ pub fn cluster<'a, D: Disk, P: Port>(
 
 /// What the turn told: a letter and two numbers. C is a claim and its round, D a datagram and the
 /// node that it came to; B, F and N have their node.
-fn told(event: &Event) -> [u8; 3] {
+pub fn told(event: &Event) -> [u8; 3] {
     match event {
         Event::Claim { node, above, .. } => [b'C', digit(*above), digit(*node as u64)],
         Event::Deliver { datagram, node } => [b'D', digit(*datagram), digit(*node as u64)],

@@ -16,7 +16,7 @@ returns-in-Ok-clause-shown g c =
     record {
       node = c.in_ok-node.node;
       is_node = c.in_ok-node.ensures.opened;
-      is_line = subst (λ s. IsLineAfter c.args.given.now.builds c.args.files.now.turns s
+      is = subst (λ s. IsLineAfter c.args.given.now.builds c.args.files.now.turns s
           c.args.me (string_bytes c.in-Ok.line))
           (λ i. record { node = solo.node i; pending = solo.pending i; port = solo.port i })
           c.in-Ok.ensures;

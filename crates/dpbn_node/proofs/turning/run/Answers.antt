@@ -7,7 +7,9 @@ returns g c =
     record {
       last = c.take_turns.new.solo;
       turned = c.take_turns.ensures;
-      same = refl;
-      left = rw seen c.flush.ensures.left;
-      handed = rw (seen, c.flush.ensures.handed, c.port.ensures.value) refl;
+      flushed = record {
+        same = refl;
+        left = rw seen c.flush.ensures.left;
+        handed = rw (seen, c.flush.ensures.handed, c.port.ensures.value) refl;
+      };
     }

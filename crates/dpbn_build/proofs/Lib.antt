@@ -1,0 +1,4 @@
+pub mod Logs
+pub mod Shown
+pub mod Told
+pub mod Turns

@@ -1,0 +1,39 @@
+-- A log that has no notes, and one on which no node starts.
+use Rattle.std.proofs.Common.{◌≡◌, Bool, Option, inl, inr, subst, sym}
+use Rattle.dpbn_build.specs.Build.{LacksNotes}
+use Rattle.dpbn_run.specs.Starts.{IsStartRefusal}
+use Rattle.faults.specs.Bytes.{Text}
+use Rattle.program.specs.declared.refusal.Refusal.{Refusal}
+use Rattle.run_file.specs.Found.{IsFound}
+use Rattle.run_file.specs.declared.judging.LogFound.TheVariants.{Absent, Blank, Fresh}
+use Rattle.stable_record.specs.History.{seen}
+use Rattle.stable_record.specs.RealFile.{file_agrees, file_history}
+use Rattle.stable_record.specs.declared.file_disk.FileDisk.{FileDisk}
+use Rattle.stable_record.specs.declared.identity.Identity.{Identity}
+
+module _ (i : Identity) (before after : FileDisk)
+    (same : file_agrees after → file_history after ≡ file_history before)
+  where
+    -- of a file that is there nothing else is found
+    pub lacks_absent : (file_agrees after → IsFound i (seen (file_history before)) Absent)
+        → LacksNotes i after
+    lacks_absent found agrees = absurd (found agrees)
+
+    -- a log is to be made of it
+    pub lacks_blank : (file_agrees after → IsFound i (seen (file_history before)) Blank)
+        → LacksNotes i after
+    lacks_blank found agrees =
+        inl (subst (λ h. IsFound i (seen h) Blank) (sym (same agrees)) (found agrees))
+
+    -- it is as long as one without notes
+    pub lacks_fresh : (file_agrees after → IsFound i (seen (file_history before)) Fresh)
+        → LacksNotes i after
+    lacks_fresh found agrees =
+        inr (subst (λ h. IsFound i (seen h) Fresh) (sym (same agrees)) (found agrees))
+
+-- what is told of one owner's log is told of the other's, which is the same
+pub start_refusal : (i j : Identity) → i ≡ j → (r : Refusal)
+    → ((shown : Option Text) (is_continued : Bool) → IsStartRefusal i shown is_continued r)
+    → (shown : Option Text) (is_continued : Bool) → IsStartRefusal j shown is_continued r
+start_refusal i j same r is shown is_continued =
+    subst (λ k. IsStartRefusal k shown is_continued r) same (is shown is_continued)

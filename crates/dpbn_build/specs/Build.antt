@@ -1,0 +1,98 @@
+-- What `dpbn build` prints, and what is told where it can't run.
+use Rattle.std.specs.Prelude.{◌≡◌, ◌<◌, ◌⊎◌, ◌==◌, ◌&&◌, ⊤, ℕ, Option, None, Some, if◌then◌else◌, option_map}
+use Rattle.dpbn_build.specs.Turns.{HaveTurned}
+pub use Rattle.dpbn_node.specs.Node.{IsNodeText, RefusesNode}
+pub use Rattle.dpbn_node.specs.Runs.{AreGood, letters_of}
+use Rattle.dpbn_node.specs.Given.{RefusesWeights}
+use Rattle.dpbn_node.specs.Runs.{HasBegun, HasFlushed, IsOfNode, IsRunOf, RefusesPlace, RefusesStart, RunOf, Running, port_vouches}
+use Rattle.dpbn_node.specs.declared.starting.Begun.{Begun}
+use Rattle.dpbn_run.specs.Starts.{owner}
+use Rattle.dpbn_words.specs.declared.Peers.{Peers}
+use Rattle.dpbn_words.specs.declared.Run.{Run}
+use Rattle.dpbn_words.specs.declared.Site.{Site}
+use Rattle.engine.specs.State.{AreCounts, State}
+use Rattle.engine.specs.declared.Counts.{Counts}
+use Rattle.faults.specs.Bytes.{Text}
+use Rattle.program.specs.Listings.{RefusesListingFile}
+use Rattle.program.specs.NodeLine.{node_line}
+use Rattle.program.specs.declared.refusal.Refusal.{Refusal}
+use Rattle.run_file.specs.Found.{IsFound}
+use Rattle.run_file.specs.declared.judging.LogFound.TheVariants.{Blank, Fresh}
+use Rattle.stable_record.specs.History.{seen}
+use Rattle.stable_record.specs.RealFile.{file_agrees, file_history}
+use Rattle.stable_record.specs.declared.file_disk.FileDisk.{FileDisk}
+use Rattle.stable_record.specs.declared.identity.Identity.{Identity}
+
+-- ---- what is printed
+
+-- Some turns led from one state of the node to another, at its end; and the port then handed the
+-- system all that waited to leave.
+pub record HasBuilt (rest : Option ℕ) (old new : Running) : Type 0 where
+  pub last : Running
+  pub turned : HaveTurned file_agrees file_history (λ disk. disk.failures) (λ port. None)
+      (λ port. None) (λ port call after. ⊤) port_vouches
+      (λ port hurry. record port { hurry = hurry }) rest old last
+  pub flushed : HasFlushed last new
+
+-- the status: 0 where the node is up, and no package is queued and none waits; else 3
+abbrev pub status_of : Option Counts → ℕ
+status_of None = 3
+status_of (Some c) = if c.q == 0 && c.t == 0 then 0 else 3
+
+-- The line says what the node shows, and the status whether that is all that can be held.
+abbrev pub IsLineWith : ℕ → Option State → Text → ℕ → Type 0
+IsLineWith me None line status = (line ≡ node_line me None) × (status ≡ status_of None)
+IsLineWith me (Some s) line status =
+    (c : Counts) × AreCounts s c × (line ≡ node_line me (Some c)) × (status ≡ status_of (Some c))
+
+-- So they say it of the node behind its turns.
+pub record IsLineAfter (rest : Option ℕ) (before : Running) (me : ℕ) (line : Text)
+    (status : ℕ) : Type 0 where
+  pub after : Running
+  pub built : HasBuilt rest before after
+  pub is_line : IsLineWith me (letters_of after.node.node) line status
+
+-- the run that the words tell
+abbrev pub IsTold : Site → Peers → Run → RunOf → Type 0
+IsTold site peers run of =
+    IsRunOf site.is_single site.members (option_map (λ t. t.now) site.weights) peers run of
+
+-- The text is the line of the member's node of the run that the words tell, behind turns in which
+-- it had built what it claimed.
+pub record IsBuildText (site : Site) (me : ℕ) (peers : Peers) (run : Run) (text : Text)
+    (status : ℕ) : Type 0 where
+  pub of : RunOf
+  pub is_of : IsTold site peers run of
+  pub member : me < site.members
+  pub built : IsOfNode of me (λ before. IsLineAfter site.rest before me text status)
+
+-- ---- refusals
+
+-- The owner's log has no notes: as long as its file does what its history says, a log is to be made
+-- of it, or it is as long as a log without notes.
+abbrev pub LacksNotes : Identity → FileDisk → Type 0
+LacksNotes i log = file_agrees log
+    → IsFound i (seen (file_history log)) Blank ⊎ IsFound i (seen (file_history log)) Fresh
+
+-- the work folder has files of another run
+abbrev pub work_refusal : Refusal
+work_refusal = record { number = 1209; place = None }
+
+-- So it is told where the log on which a start in the run is made has no notes.
+abbrev pub RefusesWork : RunOf → ℕ → Refusal → Type 0
+RefusesWork of me r =
+    (begun : Begun) × HasBegun of me begun
+    × LacksNotes (owner of.tree of.weights me) begun.start.disk × (r ≡ work_refusal)
+
+-- what is told of the start in the run, and of the work folder there
+abbrev pub RefusesBuildOn : RunOf → ℕ → Refusal → Type 0
+RefusesBuildOn of me r = RefusesStart me of r ⊎ RefusesWork of me r
+
+-- what is told before the first turn: of the listing, of the weights, of the key's file and the
+-- hosts, or of the start in the run that the words tell and of the work folder there
+abbrev pub RefusesBuild : Site → ℕ → Peers → Run → Refusal → Type 0
+RefusesBuild site me peers run r =
+    RefusesListingFile site.is_single r
+    ⊎ (RefusesWeights r
+    ⊎ (RefusesPlace site.members peers run r
+    ⊎ ((of : RunOf) × IsTold site peers run of × RefusesBuildOn of me r)))

@@ -1,0 +1,251 @@
+//! The answer of `dpbn build` to its words.
+ghost use Rattle.std.specs.Prelude.{◌≡◌, ◌<◌, ◌≤◌, ◌⊎◌, IfErr, IfOk, false, length};
+ghost use Rattle.dpbn_build.specs.Build.{
+  IsBuildText,
+  IsLineAfter,
+  IsLineWith,
+  LacksNotes,
+  RefusesBuild,
+  RefusesBuildOn,
+  status_of,
+  work_refusal,
+};
+ghost use Rattle.dpbn_node.specs.Runs.{AreGood, IsOfNode, IsOfNodeOn, RefusesOnLog, letters_of, run_at};
+ghost use Rattle.dpbn_run.specs.Starts.{IsStartRefusal};
+ghost use Rattle.program.specs.Refusals.{IsSystemRefusal};
+
+use crate::ending::Rest;
+use crate::office::Office;
+use crate::pacing::Pacing;
+use crate::turning::run;
+use ballots::Weights;
+use desk::{Desk, Pace};
+use dpbn_node::{Begun, Place, Solo, begin, open, place_of_words, weights_of_words};
+use dpbn_run::{Telling, identity_of, write_unwritten};
+use dpbn_words::{Peers, Run, Site};
+use engine::Counts;
+use listing::Tree;
+use ports::Port;
+use program::{Answer, Refusal, node_text, tree_of_file};
+use run_file::{LogFound, Start, StartFault, found_in};
+use stable_record::{Disk, FileDisk, Identity};
+use std::alloc::{AllocError, Global};
+use std::io::Write;
+use std::time::{Duration, Instant};
+use udp::UdpPort;
+use work::Folder;
+
+/// For how many seconds a unit is left to another member, where it isn't told.
+const TAKEOVER: u32 = 600;
+
+/// Runs the member's node until it is down or comes to rest, and answers the line on it; with the
+/// status 0 where all that isn't ignored is held, and else 3. What a turn or the work folder
+/// refuses is told on `err`, and the node goes on.
+///
+/// All that can be wrong is looked at before the first turn, in this order: the listing, the
+/// weights, the key's file, the hosts, the member, the log's file and the run file beside it, the
+/// socket, the work folder, and the clock; all these before a byte of the log is written. Then the
+/// log itself, and whether the run file can be written.
+///
+/// # Errors
+///
+/// The first of these that is wrong.
+pub fn build_of_words<E: Write>(
+    rt: &HostRuntime,
+    site: &Site<'_>,
+    me: u8,
+    peers: &Peers<'_>,
+    patience: Option<u16>,
+    run: &Run<'_>,
+    err: &mut E,
+) -> Result<Answer, Refusal>
+    requires few { site.now.members ≤ 9 }
+    requires peers { AreGood peers.now }
+    ensures ok { IfOk result (λ answer.
+        IsBuildText site.now me peers.now run.now answer.text.items answer.status) }
+    ensures refused { IfErr result (RefusesBuild site.now me peers.now run.now) }
+{
+    let tree = tree_of_file(rt, site.listing, site.is_single)?;
+    let weights = weights_of_words(rt.alloc(), site.members, site.weights)?;
+    let place = place_of_words(rt, site.members, peers, patience, run)?;
+    build_on(rt, &tree, &weights, site, me, place, err)
+}
+
+/// The answer of the member's node, which begins at this place.
+fn build_on<E: Write>(
+    rt: &HostRuntime,
+    tree: &Tree,
+    weights: &Weights,
+    site: &Site<'_>,
+    me: u8,
+    place: Place,
+    err: &mut E,
+) -> Result<Answer, Refusal>
+    requires { length place.addresses.items ≡ length weights.now }
+    ensures built { IfOk result (λ answer. (me < length weights.now)
+        × IsOfNode (run_at tree.now weights.now place) me
+        (λ before. IsLineAfter site.now.rest before me answer.text.items answer.status)) }
+    ensures refused { IfErr result (RefusesBuildOn (run_at tree.now weights.now place) me) }
+{
+    let telling = Telling::new(rt.alloc(), me, None, place.sealing.is_watched());
+    let begun = begin(rt, tree, weights, site.dir, me, place)?;
+    let Begun { start, port } = begun;
+    let Start { disk, unwritten } = start;
+    let mut disk = disk;
+    let is_noted = has_notes(&mut disk, &identity_of(tree, weights, me))?;
+    let office = office_of(rt, site, me, is_noted, telling)?;
+    let start = Start { disk, unwritten };
+    build_on_log(rt, start, port, office, tree, weights, site, me, err)
+}
+
+/// Whether the owner's log has notes, as far as its length tells: one that is longer than a log
+/// without any counts as one with some. Nothing of it is written.
+///
+/// # Errors
+///
+/// That the log can't be read.
+fn has_notes(disk: &mut FileDisk, owner: &Identity) -> Result<bool, Refusal>
+    ensures lacks { IfOk result (λ has. has ≡ false → LacksNotes owner.now disk.new) }
+    ensures refused { IfErr result (λ r. (shown : _) (is_continued : _)
+        → IsStartRefusal owner.now shown is_continued r) }
+{
+    match found_in(disk, owner) {
+        Ok(LogFound::Noted) => Ok(true),
+        Ok(LogFound::Absent) => Ok(false),
+        Ok(LogFound::Blank) => Ok(false),
+        Ok(LogFound::Fresh) => Ok(false),
+        Err(fault) => Err(Refusal::of(&StartFault::from(fault))),
+    }
+}
+
+/// What goes on beside the turns of the node, which has the work folder to itself.
+///
+/// # Errors
+///
+/// What the system refused of the work folder or the clock; that the folder has files, where the
+/// node's log has no notes.
+fn office_of<'f>(
+    rt: &HostRuntime,
+    site: &Site<'f>,
+    me: u8,
+    has_notes: bool,
+    telling: Telling,
+) -> Result<Office<'f>, Refusal>
+    ensures { IfErr result
+        (λ r. IsSystemRefusal r ⊎ ((has_notes ≡ false) × (r ≡ work_refusal))) }
+{
+    let folder = folder_of(rt, site.work, me, has_notes)?;
+    let now = Instant::now(rt)?;
+    let takeover = site.takeover.unwrap_or(TAKEOVER);
+    Ok(Office {
+        desk: Desk::new(rt.alloc(), folder, pace_of(site.jobs, takeover), now),
+        pacing: Pacing::new(now),
+        rest: Rest::new(now, takeover, site.members),
+        telling,
+        is_lone: site.members == 1,
+        progress: site.progress,
+        told_at: now,
+        looked_at: now,
+        is_full_told: false,
+    })
+}
+
+/// The work folder.
+fn folder_of<'f>(
+    rt: &HostRuntime,
+    path: &'f str,
+    me: u8,
+    has_notes: bool,
+) -> Result<Folder<'f>, Refusal>
+    ensures { IfErr result
+        (λ r. IsSystemRefusal r ⊎ ((has_notes ≡ false) × (r ≡ work_refusal))) }
+{
+    match Folder::open(rt, path, me, has_notes) {
+        Ok(folder) => Ok(folder),
+        Err(fault) => Err(Refusal::of(&fault)),
+    }
+}
+
+/// How long is waited, where so many units are built at a time, one if it isn't told, and another
+/// member's unit is left to it for so many seconds.
+fn pace_of(jobs: Option<u8>, takeover: u32) -> Pace {
+    Pace {
+        jobs: u32::from(jobs.unwrap_or(1)),
+        ask: Duration::from_secs(1),
+        takeover: Duration::from_secs(u64::from(takeover)),
+        slot: Duration::from_millis(250),
+    }
+}
+
+/// The answer of the member's node on the log on which it starts.
+fn build_on_log<E: Write>(
+    rt: &HostRuntime,
+    start: Start,
+    port: UdpPort<'_, HostRuntime>,
+    office: Office<'_>,
+    tree: &Tree,
+    weights: &Weights,
+    site: &Site<'_>,
+    me: u8,
+    err: &mut E,
+) -> Result<Answer, Refusal>
+    requires { me < length weights.now }
+    ensures built { IfOk result (λ answer. IsOfNodeOn start.disk port.entry
+        tree.now weights.now me
+        (λ before. IsLineAfter site.now.rest before me answer.text.items answer.status)) }
+    ensures refused { IfErr result RefusesOnLog }
+{
+    let Start { disk, unwritten } = start;
+    let node = open(rt.alloc(), disk, tree, weights, me)?;
+    write_unwritten(rt, site.dir, me, unwritten)?;
+    let solo = Solo::new(node, port);
+    match answer_after(rt, solo, office, site.rest, me, err) {
+        Ok(answer) => Ok(answer),
+        Err(_) => Err(Refusal::memory()),
+    }
+}
+
+/// The answer of the node, after its turns.
+fn answer_after<E: Write>(
+    rt: &HostRuntime,
+    solo: Solo<'_, FileDisk, UdpPort<'_, HostRuntime>>,
+    office: Office<'_>,
+    rest: Option<u32>,
+    me: u8,
+    err: &mut E,
+) -> Result<Answer, AllocError>
+    ensures { IfOk result (λ answer.
+        IsLineAfter rest solo.entry me answer.text.items answer.status) }
+{
+    let mut solo = solo;
+    let mut office = office;
+    run(rt, &mut solo, &mut office, rest, err);
+    answer_of(rt.alloc(), &solo, me)
+}
+
+/// The answer of the node as it is.
+fn answer_of<D: Disk, P: Port>(
+    alloc: Global,
+    solo: &Solo<'_, D, P>,
+    me: u8,
+) -> Result<Answer, AllocError>
+    ensures { IfOk result (λ answer. IsLineWith me (letters_of solo.now.node.node)
+        answer.text.items answer.status) }
+{
+    let counts = solo.counts();
+    let text = node_text(alloc, me, counts)?;
+    Ok(Answer {
+        text: text.into_bytes(),
+        status: status_of(counts),
+    })
+}
+
+/// The status for what is shown: 0 where the node is up, and no package is queued and none waits.
+fn status_of(counts: Option<Counts>) -> u8
+    ensures { result ≡ status_of counts }
+{
+    match counts {
+        Some(counts) if counts.q == 0 && counts.t == 0 => 0,
+        _ => 3,
+    }
+}

@@ -1,0 +1,122 @@
+//! The turns of a node that has built what it claims.
+ghost use Rattle.std.specs.Prelude.{◌≡◌};
+ghost use Rattle.dpbn_build.specs.Build.{HasBuilt};
+ghost use Rattle.dpbn_build.specs.Turns.{HaveTurned, IsTurn, Turn};
+ghost use Rattle.udp.specs.declared.patience.Hurry.{Hurry};
+
+use crate::ending::is_at_end;
+use crate::office::{Handed, Office, Turned};
+use dpbn_node::Solo;
+use ports::Port;
+use stable_record::{Disk, FileDisk};
+use std::io::Write;
+use std::time::Clock;
+use udp::{Hurry, Tallies, UdpPort};
+
+/// A port that can be told how long to wait, and that counts what it sends and sees.
+pub(crate) trait Hurried {
+    /// The port once it is told how long to wait.
+    ghost hurried: { Self → Hurry → Self };
+
+    /// Tells how long a receive waits where nothing came.
+    fn set_hurry(&mut self, hurry: Hurry)
+        ensures { self.new ≡ hurried self.old hurry };
+
+    /// How many datagrams were offered so far.
+    fn sends(&self) -> u64;
+
+    /// What it saw of the members.
+    fn seen(&self) -> &Tallies;
+}
+
+impl<'c, C: Clock> Hurried for UdpPort<'c, C> {
+    ghost hurried = { λ port hurry. record port { hurry = hurry } };
+
+    fn set_hurry(&mut self, hurry: Hurry) {
+        UdpPort::set_hurry(self, hurry)
+    }
+
+    fn sends(&self) -> u64 {
+        UdpPort::sends(self)
+    }
+
+    fn seen(&self) -> &Tallies {
+        self.tallies()
+    }
+}
+
+/// Takes turns until the node is down or comes to rest, and then sends what waits to leave. What a
+/// turn refuses is told on `err`, and so is what else is to be told as it goes.
+pub(crate) fn run<E: Write>(
+    rt: &HostRuntime,
+    solo: &mut Solo<'_, FileDisk, UdpPort<'_, HostRuntime>>,
+    office: &mut Office<'_>,
+    rest: Option<u32>,
+    err: &mut E,
+)
+    ensures { HasBuilt rest solo.old solo.new }
+{
+    take_turns(rt, solo, office, rest, err);
+    solo.port().flush();
+    office.telling.tell_members(solo.port().seen(), err);
+}
+
+/// Takes turns until the node is down or comes to rest.
+fn take_turns<D: Disk, P: Port + Hurried, E: Write>(
+    rt: &HostRuntime,
+    solo: &mut Solo<'_, D, P>,
+    office: &mut Office<'_>,
+    rest: Option<u32>,
+    err: &mut E,
+)
+    ensures { HaveTurned D.is_kept D.history D.failures_of P.given P.offered P.does P.vouches
+        P.hurried rest solo.old solo.new }
+{
+    for _ in 0..u64::MAX {
+        take_turn(rt, solo, office, err);
+        tell_turn(rt, solo, office, err);
+        if is_at_end(rt, solo, office, rest, err) {
+            return;
+        }
+    }
+}
+
+/// Takes a turn, and keeps and tells what follows of it.
+fn take_turn<D: Disk, P: Port + Hurried, E: Write>(
+    rt: &HostRuntime,
+    solo: &mut Solo<'_, D, P>,
+    office: &mut Office<'_>,
+    err: &mut E,
+)
+    ensures { (turn : Turn) × IsTurn D.is_kept D.history D.failures_of P.given P.offered P.does
+        P.vouches P.hurried solo.old turn solo.new }
+{
+    let Handed { made, wish, hurry } = office.hand_in(rt, solo, err);
+    let is_wished = wish.is_some();
+    solo.port().set_hurry(hurry);
+    let before = solo.port().sends();
+    let answer = solo.turn_live(made.as_ref(), wish);
+    let has_sent = solo.port().sends() != before;
+    let turned = Turned {
+        answer,
+        is_wished,
+        has_sent,
+    };
+    office.keep(rt, solo, turned, err);
+}
+
+/// Tells what is due behind a turn.
+fn tell_turn<D: Disk, P: Port + Hurried, E: Write>(
+    rt: &HostRuntime,
+    solo: &mut Solo<'_, D, P>,
+    office: &mut Office<'_>,
+    err: &mut E,
+)
+    ensures { solo.new ≡ solo.old }
+{
+    office.telling.tell_otherwise(solo.port().seen(), err);
+    if office.is_due() {
+        let counts = solo.counts();
+        office.tell_line(rt.alloc(), counts, solo.port().seen(), err);
+    }
+}

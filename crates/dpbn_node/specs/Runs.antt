@@ -1,0 +1,182 @@
+-- Of which run a node is, how it begins there, and what is told where it can't.
+use Rattle.std.specs.Prelude.{◌≡◌, ◌≢◌, ◌≤◌, ◌⊎◌, ◌++◌, ⊤, ℕ, Bool, true, false, List, [], Option, None, Some, Ok, if◌then◌else◌, length, option_map, string_bytes}
+use Rattle.std.specs.declared.rt.LibcRuntime.{LibcRuntime}
+use Rattle.choice.specs.Pending.{nothing_kept}
+use Rattle.dpbn_node.specs.Given.{AreTold}
+use Rattle.dpbn_node.specs.declared.starting.Begun.{Begun}
+use Rattle.dpbn_node.specs.declared.starting.Place.{Place}
+use Rattle.dpbn_run.specs.Keys.{IsKeyOf, RefusesKeyFile, seal_of, shown_of}
+use Rattle.dpbn_run.specs.Starts.{IsStartRefusal, owner}
+use Rattle.dpbn_words.specs.declared.Peers.{Peers}
+use Rattle.dpbn_words.specs.declared.Peers.TheVariants.{Base, Hosts}
+use Rattle.dpbn_words.specs.declared.Run.{Run}
+use Rattle.engine.specs.State.{State}
+use Rattle.faults.specs.Bytes.{Text, comma}
+use Rattle.faults.specs.Pieces.{pieces_at}
+use Rattle.listing.specs.Tree.{Tree}
+use Rattle.node.specs.Calls.{IsOpened}
+use Rattle.node.specs.OnLog.{IsOnLog, identity_of, texts_of}
+use Rattle.node.specs.Refusals.{number_of}
+use Rattle.node.specs.State.{LoggedNode, NodeState}
+use Rattle.node.specs.declared.fault.NodeFault.{NodeFault}
+use Rattle.program.specs.Listings.{IsDescribed}
+use Rattle.program.specs.Refusals.{IsSystemRefusal, memory_refusal}
+use Rattle.program.specs.declared.refusal.Refusal.{Refusal}
+use Rattle.protocol.specs.State.{engine_of}
+use Rattle.run_file.specs.Starts.{IsStarted}
+pub use Rattle.solo.specs.Handed.{SoFar}
+pub use Rattle.solo.specs.State.{SoloState}
+pub use Rattle.solo.specs.Turns.{IsTurn, Outcome}
+use Rattle.stable_record.specs.Crash.{AllAlong}
+use Rattle.stable_record.specs.History.{seen}
+use Rattle.stable_record.specs.Opening.{Opens, OpensAsLeft}
+use Rattle.stable_record.specs.RealFile.{file_agrees, file_history}
+use Rattle.stable_record.specs.declared.file_disk.FileDisk.{FileDisk}
+use Rattle.udp.specs.Hosts.{IsFirstBad}
+use Rattle.udp.specs.Inbox.{is_vouched_for}
+use Rattle.udp.specs.Leaving.{texts_of as texts_that_wait}
+use Rattle.udp.specs.declared.udp_port.UdpPort.{UdpPort}
+
+-- ---- nodes
+
+-- the letters that the node shows, if it is up
+abbrev pub letters_of : NodeState → Option State
+letters_of n = if n.stopped then None else Some (engine_of n.member)
+
+-- a node whose log is a file, and whose peers are elsewhere: what it keeps, and its port
+abbrev pub Running : Type 0
+Running = SoloState FileDisk (UdpPort LibcRuntime)
+
+-- the port vouches for this text: the bytes as which it comes are among those that came
+abbrev pub port_vouches : UdpPort LibcRuntime → Text → Type 0
+port_vouches port text = is_vouched_for port.inbox.key port.inbox.came text ≡ true
+
+-- The port handed the system all that waited to leave, in order and each once, and nothing else.
+pub record HasFlushed (old new : Running) : Type 0 where
+  pub same : new ≡ record old { port = new.port }
+  pub left : new.port.leaving.waiting.items ≡ []
+  pub handed : new.port.handed.all
+      ≡ old.port.handed.all ++ texts_that_wait old.port.leaving.waiting.items
+
+-- The node is the member's, over the tree, among members that weigh so much, as the notes of this
+-- log restore it. As long as the file does what its history says: these are the log's notes, the
+-- node has them on it, and a crash while it was opened left what a crash before could leave.
+pub record IsNodeOf (tree : Tree) (weights : List ℕ) (me : ℕ) (log : FileDisk)
+    (n : LoggedNode FileDisk) : Type 0 where
+  pub opened : IsOpened tree weights me n.node
+  pub notes : file_agrees n.log.disk → Opens (identity_of n.node.member) (seen (file_history log))
+      (Ok (texts_of n.node.notes))
+  pub on_log : file_agrees n.log.disk → IsOnLog file_history n
+  pub any_moment : file_agrees n.log.disk → AllAlong
+      (OpensAsLeft (identity_of n.node.member) (file_history log)) (file_history log)
+      (file_history n.log.disk)
+
+-- So it is of the member's node, which was opened on this log, kept nothing yet, and has this port.
+pub record IsOfNodeOn (log : FileDisk) (port : UdpPort LibcRuntime) (tree : Tree)
+    (weights : List ℕ) (me : ℕ) (Is : Running → Type 0) : Type 0 where
+  pub node : LoggedNode FileDisk
+  pub is_node : IsNodeOf tree weights me log node
+  pub is : Is (record { node = node; pending = nothing_kept; port = port })
+
+-- ---- runs
+
+-- Of which run a node is: over which tree, what its members weigh, and its key, if it has one; then
+-- whether all who send are heard where it has none, and whether a log of it has to be there.
+pub record RunOf : Type 0 where
+  pub tree : Tree
+  pub weights : List ℕ
+  pub key : Option Text
+  pub is_open : Bool
+  pub is_continued : Bool
+
+-- all members are on one host
+abbrev pub is_local : Peers → Bool
+is_local (Base port) = true
+is_local (Hosts text) = false
+
+-- So the words say, of so many members with these weights, if they are told: a listing describes
+-- the tree, in which each path is a group of its own or not, so many members weigh what is told,
+-- and the key is that of the file. Strangers are heard where all members are on one host alone.
+pub record IsRunOf (is_single : Bool) (members : ℕ) (weights : Option Text) (peers : Peers)
+    (run : Run) (of : RunOf) : Type 0 where
+  pub described : IsDescribed is_single of.tree
+  pub told : AreTold members weights of.weights
+  pub has_key : IsKeyOf (option_map (λ t. t.now) run.key) of.key
+  pub open_to : of.is_open ≡ is_local peers
+  pub continued : of.is_continued ≡ run.is_continued
+
+-- the run that a node is of at this place
+abbrev pub run_at : Tree → List ℕ → Place → RunOf
+run_at tree weights place = record {
+  tree = tree;
+  weights = weights;
+  key = place.sealing.key;
+  is_open = place.sealing.is_open;
+  is_continued = place.is_continued;
+}
+
+-- The port seals what leaves it, and opens what comes, under the run's key, if there is one; and
+-- then it hears no strangers, nor where they are not to be heard.
+pub record IsGuarded (of : RunOf) (port : UdpPort LibcRuntime) : Type 0 where
+  pub opens : port.inbox.key ≡ seal_of of.tree of.weights of.key
+  pub seals : port.outbox.key ≡ seal_of of.tree of.weights of.key
+  pub sealed : of.key ≢ None → port.is_open ≡ false
+  pub closed : of.is_open ≡ false → port.is_open ≡ false
+
+-- A start in the run was made for the member, and the port guards the run.
+pub record HasBegun (of : RunOf) (me : ℕ) (begun : Begun) : Type 0 where
+  pub started : IsStarted (owner of.tree of.weights me) (shown_of of.key) of.is_continued
+      (option_map string_bytes begun.start.unwritten)
+  pub guarded : IsGuarded of begun.port
+
+-- So it is of the member's node, which was opened on the log on which a start in the run was made,
+-- kept nothing yet, and has a port that guards the run.
+pub record IsOfNode (of : RunOf) (me : ℕ) (Is : Running → Type 0) : Type 0 where
+  pub begun : Begun
+  pub has_begun : HasBegun of me begun
+  pub opened : IsOfNodeOn begun.start.disk begun.port of.tree of.weights me Is
+
+-- the first port is low enough for all members
+abbrev pub AreGood : Peers → Type 0
+AreGood (Base port) = port ≤ 65526
+AreGood (Hosts text) = ⊤
+
+-- ---- refusals
+
+-- the hosts are none of so many members, by the first of them that is bad; a first port is never
+-- refused
+abbrev pub IsHostsRefusal : ℕ → Peers → Refusal → Type 0
+IsHostsRefusal members (Base port) r = ⊥
+IsHostsRefusal members (Hosts text) r =
+    (n : ℕ) × IsFirstBad members (pieces_at comma text.now) n
+    × (r ≡ record { number = 1206; place = Some n })
+
+-- what is told of the key's file, and then of the hosts, or memory was wanting
+abbrev pub RefusesPlace : ℕ → Peers → Run → Refusal → Type 0
+RefusesPlace members peers run r =
+    RefusesKeyFile (option_map (λ t. t.now) run.key) r
+    ⊎ (IsHostsRefusal members peers r ⊎ (r ≡ memory_refusal))
+
+-- no member has this number
+abbrev pub member_refusal : Refusal
+member_refusal = record { number = 909; place = None }
+
+-- the address of the member can't be had
+abbrev pub socket_refusal : Refusal
+socket_refusal = record { number = 1204; place = None }
+
+-- the log opens as no node of the member
+abbrev pub IsLogRefusal : Refusal → Type 0
+IsLogRefusal r = (f : NodeFault) × (r ≡ record { number = number_of f; place = None })
+
+-- what is told of the member's number, the start on the log, the socket, and then the log
+abbrev pub RefusesStart : ℕ → RunOf → Refusal → Type 0
+RefusesStart me of r =
+    IsSystemRefusal r
+    ⊎ (((r ≡ member_refusal) × (length of.weights ≤ me))
+    ⊎ (IsStartRefusal (owner of.tree of.weights me) (shown_of of.key) of.is_continued r
+    ⊎ ((r ≡ socket_refusal) ⊎ IsLogRefusal r)))
+
+-- that of the system, where the run file can't be written or memory is wanting; or of the log
+abbrev pub RefusesOnLog : Refusal → Type 0
+RefusesOnLog r = IsSystemRefusal r ⊎ IsLogRefusal r

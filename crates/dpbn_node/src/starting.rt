@@ -1,0 +1,200 @@
+//! How a member's node begins: of which run it is, where it stands among its peers, and its log and
+//! port.
+ghost use Rattle.std.specs.Prelude.{◌≡◌, ◌<◌, ◌≤◌, ◌⊎◌, IfErr, IfOk, length, option_map};
+ghost use Rattle.dpbn_node.specs.Runs.{
+  AreGood,
+  HasBegun,
+  IsHostsRefusal,
+  IsLogRefusal,
+  IsNodeOf,
+  RefusesPlace,
+  RefusesStart,
+  is_local,
+  member_refusal,
+  run_at,
+  socket_refusal,
+};
+ghost use Rattle.dpbn_run.specs.Keys.{IsKeyOf};
+ghost use Rattle.program.specs.Refusals.{memory_refusal};
+
+use ballots::Weights;
+use dpbn_run::{Sealing, identity_of, key_of_words, start_of};
+use dpbn_words::{Peers, Run};
+use listing::Tree;
+use node::Node;
+use program::Refusal;
+use run_file::Start;
+use stable_record::FileDisk;
+use std::alloc::Global;
+use std::net::SocketAddr;
+use udp::{Guard, UdpPort, loopback, parse_hosts};
+
+/// For how many milliseconds a turn waits for a datagram, where it isn't told.
+const PATIENCE: u16 = 20;
+
+/// Where a node stands among its peers, and of which run it is.
+#[derive(Drop)]
+pub struct Place {
+    pub sealing: Sealing,
+    /// Where the members listen, by number.
+    pub addresses: Vec<SocketAddr>,
+    /// For how many milliseconds a turn waits for a datagram.
+    pub patience: u16,
+    /// Whether a log of the run has to be there.
+    pub is_continued: bool,
+}
+
+/// The place that the words tell.
+///
+/// # Errors
+///
+/// That of the key's file; else that of the hosts.
+pub fn place_of_words(
+    rt: &HostRuntime,
+    members: u8,
+    peers: &Peers<'_>,
+    patience: Option<u16>,
+    run: &Run<'_>,
+) -> Result<Place, Refusal>
+    requires few { members ≤ 9 }
+    requires peers { AreGood peers.now }
+    ensures each { IfOk result (λ place. length place.addresses.items ≡ members) }
+    ensures key { IfOk result
+        (λ place. IsKeyOf (option_map (λ t. t.now) run.now.key) place.sealing.key) }
+    ensures open_to { IfOk result (λ place. place.sealing.is_open ≡ is_local peers.now) }
+    ensures continued { IfOk result (λ place. place.is_continued ≡ run.now.is_continued) }
+    ensures refused { IfErr result (RefusesPlace members peers.now run.now) }
+{
+    let key = key_of_words(rt, run.key)?;
+    let addresses = addresses_of(rt.alloc(), members, peers)?;
+    Ok(Place {
+        sealing: Sealing {
+            key,
+            is_open: is_local(peers),
+        },
+        addresses,
+        patience: patience.unwrap_or(PATIENCE),
+        is_continued: run.is_continued,
+    })
+}
+
+/// Whether all members are on this host.
+fn is_local(peers: &Peers<'_>) -> bool
+    ensures { result ≡ is_local peers.now }
+{
+    match peers {
+        Peers::Base(_) => true,
+        Peers::Hosts(_) => false,
+    }
+}
+
+/// Where the members listen.
+fn addresses_of(alloc: Global, members: u8, peers: &Peers<'_>) -> Result<Vec<SocketAddr>, Refusal>
+    requires few { members ≤ 9 }
+    requires peers { AreGood peers.now }
+    ensures count { IfOk result (λ addresses. length addresses.items ≡ members) }
+    ensures refused { IfErr result
+        (λ r. (r ≡ memory_refusal) ⊎ IsHostsRefusal members peers.now r) }
+{
+    match peers {
+        Peers::Base(base) => Ok(loopback(alloc, members, *base)?),
+        Peers::Hosts(text) => match parse_hosts(alloc, text, members) {
+            Ok(hosts) => Ok(hosts),
+            Err(fault) => Err(Refusal::of(&fault)),
+        },
+    }
+}
+
+/// What a node begins with.
+#[derive(Drop)]
+pub struct Begun<'c> {
+    /// The log on which it starts.
+    pub start: Start,
+    pub port: UdpPort<'c, HostRuntime>,
+}
+
+/// What the member's node begins with at this place, in the run over the tree among members that
+/// weigh so much. No byte of a file in the folder is written yet.
+///
+/// # Errors
+///
+/// That no member has the number; else why it can't start on its log; else that its address can't
+/// be had.
+pub fn begin<'c>(
+    rt: &'c HostRuntime,
+    tree: &Tree,
+    weights: &Weights,
+    folder: &str,
+    me: u8,
+    place: Place,
+) -> Result<Begun<'c>, Refusal>
+    requires { length place.addresses.items ≡ length weights.now }
+    ensures member { IfOk result (λ begun. me < length weights.now) }
+    ensures begun { IfOk result (HasBegun (run_at tree.now weights.now place) me) }
+    ensures refused { IfErr result (RefusesStart me (run_at tree.now weights.now place)) }
+{
+    if me as usize >= weights.len() {
+        return Err(not_a_member());
+    }
+    let identity = identity_of(tree, weights, me);
+    let start = start_of(rt, folder, &identity, &place.sealing, place.is_continued)?;
+    let guard = place.sealing.guard(tree, weights);
+    let port = port_of(rt, place.addresses, me, place.patience, guard)?;
+    Ok(Begun { start, port })
+}
+
+/// No member has this number.
+fn not_a_member() -> Refusal
+    ensures { result ≡ member_refusal }
+{
+    Refusal {
+        number: 909,
+        place: None,
+    }
+}
+
+/// The port of the member's node, which lets in what the guard does.
+fn port_of<'c>(
+    rt: &'c HostRuntime,
+    addresses: Vec<SocketAddr>,
+    me: u8,
+    patience: u16,
+    guard: Guard,
+) -> Result<UdpPort<'c, HostRuntime>, Refusal>
+    requires { me < length addresses.items }
+    ensures sealed { IfOk result (λ port. (port.inbox.key ≡ guard.seal)
+        × (port.outbox.key ≡ guard.seal)) }
+    ensures open { IfOk result (λ port. port.is_open ≡ guard.is_open) }
+    ensures refused { IfErr result (λ r. (r ≡ memory_refusal) ⊎ (r ≡ socket_refusal)) }
+{
+    match UdpPort::alone_behind(rt, rt, rt.alloc(), addresses, me, patience, guard) {
+        Ok(port) => Ok(port),
+        Err(fault) => Err(Refusal::of(&fault)),
+    }
+}
+
+/// The member's node on its log. That is so whatever is known of the log's file before: what its
+/// disk says of it, as long as the file does what that says.
+///
+/// # Errors
+///
+/// Why the log opens as no node of the member.
+pub fn open<'a>(
+    alloc: Global,
+    disk: FileDisk,
+    tree: &'a Tree,
+    weights: &Weights,
+    me: u8,
+) -> Result<Node<'a, FileDisk>, Refusal>
+    requires { me < length weights.now }
+    ensures opened { IfOk result (IsNodeOf tree.entry.now weights.now me disk) }
+    ensures refused { IfErr result IsLogRefusal }
+{
+    match Node::open(alloc, disk, tree, weights, me) {
+        Ok(node) => Ok(node),
+        Err((fault, disk)) => {
+            drop(disk);
+            Err(Refusal::of(&fault))
+        }
+    }
+}

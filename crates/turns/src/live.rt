@@ -1,0 +1,129 @@
+//! The turns of a cluster where builds are made while its nodes run.
+ghost use Rattle.std.specs.Prelude.{◌≡◌, ◌≤◌, ◌++◌, ◌∷◌, [], IfErr, IfNone, IfOk, IfSome, None, length, map, option_map};
+ghost use Rattle.choosing.specs.Choosing.{NoneIsForeign};
+ghost use Rattle.choosing.specs.Handed.{SoFar, made_of};
+ghost use Rattle.choosing.specs.Unfailed.{EachFailedBelow};
+ghost use Rattle.events.specs.Events.{event_view, node_of};
+ghost use Rattle.turns.specs.Calls.{HasCalledFor};
+ghost use Rattle.turns.specs.Disks.{LeavesDisks};
+ghost use Rattle.turns.specs.Faults.{IsLeftBy, IsTurnFaultFor};
+ghost use Rattle.turns.specs.Headline.{HasHeadline};
+ghost use Rattle.turns.specs.State.{AreOnLogs, taken};
+ghost use Rattle.turns.specs.Turn.{HasHappened, IsChosenFor, IsEventChosenFor, IsSame, KeepsWith, Offers, OthersStay};
+ghost use Rattle.turns.specs.inside.Turning.{IsTurn, IsTurnByCalls, as_turning};
+
+use crate::Cluster;
+use crate::taking::take;
+use choice::{Pending, TurnFault};
+use choosing::choose_live;
+use datagrams::Datagrams;
+use events::Event;
+use live_choice::Wish;
+use node::Node;
+use ports::Port;
+use protocol::Packages;
+use stable_record::Disk;
+use std::alloc::Global;
+
+impl<'a, D: Disk, P: Port> Cluster<'a, D, P> {
+    /// Takes one turn where builds are made while the nodes run, and answers the event that it was,
+    /// if there was anything to do. `made` has by node what is made so far for its job; where
+    /// nothing is made yet the job waits. Where nothing else is to be done the node of the wish, if
+    /// there is one and it is up, does what it is wished to, or else a node goes on with its open
+    /// claim. What a send refuses is lost, and a receive that fails gave nothing.
+    ///
+    /// # Errors
+    ///
+    /// `Memory`; `NotSent`, where bytes came, for a node that is up, that none of the nodes sent;
+    /// `Down`, where the device of the event's node failed; else what that node refuses.
+    pub fn turn_live(
+        &mut self,
+        made: &[Option<&Packages>],
+        wish: Option<(u8, Wish)>,
+    ) -> Result<Option<Event>, TurnFault>
+        // The choice: as far as the port keeps what it gave, it was asked once, unless a job waited
+        // for its answer.
+        ensures chosen { IfOk result (λ o. IfSome o
+            (λ e. IsEventChosenFor P.given self.old self.new
+            (SoFar (made_of (map (option_map (λ b. b.now)) made.now)) wish) (event_view e))) }
+        ensures nothing { IfOk result (λ o. IfNone o
+            (IsChosenFor P.given self.old self.new
+            (SoFar (made_of (map (option_map (λ b. b.now)) made.now)) wish) None)) }
+
+        // What was chosen happened; or nothing changed but the port; or why it is refused.
+        ensures happened { IfOk result (λ o. IfSome o
+            (λ e. HasHappened self.old self.new (event_view e))) }
+        ensures others { IfOk result (λ o. IfSome o
+            (λ e. OthersStay self.old self.new (node_of (event_view e)))) }
+        ensures pending { IfOk result (λ o. IfSome o
+            (λ e. KeepsWith self.old self.new (event_view e))) }
+        ensures kept { IfOk result (λ o. IfSome o
+            (λ e. taken self.new ≡ taken self.old ++ event_view e ∷ [])) }
+        ensures same { IfOk result (λ o. IfNone o (IsSame self.old self.new)) }
+        ensures refused { IfErr result (IsTurnFaultFor P.given self.old self.new
+            (SoFar (made_of (map (option_map (λ b. b.now)) made.now)) wish)) }
+        ensures left { IfErr result (IsLeftBy self.old self.new) }
+
+        // The port's sends; and all of its calls, whatever it keeps of them.
+        ensures offers { Offers P.offered self.old self.new result }
+        ensures calls { HasCalledFor P.does self.old self.new
+            (SoFar (made_of (map (option_map (λ b. b.now)) made.now)) wish) result }
+
+        // The disks, at each moment; and what holds, whichever it was.
+        ensures disks { LeavesDisks D.is_kept D.history D.failures_of self.old self.new result }
+        ensures on_logs { AreOnLogs D.is_kept D.history self.new }
+        ensures fixed { (self.new.division ≡ self.old.division)
+            × (self.new.weights ≡ self.old.weights) }
+        ensures headline { HasHeadline self.new }
+    {
+        take_live_turn(
+            self.alloc,
+            &mut self.nodes,
+            &mut self.port,
+            &mut self.sent,
+            &mut self.events,
+            &mut self.pending,
+            &mut self.unfailed,
+            made,
+            wish,
+        )
+    }
+}
+
+/// The same of these nodes: what is chosen happens. Below the position of each node in `unfailed`
+/// no package is queued there but those whose units failed.
+fn take_live_turn<D: Disk, P: Port>(
+    alloc: Global,
+    nodes: &mut Vec<Node<'_, D>>,
+    port: &mut P,
+    sent: &mut Datagrams,
+    events: &mut Vec<Event>,
+    pending: &mut Pending,
+    unfailed: &mut [u32; 9],
+    made: &[Option<&Packages>],
+    wish: Option<(u8, Wish)>,
+) -> Result<Option<Event>, TurnFault>
+    requires few { length nodes.old.items ≤ 9 }
+    requires next { pending.old.next ≤ length nodes.old.items }
+    requires known { NoneIsForeign nodes.old.items sent.old }
+    requires below { EachFailedBelow nodes.old.items pending.old unfailed.old }
+    ensures below { EachFailedBelow nodes.new.items pending.new unfailed.new }
+    ensures turn { IsTurn D.is_kept D.history D.failures_of P.given P.offered
+        (as_turning nodes.old.items sent.old events.old.items pending.old port.old)
+        (as_turning nodes.new.items sent.new events.new.items pending.new port.new)
+        (SoFar (made_of (map (option_map (λ b. b.now)) made.now)) wish)
+        result }
+    ensures calls { IsTurnByCalls D.is_kept D.history D.failures_of P.does
+        (as_turning nodes.old.items sent.old events.old.items pending.old port.old)
+        (as_turning nodes.new.items sent.new events.new.items pending.new port.new)
+        (SoFar (made_of (map (option_map (λ b. b.now)) made.now)) wish)
+        result }
+{
+    match choose_live(alloc, nodes, port, sent, pending, made, wish)? {
+        Some(chosen) => {
+            let event = take(alloc, nodes, port, sent, events, pending, unfailed, chosen)?;
+            Ok(Some(event))
+        }
+        None => Ok(None),
+    }
+}

@@ -1,0 +1,36 @@
+//! Turns of both kinds in a row.
+ghost use Rattle.std.specs.Prelude.{◌++◌, IfOk, map, option_map};
+ghost use Rattle.choosing.specs.Handed.{SoFar, made_of};
+ghost use Rattle.turns.specs.Headline.{HasHeadline};
+ghost use Rattle.turns_rows.specs.Going.{GoesOnWith, event_in};
+ghost use Rattle.turns_rows.specs.Mixed.{IsChosenThen};
+
+use choice::TurnFault;
+use events::Event;
+use live_choice::Wish;
+use ports::Port;
+use protocol::Packages;
+use stable_record::Disk;
+use turns::Cluster;
+
+/// Takes a turn with all builds, and one where builds are made while the nodes run, and answers the
+/// event of each, if it was one. From each world that the cluster was the events lead, the first
+/// one and then the second, to a world that it is, and they are all that its events went on by; and
+/// the second is the choice by what is made and wished. Whatever is handed in, and whichever turn
+/// is refused, the headline holds of all events so far.
+pub fn turn_then_live<D: Disk, P: Port>(
+    cluster: &mut Cluster<'_, D, P>,
+    builds: &Packages,
+    made: &[Option<&Packages>],
+    wish: Option<(u8, Wish)>,
+) -> Result<(Option<Event>, Option<Event>), TurnFault>
+    ensures goes_on { IfOk result
+        (λ r. GoesOnWith cluster.old cluster.new (event_in r.0 ++ event_in r.1)) }
+    ensures chosen { IfOk result (λ r. IsChosenThen P.given cluster.old cluster.new
+        (SoFar (made_of (map (option_map (λ b. b.now)) made.now)) wish) r.0 r.1) }
+    ensures headline { HasHeadline cluster.new }
+{
+    let one = cluster.turn(builds)?;
+    let other = cluster.turn_live(made, wish)?;
+    Ok((one, other))
+}

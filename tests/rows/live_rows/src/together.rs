@@ -1,0 +1,189 @@
+//! Nodes of one cluster, each with its desk, whose builds come in by folders of their own.
+use crate::desks::{BUILDS, TWO, hand_in, letter, name_of_job, pace};
+use ballots::Weights;
+use desk::Desk;
+use engine::Counts;
+use listing::Tree;
+use node::Node;
+use ports::{MemPort, Port};
+use solo::Solo;
+use stable_record::MemDisk;
+use std::alloc::Global;
+use std::test::Fail;
+use std::time::{Duration, Instant};
+use work::Folder;
+
+/// The folders of three nodes.
+const WORKS: [&str; 3] = ["work-0", "work-1", "work-2"];
+
+/// A node with its desk.
+#[derive(Drop)]
+struct Host<'a> {
+    solo: Solo<'a, MemDisk, MemPort>,
+    desk: Desk<'a>,
+}
+
+/// The node of this number, of so many members that weigh alike.
+fn make_host<'a>(
+    rt: &HostRuntime,
+    tree: &'a Tree,
+    members: &[u8],
+    me: u8,
+    now: Instant,
+) -> Result<Host<'a>, Fail> {
+    let alloc = rt.alloc();
+    let folder = Folder::open(rt, WORKS[me as usize], me, false)?;
+    let disk = MemDisk::new(alloc, &[])?;
+    match Node::open(alloc, disk, tree, &Weights::new(members)?, me) {
+        Ok(node) => Ok(Host {
+            solo: Solo::new(node, MemPort::new(alloc)),
+            desk: Desk::new(alloc, folder, pace(1), now),
+        }),
+        Err((fault, _disk)) => Err(fault)?,
+    }
+}
+
+/// Carries what waits at the node's port to the nodes that it is for.
+fn carry(alloc: Global, hosts: &mut Vec<Host<'_>>, from: usize) -> Result<(), Fail> {
+    let mut waiting = Vec::new(alloc);
+    for _ in 0..1000 {
+        match hosts[from].solo.port().receive()? {
+            Some(datagram) => waiting.push(datagram)?,
+            None => break,
+        }
+    }
+    for (to, bytes) in waiting {
+        if let Some(host) = hosts.get_mut(to as usize) {
+            host.solo.port().put_in(to, bytes)?;
+        }
+    }
+    Ok(())
+}
+
+/// So many turns of each of these nodes.
+fn rounds(
+    rt: &HostRuntime,
+    hosts: &mut Vec<Host<'_>>,
+    now: Instant,
+    count: usize,
+) -> Result<(), Fail> {
+    for _ in 0..count {
+        for me in 0..hosts.len() {
+            let host = &mut hosts[me];
+            letter(rt, &mut host.solo, &mut host.desk, now)?;
+            carry(rt.alloc(), hosts, me)?;
+        }
+    }
+    Ok(())
+}
+
+/// Hands in a build for the node's job, if it has one.
+fn build(rt: &HostRuntime, hosts: &Vec<Host<'_>>, me: usize) -> Result<bool, Fail> {
+    match name_of_job(rt, &hosts[me].solo)? {
+        Some(name) => {
+            hand_in(rt, WORKS[me], &name, BUILDS)?;
+            Ok(true)
+        }
+        None => Ok(false),
+    }
+}
+
+/// How many packages can be installed at the node.
+fn installable(host: &Host<'_>) -> u32 {
+    match host.solo.counts() {
+        Some(Counts { i, .. }) => i,
+        None => 0,
+    }
+}
+
+fn later(now: Instant, seconds: u64) -> Result<Instant, Fail> {
+    Ok(now.checked_add(Duration::from_secs(seconds)).ok_or("no such time")?)
+}
+
+#[test]
+fn made_for_one_and_not_for_the_other(rt: HostRuntime) -> Result<(), Fail> {
+    let alloc = rt.alloc();
+    let tree = Tree::parse(alloc, TWO)?;
+    let now = Instant::now(&rt)?;
+    let mut hosts = Vec::new(alloc);
+    hosts.push(make_host(&rt, &tree, &[1, 1], 0, now)?)?;
+    hosts.push(make_host(&rt, &tree, &[1, 1], 1, now)?)?;
+    rounds(&rt, &mut hosts, now, 30)?;
+    // each has a job, for another unit
+    let first = name_of_job(&rt, &hosts[0].solo)?;
+    let second = name_of_job(&rt, &hosts[1].solo)?;
+    let (Some(first), Some(second)) = (first, second) else {
+        return Ok(assert!(rt; false));
+    };
+    let are_two = first.as_str() != second.as_str();
+    let is_built = build(&rt, &hosts, 1)?;
+    rounds(&rt, &mut hosts, now, 30)?;
+    let at_first = [installable(&hosts[0]), installable(&hosts[1])];
+    let waits = hosts[0].solo.node().member().job().is_some();
+    let clear = [hosts[0].desk.is_clear(), hosts[1].desk.is_clear()];
+    let other_is_built = build(&rt, &hosts, 0)?;
+    rounds(&rt, &mut hosts, now, 30)?;
+    let at_last = [installable(&hosts[0]), installable(&hosts[1])];
+    drop(hosts);
+    assert!(rt; are_two && is_built && waits && other_is_built);
+    assert!(rt; at_first == [1, 1]);
+    assert!(rt; clear == [false, true]);
+    assert!(rt; at_last == [2, 2]);
+    Ok(())
+}
+
+#[test]
+fn a_unit_is_taken_over(rt: HostRuntime) -> Result<(), Fail> {
+    let alloc = rt.alloc();
+    let tree = Tree::parse(alloc, b"a/b.FULLPKGNAME=b-1.0\n")?;
+    let now = Instant::now(&rt)?;
+    let mut hosts = Vec::new(alloc);
+    hosts.push(make_host(&rt, &tree, &[1, 1], 0, now)?)?;
+    hosts.push(make_host(&rt, &tree, &[1, 1], 1, now)?)?;
+    rounds(&rt, &mut hosts, now, 30)?;
+    let is_first = hosts[0].solo.node().member().job().is_some();
+    // the other sees that it is away, and leaves it to the first for 600 seconds
+    rounds(&rt, &mut hosts, later(now, 1)?, 10)?;
+    rounds(&rt, &mut hosts, later(now, 600)?, 10)?;
+    let is_left = hosts[1].solo.node().member().job().is_none();
+    let has_more = hosts[1].desk.has_more(hosts[1].solo.node().member());
+    rounds(&rt, &mut hosts, later(now, 601)?, 30)?;
+    let is_over = build(&rt, &hosts, 1)?;
+    rounds(&rt, &mut hosts, later(now, 602)?, 30)?;
+    let installable = [installable(&hosts[0]), installable(&hosts[1])];
+    let clear = [hosts[0].desk.is_clear(), hosts[1].desk.is_clear()];
+    drop(hosts);
+    assert!(rt; is_first && is_left && has_more);
+    assert!(rt; is_over);
+    assert!(rt; installable == [1, 1]);
+    assert!(rt; clear == [true, true]);
+    Ok(())
+}
+
+#[test]
+fn a_late_node_comes_to_hold_all(rt: HostRuntime) -> Result<(), Fail> {
+    let alloc = rt.alloc();
+    let tree = Tree::parse(alloc, TWO)?;
+    let now = Instant::now(&rt)?;
+    let mut hosts = Vec::new(alloc);
+    hosts.push(make_host(&rt, &tree, &[1, 1, 1], 0, now)?)?;
+    hosts.push(make_host(&rt, &tree, &[1, 1, 1], 1, now)?)?;
+    for _ in 0..4 {
+        rounds(&rt, &mut hosts, now, 30)?;
+        for me in 0..2 {
+            build(&rt, &hosts, me)?;
+        }
+    }
+    let before = [installable(&hosts[0]), installable(&hosts[1])];
+    let logs = [hosts[0].solo.node().log_len(), hosts[1].solo.node().log_len()];
+    // it asks, and is told; the others note nothing
+    hosts.push(make_host(&rt, &tree, &[1, 1, 1], 2, now)?)?;
+    rounds(&rt, &mut hosts, later(now, 1)?, 30)?;
+    let after = installable(&hosts[2]);
+    let is_silent = logs == [hosts[0].solo.node().log_len(), hosts[1].solo.node().log_len()];
+    let is_clear = hosts[2].desk.is_clear();
+    drop(hosts);
+    assert!(rt; before == [2, 2]);
+    assert!(rt; after == 2 && is_silent && is_clear);
+    Ok(())
+}

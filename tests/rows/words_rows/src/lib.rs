@@ -1,0 +1,5 @@
+//! Words of `dpbn`, and which call they make.
+#![tactic(auto)]
+
+#[cfg(test)]
+mod builds;

@@ -1,0 +1,804 @@
+"""`dpbn build` with tools/build-jobs: hosts that build a tree of Makefiles together, nodes and drivers that are killed meanwhile,
+ports that fail and are mended, a host that comes late, answers that are none, how much is sent where nothing happens, and a long
+run."""
+import contextlib
+import fcntl
+import json
+import os
+import random
+import re
+import shutil
+import subprocess
+import tempfile
+import time
+
+from topics import nodes, packages
+from topics.nodes import NODES, answer, beside, free_ports, logs_in, ordered, put, refused, taken
+from topics.tally import PROGRAM, TESTS, TOP, contents, difference
+
+LIVE = f"{TESTS}/live"
+# the kinds of datagrams that offer a claim, propose a build and ask for a unit
+OFFER, PROPOSAL, ASK = 1, 3, 6
+LINE = re.compile(rb"node (\d): I=(\d+) B=(\d+) Q=(\d+) T=(\d+) !=(\d+)")
+# how long something is waited for, in seconds
+LIMIT = 300
+# how much more memory a long run may have at its end than after its first part, in kB: of what is kept to be used again some
+# pages more may have been touched
+SPARE = 64
+
+
+def until(holds, seconds=LIMIT, nap=0.02):
+    """Waits until something holds, and answers whether it does."""
+    end = time.monotonic() + seconds
+    while not holds():
+        if time.monotonic() > end:
+            return False
+        time.sleep(nap)
+    return True
+
+
+def check(tally, name, right, *told):
+    """One more test, which passed if that is right; else it is told what was seen."""
+    tally.add(name, "" if right else " ".join(f"{it!r:.800}" for it in told) or "it isn't so")
+
+
+def size_of(path):
+    return os.path.getsize(path) if os.path.exists(path) else 0
+
+
+# ---- hosts
+
+class Host:
+    """A node of a run, and the driver that builds for it."""
+
+    def __init__(self, run, me):
+        self.run, self.me = run, me
+        self.work, self.log = f"{run.folder}/work-{me}", f"{run.folder}/logs/node-{me}.log"
+        self.node = self.driver = None
+        self.began = 0
+
+    def out(self, part):
+        return f"{self.run.folder}/{part}-{self.me}.out"
+
+    def start_node(self, *words):
+        self.began = size_of(self.out("err"))
+        words = ["--listing", "listing", "--work", self.work, "--dir", "logs", "--members", str(self.run.members),
+                 "--me", str(self.me), *self.run.peers, "--progress", "1", *words]
+        with open(self.out("node"), "ab") as out, open(self.out("err"), "ab") as err:
+            self.node = subprocess.Popen([NODES, "build", *words], cwd=self.run.folder, stdin=subprocess.DEVNULL, stdout=out,
+                                         stderr=err)
+
+    def start_driver(self):
+        with open(self.out("driver"), "ab") as out:
+            words = ["-j", str(self.run.jobs), self.work, self.log, "--", f"{self.run.folder}/build"]
+            self.driver = subprocess.Popen([f"{TOP}/tools/build-jobs", *words], cwd=self.run.folder, stdin=subprocess.DEVNULL,
+                                           stdout=out, stderr=out)
+
+    def kill(self, *parts):
+        for part in parts:
+            process = getattr(self, part)
+            if process:
+                process.kill()
+                process.wait()
+
+    def end(self):
+        """Ends both, and waits for builds that outlived a driver: their folders are locked as long as they run."""
+        for process in (self.driver, self.node):
+            if process and process.poll() is None:
+                process.terminate()
+                process.wait(LIMIT)
+        until(lambda: not any(is_locked(f"{self.work}/build/{name}/lock") for name in names_in(f"{self.work}/build")))
+
+    def lines(self):
+        """What the node told on standard error since it was started."""
+        return contents(self.out("err"))[self.began:].split(b"\n")[:-1]
+
+    def begun(self):
+        """How many builds its drivers began."""
+        return contents(self.out("driver")).count(b" > ") if os.path.exists(self.out("driver")) else 0
+
+    def holds_all(self):
+        """Whether it told last that it holds all that isn't ignored."""
+        told = [it for it in map(LINE.fullmatch, self.lines()) if it]
+        return bool(told) and told[-1].groups()[1:] == self.run.all_held()
+
+
+def names_in(folder):
+    return sorted(os.listdir(folder)) if os.path.isdir(folder) else []
+
+
+def is_locked(path):
+    try:
+        with open(path) as lock:
+            fcntl.flock(lock, fcntl.LOCK_EX | fcntl.LOCK_NB)
+    except BlockingIOError:
+        return True
+    except OSError:
+        pass
+    return False
+
+
+class Run:
+    """A tree of Makefiles, its listing, what a serial build makes of it, and the hosts that build it."""
+
+    def __init__(self, folder, members=3, jobs=1, ignored=0, **tree):
+        self.folder, self.members, self.jobs = folder, members, jobs
+        self.peers = ["--base", str(free_ports(members))]
+        words = [it for word, value in {"ignored": ignored, **tree}.items() for it in (f"--{word}", str(value))]
+        subprocess.run([f"{LIVE}/make-tree", f"{folder}/tree", *words], check=True, timeout=LIMIT)
+        self.ports = contents(f"{folder}/tree/order").decode().split()
+        with open(f"{folder}/dump", "wb") as dump:
+            for port in self.ports:
+                subprocess.run(["bmake", "dump-vars"], cwd=f"{folder}/tree/{port}", stdout=dump, check=True, timeout=LIMIT)
+        with open(f"{folder}/listing", "wb") as listing:
+            subprocess.run([f"{TOP}/tools/expand-listing", f"{folder}/dump"], stdout=listing, check=True, timeout=LIMIT)
+        began = time.monotonic()
+        subprocess.run([f"{LIVE}/serial-build", f"{folder}/tree", f"{folder}/serial"], stdout=subprocess.DEVNULL, check=True,
+                       timeout=LIMIT)
+        self.makes = time.monotonic() - began
+        self.paths = sorted(name.replace(":", "/") for name in os.listdir(f"{folder}/serial"))
+        listed = contents(f"{folder}/listing").decode().count(".FULLPKGNAME=")
+        self.ignored, self.units = listed - len(self.paths), len({path.partition(",")[0] for path in self.paths})
+        put(f"{folder}/build", f'#!/bin/sh\nexec bmake -f "{folder}/tree/${{PKGPATH%%,*}}/Makefile" package\n'.encode())
+        os.chmod(f"{folder}/build", 0o755)
+        os.mkdir(f"{folder}/logs")
+        self.hosts = [Host(self, me) for me in range(members)]
+
+    def alone(self):
+        """How long one host takes that builds the ports one after the other, and how long the longest chain of builds is of which
+        each needs the one before, in seconds; what a build takes beside its wait is that of a serial build, on the average."""
+        texts = {port: contents(f"{self.folder}/tree/{port}/Makefile").decode() for port in self.ports}
+        texts = {port: text for port, text in texts.items() if "IGNORE = " not in text}
+        each, needs = self.makes / len(self.ports), needs_of(contents(f"{self.folder}/listing"))
+        takes, chain = {}, {}
+        for port, text in texts.items():
+            takes[port] = each + float(re.search(r"SECONDS = (.*)", text)[1])
+            named = re.search(r"NEEDS = (.*)", text)
+            below = {path.partition(",")[0] for path in closed(named[1].split() if named else [], needs)} - {port}
+            chain[port] = takes[port] + max((chain[it] for it in below), default=0)
+        return sum(takes.values()), max(chain.values())
+
+    def all_held(self):
+        """What a node's line says where all is held that isn't ignored."""
+        return tuple(b"%d" % it for it in (len(self.paths), 0, 0, 0, self.ignored))
+
+    def start(self, *words):
+        for host in self.hosts:
+            host.start_node(*words)
+            host.start_driver()
+
+    def ends(self):
+        """Waits until all nodes ended by themselves, and answers their statuses."""
+        until(lambda: all(host.node.poll() is not None for host in self.hosts))
+        return [host.node.poll() for host in self.hosts]
+
+    def end(self):
+        for host in self.hosts:
+            host.end()
+
+    def is_held(self, *hosts):
+        """Waits until all is held at these hosts, or at all."""
+        return until(lambda: all(host.holds_all() for host in hosts or self.hosts))
+
+    def told(self):
+        """What the nodes told last, for who looks why something failed."""
+        return [(host.node.poll(), host.lines()[-4:], contents(host.out("driver"))[-300:]) for host in self.hosts]
+
+    def begun(self):
+        return sum(host.begun() for host in self.hosts)
+
+    def set_broken(self, mended):
+        """The ports that are broken; they are mended, if they are to be."""
+        found = []
+        for port in self.ports:
+            path = f"{self.folder}/tree/{port}/Makefile"
+            text = contents(path)
+            if b"BROKEN = " in text:
+                found.append(port)
+                if mended:
+                    put(path, re.sub(rb"BROKEN = .*\n", b"", text))
+        return found
+
+
+@contextlib.contextmanager
+def laid(**words):
+    """A run, whose processes end with it."""
+    with tempfile.TemporaryDirectory() as folder:
+        run = Run(folder, **words)
+        try:
+            yield run
+        finally:
+            run.end()
+
+
+# ---- what they hold
+
+def needs_of(listing):
+    """What each path needs to run, by the listing: what its libraries and its own lines name."""
+    needs = {}
+    for line in listing.decode().split("\n"):
+        name, _, value = line.partition("=")
+        path, _, variable = name.rpartition(".")
+        if variable in ("LIB_DEPENDS", "RUN_DEPENDS"):
+            needs.setdefault(path, set()).update(value.split())
+    return needs
+
+
+def closed(paths, needs):
+    """These paths, and all that they need to run."""
+    found, left = set(), set(paths)
+    while left:
+        path = left.pop()
+        found.add(path)
+        left |= needs.get(path, set()) - found
+    return found
+
+
+def listed(text):
+    """The packages of a list: by path the signature, and the signatures of what it was built on."""
+    signatures, built = {}, {}
+    for line in text.decode().split("\n"):
+        word, _, signature = line.partition(" ")
+        if word == "package":
+            path = signature.split(" ")[0]
+            signatures[path], built[path] = signature, set()
+        elif word == "built":
+            built[path].add(signature)
+    return signatures, built
+
+
+def package_problem(run, folder, path, signatures, built, needs):
+    """What is wrong with a package that is held, if anything: it saw what its record names, with what that needs to run, and
+    nothing else; and it is what a serial build makes."""
+    place = path.replace("/", ":")
+    saw = set(contents(f"{folder}/{place}/built-on").decode().split("\n")) - {""}
+    wanted = {signatures.get(it) for it in closed([it.split(" ")[0] for it in built], needs)}
+    if not built <= saw or saw != wanted:
+        return f"{path} was built on {sorted(saw)}, and its record names {sorted(built)}"
+    same = contents(f"{folder}/{place}/content") == contents(f"{run.folder}/serial/{place}/content")
+    return "" if same else f"{path} has another content than a serial build's"
+
+
+def whole(tally, run, name):
+    """What the logs hold: all of it, the same at each host, an allowed list, and packages of which each is what it should be."""
+    sets, needs = [], needs_of(contents(f"{run.folder}/listing"))
+    for host in run.hosts:
+        to = tempfile.mkdtemp(dir=run.folder)
+        os.rmdir(to)
+        said = packages.tool("unpack-log", host.log, to)
+        tally.add(f"{name}, the log of host {host.me}", difference(said, (b"", b"", 0)))
+        if said[2]:
+            continue
+        audit = subprocess.run([PROGRAM, "audit", "listing", f"{to}/list"], cwd=run.folder, capture_output=True, timeout=LIMIT)
+        check(tally, f"{name}, the list of host {host.me}", audit.stdout == b"yes\n", audit.stdout, audit.stderr)
+        signatures, built = listed(contents(f"{to}/list"))
+        problems = [package_problem(run, to, path, signatures, built[path], needs) for path in signatures]
+        tally.add(f"{name}, the packages of host {host.me}", next(filter(None, problems), ""))
+        sets.append(signatures)
+    missed = [sorted(set(run.paths) ^ set(held)) for held in sets]
+    tally.add(f"{name}, all is held", f"{missed} aren't, or were never to be built" if any(missed) else "")
+    tally.add(f"{name}, the same everywhere", "" if all(held == sets[0] for held in sets) else "one path has several packages")
+
+
+def tell(run, name, began):
+    took, (serial, chain) = time.monotonic() - began, run.alone()
+    print(f"tests/run: {name}: {len(run.ports)} ports, {len(run.paths)} packages of {run.units} units: {run.begun()} builds "
+          f"begun, {took:.1f} s; one after the other {serial:.1f} s, the longest chain {chain:.1f} s", flush=True)
+
+
+def three_hosts(tally):
+    """Three hosts share the builds of thirty ports; when all is held, each comes to rest by itself."""
+    name = "three hosts"
+    with laid(ports=30, ignored=1, least=0.05, most=0.4) as run:
+        began = time.monotonic()
+        run.start("--rest", "5")
+        statuses = run.ends()
+        tell(run, name, began)
+        lines = [contents(host.out("node")) for host in run.hosts]
+        wanted = [b"node %d: I=%s B=%s Q=%s T=%s !=%s\n" % (me, *run.all_held()) for me in range(3)]
+        check(tally, f"{name}, how they end", (statuses, lines) == ([0] * 3, wanted), statuses, lines, run.told())
+        check(tally, f"{name}, shared builds", run.begun() < 1.5 * run.units, run.begun(), run.units)
+        whole(tally, run, name)
+
+
+def killed(run, dice, kills):
+    """Kills nodes, drivers or both, one host's after another's, and starts them again; and answers how many of each."""
+    counts = {("node",): 0, ("driver",): 0, ("node", "driver"): 0}
+    for _ in range(kills):
+        time.sleep(dice.uniform(0.05, 0.4))
+        host, parts = dice.choice(run.hosts), dice.choice(list(counts))
+        counts[parts] += 1
+        host.kill(*parts)
+        time.sleep(dice.uniform(0, 0.2))
+        if "node" in parts:
+            host.start_node(*run.words)
+        if "driver" in parts:
+            host.start_driver()
+    return counts.values()
+
+
+def kills(tally):
+    """Three hosts whose nodes, drivers or both are killed forty times while they build."""
+    name = "forty kills"
+    with laid(ports=30, seed=2, least=0.1, most=0.8) as run:
+        run.words = ["--takeover", "5"]
+        began = time.monotonic()
+        run.start(*run.words)
+        counts = killed(run, random.Random(3), 40)
+        held = sum(host.holds_all() for host in run.hosts)
+        check(tally, f"{name}, all is held", run.is_held(), run.told())
+        tell(run, f"{name} ({', '.join(map(str, counts))} of nodes, drivers and both; then {held} held all)", began)
+        run.end()
+        whole(tally, run, name)
+
+
+def jobs(tally):
+    """Three hosts that build three units at a time each."""
+    name = "three jobs a host"
+    with laid(ports=20, seed=4, jobs=3, least=0.1, most=0.5) as run:
+        began = time.monotonic()
+        run.start("--jobs", "3")
+        check(tally, f"{name}, all is held", run.is_held(), run.told())
+        tell(run, name, began)
+        several = any(re.search(rb": [23] of 3$", contents(host.out("driver")), re.MULTILINE) for host in run.hosts)
+        check(tally, f"{name}, several at a time", several, run.told())
+        run.end()
+        whole(tally, run, name)
+
+
+def broken(tally):
+    """Two ports are broken: each host tries them once, and comes to rest with status 3. Run again the marks stand; they are taken
+    away and the Makefiles mended meanwhile, and all is built."""
+    name = "two broken ports"
+    with laid(ports=12, seed=5, broken=2, least=0.05, most=0.2) as run:
+        began = time.monotonic()
+        run.start("--rest", "4", "--takeover", "1")
+        statuses = run.ends()
+        check(tally, f"{name}, how they end", statuses == [3] * 3, statuses, run.told())
+        bad = run.set_broken(mended=False)
+        failed = {b"dpbn: failed " + port.encode() for port in bad}
+        once = all(host.lines().count(line) == 1 for host in run.hosts for line in failed)
+        check(tally, f"{name}, each failed once at each host", once, run.told())
+        run.end()
+        run.start("--takeover", "1")
+        again = until(lambda: all(failed <= set(host.lines()) for host in run.hosts))
+        check(tally, f"{name}, marks that stand", again, run.told())
+        run.set_broken(mended=True)
+        for host in run.hosts:
+            for mark in names_in(f"{host.work}/failed"):
+                os.unlink(f"{host.work}/failed/{mark}")
+        check(tally, f"{name}, mended", run.is_held(), run.told())
+        tell(run, name, began)
+        run.end()
+        whole(tally, run, name)
+
+
+def settled(paths):
+    """The bytes of these files, once they stay for a second."""
+    before, now, since = None, [contents(path) for path in paths], time.monotonic()
+    while time.monotonic() < since + 1:
+        before, now = now, [contents(path) for path in paths]
+        since = since if before == now else time.monotonic()
+        time.sleep(0.05)
+    return now
+
+
+def late(tally):
+    """A host whose node starts when two others hold all comes to hold all, and the others note nothing."""
+    name = "a late host"
+    with laid(ports=20, seed=6, least=0.02, most=0.1) as run:
+        early, last = run.hosts[:2], run.hosts[2]
+        began = time.monotonic()
+        for host in early:
+            host.start_node()
+            host.start_driver()
+        check(tally, f"{name}, the two others", run.is_held(*early), *(host.lines()[-4:] for host in early))
+        logs = settled([host.log for host in early])
+        since = time.monotonic()
+        last.start_node("--rest", "2")
+        until(lambda: last.node.poll() is not None)
+        told = last.node.poll(), last.holds_all()
+        print(f"tests/run: {name}: it held {run.units} units and was at rest after {time.monotonic() - since:.1f} s", flush=True)
+        check(tally, f"{name}, how it ends", told == (0, True), told, last.lines()[-4:])
+        stayed = [contents(host.log) for host in early] == logs
+        check(tally, f"{name}, the others' logs", stayed, [len(it) for it in logs], [size_of(host.log) for host in early])
+        tell(run, name, began)
+        run.end()
+        whole(tally, run, name)
+
+
+def with_a_key(tally):
+    """Three hosts at three addresses under a key, one of which is killed and started again."""
+    name = "hosts with a key"
+    with laid(ports=10, seed=7, least=0.05, most=0.2) as run:
+        tally.add(f"{name}, dpbn key", difference(answer(["key", "key"], run.folder), (b"", b"", 0)))
+        port = free_ports(1)
+        run.peers = ["--hosts", ",".join(f"127.0.0.{me + 1}:{port}" for me in range(3)), "--key", "key"]
+        began = time.monotonic()
+        run.start()
+        until(lambda: run.hosts[1].begun() > 0)
+        run.hosts[1].kill("node", "driver")
+        run.hosts[1].start_node("--continue")
+        run.hosts[1].start_driver()
+        check(tally, f"{name}, all is held", run.is_held(), run.told())
+        tell(run, name, began)
+        told = [line for host in run.hosts for line in host.lines() if b"seals otherwise" in line or b"fault" in line]
+        check(tally, f"{name}, what is told", not told, told)
+        run.end()
+        whole(tally, run, name)
+
+
+# ---- answers that the test hands in
+
+UNIT = '{"a/unit,-main":[],"a/unit,-tests":[{"hex":"78","name":"x"}]}\n'
+SINGLE = ("bytes", "half", "held", "long", "name", "other")
+ANSWERED = "".join(f"a/{name}.FULLPKGNAME={name}-1\n" for name in SINGLE)
+ANSWERED += "a/unit,-main.FULLPKGNAME=unit-1\na/unit,-tests.FULLPKGNAME=unit-tests-1\n"
+# what is right for each unit, and what is none, by how that is
+GOOD = {"a/unit": UNIT, **{f"a/{name}": f'{{"a/{name}":[{{"hex":"78","name":"x"}}]}}\n' for name in SINGLE}}
+BAD = {"that is no text": ("a/bytes", b"{"), "of another unit": ("a/other", b'{"a/b":[]}'),
+       "without a package": ("a/unit", b'{"a/unit,-main":[]}'),
+       "with a bad name": ("a/name", b'{"a/name":[{"hex":"","name":"@x"}]}'),
+       "that is too long": ("a/long", GOOD["a/long"].encode() + b" " * 16_777_216)}
+
+
+class Lone(Host):
+    """A node for which the test builds: it stands in a folder with a listing, and its peers, if there are any, are the test's."""
+
+    def __init__(self, folder, listing, weights=(1,)):
+        self.folder, self.members = folder, len(weights)
+        base = free_ports(self.members)
+        self.places = [("127.0.0.1", base + me) for me in range(self.members)]
+        self.peers = ["--base", str(base), "--weights", ",".join(map(str, weights))]
+        put(f"{folder}/listing", listing.encode())
+        os.makedirs(f"{folder}/logs", exist_ok=True)
+        super().__init__(self, 0)
+
+    def jobs(self):
+        """The names of the jobs that are posted, by unit."""
+        found = {}
+        for name in names_in(f"{self.work}/jobs"):
+            if not name.startswith("."):
+                found[re.search(r"^@unit (.*)$", contents(f"{self.work}/jobs/{name}").decode(), re.MULTILINE)[1]] = name
+        return found
+
+    def job(self, unit):
+        """Waits for a unit's job, and answers its name."""
+        until(lambda: unit in self.jobs())
+        return self.jobs().get(unit, "none")
+
+    def hand_in(self, part, name, text):
+        put(f"{self.work}/{part}/.{name}.test", text)
+        os.rename(f"{self.work}/{part}/.{name}.test", f"{self.work}/{part}/{name}")
+
+    def is_failed(self, unit, name):
+        """Waits until the node told that the unit failed, and marked it, and took the answer away."""
+        return until(lambda: b"dpbn: failed " + unit.encode() in self.lines() and os.path.exists(f"{self.work}/failed/{name}")
+                     and not os.path.exists(f"{self.work}/done/{name}"), 20)
+
+    def shows(self, **letters):
+        """Waits until the node's line has these."""
+        wanted = tuple(b"%d" % letters.get(it, 0) for it in "IBQT")
+        return until(lambda: any(it and it.groups()[1:5] == wanted for it in map(LINE.fullmatch, self.lines()[-1:])), 20)
+
+
+@contextlib.contextmanager
+def lone(listing, *words, weights=(1,)):
+    """A lone node that runs, on files in memory, and its process ends with it."""
+    with tempfile.TemporaryDirectory(dir=nodes.MEMORY) as folder:
+        host = Lone(folder, listing, weights)
+        try:
+            host.start_node(*words)
+            yield host
+        finally:
+            host.end()
+
+
+def answers(tally):
+    """Answers that make no build, are half written, or are of a unit that is held: each is told and marked, or nobody looks at it;
+    and once the marks are gone all is built."""
+    with lone(ANSWERED, "--jobs", "64") as host:
+        all_posted = until(lambda: set(host.jobs()) == set(GOOD), 30)
+        check(tally, "answers, all jobs are posted", all_posted, sorted(host.jobs()), host.lines()[-4:])
+        names = host.jobs()
+        put(f"{host.work}/done/.{names['a/half']}.test", GOOD["a/half"][:20].encode())
+        for what, (unit, text) in BAD.items():
+            host.hand_in("done", names[unit], text)
+            failed = host.is_failed(unit, names[unit])
+            check(tally, f"an answer {what}", failed, host.lines()[-4:], names_in(f"{host.work}/failed"))
+        told = [line for line in host.lines() if line.startswith(b"dpbn: fault ")]
+        check(tally, "answers that make no build, their faults", told == [b"dpbn: fault 1305 at 0", b"dpbn: fault 907"], told)
+        late_answers(tally, host, names)
+        for unit, _ in BAD.values():
+            os.unlink(f"{host.work}/failed/{names[unit]}")
+            host.hand_in("done", names[unit], GOOD[unit].encode())
+        check(tally, "answers once the marks are gone", host.shows(I=8), host.lines()[-4:])
+        host.kill("node")
+        host.start_node("--rest", "1")
+        until(lambda: host.node.poll() is not None, 30)
+        check(tally, "a work folder beside its log", host.node.poll() == 0, host.lines()[-4:])
+
+
+def late_answers(tally, host, names):
+    """An answer that is good, another one for that unit, which is held by then, and one that was half written."""
+    host.hand_in("done", names["a/held"], GOOD["a/held"].encode())
+    check(tally, "an answer that is good", host.shows(I=1, Q=7), host.lines()[-2:])
+    before = settled([host.log])
+    host.hand_in("done", names["a/held"], b'{"a/held":[]}')
+    stays = settled([host.log]) == before and host.node.poll() is None
+    check(tally, "an answer for a unit that is held", stays, host.lines()[-4:])
+    check(tally, "an answer that is half written", host.shows(I=1, Q=7) and "a/half" in host.jobs(), host.lines()[-2:])
+    host.hand_in("done", names["a/half"], GOOD["a/half"].encode())
+    check(tally, "the same, whole", host.shows(I=2, Q=6), host.lines()[-2:])
+
+
+def other_runs(tally):
+    """A folder that has files, beside a log without notes, is that of another run, and nothing of it changes; what is half written
+    doesn't count."""
+    for part in ("jobs", "done", "failed"):
+        for name, wanted in (("0" * 64, 1209), (f".{'0' * 64}.1", None)):
+            with tempfile.TemporaryDirectory() as folder:
+                host = Lone(folder, "a/b.FULLPKGNAME=b-1\n")
+                os.makedirs(f"{host.work}/{part}")
+                put(f"{host.work}/{part}/{name}", b"")
+                host.start_node("--rest", "1")
+                until(lambda: host.node.poll() is not None or host.jobs().get("a/b"), 30)
+                told = host.node.poll(), host.lines()[-1:]
+                right = told == (1, [b"dpbn: fault 1209"]) if wanted else told[0] is None
+                host.end()
+                left = os.path.exists(f"{host.work}/{part}/{name}")
+                check(tally, f"{part}/{name[:2]}.. of another run", right and left, told, names_in(f"{host.work}/{part}"))
+
+
+def beside_nodes(tally):
+    """A node that builds, and two of `dpbn node` that have no builds: all three hold what the first one built."""
+    paths = ["a/b", "a/c", "a/d"]
+    with tempfile.TemporaryDirectory(dir=nodes.MEMORY) as folder:
+        host = Lone(folder, "".join(f"{path}.FULLPKGNAME=n-1\n" for path in paths), (1, 1, 1))
+        put(f"{folder}/builds", b"{}\n")
+        words = [*host.peers, "--turns", "20000", "--patience", "5", "--progress", "20"]
+        others = []
+        try:
+            host.start_node("--takeover", "1")
+            others = [nodes.started(folder, me, words) for me in (1, 2)]
+            for path in paths:
+                host.hand_in("done", host.job(path), json.dumps({path: []}).encode())
+            check(tally, "a node beside others that have no builds", host.shows(I=3), host.lines()[-4:])
+            held = [nodes.node_line(me, i=3) in iter(it.stderr.readline, b"") for me, it in enumerate(others, 1)]
+            check(tally, "the others, what they hold", all(held), held)
+        finally:
+            for it in others:
+                nodes.ended(it)
+            host.end()
+
+
+# ---- what is sent, and what is kept
+
+def came(ears):
+    """The kinds of the datagrams that wait at each of these sockets."""
+    kinds = [[] for _ in ears]
+    for ear, found in zip(ears, kinds):
+        ear.setblocking(False)
+        with contextlib.suppress(BlockingIOError):
+            while True:
+                found.append(ear.recv(65_536)[4])
+    return kinds
+
+
+def quiet(tally):
+    """A node that holds all sends nothing; one that can't have a unit asks each other member for it, once a second."""
+    listing = "a/b.FULLPKGNAME=b-1\na/c.FULLPKGNAME=c-1\na/c.BUILD_DEPENDS=a/b\n"
+    with lone(listing, weights=(98, 1, 1)) as host, contextlib.ExitStack() as stack:
+        ears = [stack.enter_context(taken(port, address)) for address, port in host.places[1:]]
+        host.hand_in("done", host.job("a/b"), b'{"a/b":[]}')
+        name = host.job("a/c")
+        host.hand_in("failed", name, b"on purpose")
+        failed = until(lambda: b"dpbn: failed a/c" in host.lines(), 30)
+        came(ears)
+        until(lambda: any(came(ears)), 10)
+        # now one was just asked
+        came(ears)
+        time.sleep(5)
+        kinds = came(ears)
+        right = failed and all(2 <= len(it) <= 6 and set(it) == {ASK} for it in kinds)
+        check(tally, "a node that waits, what it sends", right, kinds, host.lines()[-4:])
+        os.unlink(f"{host.work}/failed/{name}")
+        host.hand_in("done", host.job("a/c"), b'{"a/c":[]}')
+        held = host.shows(I=2)
+        came(ears)
+        time.sleep(3)
+        kinds = came(ears)
+        check(tally, "a node that holds all, what it sends", held and kinds == [[], []], kinds, host.lines()[-4:])
+
+
+def unanswered(tally):
+    """A node whose peers never answer offers its claim to each once a second, and asks as often; told to rest, it ends with status 3."""
+    name = "a node that nobody answers"
+    with lone("a/b.FULLPKGNAME=b-1\n", "--rest", "8", weights=(1, 1, 1)) as host, contextlib.ExitStack() as stack:
+        ears = [stack.enter_context(taken(port, address)) for address, port in host.places[1:]]
+        claimed = until(lambda: OFFER in {kind for kinds in came(ears) for kind in kinds}, 20)
+        time.sleep(0.5)
+        came(ears)
+        time.sleep(4)
+        kinds = came(ears)
+        right = claimed and all(2 <= it.count(OFFER) <= 5 and it.count(ASK) <= 5 and set(it) <= {OFFER, ASK} for it in kinds)
+        check(tally, f"{name}, what it sends in four seconds", right, kinds, host.lines()[-4:])
+        until(lambda: host.node.poll() is not None, 30)
+        check(tally, f"{name}, how it ends", host.node.poll() == 3, host.node.poll(), host.lines()[-4:])
+
+
+def voted_by_nobody(tally):
+    """A node whose only peer promised, and ended before it could vote: what was built it offers once a second, and ends with status 3."""
+    name = "a build that nobody votes for"
+    with tempfile.TemporaryDirectory(dir=nodes.MEMORY) as folder:
+        host, other = Lone(folder, "a/b.FULLPKGNAME=b-1\n", (1, 1, 1)), None
+        put(f"{folder}/builds", b"{}\n")
+        try:
+            other = nodes.started(folder, 1, [*host.peers, "--turns", "1000000"])
+            host.start_node("--rest", "3", "--takeover", "1")
+            job = host.job("a/b")
+            nodes.ended(other)
+            with taken(host.places[1][1]) as ear:
+                host.hand_in("done", job, b'{"a/b":[]}')
+                until(lambda: PROPOSAL in came([ear])[0], 20)
+                time.sleep(0.5)
+                came([ear])
+                time.sleep(2)
+                kinds = came([ear])[0]
+                check(tally, f"{name}, what it sends in two seconds", 1 <= kinds.count(PROPOSAL) <= 3 and len(kinds) <= 6, kinds)
+                until(lambda: host.node.poll() is not None, 30)
+            check(tally, f"{name}, how it ends", host.node.poll() == 3, host.node.poll(), host.lines()[-4:])
+            check(tally, f"{name}, its answer", os.path.exists(f"{host.work}/done/{job}"), names_in(f"{host.work}/done"))
+        finally:
+            if other and other.poll() is None:
+                nodes.ended(other)
+            host.end()
+
+
+def no_majority(tally):
+    """Two nodes of five that take a unit over from each other: there is no majority, and both end with status 3 all the same."""
+    name = "two nodes of five"
+    with tempfile.TemporaryDirectory(dir=nodes.MEMORY) as folder:
+        first = Lone(folder, "a/b.FULLPKGNAME=b-1\n", (1,) * 5)
+        second = Host(first, 1)
+        try:
+            for host in (first, second):
+                host.start_node("--rest", "3", "--takeover", "1")
+            until(lambda: None not in (first.node.poll(), second.node.poll()), 60)
+            told = [(host.node.poll(), host.lines()[-2:]) for host in (first, second)]
+            check(tally, f"{name}, how they end", [it for it, _ in told] == [3, 3], told)
+        finally:
+            second.end()
+            first.end()
+
+
+def memory_of(process):
+    """How much memory the process has, in kB."""
+    return int(re.search(rb"VmRSS:\s+(\d+) kB", contents(f"/proc/{process.pid}/status"))[1])
+
+
+def long_run(tally, first=60, rounds=240):
+    """A node without patience, at which one build never ends and another one fails over and over: what it keeps doesn't grow."""
+    with lone("a/b.FULLPKGNAME=b-1\na/c.FULLPKGNAME=c-1\n", "--patience", "0", "--jobs", "2") as host:
+        name, seen = host.job("a/c"), []
+        began, count = time.monotonic(), 0
+        for number in range(first + rounds):
+            job = contents(f"{host.work}/jobs/{name}")
+            host.hand_in("failed", name, b"again")
+            if not until(lambda: host.lines().count(b"dpbn: failed a/c") > number, 20, 0.002):
+                break
+            os.unlink(f"{host.work}/failed/{name}")
+            # it is claimed anew, and the job tells so
+            if not until(lambda: contents(f"{host.work}/jobs/{name}") != job, 20, 0.002):
+                break
+            count += 1
+            if count in (first, first + rounds):
+                seen.append(memory_of(host.node))
+        took = f"{count} rounds in {time.monotonic() - began:.1f} s"
+        told = f"{took}, memory of {' and '.join(map(str, seen))} kB, a log of {size_of(host.log):,} bytes"
+        print(f"tests/run: a long run: {told}", flush=True)
+        right = len(seen) == 2 and seen[1] <= seen[0] + SPARE
+        check(tally, "a long run, its memory", right, told, host.lines()[-3:])
+
+
+# ---- words, and what is refused before the first turn
+
+def wrong_words():
+    """Words of `dpbn build` that are no call."""
+    needed = {"--listing": "listing", "--work": "work", "--dir": "logs", "--members": "3", "--me": "0"}
+    for lacking in needed:
+        yield [*(it for pair in needed.items() if pair[0] != lacking for it in pair), "--base", "7000"]
+    build = [it for pair in needed.items() for it in pair]
+    here, there = [*build, "--base", "7000"], [*build, "--hosts", "1.2.3.4:5"]
+    yield from ([], ["--help"], build, there, [*here, "--hosts", "1.2.3.4:5"], [*here, "more"], [*here, "--work", "work"])
+    yield from ([*here, b"\xff"], [*here, "--rest"], [*here, "--single=yes"], [*here, "--continue", "--continue"])
+    yield from ([*there, "--key", "x", "--unsealed"], [*here, "--key", "x", "--unsealed"])
+    for word, bad in (("--jobs", ("0", "65", "-1", "two", "")), ("--takeover", ("0", "1000001")), ("--rest", ("0", "1000001")),
+                      ("--progress", ("0", "1000001")), ("--patience", ("60001",)), ("--base", ("1023", "65527"))):
+        yield from ([*(build if word == "--base" else here), word, it] for it in bad)
+        yield [*here, word, "2000", word, "2000"]
+    yield from ([*here, "--turns", "1"], [*here, "--builds", "builds"], [*here, "--trace", "trace"])
+
+
+def no_calls(tally):
+    """Words that are no call: clap's text on standard error, status 2, and nothing is made."""
+    with tempfile.TemporaryDirectory() as folder:
+        nodes.lay(folder)
+        before = names_in(folder)
+        for words in wrong_words():
+            out, error, code = answer(["build", *words], folder)
+            check(tally, f"dpbn build {words}", (out, code) == (b"", 2) and error, out, error, code)
+        stays = names_in(folder) == before and not logs_in(folder)
+        check(tally, "what stands after words that are no call", stays, names_in(folder))
+
+
+def faults(tally):
+    """What `build` refuses before the first turn, in the order in which it is looked at."""
+    with tempfile.TemporaryDirectory() as folder:
+        nodes.lay(folder)
+        nodes.bad_files(folder)
+        base = free_ports(4)
+        for name, mode in (("key", 0o600), ("open-key", 0o644), ("bad-key", 0o600)):
+            put(f"{folder}/{name}", b"no key\n" if name == "bad-key" else b"ab" * 32 + b"\n")
+            os.chmod(f"{folder}/{name}", mode)
+        for name in ("lost", "used/jobs", "used/done", "used/failed"):
+            os.makedirs(f"{folder}/{name}")
+        put(f"{folder}/lost/node-3.run", b"dpbn run 1\n")
+        put(f"{folder}/used/done/{'0' * 64}", b"")
+        good = {"--listing": "listing", "--weights": "1,2,3,4", "--hosts": nodes.places(base, 4), "--key": "key", "--me": "3",
+                "--dir": "logs", "--work": "used", "--members": "4"}
+        with taken(base + 3):
+            ordered(tally, folder, "build", good, (
+                ("2", {"--listing": "none"}), ("401 at 1", {"--listing": "bad"}), ("801", {"--weights": "1,2"}),
+                ("2", {"--key": "none"}), ("1208", {"--key": "open-key"}), ("1207", {"--key": "bad-key"}),
+                ("1206 at 1", {"--hosts": "1.2.3.4"}), ("909", {"--me": "4"}), ("2", {"--dir": "none"}),
+                ("1007", {"--dir": "lost"}), ("1006 at 0", {"--dir": "bad-logs"}), ("1204", {})))
+        ordered(tally, folder, "build", {**good, "--work": "listing"}, (("2", {}),))
+        unkeyed = {word: it for word, it in good.items() if word not in ("--hosts", "--key")}
+        ordered(tally, folder, "build", {**unkeyed, "--base": str(base), "--dir": "bad-logs"}, (("1004", {}),))
+        words = ["build", *(it for pair in good.items() for it in pair)]
+        for more, fault in (([], 1209), (["--continue"], 1209), (["--continue"], 1008)):
+            if fault == 1008 or not more:
+                nodes.lay_logs(folder)
+            tally.add(f"dpbn {' '.join([*words, *more])}", difference(answer([*words, *more], folder), refused(fault)))
+            written = {name: text for name, text in logs_in(folder).items() if text}
+            check(tally, f"what fault {fault} leaves of the log", not written, written)
+
+
+# ---- what is shown
+
+def manual_page(tally):
+    """What dpbn(1) shows of hosts that build, beside what it shows before it."""
+    nodes.shown_runs(tally, f"{TOP}/man/dpbn.1", ".Ss Hosts that build\n")
+
+
+def readme(tally):
+    """The README's three hosts: its very commands, in a folder where they find what they name, print what it says."""
+    text = contents(f"{TOP}/README.md").decode()
+    block = re.search(r"^Three hosts that build this tree.*?\n\n(.*?)\n\n", text, re.DOTALL | re.MULTILINE)[1]
+    line = re.search(r"# each prints: node K: (.*)", block)[1]
+    wanted = [f"node {me}: {line}" for me in range(3)] + [re.search(r"packages/list +# (\w+)$", block)[1]]
+    with tempfile.TemporaryDirectory() as folder:
+        for name, at in (("dpbn", NODES), ("dpbr", PROGRAM), ("examples", f"{TOP}/examples"), ("tools", f"{TOP}/tools")):
+            os.symlink(at, f"{folder}/{name}")
+        script = block.replace("--base 7000", f"--base {free_ports(3)}")
+        check(tally, "README.md, its ports", script != block)
+        done = subprocess.run(["sh", "-c", script], cwd=folder, capture_output=True, text=True, timeout=300)
+        got = sorted(done.stdout.split("\n")[:-2]) + done.stdout.split("\n")[-2:-1]
+        is_right = got == wanted and "Usage" in done.stderr
+        check(tally, "README.md, three hosts", is_right, wanted, got, done.stderr)
+
+
+def run(tally):
+    # what a make that runs the tests would have other makes do
+    for word in ("MAKEFLAGS", "MFLAGS", "MAKELEVEL"):
+        os.environ.pop(word, None)
+    for one in (no_calls, faults):
+        one(tally)
+    beside(tally, (answers, other_runs, beside_nodes, quiet, unanswered, voted_by_nobody, no_majority, long_run, manual_page, readme))
+    if not shutil.which("bmake"):
+        print("tests/run: no bmake here: nothing is built of Makefiles", flush=True)
+        return
+    three_hosts(tally)
+    kills(tally)
+    beside(tally, (jobs, broken, late, with_a_key))
