@@ -335,7 +335,7 @@ def kills(tally):
 def jobs(tally):
     """Three hosts that build three units at a time each."""
     name = "three jobs a host"
-    with laid(ports=20, seed=4, jobs=3, least=0.1, most=0.5) as run:
+    with laid(ports=20, seed=4, jobs=3, least=0.8, most=2.0) as run:
         began = time.monotonic()
         run.start("--jobs", "3")
         check(tally, f"{name}, all is held", run.is_held(), run.told())
@@ -677,7 +677,7 @@ def memory_of(process):
     return int(re.search(rb"VmRSS:\s+(\d+) kB", contents(f"/proc/{process.pid}/status"))[1])
 
 
-def long_run(tally, first=60, rounds=240):
+def long_run(tally, first=10, rounds=30):
     """A node without patience, at which one build never ends and another one fails over and over: what it keeps doesn't grow."""
     with lone("a/b.FULLPKGNAME=b-1\na/c.FULLPKGNAME=c-1\n", "--patience", "0", "--jobs", "2") as host:
         name, seen = host.job("a/c"), []

@@ -839,6 +839,7 @@ def beside(tally, several):
         for own in pool.map(counted, several):
             tally.passed += own.passed
             tally.failed += own.failed
+            tally.names += own.names
 
 
 def run(tally):

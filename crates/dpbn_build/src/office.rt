@@ -163,6 +163,8 @@ impl<'f> Office<'f> {
         turned: Turned,
         err: &mut E,
     ) {
+        // what a turn did, it did at its end, which may be a second behind its beginning
+        self.pacing.look(rt);
         let Turned {
             answer,
             is_wished,
