@@ -9,7 +9,7 @@ use Rattle.stable_record.specs.Room.{Room}
 abbrev pub file_past : FileDisk → Past
 file_past disk = disk.noted.past
 
--- the calls that touched the file, from its past on
+-- the calls that are noted, from its past on: what they say the file went through
 abbrev pub file_history : FileDisk → History
 file_history disk = replay disk.noted.past disk.noted.events
 
