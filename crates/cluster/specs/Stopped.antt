@@ -52,8 +52,8 @@ HasStopped words (Refused r) before after =
     ((r ≡ memory_refusal) × Keeps before after) ⊎ HasFailedAt words (Refused r) before after
 HasStopped words (Unwritten r) before after = HasFailedAt words (Unwritten r) before after
 
--- The program stopped, and not for its words. What was told ends in a beginning of the one line that
--- tells why, which may be empty: that says nothing of what was written.
+-- The program stopped, and not for its words. What was told ends in a beginning of the one line
+-- that tells why, which may be empty: that says nothing of what was written.
 pub record HasFailed (words : List Word) (before after told_after : Option (List ℕ)) : Type 0 where
   pub stop : Stop
   pub status : status_after stop ≡ 1
