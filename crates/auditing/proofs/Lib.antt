@@ -1,12 +1,12 @@
 mod Examples
-pub mod Positions
-pub mod Built
-pub mod OfUnit
+mod Positions
+mod Built
+mod OfUnit
 pub mod Fitting
 pub mod Allowing
-pub mod Places
-pub mod Signatures
-pub mod Needed
-pub mod Reasons
+mod Places
+mod Signatures
+mod Needed
+mod Reasons
 pub mod Sets
-pub mod OneVerdict
+mod OneVerdict

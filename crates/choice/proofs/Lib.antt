@@ -1,3 +1,3 @@
-pub mod Keeping
-pub mod OneChoice
+mod Keeping
+mod OneChoice
 pub mod SomeOwn

@@ -1,15 +1,15 @@
-pub mod Arrivals
-pub mod ByCase
-pub mod Choosings
-pub mod Elsewhere
-pub mod Eventful
-pub mod FirstOwn
-pub mod Firsts
-pub mod Going
-pub mod Jobs
-pub mod LiveEvents
-pub mod Owns
+mod Arrivals
+mod ByCase
+mod Choosings
+mod Elsewhere
+mod Eventful
+mod FirstOwn
+mod Firsts
+mod Going
+mod Jobs
+mod LiveEvents
+mod Owns
 pub mod Places
-pub mod Ranges
+mod Ranges
 pub mod Unfailed
-pub mod Asking
+mod Asking

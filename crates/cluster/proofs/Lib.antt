@@ -1,3 +1,3 @@
-pub mod Stopping
-pub mod Good
-pub mod Statuses
+mod Stopping
+mod Good
+mod Statuses

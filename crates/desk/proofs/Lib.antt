@@ -1,6 +1,6 @@
-pub mod Among
-pub mod HeldUnits
-pub mod Left
-pub mod Moved
-pub mod Seen
-pub mod Wished
+mod Among
+mod HeldUnits
+mod Left
+mod Moved
+mod Seen
+mod Wished

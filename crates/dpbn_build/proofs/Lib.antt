@@ -1,4 +1,4 @@
-pub mod Logs
-pub mod Shown
-pub mod Told
-pub mod Turns
+mod Logs
+mod Shown
+mod Told
+mod Turns

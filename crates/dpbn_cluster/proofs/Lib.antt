@@ -1,2 +1,2 @@
-pub mod Lines
-pub mod Running
+mod Lines
+mod Running

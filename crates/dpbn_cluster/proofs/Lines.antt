@@ -6,7 +6,7 @@ use Rattle.std.specs.Prelude.{option_map}
 use Rattle.choosing.specs.Here.{member_up}
 use Rattle.dpbn_cluster.specs.Cluster.{HasLines, IsShown}
 use Rattle.dpbr_run.specs.Run.{IsNodeLine, letters_at}
-use Rattle.dpbr_run.specs.inside.NodeLines.{HasNodeLines}
+use Rattle.dpbr_run.specs.shared.NodeLines.{HasNodeLines}
 use Rattle.engine.specs.State as engines
 use Rattle.engine.specs.State.{AreCounts}
 use Rattle.engine.specs.declared.Counts.{Counts}

@@ -1,7 +1,7 @@
 //! The turns of a cluster, and what its nodes show.
 ghost use Rattle.std.specs.Prelude.{◌≡◌, ◌≤◌, IfOk, length};
 ghost use Rattle.dpbn_cluster.specs.Running.{Answer, HasRun, IsTurn};
-ghost use Rattle.dpbr_run.specs.inside.NodeLines.{HasNodeLines};
+ghost use Rattle.dpbr_run.specs.shared.NodeLines.{HasNodeLines};
 ghost use Rattle.dpbr_run.specs.Run.{IsNodeLine};
 ghost use Rattle.std.specs.Prelude.{string_bytes};
 ghost use Rattle.turns.specs.State.{IsWorldOf};

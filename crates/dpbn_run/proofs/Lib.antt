@@ -1,2 +1,2 @@
-pub mod RequestLemmas
-pub mod RepeatLemmas
+mod RequestLemmas
+mod RepeatLemmas

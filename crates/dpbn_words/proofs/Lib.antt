@@ -1,4 +1,4 @@
 mod Examples
-pub mod Named
-pub mod Refused
-pub mod Taken
+mod Named
+mod Refused
+mod Taken

@@ -1,2 +1,2 @@
 mod Examples
-pub mod Refusing
+mod Refusing

@@ -1,3 +1,3 @@
 pub mod NodeLines
-pub mod ReadAgain
-pub mod Refusing
+mod ReadAgain
+mod Refusing

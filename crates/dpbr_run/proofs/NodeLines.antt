@@ -7,7 +7,7 @@ use Rattle.engine.specs.declared.Counts.{Counts}
 use Rattle.faults.specs.Bytes.{Text}
 use Rattle.program.specs.NodeLine.{IsLineOf, node_line}
 use Rattle.protocol.specs.State.{engine_of}
-use Rattle.dpbr_run.specs.inside.NodeLines.{HasNodeLines}
+use Rattle.dpbr_run.specs.shared.NodeLines.{HasNodeLines}
 use Rattle.dpbr_run.specs.Run.{IsNodeLine, letters_at}
 use Rattle.world.specs.Happening.{is_up, up_of}
 use Rattle.world.specs.World.{World, WorldNode, member_at}

@@ -1,4 +1,4 @@
 pub mod ListLaws
 pub mod Run
 pub mod Traces
-pub mod inside
+pub mod shared

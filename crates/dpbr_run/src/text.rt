@@ -2,7 +2,7 @@
 ghost use Rattle.std.specs.Prelude.{◌≡◌, ◌⊎◌, IfErr, IfOk, Ok, length, string_bytes};
 ghost use Rattle.dpbr_run.specs.Run.{IsNodeLine, IsOutcome, IsRunOf, RefusesEvent, RefusesTrace};
 ghost use Rattle.dpbr_run.specs.Traces.{RefusesText};
-ghost use Rattle.dpbr_run.specs.inside.NodeLines.{HasNodeLines};
+ghost use Rattle.dpbr_run.specs.shared.NodeLines.{HasNodeLines};
 ghost use Rattle.faults.specs.Bytes.{Text};
 ghost use Rattle.program.specs.Refusals.{memory_refusal};
 ghost use Rattle.traces.specs.Faults.{trace_view};

@@ -1,6 +1,6 @@
-pub mod Holding
-pub mod NumberedLines
-pub mod PackageLines
-pub mod Positions
-pub mod Refusing
-pub mod Slices
+mod Holding
+mod NumberedLines
+mod PackageLines
+mod Positions
+mod Refusing
+mod Slices

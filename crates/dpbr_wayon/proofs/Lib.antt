@@ -3,4 +3,4 @@ mod Growing
 mod JustGiven
 mod ReadAgain
 mod Sound
-pub mod Refusing
+mod Refusing

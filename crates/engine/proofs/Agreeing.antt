@@ -9,11 +9,11 @@ use Rattle.engine.specs.State.{State}
 use Rattle.engine.specs.declared.Letter.{Letter}
 use Rattle.engine.specs.declared.Letter.TheVariants.{T, Q, B, I, Ignored}
 use Rattle.graph.specs.Walked.{Walked}
-use Rattle.engine.specs.inside.Agreed.{held_marks}
-use Rattle.engine.specs.inside.Keeping.{AreKept, holds}
+use Rattle.engine.specs.shared.Agreed.{held_marks}
+use Rattle.engine.specs.shared.Keeping.{AreKept, holds}
 use Rattle.engine.specs.inside.Searching.{IsSettled}
 use Rattle.engine.specs.inside.Queueing.{AreQueueing, FitsUnit, needs_of}
-use Rattle.engine.specs.inside.Shown.{is_held, is_installed, letter_at}
+use Rattle.engine.specs.shared.Shown.{is_held, is_installed, letter_at}
 use Rattle.graph.specs.Marks.{has_mark}
 use Rattle.engine.proofs.Beginning.{not_held_installed}
 use Rattle.engine.proofs.Marked.{marked_set-like, marked_set-more, marked_set-same}

@@ -9,10 +9,10 @@ use Rattle.engine.specs.Division.{Division}
 use Rattle.engine.specs.declared.Letter.{Letter}
 use Rattle.engine.specs.declared.Letter.TheVariants.{T, Q, B, I, Ignored}
 use Rattle.graph.specs.Walked.{Walked}
-use Rattle.engine.specs.inside.Keeping.{AreKept, holds}
+use Rattle.engine.specs.shared.Keeping.{AreKept, holds}
 use Rattle.graph.specs.Lists.{AreReversed}
 use Rattle.engine.specs.inside.Queueing.{AreFitting, FitsUnit, needs_of, waited_for}
-use Rattle.engine.specs.inside.Shown.{is_held, is_installed, letter_at}
+use Rattle.engine.specs.shared.Shown.{is_held, is_installed, letter_at}
 
 pub not_held_installed : (l : Letter) → is_held l ≡ false → is_installed l ≡ false
 not_held_installed T e = refl

@@ -10,7 +10,7 @@ use Rattle.engine.specs.declared.Letter.TheVariants.{T, Q, B, I, Ignored}
 use Rattle.engine.specs.declared.row.Row.{Row}
 use Rattle.graph.specs.Lists.{one_if}
 use Rattle.engine.specs.inside.Row.{HasQueued, bit_of, is_queued}
-use Rattle.engine.specs.inside.Shown.{letter_at}
+use Rattle.engine.specs.shared.Shown.{letter_at}
 
 -- the bit of a position in the words
 abbrev pub bit_in : List ℕ → ℕ → ℕ

@@ -15,7 +15,7 @@ use Rattle.graph.proofs.Turned.{AreReversed-more, turned, turned_back}
 use Rattle.listing.specs.Tree.{ArePositions, IsTree, Tree, build_at, is_marked_at, no_package, run_at}
 use Rattle.engine.specs.Ignored.{HoldsTheMarked}
 use Rattle.engine.specs.Units.{positions}
-use Rattle.engine.specs.inside.Marks.{AreIgnored, AreMarksOf, deps_at, marked_of}
+use Rattle.engine.specs.shared.Marks.{AreIgnored, AreMarksOf, deps_at, marked_of}
 use Rattle.engine.proofs.Lists.{below_in, contains_in, filter_next, in_below, in_contains, in_kept}
 
 -- ---- what a package depends on is listed, and so is the package

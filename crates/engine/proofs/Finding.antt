@@ -5,13 +5,13 @@ use Rattle.std.proofs.lemmas.List.{get_or_append_left, get_or-set_same, length-s
 use Rattle.std.proofs.lemmas.List.Elements.{All-contains}
 use Rattle.graph.specs.Lists.{list_at}
 use Rattle.graph.specs.Marks.{has_mark}
-use Rattle.graph.specs.inside.Walks.{AreFound}
+use Rattle.graph.specs.shared.Walks.{AreFound}
 use Rattle.graph.proofs.Lists.{get_or-same}
 use Rattle.graph.proofs.Marked.{marked_after, marked_before}
 use Rattle.graph.proofs.Walks.{AreFound-more, marked-found}
 use Rattle.engine.specs.declared.Letter.{Letter}
 use Rattle.engine.specs.declared.Letter.TheVariants.{B}
-use Rattle.engine.specs.inside.Shown.{letter_at}
+use Rattle.engine.specs.shared.Shown.{letter_at}
 
 -- what holds when n of the positions have been looked at
 pub record IsFinding (letters : List Letter) (marks_before : List Bool) (found_before : List ℕ) (marks : List Bool) (found positions : List ℕ) (n : ℕ) : Type 0 where

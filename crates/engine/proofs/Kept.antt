@@ -30,7 +30,7 @@ use Rattle.engine.specs.inside.Gathering.{AreGathered, firsts, lists_of, made_be
 use Rattle.engine.specs.inside.UnitKeeping.{AreAlike, AreGroups, AreNumbers, build_kept, unit_made}
 use Rattle.engine.specs.declared.making.Made.{Made}
 use Rattle.graph.specs.Marks.{has_mark}
-use Rattle.engine.specs.inside.Marks.{AreIgnored}
+use Rattle.engine.specs.shared.Marks.{AreIgnored}
 use Rattle.engine.specs.declared.gathering.Gathered.{Gathered}
 
 -- marks of the ignored packages tell them

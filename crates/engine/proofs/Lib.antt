@@ -1,35 +1,35 @@
-pub mod Agreeing
-pub mod Beginning
-pub mod Bits
-pub mod Decided
+mod Agreeing
+mod Beginning
+mod Bits
+mod Decided
 pub mod Dependents
-pub mod Division
+mod Division
 mod DivisionExamples
-pub mod Dropping
+mod Dropping
 mod Examples
-pub mod Finding
+mod Finding
 pub mod InOrder
 pub mod Kept
 pub mod Lists
-pub mod Lowering
+mod Lowering
 pub mod Marked
 pub mod Names
 pub mod Numbered
 pub mod Once
 pub mod OneLetter
-pub mod OneMore
-pub mod OneUnit
+mod OneMore
+mod OneUnit
 pub mod Places
 pub mod Reading
-pub mod Settled
+mod Settled
 pub mod Shown
-pub mod Sifting
-pub mod SoMany
+mod Sifting
+mod SoMany
 pub mod SomeLetter
-pub mod Tally
+mod Tally
 pub mod Together
-pub mod Told
+mod Told
 mod UnitExamples
-pub mod Unmarked
-pub mod Waiting
+mod Unmarked
+mod Waiting
 pub mod WellMade

@@ -8,7 +8,7 @@ use Rattle.std.specs.FinSet as finset
 use Rattle.std.specs.FinSet.{nat_cmp-IsAntisymmetric}
 use Rattle.std.specs.Ordering.{nat_cmp}
 use Rattle.graph.specs.Marks.{has_mark}
-use Rattle.engine.specs.inside.Agreed.{marked_set, set_below}
+use Rattle.engine.specs.shared.Agreed.{marked_set, set_below}
 
 pub has_mark-same : (marks : List Bool) (p : ℕ) (mark : Bool) → p < length marks → has_mark (set marks p mark) p ≡ mark
 has_mark-same marks p mark within = get_or-set_same marks p mark false within

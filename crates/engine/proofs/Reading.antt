@@ -15,10 +15,10 @@ use Rattle.engine.specs.State.{AreCounts, HasLetter, IsEngine, IsNextQueued, IsQ
 use Rattle.engine.specs.declared.Letter.{Letter}
 use Rattle.engine.specs.declared.Letter.TheVariants.{T, Q, B, I, Ignored}
 use Rattle.graph.specs.Walked.{Walked}
-use Rattle.engine.specs.inside.Agreed.{held_marks, marked_set}
-use Rattle.engine.specs.inside.Keeping.{AreKept, holds}
+use Rattle.engine.specs.shared.Agreed.{held_marks, marked_set}
+use Rattle.engine.specs.shared.Keeping.{AreKept, holds}
 use Rattle.engine.specs.inside.Queueing.{FitsUnit, needs_of, waited_for}
-use Rattle.engine.specs.inside.Shown.{is_held, is_installed, letter_at}
+use Rattle.engine.specs.shared.Shown.{is_held, is_installed, letter_at}
 use Rattle.engine.proofs.Marked.{contains-marked_set}
 use Rattle.engine.proofs.Numbered.{numbered_unit, unnumbered_ignored}
 use Rattle.engine.proofs.OneLetter.{only_one_letter}

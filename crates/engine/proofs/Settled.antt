@@ -16,10 +16,10 @@ use Rattle.graph.proofs.Walks.{found-marked, marked-found}
 use Rattle.engine.specs.Letters.{IsInstallable}
 use Rattle.engine.specs.declared.Letter.{Letter}
 use Rattle.engine.specs.declared.Letter.TheVariants.{T, Q, B, I, Ignored}
-use Rattle.engine.specs.inside.Keeping.{AreKept, holds}
+use Rattle.engine.specs.shared.Keeping.{AreKept, holds}
 use Rattle.engine.specs.inside.Queueing.{waited_for}
 use Rattle.engine.specs.inside.Searching.{IsSettled, told}
-use Rattle.engine.specs.inside.Shown.{is_held, is_installed, letter_at}
+use Rattle.engine.specs.shared.Shown.{is_held, is_installed, letter_at}
 use Rattle.engine.proofs.Beginning.{not_held_installed}
 use Rattle.engine.proofs.Reading.{letter_within, none_waited}
 use Rattle.engine.proofs.Sifting.{All-from_contains, one_if-most}

@@ -5,7 +5,7 @@ use Rattle.engine.specs.State.{count_of, counts_of, index_of}
 use Rattle.engine.specs.declared.Counts.{Counts}
 use Rattle.engine.specs.declared.Letter.{Letter}
 use Rattle.engine.specs.declared.Letter.TheVariants.{T, Q, B, I, Ignored}
-use Rattle.engine.specs.inside.Shown.{same_letter, tally}
+use Rattle.engine.specs.shared.Shown.{same_letter, tally}
 use Rattle.graph.proofs.Lists.{get_or-same}
 
 pub tally-counts : (letters : List Letter) (l : Letter) → tally (counts_of letters) l ≡ count_of l letters

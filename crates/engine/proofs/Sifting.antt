@@ -5,7 +5,7 @@ use Rattle.std.proofs.lemmas.List.{get_or_append_left, length-append, take-appen
 use Rattle.std.proofs.lemmas.List.Elements.{All-append, All-contains, Contains-get_or}
 use Rattle.graph.specs.Lists.{AreReversed, list_at, one_if, times}
 use Rattle.graph.specs.Marks.{has_mark}
-use Rattle.graph.specs.inside.Walks.{AreFound}
+use Rattle.graph.specs.shared.Walks.{AreFound}
 use Rattle.graph.proofs.Lists.{contained-times, times-contained}
 use Rattle.graph.proofs.Marked.{marked_within}
 use Rattle.graph.proofs.Walks.{found-marked}

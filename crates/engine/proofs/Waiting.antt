@@ -13,7 +13,7 @@ use Rattle.engine.specs.declared.Letter.{Letter}
 use Rattle.engine.specs.declared.Letter.TheVariants.{T, Q, B, I, Ignored}
 use Rattle.graph.specs.Lists.{one_if, times}
 use Rattle.engine.specs.inside.Queueing.{AreFitting, AreQueued, AreQueueing, FitsUnit, needs_of, waited_for}
-use Rattle.engine.specs.inside.Shown.{is_held, is_installed, letter_at}
+use Rattle.engine.specs.shared.Shown.{is_held, is_installed, letter_at}
 use Rattle.engine.proofs.WellMade.{one_unit_has}
 
 -- ---- letters

@@ -6,3 +6,4 @@ pub mod State
 pub mod UnitLaws
 pub mod Units
 pub mod inside
+pub mod shared

@@ -1,6 +1,6 @@
 //! How many packages have each letter.
 ghost use Rattle.std.specs.Prelude.{◌≡◌, ◌<◌, ◌^◌, ◌+◌};
-ghost use Rattle.engine.specs.inside.Shown.{same_letter, tally};
+ghost use Rattle.engine.specs.shared.Shown.{same_letter, tally};
 ghost use Rattle.engine.specs.declared.Letter.{Letter as Kind};
 
 use crate::{Counts, Letter};

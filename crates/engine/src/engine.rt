@@ -34,8 +34,8 @@ pub struct Engine<'a> {
 impl<'a> Model for Engine<'a> {
     ghost use Rattle.std.specs.Prelude.{◌≡◌};
     ghost use Rattle.engine.specs.State.{State, state_code};
-    ghost use Rattle.engine.specs.inside.Agreed.{held_marks, marked_set};
-    ghost use Rattle.engine.specs.inside.Keeping.{AreKept};
+    ghost use Rattle.engine.specs.shared.Agreed.{held_marks, marked_set};
+    ghost use Rattle.engine.specs.shared.Keeping.{AreKept};
 
     ghost Value = { State };
 

@@ -3,8 +3,8 @@ ghost use Rattle.std.specs.Prelude.{◌≡◌, ◌<◌, ◌^◌, ℕ, IfOk, OnOk
 ghost use Rattle.listing.specs.Tree.{run_at};
 ghost use Rattle.engine.specs.Division.{IsDivision};
 ghost use Rattle.engine.specs.inside.Queueing.{AreFitting, FitsUnit, needs_of};
-ghost use Rattle.engine.specs.inside.Shown.{is_held};
-ghost use Rattle.engine.specs.inside.Keeping.{AreKept, holds};
+ghost use Rattle.engine.specs.shared.Shown.{is_held};
+ghost use Rattle.engine.specs.shared.Keeping.{AreKept, holds};
 
 use crate::letters::Letters;
 use crate::search::Search;

@@ -2,7 +2,7 @@
 //! depends on whom, each package once.
 ghost use Rattle.std.specs.Prelude.{◌≡◌, ◌<◌, All, IfOk, length};
 ghost use Rattle.graph.specs.Lists.{AreReversed};
-ghost use Rattle.engine.specs.inside.Marks.{AreIgnored, AreMarksOf, deps_at, marked_of};
+ghost use Rattle.engine.specs.shared.Marks.{AreIgnored, AreMarksOf, deps_at, marked_of};
 
 use faults::Memory;
 use graph::{Naming, Reversed, Walk};

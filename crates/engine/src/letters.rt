@@ -1,7 +1,7 @@
 //! The letters of all packages, which contracts see as a list by position.
 ghost use Rattle.std.specs.Prelude.{◌≡◌, ◌≢◌, ◌<◌, ◌≤◌, ◌^◌, ℕ, IfOk, MatchOption, length, replicate, set};
 ghost use Rattle.engine.specs.State.{counts_of};
-ghost use Rattle.engine.specs.inside.Shown.{is_held, letter_at};
+ghost use Rattle.engine.specs.shared.Shown.{is_held, letter_at};
 ghost use Rattle.engine.specs.declared.Letter.TheVariants.{Q};
 
 use crate::row::Row;

@@ -2,7 +2,7 @@
 ghost use Rattle.std.specs.Prelude.{◌≡◌, ◌<◌, ◌-◌, ◌⊎◌, ◌≢◌, ℕ, All, Contains, length, set, slice_index};
 ghost use Rattle.graph.specs.Lists.{AreReversed, times};
 ghost use Rattle.engine.specs.inside.Queueing.{AreFitting, AreQueued, AreQueueing, needs_of};
-ghost use Rattle.engine.specs.inside.Shown.{is_held, is_installed, letter_at};
+ghost use Rattle.engine.specs.shared.Shown.{is_held, is_installed, letter_at};
 ghost use Rattle.engine.specs.declared.Letter.TheVariants.{T, Q, B, I};
 
 use crate::letters::Letters;

@@ -2,9 +2,9 @@
 ghost use Rattle.std.specs.Prelude.{◌≡◌, ◌<◌, ◌≤◌, ◌⊎◌, ◌+◌, ◌^◌, ℕ, false, true, All, Contains, IfOk, length, slice_index, vec_capacity, [], List};
 ghost use Rattle.graph.specs.Lists.{AreReversed, list_at, one_if, times};
 ghost use Rattle.graph.specs.Marks.{has_mark};
-ghost use Rattle.graph.specs.inside.Walks.{AreFound};
+ghost use Rattle.graph.specs.shared.Walks.{AreFound};
 ghost use Rattle.engine.specs.inside.Searching.{Adds, AreParted, IsCaused, IsGathered, IsSettled, IsSifted, marked_many, told};
-ghost use Rattle.engine.specs.inside.Shown.{is_held, letter_at};
+ghost use Rattle.engine.specs.shared.Shown.{is_held, letter_at};
 ghost use Rattle.engine.specs.declared.Letter.TheVariants.{B};
 
 use crate::Letter;

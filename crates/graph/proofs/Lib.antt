@@ -1,6 +1,6 @@
-pub mod Links
+mod Links
 pub mod Lists
 pub mod Marked
-pub mod Ranges
+mod Ranges
 pub mod Turned
 pub mod Walks

@@ -8,7 +8,7 @@ use Rattle.std.proofs.lemmas.List.Sums.{count_by-le-length, sum_by-set}
 use Rattle.graph.specs.Lists.{one_if, times}
 use Rattle.graph.specs.Marks.{has_mark}
 use Rattle.graph.specs.Reach.{AreReachedFrom, IsClosed, IsReachedFrom}
-use Rattle.graph.specs.inside.Walks.{AreFound, LeadsTo}
+use Rattle.graph.specs.shared.Walks.{AreFound, LeadsTo}
 use Rattle.graph.proofs.Lists.{contained-times, get_or-same, times-contained, times-push}
 use Rattle.graph.proofs.Marked.{marked_after, marked_before}
 

@@ -3,3 +3,4 @@ pub mod Marks
 pub mod Reach
 pub mod Walked
 pub mod inside
+pub mod shared

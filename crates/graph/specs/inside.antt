@@ -1,4 +1,3 @@
 -- What only bodies and proofs need.
 pub mod Links
 pub mod Ranges
-pub mod Walks

@@ -3,7 +3,7 @@ ghost use Rattle.std.specs.Prelude.{◌≡◌, ◌<◌, ◌≤◌, ◌⊎◌, �
 ghost use Rattle.graph.specs.Lists.{list_at};
 ghost use Rattle.graph.specs.Marks.{has_mark};
 ghost use Rattle.graph.specs.Reach.{AreReached, AreReachedFrom, IsClosed};
-ghost use Rattle.graph.specs.inside.Walks.{AreFound, LeadsTo};
+ghost use Rattle.graph.specs.shared.Walks.{AreFound, LeadsTo};
 
 use crate::reversed::Reversed;
 use faults::Memory;
@@ -21,7 +21,7 @@ pub struct Walk {
 impl Model for Walk {
     ghost use Rattle.std.specs.Prelude.{length};
     ghost use Rattle.graph.specs.Walked.{Walked};
-    ghost use Rattle.graph.specs.inside.Walks.{IsIdle};
+    ghost use Rattle.graph.specs.shared.Walks.{IsIdle};
 
     ghost Value = { Walked };
 

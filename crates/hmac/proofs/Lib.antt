@@ -1,3 +1,3 @@
-pub mod Bits
+mod Bits
 pub mod Lengths
-pub mod Vectors
+mod Vectors

@@ -1,11 +1,11 @@
-pub mod Asking
-pub mod Events
-pub mod Holding
-pub mod Mirrored
-pub mod Moving
-pub mod Places
-pub mod Reopened
-pub mod Running
-pub mod Starting
-pub mod Turning
-pub mod OnHosts
+mod Asking
+mod Events
+mod Holding
+mod Mirrored
+mod Moving
+mod Places
+mod Reopened
+mod Running
+mod Starting
+mod Turning
+mod OnHosts

@@ -1,20 +1,20 @@
 mod Examples
 mod DigestExamples
-pub mod Positions
-pub mod Places
-pub mod Found
-pub mod Words
-pub mod Fields
-pub mod LineLemmas
+mod Positions
+mod Places
+mod Found
+mod Words
+mod Fields
+mod LineLemmas
 pub mod First
-pub mod Left
-pub mod Numbers
+mod Left
+mod Numbers
 pub mod Settings
-pub mod Rows
-pub mod Reading
-pub mod Members
-pub mod NodeLemmas
-pub mod Parsing
-pub mod GroupLines
-pub mod Feeding
-pub mod Counting
+mod Rows
+mod Reading
+mod Members
+mod BarePackageLemmas
+mod Parsing
+mod GroupLines
+mod Feeding
+mod Counting

@@ -18,7 +18,7 @@ use Rattle.pkgspec.specs.Spec.{Alternative, spec_of}
 use Rattle.listing.specs.Dependencies.{dependency_path_text, is_shaped, specs_of, words_of}
 use Rattle.listing.specs.inside.Entries.{Entry, IsRead, IsReadEntry, words_of_entries}
 use Rattle.listing.specs.Listing.{dependencies_fault, dependency_fault, dependency_path, most_dependencies, path_or_empty, word_fault}
-use Rattle.listing.specs.inside.Nodes.{all_match, resolution_at, resolution_of, resolution_of_word, word_matches}
+use Rattle.listing.specs.inside.BarePackages.{all_match, resolution_at, resolution_of, resolution_of_word, word_matches}
 use Rattle.listing.specs.inside.Parts.{AreFieldsOf, AreNumbersOf, Grows, IsNumberOf, specs_from}
 use Rattle.listing.specs.Rules.{names_and_specs, read_spec_matches}
 use Rattle.listing.specs.declared.ListingFault.{ListingFault}

@@ -1,6 +1,6 @@
 pub mod Parts
 pub mod Entries
 pub mod Table
-pub mod Nodes
+pub mod BarePackages
 pub mod Groups
 pub mod Hashing

@@ -9,7 +9,7 @@ ghost use Rattle.pkgspec.specs.Spec.{spec_of};
 ghost use Rattle.listing.specs.Dependencies.{is_operator_byte, is_shaped, words_of};
 ghost use Rattle.listing.specs.inside.Entries.{IsRead};
 ghost use Rattle.listing.specs.Listing.{dependencies_fault, word_fault};
-ghost use Rattle.listing.specs.inside.Nodes.{all_match, resolution_of, resolution_of_word};
+ghost use Rattle.listing.specs.inside.BarePackages.{all_match, resolution_of, resolution_of_word};
 ghost use Rattle.listing.specs.inside.Parts.{AreFieldsOf, AreNumbersOf, Grows, IsNumberOf, IsPathField, specs_from};
 ghost use Rattle.listing.specs.Rules.{names_and_specs};
 ghost use Rattle.listing.specs.inside.Table.{name_in};

@@ -8,12 +8,12 @@ ghost use Rattle.listing.specs.Refusals.{number_of, place_of};
 use faults::{Fault, WantOfMemory};
 use thiserror::Error;
 
+mod bare_package;
 mod dependency;
 mod digest;
 mod groups;
 mod laws;
 mod line;
-mod node;
 mod table;
 mod tree;
 mod word;

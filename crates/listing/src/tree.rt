@@ -4,13 +4,13 @@ ghost use Rattle.faults.specs.Answers.{IsRightUnless, first_given};
 ghost use Rattle.listing.specs.Lines.{Setting};
 ghost use Rattle.listing.specs.Listing.{nameless_fault, tree_of, tree_of_settings};
 ghost use Rattle.listing.specs.Rules.{group_by, names_and_specs, single_paths, with_groups};
-ghost use Rattle.listing.specs.inside.Nodes.{AreNodesOfTable};
+ghost use Rattle.listing.specs.inside.BarePackages.{AreBarePackagesOfTable};
 ghost use Rattle.listing.specs.inside.Table.{Stands, row_fault};
 ghost use Rattle.listing.specs.Tree.{ArePositions, IsTree, build_at, group_at, is_marked_at, name_at, path_at, position_of, run_at};
 
 use crate::ListingFault;
+use crate::bare_package::{BarePackage, bare_packages_of};
 use crate::groups::Groups;
-use crate::node::{Node, nodes_of};
 use crate::table::Table;
 use indexmap::IndexSet;
 use pkgname::{Pieces, PkgName};
@@ -24,7 +24,7 @@ use std::marker::Model;
 #[derive(Drop)]
 pub struct Tree {
     paths: IndexSet<PkgPath>,
-    nodes: Vec<Node>,
+    bare_packages: Vec<BarePackage>,
     groups: Groups,
     /// Each package is a group of its own.
     is_single: bool,
@@ -34,15 +34,15 @@ impl Model for Tree {
     ghost use Rattle.std.specs.Prelude.{◌≡◌, List, length, map};
     ghost use Rattle.listing.specs.inside.Table.{Stands};
     ghost use Rattle.listing.specs.Tree.{IsTree, Package};
-    ghost use Rattle.listing.specs.inside.Nodes.{packages_of};
+    ghost use Rattle.listing.specs.inside.BarePackages.{packages_of};
     ghost use Rattle.listing.specs.Rules.{group_by};
 
     ghost Value = { List Package };
 
-    ghost view = { λ t. packages_of (group_by t.is_single) t.paths.keys t.nodes.items };
+    ghost view = { λ t. packages_of (group_by t.is_single) t.paths.keys t.bare_packages.items };
 
-    ghost invariant = { λ t. (length t.nodes.items ≡ length t.paths.keys)
-        × IsTree (packages_of (group_by t.is_single) t.paths.keys t.nodes.items)
+    ghost invariant = { λ t. (length t.bare_packages.items ≡ length t.paths.keys)
+        × IsTree (packages_of (group_by t.is_single) t.paths.keys t.bare_packages.items)
         × (t.groups ≡ map (group_by t.is_single) t.paths.keys) };
 }
 
@@ -94,11 +94,11 @@ impl Tree {
             × (t ≡ tree_of_settings (with_groups (group_by is_single)) settings))
             (λ e. (e ≡ ListingFault.Memory) ⊎ (nameless_fault settings ≡ Some e)) }
     {
-        let nodes = nodes_of_table(alloc, &table)?;
+        let bare_packages = bare_packages_of_table(alloc, &table)?;
         let groups = Groups::of(alloc, table.paths.as_slice(), is_single)?;
         Ok(Tree {
             paths: table.paths,
-            nodes,
+            bare_packages,
             groups,
             is_single,
         })
@@ -116,7 +116,7 @@ impl Tree {
         ensures count { result ≡ length self.now }
         ensures tree { IsTree self.now }
     {
-        self.nodes.len() as u32
+        self.bare_packages.len() as u32
     }
 
     /// The position of the path, if it is listed.
@@ -149,7 +149,7 @@ impl Tree {
         requires { position < length self.now }
         ensures { result.now ≡ name_at self.now position }
     {
-        &self.nodes[position as usize].name
+        &self.bare_packages[position as usize].name
     }
 
     /// The positions of the listed dependencies of BUILD_DEPENDS and LIB_DEPENDS, ascending, each
@@ -159,7 +159,7 @@ impl Tree {
         ensures value { result.now ≡ build_at self.now position }
         ensures positions { ArePositions self.now result.now }
     {
-        self.nodes[position as usize].build.as_slice()
+        self.bare_packages[position as usize].build.as_slice()
     }
 
     /// The positions of the listed dependencies of LIB_DEPENDS and RUN_DEPENDS, ascending, each
@@ -169,7 +169,7 @@ impl Tree {
         ensures value { result.now ≡ run_at self.now position }
         ensures positions { ArePositions self.now result.now }
     {
-        self.nodes[position as usize].run.as_slice()
+        self.bare_packages[position as usize].run.as_slice()
     }
 
     /// Whether the package's IGNORE isn't empty, or a dependency of it has a path that isn't
@@ -178,19 +178,22 @@ impl Tree {
         requires { position < length self.now }
         ensures { result ≡ is_marked_at self.now position }
     {
-        self.nodes[position as usize].is_marked
+        self.bare_packages[position as usize].is_marked
     }
 }
 
 /// The packages of all that the lines set, without their paths, if each has a name.
-fn nodes_of_table(alloc: Global, table: &Table<'_>) -> Result<Vec<Node>, ListingFault>
+fn bare_packages_of_table(
+    alloc: Global,
+    table: &Table<'_>,
+) -> Result<Vec<BarePackage>, ListingFault>
     requires { (settings : List Setting) × Stands table.now settings }
     ensures { MatchResult result
-        (λ nodes. (first_given row_fault table.now.rows.items ≡ None)
-        × AreNodesOfTable table.now nodes.items)
+        (λ bare_packages. (first_given row_fault table.now.rows.items ≡ None)
+        × AreBarePackagesOfTable table.now bare_packages.items)
         (λ e. (e ≡ ListingFault.Memory) ⊎ (first_given row_fault table.now.rows.items ≡ Some e)) }
 {
     let rows = table.rows.as_slice();
     let resolutions = table.dependencies.resolve(alloc, &table.paths, rows)?;
-    nodes_of(alloc, rows, resolutions.as_slice())
+    bare_packages_of(alloc, rows, resolutions.as_slice())
 }

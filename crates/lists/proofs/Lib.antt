@@ -1,7 +1,7 @@
 mod Examples
-pub mod Fields
-pub mod FlatLines
-pub mod Lines
-pub mod OneList
-pub mod Saying
-pub mod Spelling
+mod Fields
+mod FlatLines
+mod Lines
+mod OneList
+mod Saying
+mod Spelling

@@ -1,1 +1,1 @@
-pub mod Choosing
+mod Choosing

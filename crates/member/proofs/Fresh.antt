@@ -13,7 +13,7 @@ use Rattle.protocol.specs.State.{State, Value, fresh, holds_package, is_held_any
 use Rattle.protocol.specs.Member.{IsMember}
 use Rattle.protocol.proofs.Known.{at_any}
 use Rattle.protocol.proofs.Restored.{notes_restore}
-use Rattle.member.specs.inside.Fields.{engine_with}
+use Rattle.member.specs.shared.Fields.{engine_with}
 
 -- where nothing passes, nothing is kept
 nothing_kept : (P : ℕ → Bool) (xs : List ℕ) → ((k : ℕ) → P k ≡ false) → filter P xs ≡ []

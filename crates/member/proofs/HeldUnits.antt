@@ -22,7 +22,7 @@ use Rattle.engine.proofs.Lists.{below_in, in_contains, in_kept, not_true, same_a
 use Rattle.engine.proofs.Kept.{unit_listed}
 use Rattle.engine.proofs.WellMade.{one_unit_has}
 use Rattle.protocol.specs.State.{State, Value, holds_package, is_held_any, noted_at}
-use Rattle.member.specs.inside.Fields.{engine_with}
+use Rattle.member.specs.shared.Fields.{engine_with}
 use Rattle.member.specs.inside.Units.{agreed_too, is_held_fact, with_all}
 
 -- the set with these has them, and what it had

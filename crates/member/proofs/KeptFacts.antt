@@ -14,7 +14,7 @@ use Rattle.ballots.specs.declared.message.Note.{Note}
 use Rattle.engine.specs.Division.{Division, no_unit, number_named}
 use Rattle.engine.specs.Units.{Unit}
 use Rattle.protocol.specs.State.{Value, noted_at}
-use Rattle.member.specs.inside.Fields.{facts_of_known}
+use Rattle.member.specs.shared.Fields.{facts_of_known}
 use Rattle.member.specs.declared.known.Known.{Known}
 
 -- what is named is a unit

@@ -8,7 +8,7 @@ use Rattle.protocol.specs.Member.{IsMember}
 use Rattle.protocol.specs.State.{State, Value, facts_at}
 use Rattle.member.specs.declared.known.Known.{Known}
 use Rattle.member.specs.declared.member.Member.TheInside.{Inside}
-use Rattle.member.specs.inside.Fields.{facts_of_known, state_of}
+use Rattle.member.specs.shared.Fields.{facts_of_known, state_of}
 
 -- the member that a contract sees is one
 pub seen_member : (m : Inside) (s : State) → state_of m ≡ s → IsMember (state_of m) → IsMember s

@@ -1,25 +1,25 @@
-pub mod BuiltAnswers
-pub mod Changing
-pub mod Counted
-pub mod FoundRecords
-pub mod Fresh
-pub mod GivenFiles
+mod BuiltAnswers
+mod Changing
+mod Counted
+mod FoundRecords
+mod Fresh
+mod GivenFiles
 pub mod Handling
-pub mod Heard
+mod Heard
 pub mod HeldUnits
-pub mod KeptDigests
-pub mod KeptFacts
+mod KeptDigests
+mod KeptFacts
 pub mod KeptNumbers
-pub mod KnownUnits
-pub mod MadeBuild
-pub mod MadePackages
+mod KnownUnits
+mod MadeBuild
+mod MadePackages
 pub mod Named
-pub mod NewClaims
-pub mod OneMore
-pub mod Preparing
-pub mod Restoring
-pub mod SaidAgain
-pub mod SameStep
-pub mod Signing
-pub mod Taking
-pub mod UnitPackages
+mod NewClaims
+mod OneMore
+mod Preparing
+mod Restoring
+mod SaidAgain
+mod SameStep
+mod Signing
+mod Taking
+mod UnitPackages

@@ -14,7 +14,7 @@ use Rattle.protocol.specs.Answers.{tree_digest}
 use Rattle.protocol.specs.Step.{job_again}
 use Rattle.protocol.proofs.Known.{Pledged, each_then, pledged_then}
 use Rattle.member.specs.OpenClaims.{open_of}
-use Rattle.member.specs.inside.Fields.{IsKept, engine_with, facts_of_known, state_of}
+use Rattle.member.specs.shared.Fields.{IsKept, engine_with, facts_of_known, state_of}
 use Rattle.member.specs.declared.member.Member.TheInside.{Inside}
 
 -- what is known with these notes, too

@@ -27,7 +27,7 @@ use Rattle.ballots.specs.declared.claimer.Claimer.{Claimer}
 use Rattle.ballots.specs.declared.claimer.Claimer.TheVariants as claimers
 use Rattle.member.specs.OpenClaims.{IsWeighedBy, joined_in, open_of, progress_of_claimer}
 use Rattle.member.specs.Prepared.{IsChangeWeighedBy, Prepared, answer_by}
-use Rattle.member.specs.inside.Fields.{IsKept, job_in, state_of}
+use Rattle.member.specs.shared.Fields.{IsKept, job_in, state_of}
 use Rattle.member.specs.inside.Steps.{IsPrepared, Prepares}
 use Rattle.member.specs.declared.member.Member.TheInside.{Inside}
 use Rattle.member.specs.declared.open_claim.OpenClaim as code

@@ -21,7 +21,7 @@ use Rattle.member.specs.OpenClaims.{IsWeighedBy, open_of}
 use Rattle.member.specs.inside.Waiting.{is_building_at, waits}
 use Rattle.member.specs.Prepared.{IsChangeWeighedBy, MayBeTaken, Prepared, answer_by, changed}
 use Rattle.member.specs.declared.member.Member.TheInside.{Inside}
-use Rattle.member.specs.inside.Fields.{IsKept, engine_with, facts_of_known, job_in, state_of}
+use Rattle.member.specs.shared.Fields.{IsKept, engine_with, facts_of_known, job_in, state_of}
 
 -- the claim under which a build is made, where a claim waits for one
 abbrev claim_or : Progress → Claim → Claim

@@ -3,3 +3,4 @@ pub mod OpenClaims
 pub mod Outcomes
 pub mod Prepared
 pub mod inside
+pub mod shared

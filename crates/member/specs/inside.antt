@@ -1,7 +1,6 @@
 -- What only bodies and proofs need.
 pub mod Counting
 pub mod Digests
-pub mod Fields
 pub mod Packages
 pub mod Steps
 pub mod Units

@@ -2,7 +2,7 @@
 ghost use Rattle.std.specs.Prelude.{◌≡◌, ◌<◌, length, map};
 ghost use Rattle.engine.specs.Division.{IsDivision, number_named, unit_at};
 ghost use Rattle.protocol.specs.State.{noted_at};
-ghost use Rattle.member.specs.inside.Fields.{engine_with, facts_of_known};
+ghost use Rattle.member.specs.shared.Fields.{engine_with, facts_of_known};
 ghost use Rattle.member.specs.inside.Units.{agreed_too, is_held_fact};
 
 use crate::known::Known;

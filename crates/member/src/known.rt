@@ -20,7 +20,7 @@ pub(crate) struct Known {
 }
 
 impl Known {
-    ghost use Rattle.member.specs.inside.Fields.{facts_of_known};
+    ghost use Rattle.member.specs.shared.Fields.{facts_of_known};
 
     /// Nothing is known.
     pub(crate) fn nothing() -> Known

@@ -18,7 +18,7 @@ ghost use Rattle.member.specs.KnownBuilds.{known_build, proposal_in};
 ghost use Rattle.member.specs.OpenClaims.{open_of};
 ghost use Rattle.member.specs.Outcomes.{told};
 ghost use Rattle.member.specs.Prepared.{MayBeTaken, answer_by};
-ghost use Rattle.member.specs.inside.Fields.{facts_of_known};
+ghost use Rattle.member.specs.shared.Fields.{facts_of_known};
 ghost use Rattle.member.specs.inside.Steps.{IsPrepared};
 
 use crate::change::{change_claim, change_job};
@@ -59,7 +59,7 @@ impl<'a> Model for Member<'a> {
 
     ghost Value = { State };
 
-    ghost use Rattle.member.specs.inside.Fields.{IsKept, state_of};
+    ghost use Rattle.member.specs.shared.Fields.{IsKept, state_of};
 
     ghost view = { state_of };
 

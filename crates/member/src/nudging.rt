@@ -1,6 +1,6 @@
 //! What the open claim waits for is asked for again.
 ghost use Rattle.std.specs.Prelude.{◌≡◌, [], IfOk, None};
-ghost use Rattle.member.specs.inside.Fields.{job_in};
+ghost use Rattle.member.specs.shared.Fields.{job_in};
 ghost use Rattle.member.specs.inside.Steps.{IsPrepared};
 
 use crate::receivers::missing;

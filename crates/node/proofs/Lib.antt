@@ -1,13 +1,13 @@
 pub mod ranges
 pub mod Pieces
-pub mod Found
+mod Found
 pub mod Sent
-pub mod Readying
+mod Readying
 pub mod Finishing
 pub mod OneStep
-pub mod Reading
-pub mod Places
-pub mod AtFirst
+mod Reading
+mod Places
+mod AtFirst
 pub mod Opened
-pub mod OneNode
-pub mod Coming
+mod OneNode
+mod Coming

@@ -1,7 +1,7 @@
-pub mod Following
-pub mod Later
-pub mod Reopening
-pub mod Left
-pub mod Whole
-pub mod Offers
-pub mod Joined
+mod Following
+mod Later
+mod Reopening
+mod Left
+mod Whole
+mod Offers
+mod Joined

@@ -14,7 +14,7 @@ use Rattle.engine.specs.Division.{Division, no_unit, number_named, number_of}
 use Rattle.engine.specs.State as engine
 use Rattle.engine.specs.declared.Letter.TheVariants as letters
 use Rattle.member.proofs.HeldUnits.{engine_stays}
-use Rattle.member.specs.inside.Fields.{engine_with}
+use Rattle.member.specs.shared.Fields.{engine_with}
 use Rattle.node.proofs.Finishing.{note_is}
 use Rattle.node.proofs.ranges.Leaving.{facts_after}
 use Rattle.node.specs.State.{IsNode, NodeState}

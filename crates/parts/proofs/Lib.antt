@@ -1,7 +1,7 @@
-pub mod Answered
+mod Answered
 pub mod DoingOwn
-pub mod GivenFiles
+mod GivenFiles
 pub mod Owned
 pub mod FailedBelow
-pub mod Waiting
-pub mod Offerings
+mod Waiting
+mod Offerings

@@ -1,6 +1,6 @@
 mod Examples
-pub mod Cutting
-pub mod Digits
-pub mod Fronts
-pub mod Preorder
-pub mod Splitting
+mod Cutting
+mod Digits
+mod Fronts
+mod Preorder
+mod Splitting

@@ -1,3 +1,3 @@
-pub mod Beginnings
+mod Beginnings
 pub mod Once
 pub mod Refusing

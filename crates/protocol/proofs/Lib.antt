@@ -1,17 +1,17 @@
 pub mod Answering
 pub mod Asked
 mod Examples
-pub mod FirstFiles
+mod FirstFiles
 pub mod GivenJobs
 pub mod GoodClaims
 pub mod HeldRecords
-pub mod Heard
+mod Heard
 pub mod Known
 pub mod MembersStay
 pub mod OneAnswer
 pub mod PackageOrder
-pub mod Ready
-pub mod Receivers
+mod Ready
+mod Receivers
 pub mod Restored
 pub mod MadeBuilds
 mod Rows

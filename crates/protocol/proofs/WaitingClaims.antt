@@ -28,7 +28,7 @@ use Rattle.protocol.specs.Member.{claim_in}
 use Rattle.protocol.specs.Answers.{Answer, claim_then, dropped, everyone, job_then}
 use Rattle.protocol.specs.Answers.{others}
 use Rattle.protocol.specs.Jobs.{build_by, job_of}
-use Rattle.protocol.specs.Laws.{ClaimsWaitOncePromised, IsPromiseOf, WaitingClaimsHaveJobs}
+use Rattle.protocol.specs.Laws.{ClaimsWaitOncePromised, IsNoMessage, IsPromiseOf, WaitingClaimsHaveJobs}
 use Rattle.protocol.specs.Step.{Answers, answer, answered_or, builds, builds_under, claim_refusal}
 use Rattle.protocol.specs.Step.{claims}
 use Rattle.protocol.specs.Step.{fails, files_refusal, header_refusal, hears, host_in}
@@ -353,6 +353,16 @@ by_input s letter (inputs.Message m) a e p c left is =
     (λ d. message_waited (view s u) d (is_majority s.weights) s.me m.sender m.body)
     outcome.member.stage refl (ap (λ (a : Answer). a.job) (sym same)) p c
     (ap (λ (a : Answer). a.claim) same ∙ left) is
+
+-- behind an input that is no message it waited before
+pub waited_before : (s : State) (letter : Letter) (input : Input) (a : Answer)
+    → IsNoMessage input → answer s letter input ≡ Ok a
+    → (p : OpenClaim) (c : Claim) → a.claim ≡ Some p → p.progress ≡ Building c → s.claim ≡ Some p
+waited_before s letter input a none e p c left is =
+    elim (by_input s letter input a e p c left is) [
+      | inl before ↦ before
+      | inr now ↦ absurd (subst IsNoMessage now.1.is none)
+    ]
 
 comes : (s : State) (input : Input) (a : Answer) (o : OpenClaim) (c : Claim)
     → Answers s input (Ok a) → a.claim ≡ Some o → o.progress ≡ Building c → Comes s input a o c

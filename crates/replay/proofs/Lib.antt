@@ -1,1 +1,1 @@
-pub mod Stopping
+mod Stopping

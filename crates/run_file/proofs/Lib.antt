@@ -1,4 +1,4 @@
-pub mod Blanks
-pub mod Differing
-pub mod Started
-pub mod Texts
+mod Blanks
+mod Differing
+mod Started
+mod Texts

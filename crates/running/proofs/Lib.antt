@@ -1,18 +1,18 @@
-pub mod Voting
-pub mod VoteSent
-pub mod Entering
-pub mod AtStart
-pub mod OnlyMemory
+mod Voting
+mod VoteSent
+mod Entering
+mod AtStart
+mod OnlyMemory
 pub mod Shown
-pub mod Taking
-pub mod PutBack
-pub mod NodeStands
-pub mod SceneWith
-pub mod Restarting
-pub mod StopsInside
-pub mod Following
-pub mod Casting
-pub mod Listing
-pub mod StepHappens
-pub mod EventByEvent
-pub mod StepHistory
+mod Taking
+mod PutBack
+mod NodeStands
+mod SceneWith
+mod Restarting
+mod StopsInside
+mod Following
+mod Casting
+mod Listing
+mod StepHappens
+mod EventByEvent
+mod StepHistory

@@ -1,1 +1,1 @@
-pub mod SealLemmas
+mod SealLemmas

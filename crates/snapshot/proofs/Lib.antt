@@ -1,3 +1,3 @@
-pub mod Reached
-pub mod Tallied
-pub mod Told
+mod Reached
+mod Tallied
+mod Told

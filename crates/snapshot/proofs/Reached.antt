@@ -9,7 +9,7 @@ use Rattle.graph.specs.Reach.{AreReachedFrom, IsClosed, IsReachedFrom}
 use Rattle.graph.proofs.Lists.{contained-times, times-contained}
 use Rattle.graph.proofs.Turned.{turned, turned_back}
 use Rattle.listing.specs.Tree.{IsTree, Tree, run_at}
-use Rattle.engine.specs.inside.Marks.{AreMarksOf}
+use Rattle.engine.specs.shared.Marks.{AreMarksOf}
 use Rattle.engine.proofs.Dependents.{run_listed}
 use Rattle.engine.specs.Letters.{IsInstallable}
 use Rattle.snapshot.specs.inside.Lacking.{AreLacking, AreUnmarked, held_runs}

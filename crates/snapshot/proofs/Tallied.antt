@@ -6,7 +6,7 @@ use Rattle.engine.specs.State.{count_of, counts_of, index_of}
 use Rattle.engine.specs.declared.Counts.{Counts}
 use Rattle.engine.specs.declared.Letter.{Letter}
 use Rattle.engine.specs.declared.Letter.TheVariants.{T, Q, B, I, Ignored}
-use Rattle.engine.specs.inside.Shown.{same_letter, tally}
+use Rattle.engine.specs.shared.Shown.{same_letter, tally}
 use Rattle.engine.proofs.Shown.{tally-counts}
 
 pub counts-none : record { i = 0; b = 0; q = 0; t = 0; ignored = 0 } ≡ counts_of []

@@ -13,9 +13,9 @@ use Rattle.engine.specs.Letters.{IsInstallable, IsLetter}
 use Rattle.engine.specs.State.{AreCounts, HasLetter, counts_of, has_agreed}
 use Rattle.engine.specs.declared.Letter.{Letter}
 use Rattle.engine.specs.declared.Letter.TheVariants.{T, Q, B, I, Ignored}
-use Rattle.engine.specs.inside.Agreed.{held_marks}
-use Rattle.engine.specs.inside.Keeping.{holds}
-use Rattle.engine.specs.inside.Shown.{is_held, letter_at}
+use Rattle.engine.specs.shared.Agreed.{held_marks}
+use Rattle.engine.specs.shared.Keeping.{holds}
+use Rattle.engine.specs.shared.Shown.{is_held, letter_at}
 use Rattle.engine.proofs.Marked.{contains-marked_set}
 use Rattle.engine.proofs.Numbered.{numbered_unit, unnumbered_ignored}
 use Rattle.engine.proofs.Reading.{held_mark, state_of}

@@ -2,7 +2,7 @@
 ghost use Rattle.std.specs.Prelude.{◌≡◌, ◌<◌, ◌^◌, ◌+◌, length};
 ghost use Rattle.engine.specs.State.{counts_of};
 ghost use Rattle.engine.specs.declared.Letter.{Letter as Kind};
-ghost use Rattle.engine.specs.inside.Shown.{same_letter, tally};
+ghost use Rattle.engine.specs.shared.Shown.{same_letter, tally};
 
 use engine::{Counts, Letter};
 

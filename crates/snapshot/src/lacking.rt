@@ -3,7 +3,7 @@
 ghost use Rattle.std.specs.Prelude.{◌≡◌, ◌<◌, All, IfOk, length};
 ghost use Rattle.graph.specs.Lists.{AreReversed};
 ghost use Rattle.graph.specs.Marks.{has_mark};
-ghost use Rattle.engine.specs.inside.Marks.{AreMarksOf};
+ghost use Rattle.engine.specs.shared.Marks.{AreMarksOf};
 ghost use Rattle.snapshot.specs.inside.Lacking.{AreLacking, AreUnmarked, held_runs};
 
 use faults::Memory;

@@ -21,7 +21,7 @@ pub struct Snapshot<'a> {
 
 impl<'a> Model for Snapshot<'a> {
     ghost use Rattle.engine.specs.State.{State, state_code};
-    ghost use Rattle.engine.specs.inside.Agreed.{held_marks, marked_set};
+    ghost use Rattle.engine.specs.shared.Agreed.{held_marks, marked_set};
     ghost use Rattle.snapshot.specs.inside.Keeping.{AreShown};
 
     ghost Value = { State };

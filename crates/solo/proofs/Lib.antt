@@ -1,14 +1,14 @@
-pub mod Below
-pub mod ByCase
-pub mod Chosen
+mod Below
+mod ByCase
+mod Chosen
 pub mod Coming
-pub mod Done
-pub mod Left
+mod Done
+mod Left
 pub mod Only
-pub mod Refused
-pub mod Room
-pub mod Turned
+mod Refused
+mod Room
+mod Turned
 pub mod Turns
-pub mod Each
-pub mod LiveCase
-pub mod LiveChosen
+mod Each
+mod LiveCase
+mod LiveChosen

@@ -1,2 +1,2 @@
-pub mod TwoTurns
-pub mod Handed
+mod TwoTurns
+mod Handed

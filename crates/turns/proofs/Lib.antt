@@ -1,16 +1,16 @@
-pub mod AnyCase
-pub mod Below
-pub mod Disks
-pub mod EventOf
-pub mod Fresh
-pub mod GoingDown
-pub mod Led
-pub mod Moving
-pub mod OneStep
-pub mod Openings
-pub mod Settling
-pub mod Standing
-pub mod Stepping
-pub mod Still
-pub mod Turns
+mod AnyCase
+mod Below
+mod Disks
+mod EventOf
+mod Fresh
+mod GoingDown
+mod Led
+mod Moving
+mod OneStep
+mod Openings
+mod Settling
+mod Standing
+mod Stepping
+mod Still
+mod Turns
 pub mod ByCalls

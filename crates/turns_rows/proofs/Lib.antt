@@ -1,14 +1,14 @@
-pub mod Going
-pub mod Asked
-pub mod Sending
-pub mod Hearing
-pub mod Following
-pub mod Idle
-pub mod Listed
-pub mod Showing
-pub mod Reopening
-pub mod Waiting
-pub mod InMemory
-pub mod Offered
-pub mod Crashing
-pub mod Answered
+mod Going
+mod Asked
+mod Sending
+mod Hearing
+mod Following
+mod Idle
+mod Listed
+mod Showing
+mod Reopening
+mod Waiting
+mod InMemory
+mod Offered
+mod Crashing
+mod Answered

@@ -1,6 +1,6 @@
-pub mod FirstBad
-pub mod InboxLemmas
-pub mod Coming
-pub mod RequestLemmas
-pub mod Leaving
-pub mod TallyLemmas
+mod FirstBad
+mod InboxLemmas
+mod Coming
+mod RequestLemmas
+mod Leaving
+mod TallyLemmas

@@ -1,1 +1,1 @@
-pub mod Taking
+mod Taking

@@ -1,15 +1,15 @@
 pub mod Steps
 pub mod Numbers
 pub mod FieldTexts
-pub mod Readers
-pub mod Builds
+mod Readers
+mod Builds
 pub mod NoteTexts
-pub mod Fronts
-pub mod WholeTexts
-pub mod PieceTexts
+mod Fronts
+mod WholeTexts
+mod PieceTexts
 pub mod DatagramTexts
 pub mod PieceNumbers
-pub mod CutTexts
+mod CutTexts
 pub mod Cutting
-pub mod Refused
+mod Refused
 mod Rows

@@ -1,2 +1,2 @@
-pub mod Lines
-pub mod Tellings
+mod Lines
+mod Tellings

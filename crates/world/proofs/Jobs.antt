@@ -30,7 +30,7 @@ use Rattle.protocol.specs.declared.input.Input.{Input}
 use Rattle.protocol.specs.declared.input.Input.TheVariants as inputs
 use Rattle.protocol.proofs.HeldRecords.{builds_stand, deps_stay}
 use Rattle.protocol.proofs.MembersStay.{claims_were_ready}
-use Rattle.protocol.proofs.WaitingClaims.{waiting_claims}
+use Rattle.protocol.proofs.WaitingClaims.{waited_before, waiting_claims}
 use Rattle.engine.specs.Division.{Division}
 use Rattle.engine.proofs.Kept.{unit_good}
 use Rattle.wire.specs.Reading.{datagram_of}
@@ -52,7 +52,6 @@ use Rattle.world.proofs.Foreign.{comes_welcome, get_contains}
 use Rattle.world.proofs.Holding.{held_is_listed}
 use Rattle.world.proofs.Members.{facts_more, node_is_member}
 use Rattle.world.proofs.Runs.{all_fresh}
-use Rattle.world.proofs.Waiting.{waited_before}
 use Rattle.world.proofs.Walking.{mirrors_lead}
 
 -- what was given in the first part was given

@@ -3,7 +3,7 @@ use Rattle.std.specs.Prelude.{◌≡◌, ◌<◌, ◌⊎◌, ℕ, not, List, Non
 use Rattle.engine.specs.Division.{Division, IsDivision, number_of, unit_at}
 use Rattle.engine.specs.declared.Letter.{Letter}
 use Rattle.engine.specs.declared.Letter.TheVariants.{T, Q, B, I, Ignored}
-use Rattle.engine.specs.inside.Shown.{is_installed, letter_at}
+use Rattle.engine.specs.shared.Shown.{is_installed, letter_at}
 
 -- how many of the positions have another letter than I
 abbrev pub waited_for : List Letter → List ℕ → ℕ

@@ -5,7 +5,7 @@ use Rattle.engine.specs.declared.Letter.{Letter}
 use Rattle.engine.specs.declared.Letter.TheVariants.{T, Q, B, I, Ignored}
 use Rattle.engine.specs.declared.row.Row.{Row}
 use Rattle.graph.specs.Lists.{one_if}
-use Rattle.engine.specs.inside.Shown.{letter_at}
+use Rattle.engine.specs.shared.Shown.{letter_at}
 
 -- the bit of a position: 1 where it is set, and else 0
 abbrev pub bit_of : Row → ℕ → ℕ

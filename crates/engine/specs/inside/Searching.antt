@@ -2,10 +2,10 @@
 use Rattle.std.specs.Prelude.{◌≡◌, ◌+◌, ◌<◌, ◌≤◌, ◌++◌, ℕ, Bool, true, false, List, [], Vec, All, Contains, count_by, length, slice_index_or, sum_by, vec_capacity}
 use Rattle.graph.specs.Lists.{list_at, one_if, times}
 use Rattle.graph.specs.Marks.{has_mark}
-use Rattle.graph.specs.inside.Walks.{AreFound}
+use Rattle.graph.specs.shared.Walks.{AreFound}
 use Rattle.engine.specs.declared.Letter.{Letter}
 use Rattle.engine.specs.declared.Letter.TheVariants.{B}
-use Rattle.engine.specs.inside.Shown.{letter_at}
+use Rattle.engine.specs.shared.Shown.{letter_at}
 
 -- how many have a mark
 abbrev pub marked_many : List Bool → ℕ

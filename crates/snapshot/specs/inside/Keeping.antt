@@ -3,8 +3,8 @@ use Rattle.std.specs.Prelude.{◌≡◌, ◌<◌, ℕ, Bool, List, length}
 use Rattle.listing.specs.Tree.{IsTree, Tree}
 use Rattle.engine.specs.Letters.{IsLetter}
 use Rattle.engine.specs.declared.Letter.{Letter}
-use Rattle.engine.specs.inside.Keeping.{holds}
-use Rattle.engine.specs.inside.Shown.{letter_at}
+use Rattle.engine.specs.shared.Keeping.{holds}
+use Rattle.engine.specs.shared.Shown.{letter_at}
 
 -- the letters are those of the packages where these are held
 abbrev pub AreLettersOf : Tree → (ℕ → Bool) → List Letter → Type 0

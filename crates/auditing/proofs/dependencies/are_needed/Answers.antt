@@ -3,7 +3,7 @@ use Rattle.engine.specs.Division.{unit_at}
 use Rattle.engine.specs.Units.{Unit}
 use Rattle.engine.proofs.Once.{one_unit}
 use Rattle.auditing.proofs.OfUnit.{unit_missing, unit_there}
-use Rattle.auditing.proofs.Positions.{equal_bytes, same_bytes}
+use Rattle.engine.proofs.Places.{equal_bytes, same_bytes}
 use Rattle.auditing.proofs.dependencies.are_needed.Goals as goal
 
 pub returns-in-Some : goal.returns-in-Some

@@ -1,4 +1,4 @@
-use Rattle.dpbr_run.specs.inside.NodeLines.{HasNodeLines}
+use Rattle.dpbr_run.specs.shared.NodeLines.{HasNodeLines}
 use Rattle.turns.specs.State.{IsWorldOf}
 use Rattle.world.specs.World.{World}
 use Rattle.dpbn_cluster.proofs.turning.lines_of.Given as goal

@@ -1,4 +1,4 @@
-use Rattle.dpbr_run.specs.inside.NodeLines.{HasNodeLines}
+use Rattle.dpbr_run.specs.shared.NodeLines.{HasNodeLines}
 use Rattle.dpbr_run.proofs.text.nodes_text.Given as goal
 
 abbrev pub invariant-loop-node : goal.invariant-loop-node

@@ -1,7 +1,7 @@
 use Rattle.std.proofs.Common.{◌≡◌, ◌<◌, ℕ, false, length}
-use Rattle.engine.specs.inside.Keeping.{holds}
+use Rattle.engine.specs.shared.Keeping.{holds}
 use Rattle.engine.specs.inside.Queueing.{FitsUnit}
-use Rattle.engine.specs.inside.Shown.{letter_at}
+use Rattle.engine.specs.shared.Shown.{letter_at}
 use Rattle.engine.proofs.first.first_letters.Given as goal
 
 abbrev pub invariant-loop-position : goal.invariant-loop-position

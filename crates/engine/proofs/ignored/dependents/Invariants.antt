@@ -1,6 +1,6 @@
 use Rattle.std.proofs.Common.{length}
 use Rattle.graph.specs.Lists.{AreReversed}
-use Rattle.engine.specs.inside.Marks.{deps_at}
+use Rattle.engine.specs.shared.Marks.{deps_at}
 use Rattle.engine.proofs.ignored.dependents.Given as goal
 
 abbrev pub invariant-loop-position : goal.invariant-loop-position

@@ -4,7 +4,7 @@ use Rattle.std.proofs.lemmas.Result.{IfOk-weaker}
 use Rattle.graph.specs.Lists.{list_at}
 use Rattle.graph.specs.Reach.{AreReachedFrom}
 use Rattle.graph.proofs.Turned.{named_within}
-use Rattle.engine.specs.inside.Marks.{AreIgnored, AreMarksOf, deps_at}
+use Rattle.engine.specs.shared.Marks.{AreIgnored, AreMarksOf, deps_at}
 use Rattle.engine.proofs.Dependents.{found_ignored, marked_listed, none_ignored}
 use Rattle.engine.proofs.ignored.ignored_marks.Goals as goal
 

@@ -1,5 +1,5 @@
 use Rattle.std.proofs.Common.{◌≡◌, ◌≢◌, ◌<◌, ◌⊎◌, ℕ, Contains, get_or, length}
-use Rattle.engine.specs.inside.Shown.{letter_at}
+use Rattle.engine.specs.shared.Shown.{letter_at}
 use Rattle.engine.specs.declared.Letter.TheVariants.{T, Q}
 use Rattle.engine.proofs.queueing.queue.Given as goal
 

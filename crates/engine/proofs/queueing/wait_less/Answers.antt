@@ -1,7 +1,7 @@
 use Rattle.std.proofs.Common.{◌≡◌, ◌≢◌, ◌⊎◌, ◌-◌, ℕ, List, All, Contains, arith, get_or, subst}
 use Rattle.std.proofs.lemmas.List.{get_or-set_same}
 use Rattle.engine.specs.declared.Letter.TheVariants.{T, Q}
-use Rattle.engine.specs.inside.Shown.{letter_at}
+use Rattle.engine.specs.shared.Shown.{letter_at}
 use Rattle.engine.proofs.Waiting.{AreFitting-queued}
 use Rattle.engine.proofs.queueing.wait_less.Goals as goal
 

@@ -2,7 +2,7 @@ use Rattle.std.proofs.Common.{◌≡◌, ◌∙◌, ap, arith, length, refl, sym
 use Rattle.graph.specs.Marks.{has_mark}
 use Rattle.graph.proofs.Lists.{get_or-same}
 use Rattle.graph.proofs.Walks.{found-room}
-use Rattle.engine.specs.inside.Shown.{letter_at}
+use Rattle.engine.specs.shared.Shown.{letter_at}
 use Rattle.engine.proofs.Finding.{IsFinding-finds, IsFinding-keeps}
 use Rattle.engine.proofs.search.find.Goals as goal
 use Rattle.engine.proofs.search.find.Goals.{then-not-marks-place+in-B, then-not-marks-place+in_default, else-not-marks-place}

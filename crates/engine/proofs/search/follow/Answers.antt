@@ -4,7 +4,7 @@ use Rattle.graph.specs.Marks.{has_mark}
 use Rattle.graph.proofs.Lists.{get_or-same}
 use Rattle.graph.proofs.Walks.{found-marked}
 use Rattle.graph.proofs.Marked.{marked_within}
-use Rattle.engine.specs.inside.Shown.{letter_at}
+use Rattle.engine.specs.shared.Shown.{letter_at}
 use Rattle.engine.specs.declared.Letter.TheVariants.{B}
 use Rattle.engine.proofs.Finding.{IsFollowing-closed, IsFollowing-more}
 use Rattle.engine.proofs.search.follow.Goals as goal

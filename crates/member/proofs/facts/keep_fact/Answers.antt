@@ -3,7 +3,7 @@ use Rattle.std.proofs.lemmas.List.{length-map}
 use Rattle.agreement.specs.Member.{Facts}
 use Rattle.ballots.specs.declared.message.Note.{Note}
 use Rattle.protocol.specs.State.{Value}
-use Rattle.member.specs.inside.Fields.{engine_with, facts_of_known}
+use Rattle.member.specs.shared.Fields.{engine_with, facts_of_known}
 use Rattle.member.specs.inside.Units.{agreed_too}
 use Rattle.member.proofs.HeldUnits.{engine_agrees, engine_stays}
 use Rattle.member.proofs.KeptFacts.{at_unit, fact_kept, named_within}

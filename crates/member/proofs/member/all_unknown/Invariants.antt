@@ -1,6 +1,6 @@
 use Rattle.std.proofs.Common.{◌≡◌, map, replicate}
 use Rattle.agreement.specs.Member.{no_facts}
-use Rattle.member.specs.inside.Fields.{facts_of_known}
+use Rattle.member.specs.shared.Fields.{facts_of_known}
 use Rattle.member.proofs.member.all_unknown.Given as goal
 
 abbrev pub invariant-loop-unit : goal.invariant-loop-unit

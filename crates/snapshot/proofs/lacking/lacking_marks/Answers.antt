@@ -5,7 +5,7 @@ use Rattle.graph.specs.Lists.{list_at}
 use Rattle.graph.specs.Marks.{has_mark}
 use Rattle.graph.specs.Reach.{AreReachedFrom}
 use Rattle.graph.proofs.Turned.{named_within}
-use Rattle.engine.specs.inside.Marks.{AreMarksOf}
+use Rattle.engine.specs.shared.Marks.{AreMarksOf}
 use Rattle.snapshot.specs.inside.Lacking.{AreLacking, AreUnmarked, held_runs}
 use Rattle.snapshot.proofs.Reached.{are_lacking}
 use Rattle.snapshot.proofs.lacking.lacking_marks.Goals as goal

@@ -2,7 +2,7 @@ use Rattle.std.proofs.Common.{◌∙◌, ◌+◌, ◌<◌, ℕ, List, ap, length
 use Rattle.std.proofs.lemmas.List.{length_push}
 use Rattle.engine.specs.Letters.{IsLetter}
 use Rattle.engine.specs.declared.Letter.{Letter}
-use Rattle.engine.specs.inside.Shown.{letter_at}
+use Rattle.engine.specs.shared.Shown.{letter_at}
 use Rattle.graph.specs.Marks.{has_mark}
 use Rattle.listing.specs.Tree.{Tree}
 use Rattle.snapshot.proofs.Told.{letters_more}

@@ -1,7 +1,7 @@
 use Rattle.std.proofs.Common.{◌≡◌, ◌<◌, ℕ, length}
 use Rattle.graph.specs.Marks.{has_mark}
 use Rattle.engine.specs.Letters.{IsLetter}
-use Rattle.engine.specs.inside.Shown.{letter_at}
+use Rattle.engine.specs.shared.Shown.{letter_at}
 use Rattle.snapshot.proofs.lettering.letters_of.Given as goal
 
 abbrev pub invariant-loop-position : goal.invariant-loop-position

@@ -2,7 +2,7 @@ use Rattle.std.proofs.Common.{rules, ◌<◌, ◌∙◌, length}
 use Rattle.listing.specs.Tree.{path_at}
 use Rattle.auditing.specs.inside.Standing.{has_path}
 use Rattle.auditing.proofs.Places.{kept_here, new_if_nowhere, only_one_at}
-use Rattle.auditing.proofs.Positions.{within_place}
+use Rattle.engine.proofs.Places.{within_place}
 use Rattle.auditing.proofs.standing.Standing.entry_at.Goals as goal
 
 pub returns-in_err-place : goal.returns-in_err-place

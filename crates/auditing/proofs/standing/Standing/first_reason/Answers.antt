@@ -2,7 +2,7 @@ use Rattle.std.proofs.Common.{◌∙◌, sym, subst}
 use Rattle.std.proofs.lemmas.Bool.{iff_false}
 use Rattle.listing.specs.Tree.{name_at}
 use Rattle.auditing.specs.Allowed.{IsNew}
-use Rattle.auditing.proofs.Positions.{listed_at, same_bytes}
+use Rattle.engine.proofs.Places.{listed_at, same_bytes}
 use Rattle.auditing.proofs.Reasons.{first_reason_by}
 use Rattle.auditing.proofs.Signatures.{none_part, not_new, some_part}
 use Rattle.auditing.proofs.standing.Standing.first_reason.Goals as goal

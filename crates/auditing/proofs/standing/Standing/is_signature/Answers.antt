@@ -2,7 +2,7 @@ use Rattle.std.proofs.Common.{◌∙◌, sym, subst}
 use Rattle.std.proofs.lemmas.Bool.{false≢true}
 use Rattle.auditing.specs.Allowed.{IsNew}
 use Rattle.auditing.specs.inside.Standing.{IsOnlyOneWith}
-use Rattle.auditing.proofs.Positions.{equal_bytes, listed_at, same_bytes}
+use Rattle.engine.proofs.Places.{equal_bytes, listed_at, same_bytes}
 use Rattle.auditing.proofs.Signatures.{no_signature, one_of_signature, signature_of_one}
 use Rattle.auditing.proofs.standing.Standing.is_signature.Goals as goal
 

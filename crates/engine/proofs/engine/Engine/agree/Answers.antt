@@ -4,8 +4,8 @@ use Rattle.listing.specs.Tree.{run_at}
 use Rattle.graph.specs.Lists.{AreReversed}
 use Rattle.engine.specs.State.{HasLetter, State}
 use Rattle.engine.specs.declared.Letter.TheVariants.{B, Ignored}
-use Rattle.engine.specs.inside.Keeping.{holds}
-use Rattle.engine.specs.inside.Shown.{is_held}
+use Rattle.engine.specs.shared.Keeping.{holds}
+use Rattle.engine.specs.shared.Shown.{is_held}
 use Rattle.engine.proofs.Agreeing.{AreKept-agreed, AreKept-waiting, AreQueueing-built, agreed_again, agreed_more}
 use Rattle.engine.proofs.Reading.{other_than_ignored}
 use Rattle.engine.proofs.Settled.{built_here, lacks_few, some_told}

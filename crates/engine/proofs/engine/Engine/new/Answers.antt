@@ -1,5 +1,5 @@
 use Rattle.std.proofs.Common.{◌∙◌}
-use Rattle.engine.specs.inside.Agreed.{held_marks}
+use Rattle.engine.specs.shared.Agreed.{held_marks}
 use Rattle.engine.proofs.Marked.{marked_set-none}
 use Rattle.engine.proofs.Reading.{held_mark}
 use Rattle.engine.proofs.engine.Engine.new.Goals as goal

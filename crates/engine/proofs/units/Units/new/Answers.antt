@@ -4,7 +4,7 @@ use Rattle.engine.specs.declared.units.Parts.{Parts}
 use Rattle.engine.specs.Division.{IsDivision}
 use Rattle.engine.specs.inside.UnitKeeping.{AreGroups, AreNumbers, division_made}
 use Rattle.graph.specs.Marks.{has_mark}
-use Rattle.engine.specs.inside.Marks.{AreIgnored}
+use Rattle.engine.specs.shared.Marks.{AreIgnored}
 use Rattle.engine.proofs.units.Units.new.Goals as goal
 
 pub units_of-requires-clause-alike : goal.units_of-requires-clause-alike

@@ -1,6 +1,6 @@
 use Rattle.std.proofs.Common.{map, ap, ◌∙◌}
 use Rattle.std.proofs.lemmas.Map.Iter.{iter_end}
-use Rattle.listing.specs.inside.Nodes.{resolution_of, resolution_of_word}
+use Rattle.listing.specs.inside.BarePackages.{resolution_of, resolution_of_word}
 use Rattle.listing.proofs.Numbers.{resolutions_are, map_deref, map_values}
 use Rattle.listing.proofs.dependency.Dependencies.resolve.Goals as goal
 

@@ -1,5 +1,5 @@
 use Rattle.std.proofs.Common.{◌≡◌, map}
-use Rattle.listing.specs.inside.Nodes.{resolution_of}
+use Rattle.listing.specs.inside.BarePackages.{resolution_of}
 use Rattle.listing.proofs.dependency.Dependencies.resolve.Given as goal
 
 abbrev pub invariant-loop-dependency : goal.invariant-loop-dependency

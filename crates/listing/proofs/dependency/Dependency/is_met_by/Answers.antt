@@ -1,6 +1,6 @@
 use Rattle.std.proofs.Common.{◌≡◌, Some, false, option_map, ap, sym, ◌∙◌}
 use Rattle.std.specs.Option.{option_map_or}
-use Rattle.listing.specs.inside.Nodes.{all_match}
+use Rattle.listing.specs.inside.BarePackages.{all_match}
 use Rattle.listing.specs.inside.Table.{name_in}
 use Rattle.listing.proofs.dependency.Dependency.is_met_by.Goals as goal
 

@@ -13,7 +13,7 @@ use Rattle.engine.specs.Division.{number_named}
 use Rattle.member.specs.OpenClaims.{open_of}
 use Rattle.member.specs.inside.Waiting.{waits}
 use Rattle.member.specs.Prepared.{MayBeTaken, Prepared}
-use Rattle.member.specs.inside.Fields.{engine_with, facts_of_known, state_of}
+use Rattle.member.specs.shared.Fields.{engine_with, facts_of_known, state_of}
 use Rattle.member.specs.inside.Steps.{prepared_by}
 use Rattle.member.proofs.Taking.{kept_then}
 use Rattle.member.proofs.member.Member.commit.Goals as goal

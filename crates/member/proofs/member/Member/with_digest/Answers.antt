@@ -4,7 +4,7 @@ use Rattle.agreement.specs.Member.{no_facts}
 use Rattle.protocol.specs.Answers.{tree_digest}
 use Rattle.protocol.specs.Member.{IsMember}
 use Rattle.protocol.specs.State.{fresh}
-use Rattle.member.specs.inside.Fields.{engine_with, facts_of_known}
+use Rattle.member.specs.shared.Fields.{engine_with, facts_of_known}
 use Rattle.member.proofs.Fresh.{each_alike, fresh_engine, fresh_member}
 use Rattle.member.proofs.member.Member.with_digest.Goals as goal
 

@@ -1,8 +1,8 @@
 use Rattle.std.proofs.Common.{ℕ, get_or, ap, ◌∙◌}
 use Rattle.std.proofs.lemmas.List.{get_or_default}
-use Rattle.listing.proofs.NodeLemmas.{add_none, add_some}
-use Rattle.listing.proofs.node.add_positions.Goals as goal
-use Rattle.listing.proofs.node.add_positions.Goals.{in-Some+in_ok-push, in_default}
+use Rattle.listing.proofs.BarePackageLemmas.{add_none, add_some}
+use Rattle.listing.proofs.bare_package.add_positions.Goals as goal
+use Rattle.listing.proofs.bare_package.add_positions.Goals.{in-Some+in_ok-push, in_default}
 
 pub loop-number-preserved : goal.loop-number-preserved
 loop-number-preserved c =

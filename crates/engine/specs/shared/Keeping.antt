@@ -8,7 +8,7 @@ use Rattle.engine.specs.declared.Letter.{Letter}
 use Rattle.engine.specs.declared.Letter.TheVariants.{B, I}
 use Rattle.engine.specs.Letters.{IsInstallable}
 use Rattle.engine.specs.inside.Queueing.{AreQueueing, needs_of, waited_for}
-use Rattle.engine.specs.inside.Shown.{is_held, letter_at}
+use Rattle.engine.specs.shared.Shown.{is_held, letter_at}
 
 -- the package at the position is held, by its letter
 abbrev pub holds : List Letter → ℕ → Bool

@@ -1,4 +1,4 @@
--- What a node says of a row.
+-- What a bare package says of a row.
 use Rattle.std.proofs.Common.{◌≡◌, ◌<◌, ◌+◌, ◌++◌, ◌&&◌, ◌||◌, ◌⊎◌, ℕ, Bool, true, false, not, cond, List, [], ◌∷◌, All, length, map, take, get_or, position, is_some, unwrap_or, option_and_then, option_map, IfSome, Option, None, Some, Ok, refl, sym, ap, subst, ◌∙◌, arith, ext_get_or, true≢false, inl, inr}
 use Rattle.std.specs.List.{list_any, list_all, filter_map, cons_option, IsDistinct, position_from}
 use Rattle.std.specs.Option.{option_map_or}
@@ -18,7 +18,7 @@ use Rattle.pkgpath.specs.PkgPath.{IsPath, without_subpackage}
 use Rattle.listing.specs.Dependencies.{words_of}
 use Rattle.listing.specs.Lines.{Setting, build_depends, ignore, lib_depends, run_depends}
 use Rattle.listing.specs.Listing.{dependencies_of, dependency_path, dependency_positions, is_met, name_of, package_of, paths_of, positions_of, tree_of_settings, value_of}
-use Rattle.listing.specs.inside.Nodes.{HasNumbersBelow, IsNodeOf, IsSetOf, are_met, listed_positions, numbers_of_value, numbers_read, package_of_node, packages_of, resolution_at, resolution_of_word, text_of_value, unlisted, word_matches}
+use Rattle.listing.specs.inside.BarePackages.{HasNumbersBelow, IsBarePackageOf, IsSetOf, are_met, listed_positions, numbers_of_value, numbers_read, package_of_bare, packages_of, resolution_at, resolution_of_word, text_of_value, unlisted, word_matches}
 use Rattle.listing.specs.inside.Parts.{AreNumbersOf, IsReadAs, has_dependencies, position_of_word}
 use Rattle.listing.specs.Rules.{group_by, names_and_specs, with_groups}
 use Rattle.listing.specs.inside.Table.{AreRowsOf, IsRowOf, name_in, name_read, no_row}
@@ -26,7 +26,7 @@ use Rattle.listing.specs.Tree.{AreGrouped, ArePositions, AreSingle, IsTree, Pack
 use Rattle.listing.specs.declared.dependency.Resolution.{Resolution}
 use Rattle.listing.specs.declared.line.Variable.{Variable}
 use Rattle.listing.specs.declared.line.Variable.TheVariants.{FullName, BuildDepends, LibDepends, RunDepends, Ignore}
-use Rattle.listing.specs.declared.node.Node.{Node}
+use Rattle.listing.specs.declared.bare_package.BarePackage.{BarePackage}
 use Rattle.listing.specs.declared.table.Reading.{Reading}
 use Rattle.listing.specs.declared.table.Reading.TheVariants.{Name, Numbers, Unread}
 use Rattle.listing.specs.declared.table.Row.{Row}
@@ -255,10 +255,10 @@ three_met ss path u v w a b c e f g =
     ∙ and_assoc (list_all met xs) (list_all met ys) (list_all met zs) in
     sym (ap (list_all met) (λ i. words_of (e i) ++ (words_of (f i) ++ (words_of (g i) ++ []))) ∙ parts)
 
-package_is : (g : Text → Text) (ss : List Setting) (words paths : List Text) (rows : List Row) (resolutions : List Resolution) (path : Text) (row : Row) (n : Node)
-    → AreRowsOf ss words paths rows → AreNamed rows → resolutions ≡ map (resolution_of_word paths rows) words → IsRowOf ss words path row → IsNodeOf resolutions row n
-    → package_of_node g path n ≡ package_of (with_groups g) ss path
-package_is g ss words paths rows resolutions path row n all named at h node =
+package_is : (g : Text → Text) (ss : List Setting) (words paths : List Text) (rows : List Row) (resolutions : List Resolution) (path : Text) (row : Row) (n : BarePackage)
+    → AreRowsOf ss words paths rows → AreNamed rows → resolutions ≡ map (resolution_of_word paths rows) words → IsRowOf ss words path row → IsBarePackageOf resolutions row n
+    → package_of_bare g path n ≡ package_of (with_groups g) ss path
+package_is g ss words paths rows resolutions path row n all named at h bare_package =
     let text : (o : Option Value) (v : Text) → value_of ss path v ≡ option_map (λ (y : Value). y.text.now) o → unwrap_or (value_of ss path v) [] ≡ text_of_value o =
     λ o v e. ap (λ x. unwrap_or x []) e ∙ text_here o in
     let tb = text row.build build_depends (h.values BuildDepends) in
@@ -268,50 +268,50 @@ package_is g ss words paths rows resolutions path row n all named at h node =
     let nb = words_here words BuildDepends row.build refl (h.reads BuildDepends) in
     let nl = words_here words LibDepends row.lib refl (h.reads LibDepends) in
     let nr = words_here words RunDepends row.run refl (h.reads RunDepends) in
-    let name : n.name ≡ name_of ss path = sym (name_known ss words path row n.name h node.name).0 in
+    let name : n.name ≡ name_of ss path = sym (name_known ss words path row n.name h bare_package.name).0 in
     let build : n.build.items ≡ dependency_positions ss path (build_depends ∷ lib_depends ∷ []) =
-    set_of_two words paths rows resolutions row.build row.lib n.build.items all.once at nb nl node.build
+    set_of_two words paths rows resolutions row.build row.lib n.build.items all.once at nb nl bare_package.build
     ∙ (λ i. positions_of (all.all i) (map dependency_path (two_deps ss path build_depends lib_depends row.build row.lib tb tl i))) in
     let run : n.run.items ≡ dependency_positions ss path (lib_depends ∷ run_depends ∷ []) =
-    set_of_two words paths rows resolutions row.lib row.run n.run.items all.once at nl nr node.run
+    set_of_two words paths rows resolutions row.lib row.run n.run.items all.once at nl nr bare_package.run
     ∙ (λ i. positions_of (all.all i) (map dependency_path (two_deps ss path lib_depends run_depends row.lib row.run tl tr i))) in
     let mb = all_met ss words paths rows resolutions row.build all named at nb in
     let ml = all_met ss words paths rows resolutions row.lib all named at nl in
     let mr = all_met ss words paths rows resolutions row.run all named at nr in
     let met = (λ i. mb i && ml i && mr i) ∙ three_met ss path build_depends lib_depends run_depends row.build row.lib row.run tb tl tr in
     let marked : n.is_marked ≡ (not (is_empty (unwrap_or (value_of ss path ignore) [])) || not (list_all (is_met names_and_specs ss) (dependencies_of ss path (build_depends ∷ lib_depends ∷ run_depends ∷ [])))) =
-    node.marked ∙ (λ i. not (is_empty (sym ti i)) || not (met i)) in
+    bare_package.marked ∙ (λ i. not (is_empty (sym ti i)) || not (met i)) in
     λ i. record { path = path; group = g path; name = name i; build = build i; run = run i; is_marked = marked i }
 
 -- ---- the tree
 
--- rows with nodes have names
-pub named_by : (resolutions : List Resolution) (rows : List Row) (nodes : List Node) → length nodes ≡ length rows
-    → ((k : ℕ) (d : Row) (e : Node) → k < length rows → IsNodeOf resolutions (get_or rows k d) (get_or nodes k e)) → AreNamed rows
+-- rows with bare packages have names
+pub named_by : (resolutions : List Resolution) (rows : List Row) (bare_packages : List BarePackage) → length bare_packages ≡ length rows
+    → ((k : ℕ) (d : Row) (e : BarePackage) → k < length rows → IsBarePackageOf resolutions (get_or rows k d) (get_or bare_packages k e)) → AreNamed rows
 named_by resolutions rows [] same each k l = absurd (omega (arith, l, same))
 named_by resolutions rows (m ∷ ms) same each k l = ((get_or (m ∷ ms) k m).name, (each k no_row m l).name)
 
-tree_by : (g : Text → Text) (ss : List Setting) (words paths : List Text) (rows : List Row) (resolutions : List Resolution) (nodes : List Node) (m : Node)
-    → AreRowsOf ss words paths rows → resolutions ≡ map (resolution_of_word paths rows) words → length nodes ≡ length rows
-    → ((k : ℕ) (d : Row) (e : Node) → k < length rows → IsNodeOf resolutions (get_or rows k d) (get_or nodes k e))
-    → packages_of g paths nodes ≡ tree_of_settings (with_groups g) ss
-tree_by g ss words paths rows resolutions nodes m h at same each =
-    let size = length-packages_of g paths nodes (same ∙ h.lengths) in
-    ext_get_or no_package (packages_of g paths nodes) (tree_of_settings (with_groups g) ss)
+tree_by : (g : Text → Text) (ss : List Setting) (words paths : List Text) (rows : List Row) (resolutions : List Resolution) (bare_packages : List BarePackage) (m : BarePackage)
+    → AreRowsOf ss words paths rows → resolutions ≡ map (resolution_of_word paths rows) words → length bare_packages ≡ length rows
+    → ((k : ℕ) (d : Row) (e : BarePackage) → k < length rows → IsBarePackageOf resolutions (get_or rows k d) (get_or bare_packages k e))
+    → packages_of g paths bare_packages ≡ tree_of_settings (with_groups g) ss
+tree_by g ss words paths rows resolutions bare_packages m h at same each =
+    let size = length-packages_of g paths bare_packages (same ∙ h.lengths) in
+    ext_get_or no_package (packages_of g paths bare_packages) (tree_of_settings (with_groups g) ss)
     (size ∙ ap length h.all ∙ sym (length-map (paths_of ss) (package_of (with_groups g) ss)))
     (λ i l.
     let within : i < length paths = omega (arith, size, l) in
-    let n : Node = get_or nodes i m in
+    let n : BarePackage = get_or bare_packages i m in
     let d : Row = no_row in
-    package_at-packages_of g paths nodes i n (same ∙ h.lengths) within (get_or_default nodes i m n (omega (arith, within, same, h.lengths)))
-    ∙ package_is g ss words paths rows resolutions (get_or paths i []) (get_or rows i d) n h (named_by resolutions rows nodes same each) at (h.each i d within) (each i d m (omega (arith, within, h.lengths)))
+    package_at-packages_of g paths bare_packages i n (same ∙ h.lengths) within (get_or_default bare_packages i m n (omega (arith, within, same, h.lengths)))
+    ∙ package_is g ss words paths rows resolutions (get_or paths i []) (get_or rows i d) n h (named_by resolutions rows bare_packages same each) at (h.each i d within) (each i d m (omega (arith, within, h.lengths)))
     ∙ ap (λ ps. package_of (with_groups g) ss (get_or ps i [])) h.all
     ∙ sym (get_or-map (package_of (with_groups g) ss) (paths_of ss) i [] no_package (omega (arith, within, ap length h.all))))
 
-pub tree_is : (g : Text → Text) (ss : List Setting) (words paths : List Text) (rows : List Row) (resolutions : List Resolution) (nodes : List Node)
-    → AreRowsOf ss words paths rows → resolutions ≡ map (resolution_of_word paths rows) words → length nodes ≡ length rows
-    → ((k : ℕ) (d : Row) (e : Node) → k < length rows → IsNodeOf resolutions (get_or rows k d) (get_or nodes k e))
-    → packages_of g paths nodes ≡ tree_of_settings (with_groups g) ss
+pub tree_is : (g : Text → Text) (ss : List Setting) (words paths : List Text) (rows : List Row) (resolutions : List Resolution) (bare_packages : List BarePackage)
+    → AreRowsOf ss words paths rows → resolutions ≡ map (resolution_of_word paths rows) words → length bare_packages ≡ length rows
+    → ((k : ℕ) (d : Row) (e : BarePackage) → k < length rows → IsBarePackageOf resolutions (get_or rows k d) (get_or bare_packages k e))
+    → packages_of g paths bare_packages ≡ tree_of_settings (with_groups g) ss
 tree_is g ss words paths rows resolutions [] h at same each =
     let none : paths ≡ [] = nil_from_length paths (omega (arith, same, h.lengths)) in
     ap (λ ps. packages_of g ps []) none ∙ ap (map (package_of (with_groups g) ss)) (sym none ∙ h.all)
@@ -366,21 +366,21 @@ is_tree is_single ss words paths rows h named =
           (λ k d l. sets (map dependency_path (dependencies_of ss (get_or (paths_of ss) k d) (lib_depends ∷ run_depends ∷ []))));
     }
 
--- ---- one node more
+-- ---- one bare package more
 
-pub node_more : (resolutions : List Resolution) (rows : List Row) (nodes now : List Node) (i : ℕ) (row : Row) (n : Node) → row ≡ get_or rows i row → i < length rows
-    → IsNodeOf resolutions row n → now ≡ nodes ++ n ∷ [] → length nodes ≡ i
-    → ((k : ℕ) (d : Row) (e : Node) → k < i → IsNodeOf resolutions (get_or rows k d) (get_or nodes k e))
-    → (length now ≡ i + 1) × ((k : ℕ) (d : Row) (e : Node) → k < i + 1 → IsNodeOf resolutions (get_or rows k d) (get_or now k e))
-node_more resolutions rows nodes now i row n here within node is size before = (
-  ap length is ∙ length_push nodes n ∙ ap (λ m. m + 1) size,
-  λ k d e l. subst (λ ns. IsNodeOf resolutions (get_or rows k d) (get_or ns k e)) (sym is)
+pub bare_package_more : (resolutions : List Resolution) (rows : List Row) (bare_packages now : List BarePackage) (i : ℕ) (row : Row) (n : BarePackage) → row ≡ get_or rows i row → i < length rows
+    → IsBarePackageOf resolutions row n → now ≡ bare_packages ++ n ∷ [] → length bare_packages ≡ i
+    → ((k : ℕ) (d : Row) (e : BarePackage) → k < i → IsBarePackageOf resolutions (get_or rows k d) (get_or bare_packages k e))
+    → (length now ≡ i + 1) × ((k : ℕ) (d : Row) (e : BarePackage) → k < i + 1 → IsBarePackageOf resolutions (get_or rows k d) (get_or now k e))
+bare_package_more resolutions rows bare_packages now i row n here within bare_package is size before = (
+  ap length is ∙ length_push bare_packages n ∙ ap (λ m. m + 1) size,
+  λ k d e l. subst (λ ns. IsBarePackageOf resolutions (get_or rows k d) (get_or ns k e)) (sym is)
       (elim (cases_lt k i) [
         | inl less ↦
-            subst (IsNodeOf resolutions (get_or rows k d)) (sym (get_or_append_left nodes (n ∷ []) e k (omega (arith, less, size)))) (before k d e less)
+            subst (IsBarePackageOf resolutions (get_or rows k d)) (sym (get_or_append_left bare_packages (n ∷ []) e k (omega (arith, less, size)))) (before k d e less)
         | inr last ↦
             let at : i ≡ k = omega (arith, last, l) in
-            subst (IsNodeOf resolutions (get_or rows k d)) (sym (get_or_push nodes n e k (size ∙ at)))
-            (subst (λ r. IsNodeOf resolutions r n) (here ∙ get_or_default rows i row d within ∙ ap (λ m. get_or rows m d) at) node)
+            subst (IsBarePackageOf resolutions (get_or rows k d)) (sym (get_or_push bare_packages n e k (size ∙ at)))
+            (subst (λ r. IsBarePackageOf resolutions r n) (here ∙ get_or_default rows i row d within ∙ ap (λ m. get_or rows m d) at) bare_package)
       ]),
 )

@@ -1,5 +1,5 @@
 use Rattle.std.proofs.Common.{Some, option_map, ap, sym, ◌∙◌, rules}
-use Rattle.listing.proofs.node.Node.of_row.Goals as goal
+use Rattle.listing.proofs.bare_package.BarePackage.of_row.Goals as goal
 
 pub returns : goal.returns
 returns c = record {

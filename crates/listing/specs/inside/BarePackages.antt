@@ -1,4 +1,4 @@
--- What a contract sees of the nodes of a tree.
+-- What a contract sees of the bare packages of a tree.
 use Rattle.std.specs.Prelude.{ℕ, ◌≡◌, ◌<◌, ◌&&◌, ◌||◌, ◌==◌, Bool, false, not, List, [], All, ◌++◌, length, map, filter_map, position, Option, None, Some, slice_index_or}
 use Rattle.std.specs.List.{list_all, list_any, zip}
 use Rattle.std.specs.List.Sorted.{IsStrictlyIncreasing}
@@ -14,16 +14,16 @@ use Rattle.listing.specs.inside.Table.{name_in, no_row}
 use Rattle.listing.specs.Tree.{Package, Tree}
 use Rattle.listing.specs.declared.dependency.Dependency.{Dependency}
 use Rattle.listing.specs.declared.dependency.Resolution.{Resolution}
-use Rattle.listing.specs.declared.node.Node.{Node}
+use Rattle.listing.specs.declared.bare_package.BarePackage.{BarePackage}
 use Rattle.listing.specs.declared.table.Reading.{Reading}
 use Rattle.listing.specs.declared.table.Reading.TheVariants.{Name, Numbers, Unread}
 use Rattle.listing.specs.declared.table.Row.{Row}
 use Rattle.listing.specs.declared.table.Table.{Table}
 use Rattle.listing.specs.declared.table.Value.{Value}
 
--- the package that the node of a path stands for, where paths are of such groups
-abbrev pub package_of_node : (Text → Text) → Text → Node → Package
-package_of_node group path n = record {
+-- the package that the bare package of a path stands for, where paths are of such groups
+abbrev pub package_of_bare : (Text → Text) → Text → BarePackage → Package
+package_of_bare group path n = record {
   path = path;
   group = group path;
   name = n.name;
@@ -32,9 +32,9 @@ package_of_node group path n = record {
   is_marked = n.is_marked;
 }
 
--- each path with its node
-abbrev pub packages_of : (Text → Text) → List Text → List Node → Tree
-packages_of group paths nodes = map (λ e. package_of_node group e.0 e.1) (zip paths nodes)
+-- each path with its bare package
+abbrev pub packages_of : (Text → Text) → List Text → List BarePackage → Tree
+packages_of group paths bare_packages = map (λ e. package_of_bare group e.0 e.1) (zip paths bare_packages)
 
 -- what a variable is set to, or the empty text where it isn't set
 abbrev pub text_of_value : Option Value → Text
@@ -110,8 +110,8 @@ is_marked_by resolutions row = not (is_empty (text_of_value row.ignore))
     && are_met resolutions (numbers_of_value row.lib)
     && are_met resolutions (numbers_of_value row.run))
 
--- the node says of a row's package what these resolutions say of its dependencies
-pub record IsNodeOf (resolutions : List Resolution) (row : Row) (n : Node) : Type 0 where
+-- the bare package says of a row's package what these resolutions say of its dependencies
+pub record IsBarePackageOf (resolutions : List Resolution) (row : Row) (n : BarePackage) : Type 0 where
   pub name : name_in row ≡ Some n.name
   pub build : IsSetOf n.build.items
       (listed_positions resolutions (numbers_of_value row.build)
@@ -121,17 +121,17 @@ pub record IsNodeOf (resolutions : List Resolution) (row : Row) (n : Node) : Typ
       ++ listed_positions resolutions (numbers_of_value row.run))
   pub marked : n.is_marked ≡ is_marked_by resolutions row
 
--- the nodes are those of the rows, in turn
-pub record AreNodesOf (resolutions : List Resolution) (rows : List Row)
-    (nodes : List Node) : Type 0 where
-  pub lengths : length nodes ≡ length rows
-  pub each : (k : ℕ) (d : Row) (e : Node) → k < length rows
-      → IsNodeOf resolutions (slice_index_or rows k d) (slice_index_or nodes k e)
+-- the bare packages are those of the rows, in turn
+pub record AreBarePackagesOf (resolutions : List Resolution) (rows : List Row)
+    (bare_packages : List BarePackage) : Type 0 where
+  pub lengths : length bare_packages ≡ length rows
+  pub each : (k : ℕ) (d : Row) (e : BarePackage) → k < length rows
+      → IsBarePackageOf resolutions (slice_index_or rows k d) (slice_index_or bare_packages k e)
 
 -- what becomes of each dependency of the table
 abbrev pub resolutions_in : Table → List Resolution
 resolutions_in table = map (resolution_of_word table.paths.keys table.rows.items) table.dependencies
 
--- the nodes are those of the table's rows
-abbrev pub AreNodesOfTable : Table → List Node → Type 0
-AreNodesOfTable table nodes = AreNodesOf (resolutions_in table) table.rows.items nodes
+-- the bare packages are those of the table's rows
+abbrev pub AreBarePackagesOfTable : Table → List BarePackage → Type 0
+AreBarePackagesOfTable table bare_packages = AreBarePackagesOf (resolutions_in table) table.rows.items bare_packages

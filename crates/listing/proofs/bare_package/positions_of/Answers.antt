@@ -5,9 +5,9 @@ use Rattle.std.proofs.lemmas.List.Filters.{dedup_is}
 use Rattle.std.proofs.lemmas.List.Kept.{Contains-dedup_nat, Contains-from_dedup}
 use Rattle.std.proofs.lemmas.List.Sorted.{Contains-permutation, IsPermutation-sym}
 use Rattle.std.proofs.lemmas.Map.Keys.{IsStrictlyIncreasing-dedup}
-use Rattle.listing.specs.inside.Nodes.{listed_positions}
+use Rattle.listing.specs.inside.BarePackages.{listed_positions}
 use Rattle.listing.proofs.Members.{has, has_same}
-use Rattle.listing.proofs.node.positions_of.Goals as goal
+use Rattle.listing.proofs.bare_package.positions_of.Goals as goal
 
 pub returns : goal.returns
 returns c =

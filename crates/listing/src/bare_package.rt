@@ -1,7 +1,7 @@
 //! A package of a tree, without its path.
 ghost use Rattle.std.specs.Prelude.{◌≡◌, ◌⊎◌, ◌<◌, ◌++◌, All, None, Some, length, MatchResult};
 ghost use Rattle.faults.specs.Answers.{first_given};
-ghost use Rattle.listing.specs.inside.Nodes.{AreNodesOf, HasNumbersBelow, IsNodeOf, IsSetOf, are_met, is_marked_by, listed_positions, numbers_of_value, text_of_value};
+ghost use Rattle.listing.specs.inside.BarePackages.{AreBarePackagesOf, HasNumbersBelow, IsBarePackageOf, IsSetOf, are_met, is_marked_by, listed_positions, numbers_of_value, text_of_value};
 ghost use Rattle.listing.specs.inside.Table.{row_fault};
 
 use crate::ListingFault;
@@ -13,22 +13,22 @@ use std::alloc::Global;
 /// A package without its path. Its dependencies stand as their positions in the tree: sets,
 /// ascending, each once.
 #[derive(Drop)]
-pub struct Node {
+pub struct BarePackage {
     pub name: PkgName,
     pub build: Vec<u32>,
     pub run: Vec<u32>,
     pub is_marked: bool,
 }
 
-impl Node {
+impl BarePackage {
     /// The package of a row, by what has become of each dependency, by its number.
     pub fn of_row(
         alloc: Global,
         row: &Row<'_>,
         resolutions: &[Resolution],
-    ) -> Result<Node, ListingFault>
+    ) -> Result<BarePackage, ListingFault>
         requires { HasNumbersBelow (length resolutions.now) row.now }
-        ensures { MatchResult result (IsNodeOf resolutions.now row.now)
+        ensures { MatchResult result (IsBarePackageOf resolutions.now row.now)
             (λ e. (e ≡ ListingFault.Memory) ⊎ (row_fault row.now ≡ Some e)) }
     {
         let Some(name) = row.name() else {
@@ -37,7 +37,7 @@ impl Node {
         let build = numbers_of(&row.build);
         let lib = numbers_of(&row.lib);
         let run = numbers_of(&row.run);
-        Ok(Node {
+        Ok(BarePackage {
             name: name.copy()?,
             build: positions_of(alloc, build, lib, resolutions)?,
             run: positions_of(alloc, lib, run, resolutions)?,
@@ -47,22 +47,22 @@ impl Node {
 }
 
 /// The packages of the rows, in turn, by what has become of each dependency, by its number.
-pub fn nodes_of(
+pub fn bare_packages_of(
     alloc: Global,
     rows: &[Row<'_>],
     resolutions: &[Resolution],
-) -> Result<Vec<Node>, ListingFault>
+) -> Result<Vec<BarePackage>, ListingFault>
     requires { All (HasNumbersBelow (length resolutions.now)) rows.now }
     ensures { MatchResult result
-        (λ nodes. (first_given row_fault rows.now ≡ None)
-        × AreNodesOf resolutions.now rows.now nodes.items)
+        (λ bare_packages. (first_given row_fault rows.now ≡ None)
+        × AreBarePackagesOf resolutions.now rows.now bare_packages.items)
         (λ e. (e ≡ ListingFault.Memory) ⊎ (first_given row_fault rows.now ≡ Some e)) }
 {
-    let mut nodes = Vec::with_capacity(alloc, rows.len())?;
+    let mut bare_packages = Vec::with_capacity(alloc, rows.len())?;
     for row in rows {
-        nodes.push(Node::of_row(alloc, row, resolutions)?)?;
+        bare_packages.push(BarePackage::of_row(alloc, row, resolutions)?)?;
     }
-    Ok(nodes)
+    Ok(bare_packages)
 }
 
 /// Whether IGNORE isn't empty in the row, or a dependency in it isn't met.

@@ -3,7 +3,7 @@ use Rattle.std.specs.Prelude.{ℕ, Bool, cond, List, length, map, zero, suc}
 use Rattle.std.specs.FinSet as set
 use Rattle.std.specs.Ordering.{nat_cmp}
 use Rattle.engine.specs.declared.Letter.{Letter}
-use Rattle.engine.specs.inside.Shown.{is_held}
+use Rattle.engine.specs.shared.Shown.{is_held}
 use Rattle.graph.specs.Marks.{has_mark}
 
 -- the positions below n that pass the test

@@ -1,11 +1,11 @@
 use Rattle.std.proofs.Common.{◌≡◌, length, get_or, ap, sym, subst, ◌∙◌, arith}
 use Rattle.std.proofs.lemmas.List.{length-map}
-use Rattle.listing.specs.inside.Nodes.{HasNumbersBelow, resolution_of_word}
-use Rattle.listing.proofs.NodeLemmas.{within_row}
-use Rattle.listing.proofs.tree.nodes_of_table.Goals as goal
+use Rattle.listing.specs.inside.BarePackages.{HasNumbersBelow, resolution_of_word}
+use Rattle.listing.proofs.BarePackageLemmas.{within_row}
+use Rattle.listing.proofs.tree.bare_packages_of_table.Goals as goal
 
-pub nodes_of-requires : goal.nodes_of-requires
-nodes_of-requires c = λ k d l.
+pub bare_packages_of-requires : goal.bare_packages_of-requires
+bare_packages_of-requires c = λ k d l.
     let table = c.args.table.now in
     let words = table.dependencies in
     let rows = c.as_slice-rows.result.now in

@@ -1,0 +1,2 @@
+-- What bodies and proofs need, those of crates above, too.
+pub mod Fields
