@@ -15,13 +15,7 @@ use member::Member;
 use package_record::Build;
 use protocol::Refusal;
 use std::alloc::Global;
-use wire::{Carrier, Header, Piece, WireFault};
-
-/// The bytes of each piece but the last: what `is_last` says of it ties it to the definition.
-const PIECE_SIZE: u32 = 32_768;
-
-/// The most pieces that a message has, tied to the definition alike.
-const MOST_PIECES: u16 = 128;
+use wire::{Carrier, Header, MOST_PIECES, PIECE_SIZE, Piece, WireFault};
 
 /// Why the member refuses what the header says, if it does.
 pub(crate) fn test_header(member: &Member<'_>, header: &Header) -> Result<(), Refusal>
@@ -57,7 +51,7 @@ pub(crate) fn is_last(pieces: &[Piece], piece: &Piece) -> bool
     ensures { result ≡ are_all piece.now.header (with_piece pieces.now piece.now) }
 {
     (0..MOST_PIECES)
-        .filter(|number| PIECE_SIZE * u32::from(*number) < piece.header.length)
+        .filter(|number| PIECE_SIZE as u32 * u32::from(*number) < piece.header.length)
         .all(|number| has_with(pieces, piece, number))
 }
 

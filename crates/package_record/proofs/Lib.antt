@@ -26,3 +26,4 @@ mod Taken
 pub mod Texts
 mod UnitPaths
 mod Whole
+mod TextLengths

@@ -22,6 +22,7 @@ mod gathering;
 mod hashed_files;
 mod header;
 mod laws;
+mod length;
 mod making;
 mod names;
 mod number;

@@ -36,4 +36,4 @@ mod Enough
 mod Planning
 mod Writing
 mod HasOne
-mod TextLengths
+mod PieceCounts

@@ -1,7 +1,5 @@
 //! In how many datagrams a message goes out.
-ghost use Rattle.std.specs.Prelude.{◌≡◌, ◌≤◌, IfOk, Some, length, true};
-ghost use Rattle.package_record.specs.Build.{build_text};
-ghost use Rattle.package_record.specs.Content.{most_bytes, record_text};
+ghost use Rattle.std.specs.Prelude.{◌≡◌, ◌≤◌, IfOk, Some, true};
 ghost use Rattle.engine.specs.Division.{number_found};
 ghost use Rattle.way.specs.Length.{pieces_in};
 ghost use Rattle.way.specs.inside.Listed as listed;
@@ -9,7 +7,7 @@ ghost use Rattle.wire.specs.Pieces.{most_pieces};
 ghost use Rattle.world.specs.Happening.{is_up};
 
 use faults::Memory;
-use package_record::{Build, Record};
+use package_record::Build;
 use pkgpath::PkgPath;
 use running::World;
 use wire::PIECE_SIZE;
@@ -34,34 +32,6 @@ pub(crate) fn pieces_in(build: &Build) -> Result<u64, Memory>
     ensures count { IfOk result (λ count. count ≡ pieces_in build.now) }
     ensures few { IfOk result (λ count. count ≤ most_pieces) }
 {
-    let len = text_len(build)?;
+    let len = build.text_len()?;
     Ok(len.div_ceil(PIECE_SIZE) as u64)
-}
-
-/// The length of the build's text.
-fn text_len(build: &Build) -> Result<usize, Memory>
-    ensures len { IfOk result (λ len. len ≡ length (build_text build.now)) }
-    ensures few { IfOk result (λ len. len ≤ most_bytes) }
-{
-    // Its path says that it is a build, whose text is within the limit.
-    let _path = build.unit_path();
-    let lines = build.lines()?;
-    let mut len = lines.len();
-    for record in build.packages() {
-        len += record_len(record)?;
-    }
-    Ok(len)
-}
-
-/// The length of the record's text, of which no byte of a file is copied.
-fn record_len(part: &Record) -> Result<usize, Memory>
-    requires { length (record_text part.now) ≤ most_bytes }
-    ensures { IfOk result (λ len. len ≡ length (record_text part.now)) }
-{
-    let header = part.header()?;
-    let mut len = header.len();
-    for file in part.files() {
-        len += file.bytes.len();
-    }
-    Ok(len)
 }

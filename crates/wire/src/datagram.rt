@@ -1,6 +1,5 @@
 //! What goes out in one piece: a message in whole, or a piece of one that carries a build.
 ghost use Rattle.std.specs.Prelude.{◌≡◌, IfOk};
-ghost use Rattle.agreement.specs.Claims.{claim_same};
 ghost use Rattle.wire.specs.Joining.{same_carrier, same_header};
 
 use ballots::Message;
@@ -111,20 +110,12 @@ impl Carrier {
         ensures { result ≡ same_carrier self other }
     {
         match (self, other) {
-            (Carrier::Promise(a, b), Carrier::Promise(c, d)) => is_same_claim(a, c)
-                && is_same_claim(b, d),
-            (Carrier::Propose(a), Carrier::Propose(b)) => is_same_claim(a, b),
+            (Carrier::Promise(a, b), Carrier::Promise(c, d)) => a == c && b == d,
+            (Carrier::Propose(a), Carrier::Propose(b)) => a == b,
             (Carrier::Agreed, Carrier::Agreed) => true,
             _ => false,
         }
     }
-}
-
-/// Whether both are one.
-fn is_same_claim(a: Claim, b: Claim) -> bool
-    ensures { result ≡ claim_same a b }
-{
-    a.round == b.round && a.member == b.member
 }
 
 impl Piece {

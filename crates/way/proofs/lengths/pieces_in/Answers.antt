@@ -1,7 +1,7 @@
 use Rattle.std.proofs.Common.{length, sym, arith}
 use Rattle.std.proofs.lemmas.Grind.{div_ceil_times}
 use Rattle.package_record.specs.Build.{build_text}
-use Rattle.way.proofs.TextLengths.{same_count}
+use Rattle.way.proofs.PieceCounts.{same_count}
 use Rattle.way.proofs.lengths.pieces_in.Goals as goal
 
 pub returns-clause-count : goal.returns-clause-count

@@ -1,7 +1,7 @@
 use Rattle.std.proofs.Common.{◌≡◌, ◌+◌, flat_map, length, map, take}
 use Rattle.package_record.specs.Content.{header_text}
 use Rattle.package_record.specs.FileView.{file_view}
-use Rattle.way.proofs.lengths.record_len.Given as goal
+use Rattle.package_record.proofs.length.record_len.Given as goal
 
 abbrev pub invariant-loop-file : goal.invariant-loop-file
 invariant-loop-file l =

@@ -1,12 +1,9 @@
 -- How long the texts of builds are, part by part.
-use Rattle.std.proofs.Common.{◌≡◌, ◌<◌, ◌≤◌, ◌+◌, ◌*◌, ℕ, zero, suc, List, [], ◌∷◌, ◌++◌, flat_map, get_or, length, map, take, sym, ap, ◌∙◌, arith}
+use Rattle.std.proofs.Common.{◌≡◌, ◌<◌, ◌≤◌, ◌+◌, ℕ, zero, suc, List, [], ◌∷◌, ◌++◌, flat_map, get_or, length, map, take, sym, ap, ◌∙◌, arith}
 use Rattle.std.proofs.lemmas.List.{length-append, map-append, take_more}
 use Rattle.package_record.specs.Build.{records_text}
 use Rattle.package_record.specs.Content.{Content, NamedFile, record_text}
-use Rattle.std.proofs.lemmas.List.FromFn.{length-range_with_len}
 use Rattle.package_record.proofs.BuildTexts.{text_push}
-use Rattle.wire.specs.Pieces.{numbers_of}
-use Rattle.wire.proofs.PieceNumbers.{AreAll, all_numbers}
 
 -- the first records' texts are no longer than those of all
 pub part_within : (cs : List Content) (n : ℕ)
@@ -89,19 +86,3 @@ some_more v xs i x lt here =
     ∙ ap (λ (l : List NamedFile). length (flat_map (λ (g : NamedFile). g.bytes) l))
     (map-append v (take i xs) (x ∷ []))
     ∙ files_push (map v (take i xs)) (v x)
-
--- how many datagrams a build of so many bytes takes
-pub same_count : (size q : ℕ) → size ≤ 4194304 → size ≤ q * 32768 → q * 32768 < size + 32768
-    → length (numbers_of size) ≡ q
-same_count size q few enough close = by (all_numbers size).0 (all_numbers size).1
-  where
-    by : (count : ℕ) → AreAll size count → length (numbers_of size) ≡ q
-    by zero are =
-        let all = are.enough few in
-        let n = ap length are.same ∙ length-range_with_len 0 zero in
-        omega (arith, all, n, enough, close)
-    by (suc k) are =
-        let all = are.enough few in
-        let last = are.within k (omega arith) in
-        let n = ap length are.same ∙ length-range_with_len 0 (suc k) in
-        omega (arith, all, last, n, enough, close)

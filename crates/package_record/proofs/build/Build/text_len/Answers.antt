@@ -3,12 +3,12 @@ use Rattle.std.proofs.lemmas.List.{take_all}
 use Rattle.package_record.specs.Build.{build_text, records_text}
 use Rattle.package_record.specs.Content.{Content, most_bytes, record_text}
 use Rattle.package_record.proofs.BuildTexts.{text_length}
-use Rattle.way.proofs.TextLengths.{one_more_record, part_within}
-use Rattle.way.proofs.lengths.text_len.Goals as goal
+use Rattle.package_record.proofs.TextLengths.{one_more_record, part_within}
+use Rattle.package_record.proofs.build.Build.text_len.Goals as goal
 
 pub record_len-requires : goal.record_len-requires
 record_len-requires c =
-    let cs = c.args.build.now in
+    let cs = c.args.self.now in
     let is = c.packages-record-items.ensures.records in
     let i = c.loop-record.record-index in
     let below : i < length cs = omega (arith, c.loop-record-test.true, ap length is) in
@@ -18,7 +18,7 @@ record_len-requires c =
 
 pub overflow_add-len : goal.overflow_add-len
 overflow_add-len c =
-    let cs = c.args.build.now in
+    let cs = c.args.self.now in
     let is = c.packages-record-items.ensures.records in
     let i = c.loop-record.record-index in
     let below : i < length cs = omega (arith, c.loop-record-test.true, ap length is) in
@@ -31,7 +31,7 @@ overflow_add-len c =
 
 pub loop-record-preserved : goal.loop-record-preserved
 loop-record-preserved c =
-    let cs = c.args.build.now in
+    let cs = c.args.self.now in
     let is = c.packages-record-items.ensures.records in
     let i = c.loop-record.record-index in
     let below : i < length cs = omega (arith, c.loop-record-test.true, ap length is) in
@@ -41,7 +41,7 @@ loop-record-preserved c =
 
 pub returns-clause-len : goal.returns-clause-len
 returns-clause-len c =
-    let cs = c.args.build.now in
+    let cs = c.args.self.now in
     let is = c.packages-record-items.ensures.records in
     let i = c.loop-record.record-index in
     let all = ap (λ (ds : List Content). length (records_text ds))
@@ -50,7 +50,7 @@ returns-clause-len c =
 
 pub returns-clause-few : goal.returns-clause-few
 returns-clause-few c =
-    let cs = c.args.build.now in
+    let cs = c.args.self.now in
     let is = c.packages-record-items.ensures.records in
     let i = c.loop-record.record-index in
     let all = ap (λ (ds : List Content). length (records_text ds))

@@ -2,8 +2,8 @@ use Rattle.std.proofs.Common.{◌+◌, List, ap, flat_map, length, arith}
 use Rattle.std.proofs.lemmas.List.{length-append}
 use Rattle.package_record.specs.Content.{NamedFile, header_text}
 use Rattle.package_record.specs.FileView.{file_view}
-use Rattle.way.proofs.TextLengths.{some_more, some_within}
-use Rattle.way.proofs.lengths.record_len.Goals as goal
+use Rattle.package_record.proofs.TextLengths.{some_more, some_within}
+use Rattle.package_record.proofs.length.record_len.Goals as goal
 
 pub overflow_add-len : goal.overflow_add-len
 overflow_add-len c =
