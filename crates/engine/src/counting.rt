@@ -7,7 +7,7 @@ use crate::{Counts, Letter};
 
 impl Counts {
     /// One more package with this letter.
-    pub(crate) fn add(&mut self, letter: Letter)
+    pub fn add(&mut self, letter: Letter)
         requires { tally self.old letter < 2 ^ 31 }
         ensures { (l : Kind) → tally self.new l ≡ tally self.old l + same_letter letter l }
     {

@@ -50,7 +50,7 @@ fn dependents(alloc: Global, tree: &Tree) -> Result<Reversed, Memory>
 }
 
 /// So many marks, of which those at these positions are set.
-fn marks_of(alloc: Global, len: u32, positions: &[u32]) -> Result<Vec<bool>, Memory>
+pub fn marks_of(alloc: Global, len: u32, positions: &[u32]) -> Result<Vec<bool>, Memory>
     requires { All (λ p. p < len) positions.now }
     ensures { IfOk result (λ marks. AreMarksOf len positions.now marks.items) }
 {

@@ -19,11 +19,13 @@ mod unit_laws;
 mod units;
 
 pub use crate::engine::Engine;
+pub use crate::ignored::marks_of;
 pub use crate::laws::{
     each_is_counted_once, each_package_has_a_letter, ignored_whatever_is_agreed,
     only_one_letter_applies, queued_together, run_closure_is_held, same_held_same_letters,
     stays_installable,
 };
+pub use crate::making::paths_at;
 pub use crate::unit_laws::{
     ignored_spreads, names_tell_units, only_one_division, paths_are_found, singles_stand_alone,
     unit_unless_ignored, units_are_well_made,

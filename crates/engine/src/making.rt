@@ -72,7 +72,11 @@ fn in_order(alloc: Global, tree: &Tree, packages: &[u32]) -> Result<Vec<u32>, Me
 }
 
 /// The paths of the packages at these positions.
-fn paths_at<'a>(alloc: Global, tree: &'a Tree, packages: &[u32]) -> Result<Vec<&'a PkgPath>, Memory>
+pub fn paths_at<'a>(
+    alloc: Global,
+    tree: &'a Tree,
+    packages: &[u32],
+) -> Result<Vec<&'a PkgPath>, Memory>
     requires { All (λ p. p < length tree.now) packages.now }
     ensures { IfOk result (λ paths. map (λ path. path.now) paths.items
         ≡ map (path_at tree.entry.now) packages.now) }

@@ -9,6 +9,7 @@ ghost use Rattle.listing.specs.Tree.{ArePositions, IsTree, name_at, path_at, run
 ghost use Rattle.protocol.specs.Jobs.{in_order_of_path};
 ghost use Rattle.member.specs.inside.Packages.{files_at, have_files, made_at, made_of};
 
+use engine::paths_at;
 use faults::Memory;
 use indexmap::IndexMap;
 use listing::Tree;
@@ -30,23 +31,6 @@ pub(crate) fn in_order<'a>(
 {
     let mut paths = paths_at(alloc, tree, positions)?;
     paths.sort()?;
-    Ok(paths)
-}
-
-/// The paths of the packages at these positions.
-fn paths_at<'a>(
-    alloc: Global,
-    tree: &'a Tree,
-    positions: &[u32],
-) -> Result<Vec<&'a PkgPath>, Memory>
-    requires { All (λ p. p < length tree.now) positions.now }
-    ensures { IfOk result (λ paths. map (λ path. path.now) paths.items
-        ≡ map (path_at tree.entry.now) positions.now) }
-{
-    let mut paths = Vec::with_capacity(alloc, positions.len())?;
-    for position in positions {
-        paths.push(tree.path(*position))?;
-    }
     Ok(paths)
 }
 

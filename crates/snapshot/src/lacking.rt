@@ -1,11 +1,11 @@
 //! Which packages are not installable where some are held: those that are not held, and the held
 //! ones that need one of these to run, through others too.
-ghost use Rattle.std.specs.Prelude.{◌≡◌, ◌<◌, All, IfOk, length};
+ghost use Rattle.std.specs.Prelude.{◌≡◌, IfOk, length};
 ghost use Rattle.graph.specs.Lists.{AreReversed};
 ghost use Rattle.graph.specs.Marks.{has_mark};
-ghost use Rattle.engine.specs.shared.Marks.{AreMarksOf};
 ghost use Rattle.snapshot.specs.inside.Lacking.{AreLacking, AreUnmarked, held_runs};
 
+use engine::marks_of;
 use faults::Memory;
 use graph::{Naming, Reversed, Walk};
 use listing::Tree;
@@ -53,16 +53,4 @@ fn runs_of_held(alloc: Global, tree: &Tree, held: &[bool]) -> Result<Reversed, M
         }
     }
     runs.turned(alloc)
-}
-
-/// So many marks, of which those at these positions are set.
-fn marks_of(alloc: Global, len: u32, positions: &[u32]) -> Result<Vec<bool>, Memory>
-    requires { All (λ p. p < len) positions.now }
-    ensures { IfOk result (λ marks. AreMarksOf len positions.now marks.items) }
-{
-    let mut marks = vec![in alloc; false; len as usize]?;
-    for position in positions {
-        marks[*position as usize] = true;
-    }
-    Ok(marks)
 }
