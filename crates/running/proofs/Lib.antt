@@ -7,7 +7,7 @@ pub mod Shown
 mod Taking
 mod PutBack
 mod NodeStands
-mod SceneWith
+mod StateWith
 mod Restarting
 mod StopsInside
 mod Following

@@ -62,7 +62,7 @@ use Rattle.world.specs.Sent.{WasProposed, message, voters, with_sends}
 use Rattle.world.specs.World.{IsMade, World, WorldNode, member_at, node_at, up_node}
 use Rattle.world.proofs.Sending.{among_is, is_found, sends_come, sends_stay, sends_there}
 use Rattle.running.specs.inside.Deciding.{claim_voted, decided_by, decision, makes_majority, message_in, same_claim, value_under, voted_by, voted_in, voters_in, voters_of}
-use Rattle.running.specs.inside.Placing.{IsReached}
+use Rattle.running.specs.inside.Standing.{IsReached}
 use Rattle.running.specs.inside.Stepping.{with_decision}
 use Rattle.running.proofs.Casting.{IsNotedVote, vote_of, votes_are_noted, votes_same}
 use Rattle.running.proofs.VoteSent.{vote_is, whole_text}

@@ -26,17 +26,17 @@ use Rattle.world.specs.Happening.{Acts, Asks, HasRoomFor, IsRefusedByNode, IsUp,
 use Rattle.world.specs.World.{World, WorldNode, down_node, node_at, up_node, with_node}
 use Rattle.world.specs.declared.fault.WorldFault.{WorldFault}
 use Rattle.world.specs.declared.fault.WorldFault.TheVariants as worlds
-use Rattle.running.specs.declared.placed.Placed.{Placed}
-use Rattle.running.specs.declared.placed.Placed.TheVariants.{Down, Up}
-use Rattle.running.specs.declared.placed.Rest.{Rest}
-use Rattle.running.specs.declared.scene.Scene.{Scene}
+use Rattle.running.specs.declared.slot.Slot.{Slot}
+use Rattle.running.specs.declared.slot.Slot.TheVariants.{Down, Up}
+use Rattle.running.specs.declared.slot.DownNode.{DownNode}
+use Rattle.running.specs.declared.world_state.WorldState.{WorldState}
 use Rattle.running.specs.inside.Asking.{CanBeAsked, IsReadied, asked_by, refused_by}
-use Rattle.running.specs.inside.Placing.{IsReached, IsStanding, StandsOn, disk_of, file_of, node_view, world_of}
+use Rattle.running.specs.inside.Standing.{IsReached, IsStanding, StandsOn, disk_of, file_of, node_view, world_of}
 use Rattle.running.specs.inside.Stopping.{IsNotStoppedWith, IsStopped, IsStoppedWith, ReadiesStep, StandsReady, TookNone, TookStep}
 use Rattle.running.proofs.NodeStands.{IsLeftAs, is_full, lacks_room, same_so, stopped_so, took_so, torn_so}
 use Rattle.running.proofs.PutBack.{stands_at}
 use Rattle.running.proofs.Taking.{told_so}
-use Rattle.running.proofs.SceneWith.{IsBut, put_again, put_there, standing_with, world_with}
+use Rattle.running.proofs.StateWith.{IsBut, put_again, put_there, standing_with, world_with}
 
 -- ---- tests
 
@@ -125,7 +125,7 @@ asks_so w (events.Restart n) asked h = absurd (let wrong : None ≡ Some asked =
 
 -- ---- a stop inside a step
 
-module _ (s : Scene) (e : Event) (l : Left) (standing : IsStanding s)
+module _ (s : WorldState) (e : Event) (l : Left) (standing : IsStanding s)
     (reached : IsReached (world_of s))
     (may : fault_before (world_of s) (events.StopIn e l) ≡ None) where
   abbrev w : World
@@ -134,7 +134,7 @@ module _ (s : Scene) (e : Event) (l : Left) (standing : IsStanding s)
   abbrev k : ℕ
   k = events.node_of e
 
-  abbrev nodes : List Placed
+  abbrev nodes : List Slot
   nodes = s.nodes.items
 
   there : NoneApplies (not (is_step e)) (nat_le (length w.nodes) k) (not (is_up w k)) false
@@ -149,7 +149,7 @@ module _ (s : Scene) (e : Event) (l : Left) (standing : IsStanding s)
   pub can : CanBeAsked w.sent e
   can = can_be_asked w e is_a_step there.fifth
 
-  its_place : (x : Placed) × (slice_get nodes k ≡ Some x)
+  its_place : (x : Slot) × (slice_get nodes k ≡ Some x)
   its_place = get_some nodes k
       (omega (arith, leb-false (length w.nodes) k there.second, length-map nodes node_view))
 
@@ -157,7 +157,7 @@ module _ (s : Scene) (e : Event) (l : Left) (standing : IsStanding s)
   within = slice_get_within nodes k its_place.0 its_place.1
 
   -- a node that is up
-  only_up : (x : Placed) → slice_get nodes k ≡ Some x → (n : LoggedNode MemDisk)
+  only_up : (x : Slot) → slice_get nodes k ≡ Some x → (n : LoggedNode MemDisk)
       × (slice_get nodes k ≡ Some (Up n))
   only_up (Up n) g = (n, g)
   only_up (Down r) g = absurd (true≢false (sym (not_false (is_up w k) there.third)
@@ -173,7 +173,7 @@ module _ (s : Scene) (e : Event) (l : Left) (standing : IsStanding s)
   is = standing.disks k (Up n) its_node.1
 
   -- what stands at the place is that node
-  pub at_place : (x : Placed) → slice_get nodes k ≡ Some x → x ≡ Up n
+  pub at_place : (x : Slot) → slice_get nodes k ≡ Some x → x ≡ Up n
   at_place x g = some_same x (Up n) (sym g ∙ its_node.1)
 
   up_there : IsUp w e (up_node n.node)
@@ -182,17 +182,17 @@ module _ (s : Scene) (e : Event) (l : Left) (standing : IsStanding s)
   hosted : IsHosted w k n.node
   hosted = record { stands = up_there.stands; is = is.0 }
 
-  -- ---- readied
+  -- ---- made ready
 
   -- a step that is ready leaves the node as it was
-  record IsSameReady (x : Placed) (r : ReadyStep) : Type 0 where
+  record IsSameReady (x : Slot) (r : ReadyStep) : Type 0 where
     same : x ≡ Up n
     is_ready : IsReadyFor n.node r
     asked : Asked
     asks : asked_by w.sent e ≡ Some asked
     takes : Takes n.node asked (Ok (taken_by n.node r))
 
-  ready_same : (x : Placed) (r : ReadyStep) → ReadiesStep w.sent e (Up n) x (Ok r)
+  ready_same : (x : Slot) (r : ReadyStep) → ReadiesStep w.sent e (Up n) x (Ok r)
       → IsSameReady x r
   ready_same (Down d) r h = absurd h
   ready_same (Up m) r h = by h.step
@@ -218,7 +218,7 @@ module _ (s : Scene) (e : Event) (l : Left) (standing : IsStanding s)
         told_so w (events.StopIn e l) f (by_step n.node asked f (runs w k n.node is.0) takes) r.1,
       )
 
-  pub readied_refused : (x : Placed) (f : NodeFault) → ReadiesStep w.sent e (Up n) x (Err f)
+  pub readied_refused : (x : Slot) (f : NodeFault) → ReadiesStep w.sent e (Up n) x (Err f)
       → (x ≡ Up n)
       × ((f ≡ fault.Memory) ⊎ IsRefusedByNode w (events.StopIn e l) (refused_by f))
   readied_refused (Down d) f h = absurd h
@@ -242,7 +242,7 @@ module _ (s : Scene) (e : Event) (l : Left) (standing : IsStanding s)
   -- ---- what is left
 
   -- the node is up again
-  up_again : (t : Scene) → IsBut s t → (m : LoggedNode MemDisk)
+  up_again : (t : WorldState) → IsBut s t → (m : LoggedNode MemDisk)
       → t.nodes.items ≡ slice_set nodes k (Up m) → m.node ≡ n.node → IsOnLog mem_history m
       → (world_of t ≡ w) × IsStanding t
   up_again t but m put same on_log = (
@@ -254,7 +254,7 @@ module _ (s : Scene) (e : Event) (l : Left) (standing : IsStanding s)
   )
 
   -- the step was not made ready
-  pub not_readied : (t : Scene) → IsBut s t → (x : Placed) (f : NodeFault)
+  pub not_readied : (t : WorldState) → IsBut s t → (x : Slot) (f : NodeFault)
       → t.nodes.items ≡ slice_set nodes k x
       → ReadiesStep w.sent e (Up n) x (Err f)
       → (world_of t ≡ w) × IsStanding t
@@ -265,12 +265,12 @@ module _ (s : Scene) (e : Event) (l : Left) (standing : IsStanding s)
       (u.0, u.1, r.1)
 
   -- the step was made ready, and the nodes are as they were
-  pub readied_nodes : (x : Placed) (r : ReadyStep) → ReadiesStep w.sent e (Up n) x (Ok r)
+  pub readied_nodes : (x : Slot) (r : ReadyStep) → ReadiesStep w.sent e (Up n) x (Ok r)
       → slice_set nodes k x ≡ nodes
   readied_nodes x r h = ap (slice_set nodes k) (ready_same x r h).same
       ∙ put_again nodes k (Up n) its_node.1
 
-  pub readied_stands : (x : Placed) (r : ReadyStep) → ReadiesStep w.sent e (Up n) x (Ok r)
+  pub readied_stands : (x : Slot) (r : ReadyStep) → ReadiesStep w.sent e (Up n) x (Ok r)
       → StandsReady nodes k r
   readied_stands x r h = record {
     node = Up n;
@@ -278,7 +278,7 @@ module _ (s : Scene) (e : Event) (l : Left) (standing : IsStanding s)
     ready = ((ready_same x r h).is_ready, is.1);
   }
 
-  module _ (x : Placed) (r : ReadyStep) (h : ReadiesStep w.sent e (Up n) x (Ok r))
+  module _ (x : Slot) (r : ReadyStep) (h : ReadiesStep w.sent e (Up n) x (Ok r))
       (fits : (asked : Asked) → asked_by w.sent e ≡ Some asked → IsAsked asked) where
     abbrev took : Taken
     took = taken_by n.node r
@@ -293,21 +293,21 @@ module _ (s : Scene) (e : Event) (l : Left) (standing : IsStanding s)
     note_is = note_answered n.node.member r.step
 
     -- the node is down, and this is left of it
-    pub down_so : (t : Scene) → IsBut s t → (rest : Rest)
-        → t.nodes.items ≡ slice_set nodes k (Down rest)
-        → IsLeftAs w k rest (left_node l n.node.notes took.answer.note)
+    pub down_so : (t : WorldState) → IsBut s t → (down : DownNode)
+        → t.nodes.items ≡ slice_set nodes k (Down down)
+        → IsLeftAs w k down (left_node l n.node.notes took.answer.note)
         → HasRoomFor w k (up_node n.node) l took.answer.note
         → StopsIn w e l (world_of t) × IsStanding t
-    down_so t but rest put left room = (
+    down_so t but down put left room = (
       record {
         node = up_node n.node;
         taken = took;
         step = is_a_step;
         acts = acts;
         room = room;
-        leaves = world_with s t but k (Down rest) put ∙ ap (with_node w k) left.view;
+        leaves = world_with s t but k (Down down) put ∙ ap (with_node w k) left.view;
       },
-      standing_with s t but k (Down rest) put standing left.left,
+      standing_with s t but k (Down down) put standing left.left,
     )
 
     -- the log has no room for the note
@@ -331,31 +331,31 @@ module _ (s : Scene) (e : Event) (l : Left) (standing : IsStanding s)
 -- ---- by what is left
 
 -- a node that stood at the place stopped there
-record HasStoppedAt (w : World) (k : ℕ) (n : LoggedNode MemDisk) (old new : List Placed) : Type 0
+record HasStoppedAt (w : World) (k : ℕ) (n : LoggedNode MemDisk) (old new : List Slot) : Type 0
   where
-    rest : Rest
-    nodes : new ≡ slice_set old k (Down rest)
-    left : IsLeftAs w k rest (down_node n.node.notes [])
+    down : DownNode
+    nodes : new ≡ slice_set old k (Down down)
+    left : IsLeftAs w k down (down_node n.node.notes [])
 
 stopped_at : (w : World) (k : ℕ) (n : LoggedNode MemDisk) → StandsOn w k (Up n)
-    → (old new : List Placed)
+    → (old new : List Slot)
     → slice_get old k ≡ Some (Up n) → IsStopped old new k → HasStoppedAt w k n old new
 stopped_at w k n is old new here h =
     let same : h.node ≡ Up n = some_same h.node (Up n) (sym h.stood ∙ here) in
     record {
-      rest = h.rest;
+      down = h.down;
       nodes = h.nodes;
-      left = stopped_so w k n is h.rest (h.disk ∙ ap disk_of same)
+      left = stopped_so w k n is h.down (h.disk ∙ ap disk_of same)
           (h.notes ∙ ap (λ x. (node_view x).notes) same)
           (h.behind (ap (λ x. (node_view x).up) same));
     }
 
-module _ (s : Scene) (e : Event) (standing : IsStanding s) (reached : IsReached (world_of s)) where
+module _ (s : WorldState) (e : Event) (standing : IsStanding s) (reached : IsReached (world_of s)) where
   pub stops_in : (l : Left) (may : fault_before (world_of s) (events.StopIn e l) ≡ None)
-      → (x : Placed) (r : ReadyStep)
+      → (x : Slot) (r : ReadyStep)
       → ReadiesStep (world_of s).sent e (Up (its_node s e l standing reached may).0) x (Ok r)
       → ((asked : Asked) → asked_by (world_of s).sent e ≡ Some asked → IsAsked asked)
-      → (t : Scene) → IsBut s t
+      → (t : WorldState) → IsBut s t
       → IsStoppedWith l s.nodes.items t.nodes.items (events.node_of e) r
       → StopsIn (world_of s) e l (world_of t) × IsStanding t
   stops_in left.None may x r h fits t but stopped =
@@ -363,14 +363,14 @@ module _ (s : Scene) (e : Event) (standing : IsStanding s) (reached : IsReached 
       let is = standing.disks (events.node_of e) (Up n.0) n.1 in
       let d = stopped_at (world_of s) (events.node_of e) n.0 is s.nodes.items t.nodes.items n.1
       stopped in
-      down_so s e left.None standing reached may x r h fits t but d.rest d.nodes d.left tt
+      down_so s e left.None standing reached may x r h fits t but d.down d.nodes d.left tt
   stops_in (left.Torn torn) may x r h fits t but stopped =
       let n = its_node s e (left.Torn torn) standing reached may in
       let is = standing.disks (events.node_of e) (Up n.0) n.1 in
       let same : stopped.node ≡ Up n.0 = some_same stopped.node (Up n.0)
       (sym stopped.stood ∙ n.1) in
-      down_so s e (left.Torn torn) standing reached may x r h fits t but stopped.rest stopped.nodes
-      (torn_so (world_of s) (events.node_of e) n.0 is torn stopped.rest
+      down_so s e (left.Torn torn) standing reached may x r h fits t but stopped.down stopped.nodes
+      (torn_so (world_of s) (events.node_of e) n.0 is torn stopped.down
       (stopped.disk ∙ ap (λ y. stands (file_of (disk_of y) ++ torn) ∷ []) same)
       (stopped.notes ∙ ap (λ y. (node_view y).notes) same) stopped.behind) tt
   stops_in left.Whole may x r h fits t but stopped =
@@ -386,7 +386,7 @@ module _ (s : Scene) (e : Event) (standing : IsStanding s) (reached : IsReached 
       same : stopped.node ≡ Up n.0
       same = some_same stopped.node (Up n.0) (sym stopped.stood ∙ n.1)
 
-      by : (y : Placed) → TookStep (Up n.0) r y
+      by : (y : Slot) → TookStep (Up n.0) r y
           → IsStopped (slice_set s.nodes.items (events.node_of e) y) t.nodes.items
           (events.node_of e)
           → StopsIn (world_of s) e left.Whole (world_of t) × IsStanding t
@@ -401,8 +401,8 @@ module _ (s : Scene) (e : Event) (standing : IsStanding s) (reached : IsReached 
           stop in
           let notes : m.node.notes ≡ with_note n.0.node.notes (taken_by n.0.node r).answer.note =
           ap (λ (x : NodeState). x.notes) took.node in
-          down_so s e left.Whole standing reached may x r h fits t but d.rest
-          (d.nodes ∙ set-set s.nodes.items (events.node_of e) (Up m) (Down d.rest))
+          down_so s e left.Whole standing reached may x r h fits t but d.down
+          (d.nodes ∙ set-set s.nodes.items (events.node_of e) (Up m) (Down d.down))
           (record {
             view = d.left.view ∙ ap (λ ns. down_node ns []) notes;
             left = d.left.left;
@@ -413,10 +413,10 @@ module _ (s : Scene) (e : Event) (standing : IsStanding s) (reached : IsReached 
           full)))
 
   pub stops_not : (l : Left) (may : fault_before (world_of s) (events.StopIn e l) ≡ None)
-      → (x : Placed) (r : ReadyStep)
+      → (x : Slot) (r : ReadyStep)
       → ReadiesStep (world_of s).sent e (Up (its_node s e l standing reached may).0) x (Ok r)
       → ((asked : Asked) → asked_by (world_of s).sent e ≡ Some asked → IsAsked asked)
-      → (t : Scene) → IsBut s t → (f : NodeFault)
+      → (t : WorldState) → IsBut s t → (f : NodeFault)
       → IsNotStoppedWith l s.nodes.items t.nodes.items (events.node_of e) r f
       → (world_of t ≡ world_of s) × IsStanding t
       × ((f ≡ fault.Memory) ⊎ IsRefusedByNode (world_of s) (events.StopIn e l) (refused_by f))
@@ -436,7 +436,7 @@ module _ (s : Scene) (e : Event) (standing : IsStanding s) (reached : IsReached 
       same : none.node ≡ Up n.0
       same = some_same none.node (Up n.0) (sym none.stood ∙ n.1)
 
-      by : (y : Placed) → TookNone (Up n.0) r y f
+      by : (y : Slot) → TookNone (Up n.0) r y f
           → t.nodes.items ≡ slice_set s.nodes.items (events.node_of e) y
           → (world_of t ≡ world_of s) × IsStanding t
           × ((f ≡ fault.Memory)
@@ -476,10 +476,10 @@ pub either : {T E : Type 0} (r : Result T E) (P : Type 0) (Q : E → Type 0) (R 
 either (Ok x) P Q R f g p q = f p
 either (Err h) P Q R f g p q = g h q
 
-module _ (s : Scene) (e : Event) (l : Left) (standing : IsStanding s)
+module _ (s : WorldState) (e : Event) (l : Left) (standing : IsStanding s)
     (reached : IsReached (world_of s))
     (may : fault_before (world_of s) (events.StopIn e l) ≡ None)
-    (place : ℕ) (place_is : place ≡ events.node_of e) (old : Placed)
+    (place : ℕ) (place_is : place ≡ events.node_of e) (old : Slot)
     (read : old ≡ slice_index_or s.nodes.items place old) where
   abbrev its : (n : LoggedNode MemDisk) × (slice_get s.nodes.items (events.node_of e) ≡ Some (Up n))
   its = its_node s e l standing reached may
@@ -496,7 +496,7 @@ module _ (s : Scene) (e : Event) (l : Left) (standing : IsStanding s)
   pub is_on : (node_view old).up ≡ true
   is_on = ap (λ x. (node_view x).up) old_is
 
-  module _ (x : Placed) where
+  module _ (x : Slot) where
     abbrev Readied : Result ReadyStep NodeFault → Type 0
     Readied result = ReadiesStep (world_of s).sent e old x result
 
@@ -504,14 +504,14 @@ module _ (s : Scene) (e : Event) (l : Left) (standing : IsStanding s)
         → ReadiesStep (world_of s).sent e (Up its.0) x result
     of_its result = subst (λ y. ReadiesStep (world_of s).sent e y x result) old_is
 
-    abbrev then_nodes : List Placed
+    abbrev then_nodes : List Slot
     then_nodes = slice_set s.nodes.items place x
 
     nodes_are : (r : ReadyStep) → Readied (Ok r) → then_nodes ≡ s.nodes.items
     nodes_are r h = ap (λ i. slice_set s.nodes.items i x) place_is
         ∙ readied_nodes s e l standing reached may x r (of_its (Ok r) h)
 
-    pub refused_there : (f : NodeFault) → Readied (Err f) → (t : Scene) → IsBut s t
+    pub refused_there : (f : NodeFault) → Readied (Err f) → (t : WorldState) → IsBut s t
         → t.nodes.items ≡ then_nodes
         → (world_of t ≡ world_of s) × IsStanding t
         × ((f ≡ fault.Memory) ⊎ IsRefusedByNode (world_of s) (events.StopIn e l) (refused_by f))
@@ -519,17 +519,17 @@ module _ (s : Scene) (e : Event) (l : Left) (standing : IsStanding s)
         (put ∙ ap (λ i. slice_set s.nodes.items i x) place_is) (of_its (Err f) h)
 
     pub ready_there : (r : ReadyStep) → Readied (Ok r) → StandsReady then_nodes place r
-    ready_there r h = subst (λ (ns : List Placed). StandsReady ns place r) (sym (nodes_are r h))
+    ready_there r h = subst (λ (ns : List Slot). StandsReady ns place r) (sym (nodes_are r h))
         (subst (λ i. StandsReady s.nodes.items i r) (sym place_is)
         (readied_stands s e l standing reached may x r (of_its (Ok r) h)))
 
     module _ (r : ReadyStep) (h : Readied (Ok r))
         (fits : (asked : Asked) → asked_by (world_of s).sent e ≡ Some asked → IsAsked asked)
-        (t : Scene) (but : IsBut s t) where
+        (t : WorldState) (but : IsBut s t) where
       pub stops_there : IsStoppedWith l then_nodes t.nodes.items place r
           → StopsIn (world_of s) e l (world_of t) × IsStanding t
       stops_there stopped = stops_in s e standing reached l may x r (of_its (Ok r) h) fits t but
-          (subst (λ (ns : List Placed). IsStoppedWith l ns t.nodes.items (events.node_of e) r)
+          (subst (λ (ns : List Slot). IsStoppedWith l ns t.nodes.items (events.node_of e) r)
           (nodes_are r h)
           (subst (λ i. IsStoppedWith l then_nodes t.nodes.items i r) place_is stopped))
 
@@ -537,6 +537,6 @@ module _ (s : Scene) (e : Event) (l : Left) (standing : IsStanding s)
           → (world_of t ≡ world_of s) × IsStanding t
           × ((f ≡ fault.Memory) ⊎ IsRefusedByNode (world_of s) (events.StopIn e l) (refused_by f))
       not_there f none = stops_not s e standing reached l may x r (of_its (Ok r) h) fits t but f
-          (subst (λ (ns : List Placed). IsNotStoppedWith l ns t.nodes.items (events.node_of e) r f)
+          (subst (λ (ns : List Slot). IsNotStoppedWith l ns t.nodes.items (events.node_of e) r f)
           (nodes_are r h)
           (subst (λ i. IsNotStoppedWith l then_nodes t.nodes.items i r f) place_is none))

@@ -2,8 +2,8 @@
 pub mod Asking
 pub mod Deciding
 pub mod Opening
-pub mod Posting
-pub mod Placing
+pub mod Tables
+pub mod Standing
 pub mod Starting
 pub mod Stepping
 pub mod Stopping

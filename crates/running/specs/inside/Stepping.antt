@@ -10,10 +10,10 @@ use Rattle.node.specs.declared.fault.NodeFault.{NodeFault}
 use Rattle.node.specs.declared.fault.NodeFault.TheVariants as node_fault
 use Rattle.package_record.specs.Content.{Content}
 use Rattle.protocol.specs.State.{Value}
-use Rattle.running.specs.declared.posted.Posted.{Posted}
+use Rattle.running.specs.declared.tables.Tables.{Tables}
 use Rattle.running.specs.inside.Asking.{asked_by}
 use Rattle.running.specs.inside.Deciding.{decision}
-use Rattle.running.specs.inside.Posting.{list_in}
+use Rattle.running.specs.inside.Tables.{list_in}
 use Rattle.stable_record.specs.declared.log_fault.LogFault.TheVariants.{Full}
 use Rattle.stable_record.specs.declared.mem_disk.MemDisk.{MemDisk}
 use Rattle.world.specs.Lists.{with_build}
@@ -26,8 +26,8 @@ with_decision list (Some build) = with_build list build
 
 -- The step was taken: the node is as it says, what it sends is entered, and the list has what it
 -- decides.
-pub record HasFinished (weights : List ℕ) (old : Posted) (n : LoggedNode MemDisk) (r : ReadyStep)
-    (new : Posted) (m : LoggedNode MemDisk) : Type 0 where
+pub record HasFinished (weights : List ℕ) (old : Tables) (n : LoggedNode MemDisk) (r : ReadyStep)
+    (new : Tables) (m : LoggedNode MemDisk) : Type 0 where
   pub node : m.node ≡ after n.node (taken_by n.node r)
   pub room : ¬ (LacksRoom n.log (note_in r.step))
   pub sent : new.sent ≡ with_sends old.sent (sends_in r.step)
@@ -35,8 +35,8 @@ pub record HasFinished (weights : List ℕ) (old : Posted) (n : LoggedNode MemDi
       ≡ with_decision (list_in old) (decision weights old.sent n.node.member r.step)
 
 -- The node took the step on what the event asks.
-pub record TakesStep (weights : List ℕ) (e : Event) (old : Posted) (n : LoggedNode MemDisk)
-    (new : Posted) (m : LoggedNode MemDisk) : Type 0 where
+pub record TakesStep (weights : List ℕ) (e : Event) (old : Tables) (n : LoggedNode MemDisk)
+    (new : Tables) (m : LoggedNode MemDisk) : Type 0 where
   pub ready : ReadyStep
   pub asked : Asked
   pub asks : asked_by old.sent e ≡ Some asked

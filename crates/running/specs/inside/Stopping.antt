@@ -11,36 +11,36 @@ use Rattle.node.specs.Step.{IsReadyFor, ReadyStep, after, note_in, taken_by}
 use Rattle.node.specs.declared.fault.NodeFault.{NodeFault}
 use Rattle.node.specs.declared.fault.NodeFault.TheVariants as node_fault
 use Rattle.node.specs.Noted.{notes_in}
-use Rattle.running.specs.declared.placed.Placed.{Placed}
-use Rattle.running.specs.declared.placed.Placed.TheVariants.{Down, Up}
-use Rattle.running.specs.declared.placed.Rest.{Rest}
+use Rattle.running.specs.declared.slot.Slot.{Slot}
+use Rattle.running.specs.declared.slot.Slot.TheVariants.{Down, Up}
+use Rattle.running.specs.declared.slot.DownNode.{DownNode}
 use Rattle.running.specs.inside.Asking.{IsReadied}
-use Rattle.running.specs.inside.Placing.{disk_of, file_of, node_view}
+use Rattle.running.specs.inside.Standing.{disk_of, file_of, node_view}
 use Rattle.stable_record.specs.History.{stands}
 use Rattle.stable_record.specs.InMemory.{mem_history}
 use Rattle.stable_record.specs.declared.log_fault.LogFault.TheVariants.{Full}
 use Rattle.stable_record.specs.declared.mem_disk.MemDisk.{MemDisk}
 
 -- The node at the place is down now, with its notes and on its disk, and the others stay.
-pub record IsStopped (old new : List Placed) (place : ℕ) : Type 0 where
-  pub node : Placed
+pub record IsStopped (old new : List Slot) (place : ℕ) : Type 0 where
+  pub node : Slot
   pub stood : slice_get old place ≡ Some node
-  pub rest : Rest
-  pub nodes : new ≡ slice_set old place (Down rest)
-  pub disk : rest.disk ≡ disk_of node
-  pub notes : notes_in rest.noted.texts ≡ (node_view node).notes
-  pub behind : (node_view node).up ≡ true → rest.behind ≡ 0
+  pub down : DownNode
+  pub nodes : new ≡ slice_set old place (Down down)
+  pub disk : down.disk ≡ disk_of node
+  pub notes : notes_in down.noted.texts ≡ (node_view node).notes
+  pub behind : (node_view node).up ≡ true → down.behind ≡ 0
 
 -- The node at the place is down now, with its notes, on a disk with its file and these bytes behind
 -- it, and the others stay.
-pub record IsStoppedTorn (old new : List Placed) (place : ℕ) (torn : Text) : Type 0 where
-  pub node : Placed
+pub record IsStoppedTorn (old new : List Slot) (place : ℕ) (torn : Text) : Type 0 where
+  pub node : Slot
   pub stood : slice_get old place ≡ Some node
-  pub rest : Rest
-  pub nodes : new ≡ slice_set old place (Down rest)
-  pub disk : mem_history rest.disk ≡ stands (file_of (disk_of node) ++ torn) ∷ []
-  pub notes : notes_in rest.noted.texts ≡ (node_view node).notes
-  pub behind : rest.behind ≡ length torn
+  pub down : DownNode
+  pub nodes : new ≡ slice_set old place (Down down)
+  pub disk : mem_history down.disk ≡ stands (file_of (disk_of node) ++ torn) ∷ []
+  pub notes : notes_in down.noted.texts ≡ (node_view node).notes
+  pub behind : down.behind ≡ length torn
 
 -- ---- a stop inside a step
 
@@ -52,13 +52,13 @@ pub record HasReadied (sent : List Text) (e : Event) (n m : LoggedNode MemDisk)
   pub log : m.log ≡ n.log
 
 -- A node that is up did so.
-abbrev pub ReadiesStep : List Text → Event → Placed → Placed → Result ReadyStep NodeFault → Type 0
+abbrev pub ReadiesStep : List Text → Event → Slot → Slot → Result ReadyStep NodeFault → Type 0
 ReadiesStep sent e (Up n) (Up m) result = HasReadied sent e n m result
 ReadiesStep sent e (Up n) (Down r) result = ⊥
 ReadiesStep sent e (Down r) x result = ⊥
 
 -- A node that is up stands on its log, and may take the step.
-abbrev pub IsReady : Placed → ReadyStep → Type 0
+abbrev pub IsReady : Slot → ReadyStep → Type 0
 IsReady (Up n) r = IsReadyFor n.node r × IsOnLog mem_history n
 IsReady (Down d) r = ⊥
 
@@ -70,7 +70,7 @@ pub record HasTakenOnLog (n : LoggedNode MemDisk) (r : ReadyStep) (m : LoggedNod
     pub on_log : IsOnLog mem_history m
 
 -- A node that is up took the step, and is up then.
-abbrev pub TookStep : Placed → ReadyStep → Placed → Type 0
+abbrev pub TookStep : Slot → ReadyStep → Slot → Type 0
 TookStep (Up n) r (Up m) = HasTakenOnLog n r m
 TookStep (Up n) r (Down d) = ⊥
 TookStep (Down c) r x = ⊥
@@ -85,42 +85,42 @@ pub record StaysOnLog (n : LoggedNode MemDisk) (r : ReadyStep) (m : LoggedNode M
       ⊎ ((f ≡ node_fault.Log Full) × LacksRoom n.log (note_in r.step))
 
 -- A node that is up took none, and stays.
-abbrev pub TookNone : Placed → ReadyStep → Placed → NodeFault → Type 0
+abbrev pub TookNone : Slot → ReadyStep → Slot → NodeFault → Type 0
 TookNone (Up n) r (Up m) f = StaysOnLog n r m f
 TookNone (Up n) r (Down d) f = ⊥
 TookNone (Down c) r x f = ⊥
 
 -- The node at the place is up and may take the step.
-pub record StandsReady (nodes : List Placed) (place : ℕ) (r : ReadyStep) : Type 0 where
-  pub node : Placed
+pub record StandsReady (nodes : List Slot) (place : ℕ) (r : ReadyStep) : Type 0 where
+  pub node : Slot
   pub stands : slice_get nodes place ≡ Some node
   pub ready : IsReady node r
 
 -- The node at the place took the step, and is down then.
-pub record IsStoppedBehind (old new : List Placed) (place : ℕ) (r : ReadyStep) : Type 0 where
-  pub node : Placed
+pub record IsStoppedBehind (old new : List Slot) (place : ℕ) (r : ReadyStep) : Type 0 where
+  pub node : Slot
   pub stood : slice_get old place ≡ Some node
-  pub then : Placed
+  pub then : Slot
   pub took : TookStep node r then
   pub stopped : IsStopped (slice_set old place then) new place
 
 -- The node at the place took no step, and the others stay.
-pub record HasNotStopped (old new : List Placed) (place : ℕ) (r : ReadyStep) (f : NodeFault) :
+pub record HasNotStopped (old new : List Slot) (place : ℕ) (r : ReadyStep) (f : NodeFault) :
     Type 0 where
-  pub node : Placed
+  pub node : Slot
   pub stood : slice_get old place ≡ Some node
-  pub then : Placed
+  pub then : Slot
   pub none : TookNone node r then f
   pub nodes : new ≡ slice_set old place then
 
 -- The node at the place is down now, and this is left of the note of its step.
-abbrev pub IsStoppedWith : Left → List Placed → List Placed → ℕ → ReadyStep → Type 0
+abbrev pub IsStoppedWith : Left → List Slot → List Slot → ℕ → ReadyStep → Type 0
 IsStoppedWith left.None old new place r = IsStopped old new place
 IsStoppedWith (left.Torn torn) old new place r = IsStoppedTorn old new place torn
 IsStoppedWith left.Whole old new place r = IsStoppedBehind old new place r
 
 -- It is not: only where the whole note is left something else than memory may be wanting.
-abbrev pub IsNotStoppedWith : Left → List Placed → List Placed → ℕ → ReadyStep → NodeFault → Type 0
+abbrev pub IsNotStoppedWith : Left → List Slot → List Slot → ℕ → ReadyStep → NodeFault → Type 0
 IsNotStoppedWith left.None old new place r f = ⊥
 IsNotStoppedWith (left.Torn torn) old new place r f = (new ≡ old) × (f ≡ node_fault.Memory)
 IsNotStoppedWith left.Whole old new place r f = HasNotStopped old new place r f
