@@ -6,6 +6,7 @@ use Rattle.std.proofs.lemmas.List.Elements.{All-contains, Contains-append_right}
 use Rattle.faults.specs.Answers.{option_or}
 use Rattle.faults.specs.Bytes.{Text, is_among}
 use Rattle.agreement.specs.AgreedList.{Act, Cluster}
+use Rattle.agreement.specs.Claims.{claim_same}
 use Rattle.agreement.specs.Member as members
 use Rattle.agreement.specs.Messages as messages
 use Rattle.agreement.specs.Nodes as nodes
@@ -61,7 +62,7 @@ use Rattle.world.specs.Lists.{IsDecided, IsListAfter}
 use Rattle.world.specs.Sent.{WasProposed, message, voters, with_sends}
 use Rattle.world.specs.World.{IsMade, World, WorldNode, member_at, node_at, up_node}
 use Rattle.world.proofs.Sending.{among_is, is_found, sends_come, sends_stay, sends_there}
-use Rattle.running.specs.inside.Deciding.{claim_voted, decided_by, decision, makes_majority, message_in, same_claim, value_under, voted_by, voted_in, voters_in, voters_of}
+use Rattle.running.specs.inside.Deciding.{claim_voted, decided_by, decision, makes_majority, message_in, value_under, voted_by, voted_in, voters_in, voters_of}
 use Rattle.running.specs.inside.Standing.{IsReached}
 use Rattle.running.specs.inside.Stepping.{with_decision}
 use Rattle.running.proofs.Casting.{IsNotedVote, vote_of, votes_are_noted, votes_same}
@@ -84,7 +85,7 @@ votes_so k j c bodies.Ask e = absurd cc
 votes_so k j c (bodies.Nay d p) e = absurd cc
 
 -- claims that are one are found to be
-claim_is_same : (d c : Claim) → d ≡ c → same_claim d c ≡ true
+claim_is_same : (d c : Claim) → d ≡ c → claim_same d c ≡ true
 claim_is_same d c e = and_from (d.round == c.round) (d.member == c.member)
     (eq-eqb d.round c.round (ap (λ (x : Claim). x.round) e))
     (eq-eqb d.member c.member (ap (λ (x : Claim). x.member) e))
@@ -98,7 +99,7 @@ fact_value (fact.Promised d) b c e is =
     absurd (let wrong : members.Promised d ≡ members.Voted b = e in cc)
 fact_value (fact.Voted d v) b c e is =
     let same = ballot_noted (ballot d v) b e in
-    cond-true (same_claim d c) (Some v) None
+    cond-true (claim_same d c) (Some v) None
     (claim_is_same d c (ap (λ (z : Ballot Value). z.claim) same ∙ is))
     ∙ ap (λ (z : Ballot Value). Some z.value) same
 fact_value (fact.Held v) b c e is =
@@ -343,7 +344,7 @@ module _ (w : World) (made : IsMade w.division w.weights) (acts : List (Act Valu
         (none_noted answer.note (d.is.note ∙ last.0))
         ∙ ap (λ o. option_and_then (value_under c) (facts_of_unit member o).voted) unit_found
         ∙ ap (option_and_then (value_under c)) last.1
-        ∙ cond-true (same_claim b.claim c) (Some b.value) None
+        ∙ cond-true (claim_same b.claim c) (Some b.value) None
         (claim_is_same b.claim c noted.claim))
         noted.noted
 
