@@ -8,10 +8,15 @@ mod Taking
 mod PutBack
 mod NodeStands
 mod StateWith
+mod EventAsks
 mod Restarting
 mod StopsInside
+mod StopsByLeft
+mod StopCalls
 mod Following
 mod Casting
+mod NewVotes
+mod VoteLists
 mod Listing
 mod StepHappens
 mod EventByEvent

@@ -38,7 +38,7 @@ use Rattle.running.specs.inside.Standing.{HasLeft, IsReached, IsStanding, Stands
 use Rattle.running.proofs.OnlyMemory.{notes_have_node}
 use Rattle.running.proofs.PutBack.{stands_at}
 use Rattle.running.proofs.StateWith.{IsBut, standing_with, world_with}
-use Rattle.running.proofs.StopsInside.{NoneApplies, get_mapped, get_some, none_applies}
+use Rattle.running.proofs.EventAsks.{NoneApplies, get_mapped, get_some, none_applies}
 
 -- what a file opens as
 abbrev opens_with : List Text → Result (List Text) LogFault

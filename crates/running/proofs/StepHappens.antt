@@ -38,7 +38,7 @@ use Rattle.running.proofs.Listing.{step_lists}
 use Rattle.running.proofs.NodeStands.{is_full, lacks_room, same_so, stopped_so, took_so}
 use Rattle.running.proofs.Taking.{told_so}
 use Rattle.running.proofs.StateWith.{IsBut, put_again, standing_with, stands_there, world_with}
-use Rattle.running.proofs.StopsInside.{NoneApplies, asks_so, can_be_asked, get_mapped, none_applies}
+use Rattle.running.proofs.EventAsks.{NoneApplies, asks_so, can_be_asked, get_mapped, none_applies}
 
 was_true : (b : Bool) → not b ≡ false → b ≡ true
 was_true true e = refl
@@ -125,13 +125,13 @@ module _ (s t : WorldState) (k : ℕ) (x : Slot) (is : IsWith s t k x) where
   }
 
 -- what a step leaves, taken or not
-pub record IsLeft (s : WorldState) (e : Event) (t : WorldState) (r : Result (Unit {0}) NodeFault) : Type 0
-  where
-    pub taken : OnOk r (Steps (world_of s) e (world_of t))
-    pub same : OnErr r (world_of t ≡ world_of s)
-    pub refused : IfErr r
-        (λ f. (f ≡ fault.Memory) ⊎ IsRefusedByNode (world_of s) e (refused_by f))
-    pub standing : IsStanding t
+pub record IsLeft (s : WorldState) (e : Event) (t : WorldState) (r : Result (Unit {0}) NodeFault) :
+    Type 0 where
+  pub taken : OnOk r (Steps (world_of s) e (world_of t))
+  pub same : OnErr r (world_of t ≡ world_of s)
+  pub refused : IfErr r
+      (λ f. (f ≡ fault.Memory) ⊎ IsRefusedByNode (world_of s) e (refused_by f))
+  pub standing : IsStanding t
 
 -- ---- an event that may happen at a node that is up
 
@@ -179,8 +179,8 @@ pub record IsDown (s : WorldState) (n : ℕ) (t : WorldState) : Type 0 where
   pub stops : Stops (world_of s) n (world_of t)
   pub standing : IsStanding t
 
-pub is_down : (s : WorldState) (n : ℕ) → IsStanding s → fault_before (world_of s) (events.Stop n) ≡ None
-    → (t : WorldState) → IsBut s t → IsStopped s.nodes.items t.nodes.items n → IsDown s n t
+pub is_down : (s : WorldState) (n : ℕ) → IsStanding s
+    → fault_before (world_of s) (events.Stop n) ≡ None → (t : WorldState) → IsBut s t → IsStopped s.nodes.items t.nodes.items n → IsDown s n t
 is_down s n standing may t but stopped = by stopped.node refl
   where
     by : (y : Slot) → stopped.node ≡ y → IsDown s n t
@@ -208,16 +208,16 @@ is_down s n standing may t but stopped = by stopped.node refl
 abbrev pub with_nodes : WorldState → Vec Slot Global → WorldState
 with_nodes s nodes = record s { nodes = nodes }
 
-pub stop_is_down : (s : WorldState) (e : declared.Event) (n : ℕ) → e ≡ declared.Stop n → IsStanding s
-    → fault_before (world_of s) (event_view e) ≡ None → (nodes : Vec Slot Global)
+pub stop_is_down : (s : WorldState) (e : declared.Event) (n : ℕ) → e ≡ declared.Stop n
+    → IsStanding s → fault_before (world_of s) (event_view e) ≡ None → (nodes : Vec Slot Global)
     → IsStopped s.nodes.items nodes.items n → IsDown s n (with_nodes s nodes)
 stop_is_down s e n is standing may nodes stopped =
     is_down s n standing (subst (λ z. fault_before (world_of s) (event_view z) ≡ None) is may)
     (with_nodes s nodes) (record { tree = refl; units = refl; weights = refl; tables = refl })
     stopped
 
-pub stop_happens : (s : WorldState) (e : declared.Event) (n : ℕ) → e ≡ declared.Stop n → IsStanding s
-    → fault_before (world_of s) (event_view e) ≡ None → (nodes : Vec Slot Global)
+pub stop_happens : (s : WorldState) (e : declared.Event) (n : ℕ) → e ≡ declared.Stop n
+    → IsStanding s → fault_before (world_of s) (event_view e) ≡ None → (nodes : Vec Slot Global)
     → IsStopped s.nodes.items nodes.items n
     → Happens (world_of s) (event_view e) (world_of (with_nodes s nodes))
 stop_happens s e n is standing may nodes stopped =

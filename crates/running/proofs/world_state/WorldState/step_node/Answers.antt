@@ -47,8 +47,8 @@ left c =
       weights = refl;
       nodes = ap (λ p. slice_set c.args.self.now.nodes.items p (Up c.step_node.new.node))
           c.node_of.ensures;
-    }) c.step_node.result c.step_node.ensures.taken c.step_node.ensures.same c.step_node.ensures.refused
-    c.step_node.ensures.on_log c.step_node.ensures.listed
+    }) c.step_node.result c.step_node.ensures.taken c.step_node.ensures.same
+    c.step_node.ensures.refused c.step_node.ensures.on_log c.step_node.ensures.listed
 
 pub returns-clause-taken : goal.returns-clause-taken
 returns-clause-taken c =

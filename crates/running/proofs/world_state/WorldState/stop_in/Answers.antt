@@ -5,7 +5,8 @@ use Rattle.events.specs.Events.{event_view}
 use Rattle.node.specs.declared.fault.NodeFault.{NodeFault}
 use Rattle.node.specs.declared.fault.NodeFault.TheVariants as fault
 use Rattle.running.proofs.StateWith.{IsBut}
-use Rattle.running.proofs.StopsInside.{can, either, if_err, is_on, not_there, on_err, on_ok, ready_there, refused_there, stops_there}
+use Rattle.running.proofs.StopCalls.{either, if_err, is_on, not_there, on_err, on_ok, ready_there, refused_there, stops_there}
+use Rattle.running.proofs.StopsInside.{can}
 use Rattle.running.proofs.world_state.WorldState.stop_in.Goals as goal
 use Rattle.running.specs.declared.world_state.WorldState.{WorldState}
 use Rattle.running.specs.inside.Asking.{refused_by}
