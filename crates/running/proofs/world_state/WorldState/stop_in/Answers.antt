@@ -11,7 +11,7 @@ use Rattle.running.proofs.world_state.WorldState.stop_in.Goals as goal
 use Rattle.running.specs.declared.world_state.WorldState.{WorldState}
 use Rattle.running.specs.inside.Asking.{refused_by}
 use Rattle.running.specs.inside.Standing.{IsStanding, world_of}
-use Rattle.running.specs.inside.Stopping.{IsNotStoppedWith, IsStoppedWith}
+use Rattle.running.specs.inside.Stops.{IsNotStoppedWith, IsStoppedWith}
 use Rattle.world.specs.Happening.{IsRefusedByNode, StopsIn}
 
 pub prepare_in_slot-requires-clause-asks : goal.prepare_in_slot-requires-clause-asks
