@@ -13,7 +13,7 @@ use Rattle.program.specs.declared.refusal.Refusal.{Refusal}
 use Rattle.protocol.specs.State.{engine_of}
 use Rattle.running.specs.Faults as runs
 use Rattle.running.specs.History.{IsHistory, IsRunFault, History, taken}
-use Rattle.running.specs.declared.runs.RunFault.{RunFault}
+use Rattle.running.specs.declared.run_fault.RunFault.{RunFault}
 use Rattle.traces.specs.Trace.{Trace, trace_of}
 use Rattle.world.specs.World.{World, WorldNode, member_at}
 

@@ -13,7 +13,7 @@ use Rattle.program.specs.Listings.{IsDescribedAt, RefusesListingAt}
 use Rattle.program.specs.declared.refusal.Refusal.{Refusal}
 use Rattle.protocol.specs.Given.{Given}
 use Rattle.running.specs.History.{History, IsHistory, IsRunFault, taken}
-use Rattle.running.specs.declared.runs.RunFault.{RunFault}
+use Rattle.running.specs.declared.run_fault.RunFault.{RunFault}
 use Rattle.traces.specs.Builds.{builds_of}
 use Rattle.traces.specs.Trace.{Trace}
 use Rattle.way.specs.Asked.{HasNoWay}

@@ -12,12 +12,12 @@ use Rattle.stable_record.specs.declared.identity.Identity.{Identity}
 use Rattle.stable_record.specs.declared.mem_disk.MemDisk.{MemDisk}
 use Rattle.engine.specs.Division.{Division, IsDivision}
 use Rattle.world.specs.World.{World, fresh_node, node_at, start, up_node}
-use Rattle.running.specs.declared.placed.Placed.{Placed}
-use Rattle.running.specs.declared.placed.Placed.TheVariants.{Up, Down}
-use Rattle.running.specs.declared.scene.Scene.{Scene}
+use Rattle.running.specs.declared.slot.Slot.{Slot}
+use Rattle.running.specs.declared.slot.Slot.TheVariants.{Up, Down}
+use Rattle.running.specs.declared.world_state.WorldState.{WorldState}
 use Rattle.running.specs.inside.Opening.{IsNodeOf}
-use Rattle.running.specs.inside.Placing.{IsStanding, StandsOn, node_view, world_of}
-use Rattle.running.specs.inside.Posting.{AreListed, list_in}
+use Rattle.running.specs.inside.Standing.{IsStanding, StandsOn, node_view, world_of}
+use Rattle.running.specs.inside.Tables.{AreListed, list_in}
 use Rattle.running.specs.inside.Starting.{AreFresh, IsFresh, IsUpFresh}
 
 -- ---- an empty file
@@ -63,12 +63,12 @@ module _ (tree : Tree) (weights : List ℕ) (d : Division) (of_tree : d.tree ≡
       o.node ∙ (λ i. opened_node (same i) weights me (is.empty i))
 
   -- the world sees it as one that is fresh
-  pub seen_fresh : (me : ℕ) (x : Placed) → IsUpFresh tree weights me x → node_view x ≡ fresh_node
+  pub seen_fresh : (me : ℕ) (x : Slot) → IsUpFresh tree weights me x → node_view x ≡ fresh_node
   seen_fresh me (Up n) is = ap up_node (fresh_is me n is)
   seen_fresh me (Down r) is = absurd is
 
   -- it stands on its disk
-  pub fresh_stands : (w : World) → w.division ≡ d → w.weights ≡ weights → (me : ℕ) (x : Placed)
+  pub fresh_stands : (w : World) → w.division ≡ d → w.weights ≡ weights → (me : ℕ) (x : Slot)
       → IsUpFresh tree weights me x → StandsOn w me x
   fresh_stands w ed ew me (Up n) is =
       let right : (m : NodeState) → m ≡ opened_node d weights me [] → m ≡ node_at w me (up_node m) =
@@ -85,7 +85,7 @@ alike f y (x ∷ xs) same = λ i. same 0 x refl i ∷ alike f y xs (λ k. same (
 
 -- the nodes at the start
 pub all_fresh : (tree : Tree) (weights : List ℕ) (d : Division) → d.tree ≡ tree → IsDivision d
-    → (nodes : List Placed) → AreFresh tree weights nodes
+    → (nodes : List Slot) → AreFresh tree weights nodes
     → map node_view nodes ≡ replicate (length weights) fresh_node
 all_fresh tree weights d of_tree divided nodes are =
     alike node_view fresh_node nodes (λ k x at. seen_fresh tree weights d of_tree divided k x
@@ -103,11 +103,11 @@ one_node (z ∷ zs) y x (suc k) e = ⊎_elim (λ old. inl old) (λ new. inr (ap 
     (one_node zs y x k e)
 
 -- fresh nodes with the next one are fresh
-pub fresh_more : (tree : Tree) (weights : List ℕ) (nodes now : List Placed) (n : LoggedNode MemDisk)
+pub fresh_more : (tree : Tree) (weights : List ℕ) (nodes now : List Slot) (n : LoggedNode MemDisk)
     (me : ℕ)
-    → ((k : ℕ) (x : Placed) → slice_get nodes k ≡ Some x → IsUpFresh tree weights k x)
+    → ((k : ℕ) (x : Slot) → slice_get nodes k ≡ Some x → IsUpFresh tree weights k x)
     → length nodes ≡ me → IsFresh tree weights me n → now ≡ nodes ++ Up n ∷ []
-    → (k : ℕ) (x : Placed) → slice_get now k ≡ Some x → IsUpFresh tree weights k x
+    → (k : ℕ) (x : Slot) → slice_get now k ≡ Some x → IsUpFresh tree weights k x
 fresh_more tree weights nodes now n me each count fresh is k x at = ⊎_elim
     (λ old. each k x old)
     (λ new. subst (λ y. IsUpFresh tree weights k y) new.1
@@ -116,10 +116,10 @@ fresh_more tree weights nodes now n me each count fresh is k x at = ⊎_elim
 
 -- ---- the world at the start
 
-module _ (s : Scene) (tree : Tree) (weights : List ℕ) (of_tree : s.units.tree ≡ tree)
+module _ (s : WorldState) (tree : Tree) (weights : List ℕ) (of_tree : s.units.tree ≡ tree)
     (divided : IsDivision s.units) (weigh : s.weights ≡ weights)
     (fresh : AreFresh tree weights s.nodes.items) where
-  pub world_starts : s.posted.sent ≡ [] → list_in s.posted ≡ []
+  pub world_starts : s.tables.sent ≡ [] → list_in s.tables ≡ []
       → world_of s ≡ start s.units weights
   world_starts es el = λ i. record {
     division = s.units;
@@ -129,8 +129,8 @@ module _ (s : Scene) (tree : Tree) (weights : List ℕ) (of_tree : s.units.tree 
     agreed = el i;
   }
 
-  pub scene_stands : s.tree ≡ tree → AreListed s.posted → IsStanding s
-  scene_stands own listed = record {
+  pub state_stands : s.tree ≡ tree → AreListed s.tables → IsStanding s
+  state_stands own listed = record {
     tree = of_tree ∙ sym own;
     disks = λ k x at. fresh_stands tree weights s.units of_tree divided (world_of s) refl weigh k x
         (fresh.each k x at);

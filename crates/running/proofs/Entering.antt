@@ -15,8 +15,8 @@ use Rattle.package_record.specs.Content.{Content}
 use Rattle.engine.proofs.Places.{same_bytes}
 use Rattle.world.proofs.Distinct.{build_paths_differ}
 use Rattle.world.specs.Lists.{has_path}
-use Rattle.running.specs.declared.posted.Posted.{Posted}
-use Rattle.running.specs.inside.Posting.{HasGrown, list_in}
+use Rattle.running.specs.declared.tables.Tables.{Tables}
+use Rattle.running.specs.inside.Tables.{HasGrown, list_in}
 
 -- ---- tables that grow
 
@@ -28,7 +28,7 @@ begins_on m n a b c short long ab bc =
     sym (take-take m n c less) ∙ ap (take m) bc ∙ ab
 
 -- tables that grew, and grew on, have grown
-pub grown_on : (p q r : Posted) → HasGrown p q → HasGrown q r → HasGrown p r
+pub grown_on : (p q r : Tables) → HasGrown p q → HasGrown q r → HasGrown p r
 grown_on p q r first then = record {
   sent = datagrams.grown_on p.sent q.sent r.sent first.sent then.sent;
   list = begins_on _ _ (list_in p) (list_in q) (list_in r) refl refl first.list then.list;
@@ -37,7 +37,7 @@ grown_on p q r first then = record {
 }
 
 -- tables whose lists have more behind them have grown
-pub grown_by : (p q : Posted) (sent : List Text) (list : List Content) (listed : List Text)
+pub grown_by : (p q : Tables) (sent : List Text) (list : List Content) (listed : List Text)
     → q.sent ≡ p.sent ++ sent → list_in q ≡ list_in p ++ list
     → q.listed.keys ≡ p.listed.keys ++ listed → HasGrown p q
 grown_by p q sent list listed es el ek = record {
@@ -49,7 +49,7 @@ grown_by p q sent list listed es el ek = record {
 }
 
 -- the same lists have grown by nothing
-pub grown_none : (p q : Posted) → q.sent ≡ p.sent → list_in q ≡ list_in p
+pub grown_none : (p q : Tables) → q.sent ≡ p.sent → list_in q ≡ list_in p
     → q.listed.keys ≡ p.listed.keys → HasGrown p q
 grown_none p q es el ek = record {
   sent = ap (take (length p.sent)) es ∙ datagrams.grown_none p.sent;
@@ -60,7 +60,7 @@ grown_none p q es el ek = record {
 }
 
 -- tables where a path alone was kept more have grown
-pub grown_key : (p q : Posted) (path : Text) → q.sent ≡ p.sent → list_in q ≡ list_in p
+pub grown_key : (p q : Tables) (path : Text) → q.sent ≡ p.sent → list_in q ≡ list_in p
     → q.listed.keys ≡ insert_key bytes_eq p.listed.keys path → HasGrown p q
 grown_key p q path es el ek = by_case (list_any (bytes_eq path) p.listed.keys) ek
   where

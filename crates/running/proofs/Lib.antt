@@ -7,11 +7,16 @@ pub mod Shown
 mod Taking
 mod PutBack
 mod NodeStands
-mod SceneWith
+mod StateWith
+mod EventAsks
 mod Restarting
 mod StopsInside
+mod StopsByLeft
+mod StopCalls
 mod Following
 mod Casting
+mod NewVotes
+mod VoteLists
 mod Listing
 mod StepHappens
 mod EventByEvent

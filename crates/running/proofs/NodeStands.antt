@@ -16,14 +16,14 @@ use Rattle.stable_record.specs.Log.{entries, gate_place, header, log_file, open_
 use Rattle.stable_record.specs.declared.identity.Identity.{Identity}
 use Rattle.stable_record.specs.declared.mem_disk.MemDisk.{MemDisk}
 use Rattle.world.specs.World.{World, WorldNode, down_node, node_at, up_node}
-use Rattle.running.specs.declared.placed.Placed.TheVariants.{Up}
-use Rattle.running.specs.declared.placed.Rest.{Rest}
-use Rattle.running.specs.inside.Placing.{HasLeft, StandsOn, file_of, last_bytes, rest_view}
+use Rattle.running.specs.declared.slot.Slot.TheVariants.{Up}
+use Rattle.running.specs.declared.slot.DownNode.{DownNode}
+use Rattle.running.specs.inside.Standing.{HasLeft, StandsOn, file_of, last_bytes, down_view}
 
 -- what is left is the world's node, and stands on its disk
-pub record IsLeftAs (w : World) (k : ℕ) (r : Rest) (y : WorldNode) : Type 0 where
-  pub view : rest_view r ≡ y
-  pub left : HasLeft w k (rest_view r) r.disk
+pub record IsLeftAs (w : World) (k : ℕ) (r : DownNode) (y : WorldNode) : Type 0 where
+  pub view : down_view r ≡ y
+  pub left : HasLeft w k (down_view r) r.disk
 
 -- a disk with a file leaves just that
 stands_on_disk : (disk : MemDisk) (file : List ℕ) → mem_history disk ≡ stands file ∷ []
@@ -77,12 +77,12 @@ module _ (w : World) (k : ℕ) (n : LoggedNode MemDisk) (is : StandsOn w k (Up n
       }
 
   -- it stopped between two steps
-  pub stopped_so : (r : Rest) → r.disk ≡ n.log.disk → notes_in r.noted.texts ≡ n.node.notes
+  pub stopped_so : (r : DownNode) → r.disk ≡ n.log.disk → notes_in r.noted.texts ≡ n.node.notes
       → r.behind ≡ 0 → IsLeftAs w k r (down_node n.node.notes [])
   stopped_so r disk notes none =
       let last : last_bytes r.behind (file_of r.disk) ≡ [] =
       ap (λ b. last_bytes b (file_of r.disk)) none ∙ no_last (file_of r.disk) in
-      let view : rest_view r ≡ down_node n.node.notes [] = λ i. down_node (notes i) (last i) in
+      let view : down_view r ≡ down_node n.node.notes [] = λ i. down_node (notes i) (last i) in
       record {
         view = view;
         left = subst (λ (y : WorldNode). HasLeft w k y r.disk) (sym view)
@@ -92,7 +92,7 @@ module _ (w : World) (k : ℕ) (n : LoggedNode MemDisk) (is : StandsOn w k (Up n
       }
 
   -- it stopped in a write, which left these bytes
-  pub torn_so : (torn : Text) (r : Rest)
+  pub torn_so : (torn : Text) (r : DownNode)
       → mem_history r.disk ≡ stands (file_of n.log.disk ++ torn) ∷ []
       → notes_in r.noted.texts ≡ n.node.notes → r.behind ≡ length torn
       → IsLeftAs w k r (down_node n.node.notes torn)
@@ -101,7 +101,7 @@ module _ (w : World) (k : ℕ) (n : LoggedNode MemDisk) (is : StandsOn w k (Up n
       let last : last_bytes r.behind (file_of r.disk) ≡ torn =
       ap (λ b. last_bytes b (file_of r.disk)) long
       ∙ ap (last_bytes (length torn)) file ∙ last_again (file_of n.log.disk) torn in
-      let view : rest_view r ≡ down_node n.node.notes torn = λ i. down_node (notes i) (last i) in
+      let view : down_view r ≡ down_node n.node.notes torn = λ i. down_node (notes i) (last i) in
       record {
         view = view;
         left = subst (λ (y : WorldNode). HasLeft w k y r.disk) (sym view)

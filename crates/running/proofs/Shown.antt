@@ -14,10 +14,10 @@ use Rattle.world.specs.Happening.{up_of}
 use Rattle.world.proofs.Growing.{leads_later}
 use Rattle.world.specs.World.{World, WorldNode, fresh_node, node_at, start}
 use Rattle.running.specs.History.{History, IsHistory, file_length, taken}
-use Rattle.running.specs.declared.placed.Placed.{Placed}
-use Rattle.running.specs.declared.placed.Placed.TheVariants.{Up, Down}
-use Rattle.running.specs.declared.scene.Scene.{Scene}
-use Rattle.running.specs.inside.Placing.{IsStanding, StandsOn, disk_of, file_of, node_view, world_of}
+use Rattle.running.specs.declared.slot.Slot.{Slot}
+use Rattle.running.specs.declared.slot.Slot.TheVariants.{Up, Down}
+use Rattle.running.specs.declared.world_state.WorldState.{WorldState}
+use Rattle.running.specs.inside.Standing.{IsStanding, StandsOn, disk_of, file_of, node_view, world_of}
 
 -- how long a file with these notes is
 notes_long : (i : Identity) (notes : List (List ℕ)) (file : List ℕ) (has : HasNotes i notes file)
@@ -32,7 +32,7 @@ notes_long i notes file has =
     )
 
 -- The file of a node that stands on its disk is as long as the world says.
-pub file_long : (w : World) (k : ℕ) (p : Placed) → StandsOn w k p
+pub file_long : (w : World) (k : ℕ) (p : Slot) → StandsOn w k p
     → length (file_of (disk_of p)) ≡ file_length w k (node_view p)
 file_long w k (Up n) stands =
     let s = stands.1.holds.settled in
@@ -59,14 +59,14 @@ file_long w k (Down r) stands =
 -- ---- nodes of a world
 
 -- what stands at the place shows so
-view_at : (nodes : List Placed) (k : ℕ) (p : Placed) (x : WorldNode) → slice_get nodes k ≡ Some p
+view_at : (nodes : List Slot) (k : ℕ) (p : Slot) (x : WorldNode) → slice_get nodes k ≡ Some p
     → slice_get (map node_view nodes) k ≡ Some x → node_view p ≡ x
 view_at nodes k p x there e =
     let shown : Some (node_view p) ≡ Some x =
     sym (slice_get-map node_view nodes k ∙ ap (option_map node_view) there) ∙ e in cc
 
 -- a number of a node that is up is one of a node
-pub up_within : (nodes : List Placed) (k : ℕ) → up_of (slice_get (map node_view nodes) k) ≡ true
+pub up_within : (nodes : List Slot) (k : ℕ) → up_of (slice_get (map node_view nodes) k) ≡ true
     → k < length nodes
 up_within nodes k up = ⊎_elim
     (λ within. within)
@@ -76,7 +76,7 @@ up_within nodes k up = ⊎_elim
     absurd (let no : false ≡ true = none in cc))
     (cases_lt k (length nodes))
 
-module _ (s : Scene) (standing : IsStanding s) (k : ℕ) (x : WorldNode)
+module _ (s : WorldState) (standing : IsStanding s) (k : ℕ) (x : WorldNode)
     (at : slice_get (world_of s).nodes k ≡ Some x) where
   -- The node that is up is the one that the world has.
   pub node_shown : (n : LoggedNode MemDisk) → slice_get s.nodes.items k ≡ Some (Up n)
@@ -86,7 +86,7 @@ module _ (s : Scene) (standing : IsStanding s) (k : ℕ) (x : WorldNode)
       (standing.disks k (Up n) there).0
 
   -- Its file is as long as the world says.
-  pub file_shown : (p : Placed) → slice_get s.nodes.items k ≡ Some p
+  pub file_shown : (p : Slot) → slice_get s.nodes.items k ≡ Some p
       → length (file_of (disk_of p)) ≡ file_length (world_of s) k x
   file_shown p there =
       file_long (world_of s) k p (standing.disks k p there)

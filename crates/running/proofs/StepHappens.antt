@@ -1,4 +1,4 @@
--- The step of a node in its scene is one of the world.
+-- The step of a node in a world's state is one of the world.
 use Rattle.std.proofs.Common.{◌≡◌, ◌⊎◌, ◌<◌, ◌&&◌, ℕ, Bool, true, false, not, nat_le, List, length, map, None, Some, Result, Ok, Err, Vec, IfErr, OnErr, OnOk, slice_get, slice_set, slice_index_or, refl, sym, ap, subst, ◌∙◌, arith, inl, inr, ⊎_elim, true≢false}
 use Rattle.std.specs.declared.alloc.Global.{Global}
 use Rattle.std.proofs.lemmas.Bool.{leb-false}
@@ -25,20 +25,20 @@ use Rattle.world.specs.Lists.{IsListAfter}
 use Rattle.world.specs.Sent.{with_sends}
 use Rattle.world.specs.World.{World, WorldNode, member_at, node_at, up_node, with_node}
 use Rattle.world.specs.declared.fault.WorldFault.TheVariants as worlds
-use Rattle.running.specs.declared.placed.Placed.{Placed}
-use Rattle.running.specs.declared.placed.Placed.TheVariants.{Down, Up}
-use Rattle.running.specs.declared.scene.Scene.{Scene}
+use Rattle.running.specs.declared.slot.Slot.{Slot}
+use Rattle.running.specs.declared.slot.Slot.TheVariants.{Down, Up}
+use Rattle.running.specs.declared.world_state.WorldState.{WorldState}
 use Rattle.running.specs.inside.Asking.{CanBeAsked, asked_by, refused_by}
 use Rattle.running.specs.inside.Deciding.{decision}
-use Rattle.running.specs.inside.Placing.{IsReached, IsStanding, StandsOn, disk_of, node_view, world_of}
-use Rattle.running.specs.inside.Posting.{AreListed, AreSame, list_in}
-use Rattle.running.specs.inside.Stepping.{RefusesStep, TakesStep, with_decision}
-use Rattle.running.specs.inside.Stopping.{IsStopped}
+use Rattle.running.specs.inside.Standing.{IsReached, IsStanding, StandsOn, disk_of, node_view, world_of}
+use Rattle.running.specs.inside.Tables.{AreListed, AreSame, list_in}
+use Rattle.running.specs.inside.NodeSteps.{RefusesStep, TakesStep, with_decision}
+use Rattle.running.specs.inside.Stops.{IsStopped}
 use Rattle.running.proofs.Listing.{step_lists}
 use Rattle.running.proofs.NodeStands.{is_full, lacks_room, same_so, stopped_so, took_so}
 use Rattle.running.proofs.Taking.{told_so}
-use Rattle.running.proofs.SceneWith.{IsBut, put_again, standing_with, stands_there, world_with}
-use Rattle.running.proofs.StopsInside.{NoneApplies, asks_so, can_be_asked, get_mapped, none_applies}
+use Rattle.running.proofs.StateWith.{IsBut, put_again, standing_with, stands_there, world_with}
+use Rattle.running.proofs.EventAsks.{NoneApplies, asks_so, can_be_asked, get_mapped, none_applies}
 
 was_true : (b : Bool) → not b ≡ false → b ≡ true
 was_true true e = refl
@@ -67,15 +67,15 @@ leaves_its_note (events.Stop n) is = absurd (true≢false (sym is))
 leaves_its_note (events.StopIn e l) is = absurd (true≢false (sym is))
 leaves_its_note (events.Restart n) is = absurd (true≢false (sym is))
 
--- ---- a scene with another node at a place, and other tables
+-- ---- a state with another node at a place, and other tables
 
-pub record IsWith (s t : Scene) (k : ℕ) (x : Placed) : Type 0 where
+pub record IsWith (s t : WorldState) (k : ℕ) (x : Slot) : Type 0 where
   pub tree : t.tree ≡ s.tree
   pub units : t.units ≡ s.units
   pub weights : t.weights ≡ s.weights
   pub nodes : t.nodes.items ≡ slice_set s.nodes.items k x
 
-module _ (s t : Scene) (k : ℕ) (x : Placed) (is : IsWith s t k x) where
+module _ (s t : WorldState) (k : ℕ) (x : Slot) (is : IsWith s t k x) where
   views : map node_view t.nodes.items ≡ slice_set (map node_view s.nodes.items) k (node_view x)
   views = ap (map node_view) is.nodes ∙ map-set node_view s.nodes.items k x
 
@@ -85,21 +85,21 @@ module _ (s t : Scene) (k : ℕ) (x : Placed) (is : IsWith s t k x) where
       record w { nodes = nodes; sent = texts; agreed = packages }
 
   world_is : world_of t ≡ with_tables (world_of s)
-      (slice_set (map node_view s.nodes.items) k (node_view x)) t.posted.sent
-      (list_in t.posted)
+      (slice_set (map node_view s.nodes.items) k (node_view x)) t.tables.sent
+      (list_in t.tables)
   world_is =
       let nodes = views in
       λ i. record {
         division = is.units i;
         weights = is.weights i;
         nodes = nodes i;
-        sent = t.posted.sent;
-        agreed = list_in t.posted;
+        sent = t.tables.sent;
+        agreed = list_in t.tables;
       }
 
   -- where the node looks as it did, and the tables are the same, so is the world
-  stays : (y : Placed) → slice_get s.nodes.items k ≡ Some y → node_view x ≡ node_view y
-      → AreSame s.posted t.posted → world_of t ≡ world_of s
+  stays : (y : Slot) → slice_get s.nodes.items k ≡ Some y → node_view x ≡ node_view y
+      → AreSame s.tables t.tables → world_of t ≡ world_of s
   stays y there looks same =
       let nodes : slice_set (map node_view s.nodes.items) k (node_view x)
       ≡ map node_view s.nodes.items =
@@ -111,7 +111,7 @@ module _ (s t : Scene) (k : ℕ) (x : Placed) (is : IsWith s t k x) where
       world_is ∙ (λ i. with_tables (world_of s) (nodes i) (sent i) (list i))
 
   -- each node stands, where this one does
-  stands : IsStanding s → StandsOn (world_of s) k x → AreListed t.posted → IsStanding t
+  stands : IsStanding s → StandsOn (world_of s) k x → AreListed t.tables → IsStanding t
   stands standing here listed = record {
     tree = ap (λ (d : _). d.tree) is.units ∙ standing.tree ∙ sym is.tree;
     disks = λ j y e. stands_there (world_of s) (world_of t) j y is.units is.weights
@@ -120,22 +120,22 @@ module _ (s t : Scene) (k : ℕ) (x : Placed) (is : IsWith s t k x) where
         (subst (StandsOn (world_of s) k) (sym p.1) here))
         (λ p. standing.disks j y p.1)
         (get_set s.nodes.items k j x y
-        (subst (λ (l : List Placed). slice_get l j ≡ Some y) is.nodes e)));
+        (subst (λ (l : List Slot). slice_get l j ≡ Some y) is.nodes e)));
     listed = listed;
   }
 
 -- what a step leaves, taken or not
-pub record IsLeft (s : Scene) (e : Event) (t : Scene) (r : Result (Unit {0}) NodeFault) : Type 0
-  where
-    pub taken : OnOk r (Steps (world_of s) e (world_of t))
-    pub same : OnErr r (world_of t ≡ world_of s)
-    pub refused : IfErr r
-        (λ f. (f ≡ fault.Memory) ⊎ IsRefusedByNode (world_of s) e (refused_by f))
-    pub standing : IsStanding t
+pub record IsLeft (s : WorldState) (e : Event) (t : WorldState) (r : Result (Unit {0}) NodeFault) :
+    Type 0 where
+  pub taken : OnOk r (Steps (world_of s) e (world_of t))
+  pub same : OnErr r (world_of t ≡ world_of s)
+  pub refused : IfErr r
+      (λ f. (f ≡ fault.Memory) ⊎ IsRefusedByNode (world_of s) e (refused_by f))
+  pub standing : IsStanding t
 
 -- ---- an event that may happen at a node that is up
 
-module _ (s : Scene) (e : Event) (may : fault_before (world_of s) e ≡ None)
+module _ (s : WorldState) (e : Event) (may : fault_before (world_of s) e ≡ None)
     (none : is_restart e ≡ false) where
   there : NoneApplies (is_bad_stop e) (nat_le (length (world_of s).nodes) (events.node_of e))
       (not (is_restart e) && not (is_up (world_of s) (events.node_of e)))
@@ -154,7 +154,7 @@ module _ (s : Scene) (e : Event) (may : fault_before (world_of s) e ≡ None)
   )
 
   -- that stands at the place
-  pub at_place : (place : ℕ) → place ≡ events.node_of e → (x y : Placed)
+  pub at_place : (place : ℕ) → place ≡ events.node_of e → (x y : Slot)
       → x ≡ slice_index_or s.nodes.items place x → x ≡ y
       → slice_get s.nodes.items (events.node_of e) ≡ Some y
   at_place place same x y value is =
@@ -167,7 +167,7 @@ module _ (s : Scene) (e : Event) (may : fault_before (world_of s) e ≡ None)
   up_there = was_true (is_up (world_of s) (events.node_of e))
       (ap (λ b. not b && not (is_up (world_of s) (events.node_of e))) (sym none) ∙ there.third)
 
-  pub never_down : (x : Placed) → slice_get s.nodes.items (events.node_of e) ≡ Some x
+  pub never_down : (x : Slot) → slice_get s.nodes.items (events.node_of e) ≡ Some x
       → (node_view x).up ≡ false → ⊥
   never_down x at off = true≢false
       (sym up_there ∙ ap up_of (get_mapped node_view s.nodes.items (events.node_of e) x at) ∙ off)
@@ -175,20 +175,20 @@ module _ (s : Scene) (e : Event) (may : fault_before (world_of s) e ≡ None)
 -- ---- a stop between two steps
 
 -- What a stop leaves.
-pub record IsDown (s : Scene) (n : ℕ) (t : Scene) : Type 0 where
+pub record IsDown (s : WorldState) (n : ℕ) (t : WorldState) : Type 0 where
   pub stops : Stops (world_of s) n (world_of t)
   pub standing : IsStanding t
 
-pub is_down : (s : Scene) (n : ℕ) → IsStanding s → fault_before (world_of s) (events.Stop n) ≡ None
-    → (t : Scene) → IsBut s t → IsStopped s.nodes.items t.nodes.items n → IsDown s n t
+pub is_down : (s : WorldState) (n : ℕ) → IsStanding s
+    → fault_before (world_of s) (events.Stop n) ≡ None → (t : WorldState) → IsBut s t → IsStopped s.nodes.items t.nodes.items n → IsDown s n t
 is_down s n standing may t but stopped = by stopped.node refl
   where
-    by : (y : Placed) → stopped.node ≡ y → IsDown s n t
+    by : (y : Slot) → stopped.node ≡ y → IsDown s n t
     by (Down r) is = absurd (never_down s (events.Stop n) may refl (Down r)
         (stopped.stood ∙ ap (λ z. Some z) is) refl)
     by (Up m) is =
         let at : slice_get s.nodes.items n ≡ Some (Up m) = stopped.stood ∙ ap (λ z. Some z) is in
-        let left = stopped_so (world_of s) n m (standing.disks n (Up m) at) stopped.rest
+        let left = stopped_so (world_of s) n m (standing.disks n (Up m) at) stopped.down
         (stopped.disk ∙ ap disk_of is) (stopped.notes ∙ ap (λ z. (node_view z).notes) is)
         (stopped.behind (ap (λ z. (node_view z).up) is)) in
         record {
@@ -198,26 +198,26 @@ is_down s n standing may t but stopped = by stopped.node refl
               stands = get_mapped node_view s.nodes.items n (Up m) at;
               up = refl;
             };
-            leaves = world_with s t but n (Down stopped.rest) stopped.nodes
+            leaves = world_with s t but n (Down stopped.down) stopped.nodes
                 ∙ ap (with_node (world_of s) n) left.view;
           };
-          standing = standing_with s t but n (Down stopped.rest) stopped.nodes standing left.left;
+          standing = standing_with s t but n (Down stopped.down) stopped.nodes standing left.left;
         }
 
 -- so it happens where the event says so
-abbrev pub with_nodes : Scene → Vec Placed Global → Scene
+abbrev pub with_nodes : WorldState → Vec Slot Global → WorldState
 with_nodes s nodes = record s { nodes = nodes }
 
-pub stop_is_down : (s : Scene) (e : declared.Event) (n : ℕ) → e ≡ declared.Stop n → IsStanding s
-    → fault_before (world_of s) (event_view e) ≡ None → (nodes : Vec Placed Global)
+pub stop_is_down : (s : WorldState) (e : declared.Event) (n : ℕ) → e ≡ declared.Stop n
+    → IsStanding s → fault_before (world_of s) (event_view e) ≡ None → (nodes : Vec Slot Global)
     → IsStopped s.nodes.items nodes.items n → IsDown s n (with_nodes s nodes)
 stop_is_down s e n is standing may nodes stopped =
     is_down s n standing (subst (λ z. fault_before (world_of s) (event_view z) ≡ None) is may)
-    (with_nodes s nodes) (record { tree = refl; units = refl; weights = refl; posted = refl })
+    (with_nodes s nodes) (record { tree = refl; units = refl; weights = refl; tables = refl })
     stopped
 
-pub stop_happens : (s : Scene) (e : declared.Event) (n : ℕ) → e ≡ declared.Stop n → IsStanding s
-    → fault_before (world_of s) (event_view e) ≡ None → (nodes : Vec Placed Global)
+pub stop_happens : (s : WorldState) (e : declared.Event) (n : ℕ) → e ≡ declared.Stop n
+    → IsStanding s → fault_before (world_of s) (event_view e) ≡ None → (nodes : Vec Slot Global)
     → IsStopped s.nodes.items nodes.items n
     → Happens (world_of s) (event_view e) (world_of (with_nodes s nodes))
 stop_happens s e n is standing may nodes stopped =
@@ -243,7 +243,7 @@ pub ok_steps_happen : (w v : World) (e : Event) → is_step e ≡ true
 ok_steps_happen w v e is (Ok u) s = steps_happen w v e is s
 ok_steps_happen w v e is (Err f) s = tt
 
-module _ (s : Scene) (e : Event) (standing : IsStanding s) (reached : IsReached (world_of s))
+module _ (s : WorldState) (e : Event) (standing : IsStanding s) (reached : IsReached (world_of s))
     (may : fault_before (world_of s) e ≡ None) (is_a_step : is_step e ≡ true) where
   abbrev w : World
   w = world_of s
@@ -251,7 +251,7 @@ module _ (s : Scene) (e : Event) (standing : IsStanding s) (reached : IsReached 
   abbrev k : ℕ
   k = events.node_of e
 
-  abbrev nodes : List Placed
+  abbrev nodes : List Slot
   nodes = s.nodes.items
 
   -- it can be asked
@@ -311,8 +311,8 @@ module _ (s : Scene) (e : Event) (standing : IsStanding s) (reached : IsReached 
 
       -- ---- taken
 
-      module _ (t : Scene) (is : IsWith s t k (Up m)) where
-        pub is_taken : TakesStep s.weights e s.posted n t.posted m → Steps w e (world_of t)
+      module _ (t : WorldState) (is : IsWith s t k (Up m)) where
+        pub is_taken : TakesStep s.weights e s.tables n t.tables m → Steps w e (world_of t)
         is_taken took =
             let took_now = taken_by n.node took.ready in
             let here = taken_by (node_at w k x) took.ready in
@@ -323,11 +323,11 @@ module _ (s : Scene) (e : Event) (standing : IsStanding s) (reached : IsReached 
             note_answered n.node.member took.ready.step in
             let sends : took_now.answer.sends ≡ sends_in took.ready.step =
             sends_answered n.node.member took.ready.step in
-            let list : list_in t.posted ≡ with_decision w.agreed (decision w.weights w.sent
+            let list : list_in t.tables ≡ with_decision w.agreed (decision w.weights w.sent
             (member_at w k x) took.ready.step) =
             took.finished.list ∙ ap (λ (z : NodeState). with_decision w.agreed
             (decision w.weights w.sent z.member took.ready.step)) on_log.0 in
-            let sent : t.posted.sent ≡ with_sends w.sent took_now.answer.sends =
+            let sent : t.tables.sent ≡ with_sends w.sent took_now.answer.sends =
             took.finished.sent ∙ ap (with_sends w.sent) (sym sends) in
             let left : m.node ≡ after (node_at w k x) took_now =
             took.finished.node ∙ ap (λ (z : NodeState). after z took_now) on_log.0 in
@@ -342,13 +342,13 @@ module _ (s : Scene) (e : Event) (standing : IsStanding s) (reached : IsReached 
               leaves = world_is s t k (Up m) is
                   ∙ (λ i. with_tables s t k (Up m) is w
                   (slice_set (map node_view nodes) k (up_node (left i)))
-                  (sent i) (list_in t.posted));
+                  (sent i) (list_in t.tables));
             }
 
         pub is_left : (r : Result (Unit {0}) NodeFault)
-            → OnOk r (TakesStep s.weights e s.posted n t.posted m)
-            → OnErr r (AreSame s.posted t.posted) → IfErr r (RefusesStep w.sent e n m)
-            → IsOnLog mem_history m → AreListed t.posted → IsLeft s e t r
+            → OnOk r (TakesStep s.weights e s.tables n t.tables m)
+            → OnErr r (AreSame s.tables t.tables) → IfErr r (RefusesStep w.sent e n m)
+            → IsOnLog mem_history m → AreListed t.tables → IsLeft s e t r
         is_left (Ok u) took same refused log listed = record {
           taken = is_taken took;
           same = tt;

@@ -11,19 +11,19 @@ use Rattle.world.specs.declared.fault.WorldFault.{WorldFault}
 use Rattle.world.proofs.Alike.{held_alike}
 use Rattle.world.proofs.Growing.{at_end, event_later, same_later}
 use Rattle.running.specs.History.{History, IsHistory, taken}
-use Rattle.running.specs.declared.running.World.TheInside.{Inside}
-use Rattle.running.specs.inside.Placing.{history_of, world_of}
+use Rattle.running.specs.declared.running_world.World.TheInside.{Inside}
+use Rattle.running.specs.inside.Standing.{history_of, world_of}
 use Rattle.running.proofs.Following.{goes_on, has_one_list}
 
 -- where the world is the same, and no event was kept
-pub stays_so : (w v : Inside) → IsHistory (history_of w) → world_of v.scene ≡ world_of w.scene
+pub stays_so : (w v : Inside) → IsHistory (history_of w) → world_of v.state ≡ world_of w.state
     → v.events.items ≡ w.events.items → IsHistory (history_of v)
 stays_so w v is world events = subst IsHistory
     (λ i. record { world = sym world i; events = sym events i }) is
 
 -- and where the event that happened was
 pub goes_so : (w v : Inside) (e : declared.Event) → IsHistory (history_of w)
-    → Happens (world_of w.scene) (event_view e) (world_of v.scene)
+    → Happens (world_of w.state) (event_view e) (world_of v.state)
     → v.events.items ≡ w.events.items ++ e ∷ [] → IsHistory (history_of v)
 goes_so w v e is happens kept =
     goes_on (history_of w) (history_of v) (event_view e) is happens

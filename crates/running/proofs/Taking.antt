@@ -12,9 +12,9 @@ use Rattle.node.specs.Step.{Asked, ReadyStep, Taken, Takes, note_in, taken_by}
 use Rattle.node.specs.declared.fault.NodeFault.{NodeFault}
 use Rattle.node.specs.declared.fault.NodeFault.TheVariants as node_fault
 use Rattle.protocol.specs.State.{Value}
-use Rattle.running.specs.declared.posted.Posted.{Posted}
+use Rattle.running.specs.declared.tables.Tables.{Tables}
 use Rattle.running.specs.inside.Asking.{IsReadied, asked_by, refused_by}
-use Rattle.running.specs.inside.Stepping.{HasFinished, RefusesStep, TakesStep}
+use Rattle.running.specs.inside.NodeSteps.{HasFinished, RefusesStep, TakesStep}
 use Rattle.stable_record.specs.InMemory.{mem_history}
 use Rattle.stable_record.specs.OpenLog.{Holds}
 use Rattle.stable_record.specs.declared.log.Log.{Log}
@@ -121,7 +121,7 @@ pub same_node : (n m : LoggedNode MemDisk) → m.node ≡ n.node → m.log ≡ n
 same_node n m node log_is = λ i. record { node = node i; log = log_is i }
 
 -- A step that was made ready and finished is taken.
-pub takes_step : (weights : List ℕ) (e : Event) (old new : Posted) (n m k : LoggedNode MemDisk)
+pub takes_step : (weights : List ℕ) (e : Event) (old new : Tables) (n m k : LoggedNode MemDisk)
     (r : ReadyStep) → IsReadied old.sent e n.node m.node (Ok (taken_by n.node r))
     → m.log ≡ n.log → HasFinished weights old m r new k → TakesStep weights e old n new k
 takes_step weights e old new n m k r ready log_is done =

@@ -1,7 +1,7 @@
 -- The number and the cause of a run's refusal.
 use Rattle.std.specs.Prelude.{ℕ, Option}
 use Rattle.world.specs.Refusals as world
-use Rattle.running.specs.declared.runs.RunFault.{RunFault}
+use Rattle.running.specs.declared.run_fault.RunFault.{RunFault}
 
 -- the number by which a run's refusal is told: that of the fault
 abbrev pub number_of : RunFault → ℕ

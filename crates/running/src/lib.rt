@@ -1,18 +1,21 @@
 //! Worlds of nodes on disks in memory, run by events.
 #![tactic(auto)]
 
-mod asked;
-mod digested;
-mod handed;
+mod digested_tree;
+mod event_kind;
+mod event_queue;
+mod node_steps;
 mod opening;
-mod placed;
-mod posted;
-mod running;
-mod runs;
-mod scene;
-mod stepping;
-mod stopping;
+mod run_fault;
+mod running_world;
+mod slot;
+mod stops;
+mod tables;
 mod votes;
+mod whole_run;
+mod world_state;
+mod world_steps;
 
-pub use crate::running::World;
-pub use crate::runs::{RunFault, run};
+pub use crate::run_fault::RunFault;
+pub use crate::running_world::World;
+pub use crate::whole_run::run;

@@ -1,9 +1,9 @@
 //! Nodes over disks in memory.
 ghost use Rattle.std.specs.Prelude.{◌≡◌, ◌<◌, IfOk, length};
 ghost use Rattle.running.specs.inside.Opening.{HasNode, IsNodeOf};
-ghost use Rattle.running.specs.inside.Placing.{file_of};
+ghost use Rattle.running.specs.inside.Standing.{file_of};
 
-use crate::digested::Digested;
+use crate::digested_tree::DigestedTree;
 use ballots::Weights;
 use faults::Memory;
 use node::{Node, NodeFault};
@@ -15,7 +15,7 @@ use std::alloc::Global;
 pub(crate) fn opened<'a>(
     alloc: Global,
     disk: MemDisk,
-    tree: &Digested<'a>,
+    tree: &DigestedTree<'a>,
     weights: &Weights,
     me: u8,
 ) -> Result<Node<'a, MemDisk>, Memory>

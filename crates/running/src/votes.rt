@@ -6,7 +6,6 @@ ghost use Rattle.running.specs.inside.Deciding.{
   claim_voted,
   decision,
   makes_majority,
-  same_claim,
   value_under,
   voted_by,
   voted_in,
@@ -40,13 +39,6 @@ fn claim_of(message: &Message) -> Option<Claim>
         | Body::Ask
         | Body::Nay(_, _) => None,
     }
-}
-
-/// Whether both are one.
-fn is_same(a: Claim, b: Claim) -> bool
-    ensures { result ≡ same_claim a b }
-{
-    a.round == b.round && a.member == b.member
 }
 
 /// Those of the members that sent this vote. Votes of two members for one claim differ in their
@@ -86,13 +78,7 @@ fn voted_in(fact: &Fact, claim: Claim) -> Option<&Build>
     ensures { option_map (λ build. build.now) result ≡ voted_in claim fact.now }
 {
     match fact {
-        Fact::Voted(under, build) => {
-            if is_same(*under, claim) {
-                Some(build)
-            } else {
-                None
-            }
-        }
+        Fact::Voted(under, build) => { if *under == claim { Some(build) } else { None } }
         Fact::Opened(_) | Fact::Promised(_) | Fact::Held(_) => None,
     }
 }
@@ -104,7 +90,7 @@ fn voted_last<'a>(node: &'a Node<'_, MemDisk>, path: &PkgPath, claim: Claim) -> 
         (facts_named node.entry.now.node.member path.now).voted }
 {
     match node.voted(path) {
-        Some((under, build)) if is_same(*under, claim) => Some(build),
+        Some((under, build)) if *under == claim => Some(build),
         _ => None,
     }
 }

@@ -1,6 +1,7 @@
 -- What the vote of a step decides.
-use Rattle.std.specs.Prelude.{◌&&◌, ◌==◌, ℕ, Bool, List, [], ◌∷◌, Option, None, Some, length, nat_lt, not, option_and_then, slice_set, if◌then◌else◌}
+use Rattle.std.specs.Prelude.{◌&&◌, ℕ, Bool, List, [], ◌∷◌, Option, None, Some, length, nat_lt, not, option_and_then, slice_set, if◌then◌else◌}
 use Rattle.faults.specs.Bytes.{Text, is_among}
+use Rattle.agreement.specs.Claims.{claim_same}
 use Rattle.agreement.specs.Quorums.{Members, is_majority, with_member}
 use Rattle.agreement.specs.Votes.{Ballot}
 use Rattle.agreement.specs.declared.claim.Claim.{Claim}
@@ -50,20 +51,16 @@ abbrev pub makes_majority : List ℕ → Members → ℕ → Bool
 makes_majority weights voters sender =
     is_majority weights (with_member voters sender) && not (is_majority weights voters)
 
--- whether the claims are one
-abbrev pub same_claim : Claim → Claim → Bool
-same_claim c d = c.round == d.round && c.member == d.member
-
 -- the build that the fact is a vote for, under the claim
 abbrev pub voted_in : Claim → Fact Value → Option Value
 voted_in c (fact.Opened round) = None
 voted_in c (fact.Promised d) = None
-voted_in c (fact.Voted d v) = if same_claim d c then Some v else None
+voted_in c (fact.Voted d v) = if claim_same d c then Some v else None
 voted_in c (fact.Held v) = None
 
 -- the build of the vote, if it is under the claim
 abbrev pub value_under : Claim → Ballot Value → Option Value
-value_under c b = if same_claim b.claim c then Some b.value else None
+value_under c b = if claim_same b.claim c then Some b.value else None
 
 -- the build that a member's step votes for: what it notes now, or has noted
 abbrev pub voted_by : State → Option (Note Value) → Text → Claim → Option Value

@@ -4,8 +4,8 @@ use Rattle.listing.specs.Tree.{Tree}
 use Rattle.node.specs.Calls.{IsOpened}
 use Rattle.node.specs.OnLog.{IsOnLog}
 use Rattle.node.specs.State.{LoggedNode}
-use Rattle.running.specs.declared.placed.Placed.{Placed}
-use Rattle.running.specs.declared.placed.Placed.TheVariants.{Up, Down}
+use Rattle.running.specs.declared.slot.Slot.{Slot}
+use Rattle.running.specs.declared.slot.Slot.TheVariants.{Up, Down}
 use Rattle.stable_record.specs.InMemory.{mem_history}
 use Rattle.stable_record.specs.declared.mem_disk.MemDisk.{MemDisk}
 
@@ -17,11 +17,11 @@ pub record IsFresh (tree : Tree) (weights : List ℕ) (me : ℕ) (n : LoggedNode
   pub on_log : IsOnLog mem_history n
 
 -- It is up and fresh.
-abbrev pub IsUpFresh : Tree → List ℕ → ℕ → Placed → Type 0
+abbrev pub IsUpFresh : Tree → List ℕ → ℕ → Slot → Type 0
 IsUpFresh tree weights me (Up n) = IsFresh tree weights me n
 IsUpFresh tree weights me (Down r) = ⊥
 
 -- There is such a node for each member, by number.
-pub record AreFresh (tree : Tree) (weights : List ℕ) (nodes : List Placed) : Type 0 where
+pub record AreFresh (tree : Tree) (weights : List ℕ) (nodes : List Slot) : Type 0 where
   pub count : length nodes ≡ length weights
-  pub each : (me : ℕ) (x : Placed) → slice_get nodes me ≡ Some x → IsUpFresh tree weights me x
+  pub each : (me : ℕ) (x : Slot) → slice_get nodes me ≡ Some x → IsUpFresh tree weights me x

@@ -2,7 +2,7 @@ use Rattle.std.proofs.Common.{subst, sym}
 use Rattle.listing.specs.Tree.{Tree}
 use Rattle.running.proofs.OnlyMemory.{only_memory}
 use Rattle.running.specs.inside.Opening.{HasNode, IsNodeOf}
-use Rattle.running.specs.inside.Placing.{file_of}
+use Rattle.running.specs.inside.Standing.{file_of}
 use Rattle.running.proofs.opening.opened.Goals as goal
 
 pub returns-in-Ok : goal.returns-in-Ok

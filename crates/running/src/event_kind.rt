@@ -1,0 +1,80 @@
+//! What an event is: of which node, of what kind, and whether what it names is there.
+ghost use Rattle.std.specs.Prelude.{◌≡◌, List, Some, length};
+ghost use Rattle.events.specs.Events as events;
+ghost use Rattle.events.specs.Events.{event_view};
+ghost use Rattle.faults.specs.Bytes.{Text};
+ghost use Rattle.node.specs.Step.{Asked, IsAsked};
+ghost use Rattle.running.specs.inside.Asking.{asked_by};
+ghost use Rattle.world.specs.Happening as happening;
+ghost use Rattle.world.specs.World as worlds;
+
+use events::Event;
+
+/// The node that the event is of.
+pub(crate) fn node_of(event: &Event) -> u8
+    ensures { result ≡ events.node_of (event_view event.now) }
+{
+    match event {
+        Event::Claim { node, .. }
+        | Event::Built { node, .. }
+        | Event::Failed { node, .. }
+        | Event::Nudge { node }
+        | Event::Ask { node, .. }
+        | Event::Deliver { node, .. }
+        | Event::Stop { node }
+        | Event::Restart { node } => *node,
+        Event::StopIn { input, left: _ } => node_of(input),
+    }
+}
+
+/// Whether the event is a step that a stop may cut short.
+pub(crate) fn is_step(event: &Event) -> bool
+    ensures { result ≡ events.is_step (event_view event.now) }
+{
+    match event {
+        Event::Stop { .. } | Event::StopIn { .. } | Event::Restart { .. } => false,
+        _ => true,
+    }
+}
+
+/// Whether it is a stop inside what is no step.
+pub(crate) fn is_bad_stop(event: &Event) -> bool
+    ensures { result ≡ happening.is_bad_stop (event_view event.now) }
+{
+    match event {
+        Event::StopIn { input, left: _ } => !is_step(input),
+        _ => false,
+    }
+}
+
+/// Whether the event is a restart.
+pub(crate) fn is_restart(event: &Event) -> bool
+    ensures { result ≡ happening.is_restart (event_view event.now) }
+{
+    match event {
+        Event::Restart { .. } => true,
+        _ => false,
+    }
+}
+
+/// Whether it delivers a datagram with a number that is none of so many that were sent.
+pub(crate) fn lacks_datagram(sent: usize, event: &Event) -> bool
+    ensures { (w : worlds.World) → sent ≡ length w.sent
+        → result ≡ happening.lacks_datagram w (event_view event.now) }
+{
+    match event {
+        Event::Deliver { datagram, node: _ } => *datagram >= sent as u64,
+        Event::StopIn { input, left: _ } => lacks_datagram(sent, input),
+        _ => false,
+    }
+}
+
+/// A host that the event names has a number of 16 bits.
+pub(crate) fn host_fits(event: &Event)
+    ensures { (sent : List Text) (asked : Asked)
+        → asked_by sent (event_view event.now) ≡ Some asked → IsAsked asked }
+{
+    if let Event::Claim { host, .. } = event {
+        let _host = *host;
+    }
+}

@@ -1,0 +1,47 @@
+//! Events that are handed over, one after the other.
+ghost use Rattle.std.specs.Prelude.{◌≡◌, ◌∷◌, [], MatchOption};
+
+use events::Event;
+use std::marker::Model;
+
+/// Events, from the last on, so that the room of those that were handed over is given back.
+/// Contracts see them in their order, from the first on.
+#[derive(Drop)]
+pub(crate) struct EventQueue {
+    left: Vec<Event>,
+}
+
+impl Model for EventQueue {
+    ghost use Rattle.std.specs.Prelude.{List, reverse};
+    ghost use Rattle.std.specs.Coded.{codes};
+    ghost use Rattle.events.specs.contracts.event.Event as events;
+    ghost use Rattle.events.specs.declared.event.Event as declared;
+
+    ghost Value = { List declared.Event };
+
+    ghost coded = { Prim.hlevel (codes, events.the_row.coded) };
+
+    ghost view = { λ h. reverse h.left.items };
+}
+
+impl EventQueue {
+    /// All of the events are left.
+    pub(crate) fn new(events: Vec<Event>) -> EventQueue
+        ensures { result ≡ events.items }
+    {
+        let mut left = events;
+        left.reverse();
+        EventQueue { left }
+    }
+
+    /// Hands the first event over, if one is left.
+    pub(crate) fn next(&mut self) -> Option<Event>
+        ensures { MatchOption result (self.old ≡ []) (λ event. self.old ≡ event ∷ self.new) }
+    {
+        let event = self.left.pop()?;
+        if self.left.len() <= self.left.capacity() / 2 {
+            self.left.shrink_to_fit();
+        }
+        Some(event)
+    }
+}

@@ -1,0 +1,192 @@
+//! A world, which contracts see as its nodes, its datagrams, its list, and the events that led to
+//! it.
+ghost use Rattle.std.specs.Prelude.{◌≡◌, ◌<◌, [], IfOk, Some, length, slice_get, true};
+ghost use Rattle.std.specs.Option.{option_copied};
+ghost use Rattle.engine.specs.State as engines;
+ghost use Rattle.protocol.specs.State.{engine_of};
+ghost use Rattle.running.specs.History.{IsHistory, file_length};
+ghost use Rattle.world.specs.Happening.{is_up};
+ghost use Rattle.world.specs.Headline.{
+  AllFit,
+  AreRecords,
+  AuditSaysYes,
+  HasOneAPath,
+  HeldIsListed,
+  holds,
+};
+ghost use Rattle.world.specs.World.{member_at, node_at, start};
+
+use crate::world_state::WorldState;
+use ballots::Weights;
+use datagrams::DatagramBytes;
+use engine::{Counts, Letter, Units};
+use events::Event;
+use faults::Memory;
+use indexmap::IndexSet;
+use listing::Tree;
+use node::Node;
+use package_record::Record;
+use pkgpath::PkgPath;
+use stable_record::MemDisk;
+use std::alloc::Global;
+use std::marker::Model;
+
+/// Nodes on disks in memory, the datagrams that they sent, and the list of what is agreed.
+#[derive(Drop)]
+pub struct World<'a> {
+    pub(crate) state: WorldState<'a>,
+    pub(crate) events: Vec<Event>,
+}
+
+impl<'a> Model for World<'a> {
+    ghost use Rattle.running.specs.History.{History};
+
+    ghost Value = { History };
+
+    ghost use Rattle.events.specs.contracts.event.Event as event;
+    ghost use Rattle.std.specs.Coded.{codes};
+
+    ghost coded = { Prim.hlevel (codes, event.the_row.coded) };
+
+    ghost use Rattle.running.specs.inside.Standing.{StandsSo, history_of};
+
+    ghost view = { history_of };
+
+    ghost invariant = { StandsSo };
+}
+
+impl<'a> World<'a> {
+    /// The world at its start: all nodes are up, nothing is noted, and nothing was sent. `weights`
+    /// has one for each member.
+    pub fn new(alloc: Global, tree: &'a Tree, weights: &Weights) -> Result<World<'a>, Memory>
+        ensures world { IfOk result (λ w. w.world ≡ start w.world.division weights.now) }
+        ensures tree { IfOk result (λ w. w.world.division.tree ≡ tree.entry.now) }
+        ensures events { IfOk result (λ w. w.events ≡ []) }
+        ensures history { IfOk result IsHistory }
+    {
+        Ok(World {
+            state: WorldState::new(alloc, tree, weights)?,
+            events: Vec::new(alloc),
+        })
+    }
+
+    /// The agreed list, in the order in which it grew: it has at most one package a path, each is a
+    /// record and fits the tree, an audit of it says yes, and all that nodes hold is in it.
+    pub fn agreed(&self) -> &[Record]
+        ensures list { result.now ≡ self.now.world.agreed }
+        ensures one_a_path { HasOneAPath self.now.world }
+        ensures records { AreRecords self.now.world }
+        ensures fits { AllFit self.now.world }
+        ensures allowed { AuditSaysYes self.now.world }
+        ensures held { HeldIsListed self.now.world }
+    {
+        self.state.tables.agreed.as_slice()
+    }
+
+    /// The agreed list, for which the rest of the world goes.
+    pub fn into_agreed(self) -> Vec<Record>
+        ensures { result.items ≡ self.entry.world.agreed }
+    {
+        let state = self.state;
+        let tables = state.tables;
+        tables.agreed
+    }
+
+    /// The events that were taken, in turn. They led to this world from its start, so that all
+    /// holds of it that holds of each run.
+    pub fn events(&self) -> &[Event]
+        ensures events { result.now ≡ self.now.events }
+        ensures history { IsHistory self.now }
+    {
+        self.events.as_slice()
+    }
+
+    /// The different datagrams that were sent, in order of first sending.
+    pub fn datagrams(&self) -> &IndexSet<DatagramBytes>
+        ensures { result.now.keys ≡ self.now.world.sent }
+    {
+        self.state.tables.sent.as_set()
+    }
+
+    /// How many nodes there are, one for each member.
+    pub fn len(&self) -> u8
+        ensures { result ≡ length self.now.world.nodes }
+    {
+        self.state.nodes.len() as u8
+    }
+
+    /// Whether the node is up. A number that is none of a node is not.
+    pub fn is_up(&self, node: u8) -> bool
+        ensures { result ≡ is_up self.now.world node }
+    {
+        self.state.is_up(node)
+    }
+
+    /// The node with this number, which is up.
+    pub fn node(&self, number: u8) -> &Node<'a, MemDisk>
+        requires { is_up self.now.world number ≡ true }
+        ensures { (x : _) → slice_get self.now.world.nodes number ≡ Some x
+            → result.now.node ≡ node_at self.now.world number x }
+    {
+        self.state.up(number)
+    }
+
+    /// The units of the tree.
+    pub fn units(&self) -> &Units<'a>
+        ensures { result.now ≡ self.now.world.division }
+    {
+        &self.state.units
+    }
+
+    /// What each member weighs.
+    pub fn weights(&self) -> &Weights
+        ensures { result.now ≡ self.now.world.weights }
+    {
+        &self.state.weights
+    }
+
+    /// The events that were taken, for which the rest of the world goes.
+    pub fn into_events(self) -> Vec<Event>
+        ensures { result.items ≡ self.entry.events }
+    {
+        let World { events, .. } = self;
+        events
+    }
+
+    /// The record that a node which is up holds for the path.
+    pub fn held(&self, node: u8, path: &PkgPath) -> Option<&Record>
+        requires { is_up self.now.world node ≡ true }
+        ensures { (x : _) → slice_get self.now.world.nodes node ≡ Some x
+            → option_copied result ≡ holds self.now.world node x path.now }
+    {
+        self.state.up(node).held(path)
+    }
+
+    /// The letter of the package at the position, as a node that is up shows it.
+    pub fn letter(&self, node: u8, position: u32) -> Letter
+        requires up { is_up self.now.world node ≡ true }
+        requires listed { position < length self.now.world.division.tree }
+        ensures { (x : _) → slice_get self.now.world.nodes node ≡ Some x
+            → engines.HasLetter (engine_of (member_at self.now.world node x)) position result }
+    {
+        self.state.up(node).letter(position)
+    }
+
+    /// How many packages have each letter, as a node that is up shows them.
+    pub fn counts(&self, node: u8) -> Counts
+        requires { is_up self.now.world node ≡ true }
+        ensures { (x : _) → slice_get self.now.world.nodes node ≡ Some x
+            → engines.AreCounts (engine_of (member_at self.now.world node x)) result }
+    {
+        self.state.up(node).counts()
+    }
+
+    /// The number of bytes of a member's log, whether it is up or down.
+    pub fn log_len(&self, node: u8) -> u64
+        requires { node < length self.now.world.nodes }
+        ensures { (x : _) → slice_get self.now.world.nodes node ≡ Some x
+            → result ≡ file_length self.now.world node x }
+    {
+        self.state.nodes[node as usize].file().len() as u64
+    }
+}
