@@ -1,25 +1,9 @@
--- What a node is started with, and what is told where that can't be had.
+-- What members weigh, and what is told where that can't be had.
 use Rattle.std.specs.Prelude.{◌≡◌, ◌⊎◌, ℕ, List, ◌∷◌, Option, None, Some, flat_map, length, replicate}
 use Rattle.std.specs.Fmt.{decimal}
 use Rattle.faults.specs.Bytes.{Text}
-use Rattle.program.specs.Refusals.{IsSystemRefusal, memory_refusal}
+use Rattle.program.specs.Refusals.{memory_refusal}
 use Rattle.program.specs.declared.refusal.Refusal.{Refusal}
-use Rattle.protocol.specs.Given.{Given}
-use Rattle.traces.specs.Builds.{builds_of}
-
--- ---- files for package paths
-
--- they stand in some text
-abbrev pub AreBuilds : Given → Type 0
-AreBuilds builds = (text : Text) × (builds_of text ≡ Some builds)
-
--- what is told of a file that can't be read, or whose text names no builds
-abbrev pub RefusesBuilds : Refusal → Type 0
-RefusesBuilds r =
-    IsSystemRefusal r
-    ⊎ ((text : Text) × (builds_of text ≡ None) × (r ≡ record { number = 1305; place = Some 0 }))
-
--- ---- weights
 
 -- each weight in decimal digits, with a comma before it
 abbrev pub with_commas : List ℕ → Text

@@ -1,7 +1,7 @@
 -- What `dpbn node` prints, and what is told where it can't run.
 use Rattle.std.specs.Prelude.{◌≡◌, ◌<◌, ◌⊎◌, ⊤, ℕ, List, Option, None, option_map}
 use Rattle.std.specs.declared.rt.LibcRuntime.{LibcRuntime}
-use Rattle.dpbn_node.specs.Given.{AreBuilds, RefusesBuilds, RefusesWeights}
+use Rattle.dpbn_node.specs.Given.{RefusesWeights}
 use Rattle.dpbn_node.specs.Runs.{HasFlushed, IsOfNode, IsOfNodeOn, IsRunOf, RefusesPlace, RefusesStart, RunOf, Running, letters_of, port_vouches}
 pub use Rattle.dpbn_node.specs.Runs.{AreGood, socket_refusal}
 use Rattle.dpbn_words.specs.declared.Files.{Files}
@@ -17,6 +17,7 @@ use Rattle.solo.specs.Handed.{AllBuilds}
 use Rattle.solo.specs.Turns.{HaveTurned}
 use Rattle.stable_record.specs.RealFile.{file_agrees, file_history}
 use Rattle.stable_record.specs.declared.file_disk.FileDisk.{FileDisk}
+use Rattle.trace_files.specs.Builds.{AreBuilds, RefusesBuildsFile}
 use Rattle.udp.specs.declared.udp_port.UdpPort.{UdpPort}
 
 -- ---- what is printed
@@ -68,7 +69,7 @@ pub record IsNodeText (files : Files) (me : ℕ) (peers : Peers) (run : Run) (te
 
 -- what is told of the builds, and then of the weights
 abbrev pub RefusesGiven : Refusal → Type 0
-RefusesGiven r = RefusesBuilds r ⊎ RefusesWeights r
+RefusesGiven r = RefusesBuildsFile r ⊎ RefusesWeights r
 
 -- what is told before the first turn: of the listing, of what is given, of the key's file and the
 -- hosts, or of the start in the run that the words tell

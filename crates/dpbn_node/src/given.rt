@@ -1,19 +1,18 @@
 //! What a node is started with.
 ghost use Rattle.std.specs.Prelude.{◌≡◌, ◌∷◌, ◌≤◌, IfErr, IfOk, Some, option_map, string_bytes, true};
 ghost use Rattle.dpbn_node.specs.Node.{RefusesGiven};
-ghost use Rattle.dpbn_node.specs.Given.{AreBuilds, AreTold, RefusesBuilds, RefusesWeights, weights_refusal, with_commas};
+ghost use Rattle.dpbn_node.specs.Given.{AreTold, RefusesWeights, weights_refusal, with_commas};
 ghost use Rattle.program.specs.Refusals.{IsSystemRefusal};
+ghost use Rattle.trace_files.specs.Builds.{AreBuilds};
 
 use arrayvec::ArrayVec;
 use ballots::Weights;
-use dpbn_words::Files as Words;
+use dpbn_words::Files;
 use program::Refusal;
 use protocol::Packages;
 use stable_record::FileDisk;
 use std::alloc::{AllocError, Global};
-use std::fs;
-use std::rt::Files;
-use traces::read_builds;
+use trace_files::builds_of_file;
 
 /// What nodes build from, and what their members weigh.
 #[derive(Drop)]
@@ -27,7 +26,7 @@ pub struct Given {
 /// # Errors
 ///
 /// That of the builds; else that of the weights.
-pub fn given_of_words(rt: &HostRuntime, files: &Words<'_>) -> Result<Given, Refusal>
+pub fn given_of_words(rt: &HostRuntime, files: &Files<'_>) -> Result<Given, Refusal>
     requires few { files.now.members ≤ 9 }
     ensures builds { IfOk result (λ given. AreBuilds given.builds) }
     ensures weights { IfOk result (λ given.
@@ -37,22 +36,6 @@ pub fn given_of_words(rt: &HostRuntime, files: &Words<'_>) -> Result<Given, Refu
     let builds = builds_of_file(rt, files.builds)?;
     let weights = weights_of_words(rt.alloc(), files.members, files.weights)?;
     Ok(Given { builds, weights })
-}
-
-/// The files for package paths, which stand as JSON in a file of this name.
-///
-/// # Errors
-///
-/// What the system refused; else the text's fault.
-fn builds_of_file<R: Files + AllocGlobal>(rt: &R, builds: &str) -> Result<Packages, Refusal>
-    ensures ok { IfOk result AreBuilds }
-    ensures refused { IfErr result RefusesBuilds }
-{
-    let text = fs::read(rt, builds)?;
-    match read_builds(rt.alloc(), text.as_slice()) {
-        Ok(builds) => Ok(builds),
-        Err(fault) => Err(Refusal::of(&fault)),
-    }
 }
 
 /// What so many members weigh: 1 each, unless it is told, with commas between the weights.

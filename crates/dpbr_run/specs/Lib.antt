@@ -1,4 +1,3 @@
 pub mod ListLaws
 pub mod Run
-pub mod Traces
 pub mod shared

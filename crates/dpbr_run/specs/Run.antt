@@ -1,6 +1,5 @@
 -- What `dpbr run` prints.
 use Rattle.std.specs.Prelude.{◌≡◌, ◌⊎◌, ◌++◌, ℕ, Bool, List, Option, None, Some, Ok, flat_map, if◌then◌else◌, length, slice_get}
-use Rattle.dpbr_run.specs.Traces.{RefusesText}
 use Rattle.engine.specs.State.{State}
 use Rattle.faults.specs.Bytes.{Text}
 use Rattle.listing.specs.Listing.{Rules, tree_of}
@@ -14,6 +13,7 @@ use Rattle.protocol.specs.State.{engine_of}
 use Rattle.running.specs.Faults as runs
 use Rattle.running.specs.History.{IsHistory, IsRunFault, History, taken}
 use Rattle.running.specs.declared.run_fault.RunFault.{RunFault}
+use Rattle.trace_files.specs.Traces.{RefusesText}
 use Rattle.traces.specs.Trace.{Trace, trace_of}
 use Rattle.world.specs.World.{World, WorldNode, member_at}
 

@@ -1,16 +1,14 @@
 //! The answer of `dpbr run` to its files.
 ghost use Rattle.std.specs.Prelude.{◌≡◌, IfErr, IfOk};
 ghost use Rattle.dpbr_run.specs.Run.{IsRun, IsRunOf, RefusesRunFiles, RefusesTrace};
-ghost use Rattle.dpbr_run.specs.Traces.{IsSpelledAt, RefusesTraceAt};
 ghost use Rattle.faults.specs.Bytes.{Text};
 ghost use Rattle.program.specs.Files.{RefusesAt};
-ghost use Rattle.traces.specs.Faults.{trace_view};
 
-use crate::text::{run_of_events, trace_of_text};
+use crate::text::run_of_events;
 use listing::Tree;
 use program::{Answer, NamedTexts, Refusal, tree_of_name};
 use std::alloc::Global;
-use traces::Trace;
+use trace_files::trace_of_name;
 
 /// The answer to the listing and the trace of these names. The listing is read before the trace.
 pub fn run_of_files<T: NamedTexts>(
@@ -45,18 +43,4 @@ fn run_in_file<T: NamedTexts>(
     let trace = trace_of_name(texts, alloc, trace)?;
     let text = run_of_events(alloc, tree, trace)?;
     Ok(Answer { text, status: 0 })
-}
-
-/// The trace of this name. Its text is let go of before the trace is run.
-///
-/// # Errors
-///
-/// What the system refused; else the trace's fault.
-pub fn trace_of_name<T: NamedTexts>(texts: &T, alloc: Global, trace: &str) -> Result<Trace, Refusal>
-    ensures ok { IfOk result
-        (λ read. IsSpelledAt (T.gave texts.now) trace.now (trace_view read)) }
-    ensures refused { IfErr result (RefusesTraceAt (T.gave texts.now) trace.now) }
-{
-    let text = texts.read(trace)?;
-    trace_of_text(alloc, text.as_slice())
 }

@@ -7,8 +7,8 @@ mod laws;
 mod text;
 mod texts;
 
-pub use crate::files::{run_of_files, trace_of_name};
+pub use crate::files::run_of_files;
 pub use crate::laws::printed_lists_are_read;
-pub use crate::text::{run_of_trace, run_text, trace_of_text};
+pub use crate::text::{run_of_trace, run_text};
 pub use crate::texts::run_of_texts;
 pub use running::{RunFault, World, run};

@@ -1,7 +1,6 @@
 //! The text of `dpbr run`.
 ghost use Rattle.std.specs.Prelude.{◌≡◌, ◌⊎◌, IfErr, IfOk, Ok, length, string_bytes};
 ghost use Rattle.dpbr_run.specs.Run.{IsNodeLine, IsOutcome, IsRunOf, RefusesEvent, RefusesTrace};
-ghost use Rattle.dpbr_run.specs.Traces.{RefusesText};
 ghost use Rattle.dpbr_run.specs.shared.NodeLines.{HasNodeLines};
 ghost use Rattle.faults.specs.Bytes.{Text};
 ghost use Rattle.program.specs.Refusals.{memory_refusal};
@@ -14,7 +13,8 @@ use lists::put_list;
 use program::{Refusal, node_text};
 use running::{World, run};
 use std::alloc::{AllocError, Global};
-use traces::{Trace, read_trace};
+use trace_files::trace_of_text;
+use traces::Trace;
 
 /// What is printed once the trace was run: for each node how many packages have each letter, or
 /// that it is down, a line each; and then the agreed list.
@@ -29,17 +29,6 @@ pub fn run_of_trace(alloc: Global, tree: &Tree, trace: &[u8]) -> Result<Vec<u8>,
 {
     let trace = trace_of_text(alloc, trace)?;
     run_of_events(alloc, tree, trace)
-}
-
-/// The trace that the text is.
-pub fn trace_of_text(alloc: Global, trace: &[u8]) -> Result<Trace, Refusal>
-    ensures ok { IfOk result (λ read. trace_of trace.now ≡ Ok (trace_view read)) }
-    ensures refused { IfErr result (RefusesText trace.now) }
-{
-    match read_trace(alloc, trace) {
-        Ok(read) => Ok(read),
-        Err(fault) => Err(Refusal::of(&fault)),
-    }
 }
 
 /// The same of a trace that was read.

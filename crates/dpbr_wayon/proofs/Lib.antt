@@ -1,4 +1,3 @@
-mod GivenFiles
 mod Growing
 mod JustGiven
 mod ReadAgain

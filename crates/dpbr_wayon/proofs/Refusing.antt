@@ -1,8 +1,6 @@
 -- What is told of texts, which have names or not.
 use Rattle.std.proofs.Common.{◌≡◌, ◌⊎◌, ℕ, Some, Ok, Err, inl, inr, ap, refl}
-use Rattle.dpbr_run.specs.Traces.{IsSpelledAt}
-use Rattle.dpbr_wayon.specs.Refusals.{RefusesBehind, RefusesBuilds, RefusesGiven, RefusesNamed, RefusesPath, RefusesTaken, path_refusal}
-use Rattle.dpbr_wayon.specs.WayOn.{AreSpelledAt}
+use Rattle.dpbr_wayon.specs.Refusals.{RefusesBehind, RefusesGiven, RefusesNamed, RefusesPath, RefusesTaken, path_refusal}
 use Rattle.faults.specs.Bytes.{Text}
 use Rattle.listing.specs.Tree.{Tree}
 use Rattle.pkgpath.specs.PkgPath.{path_of}
@@ -12,6 +10,8 @@ use Rattle.program.specs.Files.{RefusesAt}
 use Rattle.program.specs.Refusals.{memory_refusal}
 use Rattle.program.specs.declared.refusal.Refusal.{Refusal}
 use Rattle.protocol.specs.Given.{Given}
+use Rattle.trace_files.specs.Builds.{AreSpelledAt, RefusesBuilds}
+use Rattle.trace_files.specs.Traces.{IsSpelledAt}
 use Rattle.traces.specs.Builds.{builds_of}
 use Rattle.traces.specs.Trace.{Trace}
 

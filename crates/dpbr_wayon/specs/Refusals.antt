@@ -1,7 +1,5 @@
 -- What is told where `dpbr wayon` prints no trace.
 use Rattle.std.specs.Prelude.{◌≡◌, ◌⊎◌, ℕ, Bool, None, Some, Ok, Err}
-use Rattle.dpbr_run.specs.Run.{run_refusal}
-use Rattle.dpbr_run.specs.Traces.{IsSpelledAt, RefusesTraceAt}
 use Rattle.dpbr_wayon.specs.WayOn.{handed_over}
 use Rattle.faults.specs.Bytes.{Text}
 use Rattle.listing.specs.Tree.{Tree}
@@ -12,8 +10,11 @@ use Rattle.program.specs.Files.{RefusesAt}
 use Rattle.program.specs.Listings.{IsDescribedAt, RefusesListingAt}
 use Rattle.program.specs.declared.refusal.Refusal.{Refusal}
 use Rattle.protocol.specs.Given.{Given}
+use Rattle.running.specs.Faults as runs
 use Rattle.running.specs.History.{History, IsHistory, IsRunFault, taken}
 use Rattle.running.specs.declared.run_fault.RunFault.{RunFault}
+use Rattle.trace_files.specs.Builds.{RefusesBuilds}
+use Rattle.trace_files.specs.Traces.{IsSpelledAt, RefusesTraceAt}
 use Rattle.traces.specs.Builds.{builds_of}
 use Rattle.traces.specs.Trace.{Trace}
 use Rattle.way.specs.Asked.{HasNoWay}
@@ -31,14 +32,6 @@ path_refusal f = record { number = paths.number_of f; place = None }
 abbrev pub RefusesPath : Text → Refusal → Type 0
 RefusesPath path r = (f : PathFault) × (path_of path ≡ Err f) × (r ≡ path_refusal f)
 
--- how a text is told that gives no files for paths: as a trace that is bad outside its events
-abbrev pub builds_refusal : Refusal
-builds_refusal = record { number = 1305; place = Some 0 }
-
--- what is told of a text that gives no files for paths
-abbrev pub RefusesBuilds : Text → Refusal → Type 0
-RefusesBuilds builds r = (builds_of builds ≡ None) × (r ≡ builds_refusal)
-
 -- ---- of a trace that was read
 
 -- what is told of a world in which no way is told: the reason, which has no place
@@ -48,11 +41,11 @@ pub record RefusesWay (w : World) (node : ℕ) (path : Text) (host : ℕ) (given
   pub is_fault : HasNoWay w node path host given fault
   pub told : r ≡ record { number = ways.number_of fault; place = None }
 
--- what is told of the first event that is refused
+-- what is told of the first event that is refused: the reason, and the event's number
 pub record RefusesEvents (tree : Tree) (trace : Trace) (r : Refusal) : Type 0 where
   pub fault : RunFault
   pub is_fault : IsRunFault tree trace.weights trace.events fault.event fault.fault
-  pub told : r ≡ run_refusal fault
+  pub told : r ≡ record { number = runs.number_of fault; place = fault.event }
 
 -- the events lead from the start over the tree to a world, and this is told of that
 pub record RefusesAfter (tree : Tree) (trace : Trace) (node : ℕ) (path : Text) (host : ℕ)

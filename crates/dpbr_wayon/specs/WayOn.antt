@@ -82,7 +82,3 @@ pub record IsWayOn (Gave : Text → Text → Type 0) (listing_name trace_name bu
   pub tree : Tree
   pub described : IsDescribedAt Gave listing_name is_single tree
   pub has_way_on : HasWayOn Gave trace_name builds_name tree node path host text
-
--- a read of this name gave a text that has these files for paths
-abbrev pub AreSpelledAt : (Text → Text → Type 0) → Text → Given → Type 0
-AreSpelledAt Gave name given = (builds : Text) × Gave name builds × (builds_of builds ≡ Some given)

@@ -1,17 +1,15 @@
 //! The answer of `dpbr wayon` to its files.
 ghost use Rattle.std.specs.Prelude.{◌≡◌, IfErr, IfOk};
-ghost use Rattle.dpbr_wayon.specs.Refusals.{RefusesBehind, RefusesBuilds, RefusesWayOn};
-ghost use Rattle.dpbr_wayon.specs.WayOn.{AreSpelledAt, HasWayOn, IsWayOn};
-ghost use Rattle.program.specs.Files.{RefusesAt};
+ghost use Rattle.dpbr_wayon.specs.Refusals.{RefusesBehind, RefusesWayOn};
+ghost use Rattle.dpbr_wayon.specs.WayOn.{HasWayOn, IsWayOn};
 
-use crate::reading::{builds_of_text, path_of_text};
+use crate::reading::path_of_text;
 use crate::target::Target;
 use crate::text::way_of_events;
-use dpbr_run::trace_of_name;
 use listing::Tree;
 use program::{Answer, NamedTexts, Refusal, tree_of_name};
-use protocol::Packages;
 use std::alloc::Global;
+use trace_files::{builds_of_name, trace_of_name};
 
 /// The answer to the listing, the trace and the files for paths of these names. Each is read before
 /// the next, and the path of the target before the last of them.
@@ -54,21 +52,4 @@ fn wayon_in_files<T: NamedTexts>(
     let builds = builds_of_name(texts, alloc, builds)?;
     let text = way_of_events(alloc, tree, trace, target.node, &path, target.host, &builds)?;
     Ok(Answer { text, status: 0 })
-}
-
-/// The files for paths that the text of this name gives.
-///
-/// # Errors
-///
-/// What the system refused; else the text's fault.
-fn builds_of_name<T: NamedTexts>(
-    texts: &T,
-    alloc: Global,
-    builds: &str,
-) -> Result<Packages, Refusal>
-    ensures ok { IfOk result (AreSpelledAt (T.gave texts.now) builds.now) }
-    ensures refused { IfErr result (RefusesAt (T.gave texts.now) builds.now RefusesBuilds) }
-{
-    let text = texts.read(builds)?;
-    builds_of_text(alloc, text.as_slice())
 }

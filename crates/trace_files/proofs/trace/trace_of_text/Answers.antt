@@ -1,4 +1,4 @@
-use Rattle.dpbr_run.proofs.text.trace_of_text.Goals as goal
+use Rattle.trace_files.proofs.trace.trace_of_text.Goals as goal
 
 pub returns-in-Err-clause-refused : goal.returns-in-Err-clause-refused
 returns-in-Err-clause-refused c = (

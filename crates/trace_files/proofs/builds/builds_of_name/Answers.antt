@@ -1,8 +1,8 @@
 use Rattle.std.proofs.Common.{subst, sym}
 use Rattle.std.proofs.lemmas.Result.{IfErr-weaker, IfOk-weaker}
-use Rattle.dpbr_wayon.specs.Refusals.{RefusesBuilds}
 use Rattle.program.proofs.Refusing.{text_read}
-use Rattle.dpbr_wayon.proofs.files.builds_of_name.Goals as goal
+use Rattle.trace_files.specs.Builds.{RefusesBuilds}
+use Rattle.trace_files.proofs.builds.builds_of_name.Goals as goal
 
 pub returns-clause-ok : goal.returns-clause-ok
 returns-clause-ok g c =

@@ -1,0 +1,17 @@
+-- What builds are read from, whatever name it has.
+use Rattle.std.proofs.Common.{inl, inr}
+use Rattle.faults.specs.Bytes.{Text}
+use Rattle.program.specs.Files.{RefusesAt}
+use Rattle.program.specs.declared.refusal.Refusal.{Refusal}
+use Rattle.protocol.specs.Given.{Given}
+use Rattle.trace_files.specs.Builds.{AreBuilds, AreSpelledAt, RefusesBuilds, RefusesBuildsFile}
+
+module _ (Gave : Text → Text → Type 0) (name : Text) where
+  -- what a read of the name gave names the builds
+  pub are_builds : (given : Given) → AreSpelledAt Gave name given → AreBuilds given
+  are_builds given (builds, gave, are) = (builds, are)
+
+  -- and so is it told that it names none
+  pub refused : (r : Refusal) → RefusesAt Gave name RefusesBuilds r → RefusesBuildsFile r
+  refused r (inl system) = inl system
+  refused r (inr (builds, gave, told)) = inr (builds, told)

@@ -1,0 +1,57 @@
+//! The builds that a text names.
+ghost use Rattle.std.specs.Prelude.{◌≡◌, ◌⊎◌, IfErr, IfOk, Some};
+ghost use Rattle.program.specs.Files.{RefusesAt};
+ghost use Rattle.program.specs.Refusals.{memory_refusal};
+ghost use Rattle.trace_files.specs.Builds.{
+  AreBuilds,
+  AreSpelledAt,
+  RefusesBuilds,
+  RefusesBuildsFile,
+};
+ghost use Rattle.traces.specs.Builds.{builds_of};
+
+use program::{NamedTexts, Refusal, SystemFiles};
+use protocol::Packages;
+use std::alloc::Global;
+use std::rt::Files;
+use traces::read_builds;
+
+/// The files that the text gives for paths.
+pub fn builds_of_text(alloc: Global, builds: &[u8]) -> Result<Packages, Refusal>
+    ensures ok { IfOk result (λ given. builds_of builds.now ≡ Some given) }
+    ensures refused { IfErr result (λ r. (r ≡ memory_refusal) ⊎ RefusesBuilds builds.now r) }
+{
+    match read_builds(alloc, builds) {
+        Ok(given) => Ok(given),
+        Err(fault) => Err(Refusal::of(&fault)),
+    }
+}
+
+/// The files for paths that the text of this name gives.
+///
+/// # Errors
+///
+/// What the system refused; else the text's fault.
+pub fn builds_of_name<T: NamedTexts>(
+    texts: &T,
+    alloc: Global,
+    builds: &str,
+) -> Result<Packages, Refusal>
+    ensures ok { IfOk result (AreSpelledAt (T.gave texts.now) builds.now) }
+    ensures refused { IfErr result (RefusesAt (T.gave texts.now) builds.now RefusesBuilds) }
+{
+    let text = texts.read(builds)?;
+    builds_of_text(alloc, text.as_slice())
+}
+
+/// The files for package paths, which stand as JSON in a file of this name.
+///
+/// # Errors
+///
+/// What the system refused; else the text's fault.
+pub fn builds_of_file<R: Files + AllocGlobal>(rt: &R, builds: &str) -> Result<Packages, Refusal>
+    ensures ok { IfOk result AreBuilds }
+    ensures refused { IfErr result RefusesBuildsFile }
+{
+    builds_of_name(&SystemFiles::of(rt), rt.alloc(), builds)
+}
