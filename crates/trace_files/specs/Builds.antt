@@ -6,7 +6,7 @@ use Rattle.program.specs.declared.refusal.Refusal.{Refusal}
 use Rattle.protocol.specs.Given.{Given}
 use Rattle.traces.specs.Builds.{builds_of}
 
--- they stand in some text
+-- these builds stand in some text
 abbrev pub AreBuilds : Given → Type 0
 AreBuilds builds = (text : Text) × (builds_of text ≡ Some builds)
 
