@@ -1,14 +1,13 @@
 -- What a turn asks of a node that is up in a world is an event; what an event asks, a turn asks.
-use Rattle.std.proofs.Common.{◌≡◌, ℕ, zero, suc, Bool, true, false, not, ◌&&◌, nat_le, List, [], ◌∷◌, Option, None, Some, length, slice_get, refl, sym, ap, subst, ◌∙◌, arith}
-use Rattle.std.specs.Prelude.{Contains}
+use Rattle.std.proofs.Common.{◌≡◌, ℕ, Bool, true, false, not, ◌&&◌, nat_le, [], ◌∷◌, Option, None, Some, length, slice_get, refl, sym, ap, subst, ◌∙◌}
 use Rattle.std.proofs.lemmas.Bool.{lt-leb}
 use Rattle.std.proofs.lemmas.Option.{slice_get-get_or, slice_get_within}
 use Rattle.events.specs.Events.{Event, Ask, Built, Claim, Deliver, Failed, Nudge, Restart, Stop, StopIn, is_step, node_of}
 use Rattle.faults.specs.Answers.{first_that_applies}
-use Rattle.hosts.proofs.Places.{some_same}
 use Rattle.hosts.specs.Hosts.{IsOfATurn, WasOffered}
 use Rattle.node.specs.Step.{Asked, Comes, Does, IsAsked}
 use Rattle.protocol.specs.declared.input.Input.TheVariants as inputs
+use Rattle.world.proofs.Foreign.{get_contains}
 use Rattle.world.specs.Happening.{Asks, Happens, Steps, fault_before, is_up, up_of}
 use Rattle.world.specs.World.{World, WorldNode}
 use Rattle.world.specs.declared.fault.WorldFault.{WorldFault}
@@ -134,13 +133,6 @@ asks_turn w (StopIn e l) asked step asks can =
     absurd (let no : false ≡ true = step in cc)
 asks_turn w (Restart n) asked step asks can = absurd asks
 
--- what stands at a place is contained
-stands_in : {X : Type 0} (xs : List X) (k : ℕ) (x : X) → slice_get xs k ≡ Some x → Contains xs x
-stands_in [] k x at = absurd (let no : None ≡ Some x = at in cc)
-stands_in (y ∷ ys) zero x at = (zero, omega arith, some_same y x at)
-stands_in (y ∷ ys) (suc k) x at =
-    let rest = stands_in ys k x at in (suc rest.0, omega (arith, rest.1), rest.2)
-
 -- and what comes was sent
 pub asks_sent : (w : World) (e : Event) (asked : Asked) → is_step e ≡ true → Asks w e asked
     → WasOffered w.sent asked
@@ -150,7 +142,7 @@ asks_sent w (Failed n path) asked step asks = subst (WasOffered w.sent) (sym ask
 asks_sent w (Nudge n) asked step asks = subst (WasOffered w.sent) (sym asks) tt
 asks_sent w (Ask n path) asked step asks = subst (WasOffered w.sent) (sym asks) tt
 asks_sent w (Deliver d n) asked step (text, at, asks) =
-    subst (WasOffered w.sent) (sym asks) (stands_in w.sent d text at)
+    subst (WasOffered w.sent) (sym asks) (get_contains w.sent d text at)
 asks_sent w (Stop n) asked step asks = absurd asks
 asks_sent w (StopIn e l) asked step asks = absurd (let no : false ≡ true = step in cc)
 asks_sent w (Restart n) asked step asks = absurd asks

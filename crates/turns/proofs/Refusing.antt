@@ -1,6 +1,7 @@
 -- What a node of a cluster refuses, its world refuses, and no node refuses what was sent.
 use Rattle.std.proofs.Common.{◌≡◌, ◌≤◌, ℕ, true, false, List, Option, None, Some, Result, Ok, Err, length, refl, sym, ap, subst, ◌∙◌, arith, inr, true≢false, if◌then◌else◌}
 use Rattle.std.specs.Prelude.{is_some}
+use Rattle.choosing.proofs.Eventful.{sent_is}
 use Rattle.choosing.specs.Choosing.{NoneIsForeign, RefusesAt}
 use Rattle.choosing.specs.Events.{event_of}
 use Rattle.events.specs.Events.{Event}
@@ -21,7 +22,7 @@ use Rattle.protocol.specs.Answers.{Answer}
 use Rattle.protocol.specs.State.{State}
 use Rattle.protocol.specs.Step as members
 use Rattle.protocol.specs.declared.refusal.Refusal.{Refusal}
-use Rattle.turns.proofs.EventOf.{IsEventOf, event_is, sent_is}
+use Rattle.turns.proofs.EventOf.{IsEventOf, event_is}
 use Rattle.turns.proofs.Standing.{hosted, led_there, made_there}
 use Rattle.turns.specs.State.{ClusterState, IsWorldOf, taken}
 use Rattle.wire.specs.Reading.{datagram_of}
