@@ -68,9 +68,9 @@ def definitions(path):
 
 
 def meaning():
-    """The files of specs/ that say what is meant; what only bodies and proofs need stands below specs/inside/."""
+    """The files of specs/ that say what is meant; what only bodies and proofs need stands below specs/inside/ and specs/shared/."""
     for path in sorted(glob.glob(f"{TOP}/crates/*/specs/**/*.antt", recursive=True)):
-        if "/specs/inside/" not in path and not path.endswith("/Lib.antt"):
+        if not re.search(r"/specs/(inside|shared)[/.]|/Lib\.antt$", path):
             yield path
 
 
@@ -230,24 +230,32 @@ def counted(tally):
 
 
 def cited(crate):
-    """What files of a crate cite of other crates: the kind of each file (src, specs, proofs), the crate, and the module there."""
-    for kind in ("src", "specs", "proofs"):
-        for path in glob.glob(f"{TOP}/crates/{crate}/{kind}/**/*", recursive=True):
-            if path.endswith((".rt", ".antt")):
-                for other, module in set(re.findall(r"\bRattle\.(\w+)\.(proofs|specs\.inside)\b", contents(path).decode())):
-                    if other != crate:
-                        yield kind, path, other, module
+    """What files of a crate cite of other crates' proofs and of their definitions for bodies: the file, the crate, and the module there."""
+    for path in glob.glob(f"{TOP}/crates/{crate}/**/*", recursive=True):
+        if path.endswith((".rt", ".antt")) and "/out/" not in path:
+            for other, module in set(re.findall(r"\bRattle\.(\w+)\.(proofs\.\w+|specs\.inside)\b", contents(path).decode())):
+                if other != crate:
+                    yield path, other, module
 
 
 def leaning(tally):
-    """docs/MAP.md says how often crates lean on more than the public clauses of those below."""
+    """Crates cite no definitions of others that only bodies and proofs there need, and of their lemmas those that are public: these are,
+    and no others. docs/MAP.md says how many that are, and in how many pairs of crates."""
     named = crates()
-    found = [(crate, *it) for crate in named for it in cited(crate) if it[2] in named]
-    pairs = {(crate, other) for crate, _, _, other, module in found if module == "proofs"}
-    inside = {kind: {path for _, it, path, _, module in found if (it, module) == (kind, "specs.inside")} for kind in ("src", "specs")}
-    counts = len(pairs), sum(map(len, named.values())), len(inside["src"]), len(inside["specs"])
-    form = r"in (\d+) of the (\d+) pairs of crates.*?and (\d+) sources and (\d+) files of\s+definitions"
-    told = re.search(form, contents(f"{TOP}/docs/MAP.md").decode(), re.DOTALL)
+    found = [(crate, *it) for crate in named for it in cited(crate) if it[1] in named]
+    inside = sorted({os.path.relpath(path, TOP) for _, path, _, module in found if module == "specs.inside"})
+    tally.add("specs/inside", f"{inside} cite what stands there in another crate" if inside else "")
+    files = public = 0
+    for crate in named:
+        path = f"{TOP}/crates/{crate}/proofs/Lib.antt"
+        mods = re.findall(r"^(pub )?mod (\w+)$", contents(path).decode(), re.MULTILINE) if os.path.exists(path) else []
+        open_to_all = {mod for pub, mod in mods if pub}
+        wanted = {module.removeprefix("proofs.") for _, _, other, module in found if other == crate and module != "specs.inside"}
+        files, public = files + len(mods), public + len(open_to_all)
+        tally.add(f"crates/{crate}/proofs/Lib.antt", f"{sorted(open_to_all ^ wanted)} are public and cited by no other crate" if open_to_all != wanted else "")
+    pairs = {(crate, other) for crate, _, other, module in found if module != "specs.inside"}
+    counts = public, files, len(pairs), sum(map(len, named.values()))
+    told = re.search(r"(\d+)\s+of\s+the\s+(\d+)\s+files\s+of\s+lemmas.*?(\d+)\s+of\s+the\s+(\d+)\s+pairs\s+of\s+crates", contents(f"{TOP}/docs/MAP.md").decode(), re.DOTALL)
     tally.add("docs/MAP.md, what it counts", "" if told and tuple(map(int, told.groups())) == counts else f"{told and told.groups()}, and there are {counts}")
 
 

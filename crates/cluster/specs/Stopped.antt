@@ -1,5 +1,5 @@
 -- Why the program stops before its lines are printed, and what it has written then.
-use Rattle.std.specs.Prelude.{◌≡◌, ◌≤◌, ◌⊎◌, ⊤, ℕ, List, Option, codes}
+use Rattle.std.specs.Prelude.{◌≡◌, ◌≤◌, ◌⊎◌, ⊤, ℕ, List, Option}
 use Rattle.std.specs.Io.KnownBytes.{Keeps}
 use Rattle.clap.specs.Words.{IsAmong, Text as Word, kind_of}
 use Rattle.cluster.specs.Printed.{HasBegun}
@@ -9,7 +9,7 @@ use Rattle.dpbn_words.specs.Calls.{AreTaken, IsCallOf, faults_of, matched}
 use Rattle.dpbn_words.specs.declared.Call.{Call}
 use Rattle.dpbn_words.specs.declared.Call.TheVariants.{Build, Cluster, Key, Node}
 use Rattle.program.specs.Refusals.{IsSystemRefusal, device_refusal, memory_refusal}
-use Rattle.program.specs.Stops.{IsBegun, status_after}
+use Rattle.program.specs.Stops.{status_after}
 use Rattle.program.specs.declared.refusal.Refusal.{Refusal}
 use Rattle.program.specs.declared.stop.Stop.{Stop}
 use Rattle.program.specs.declared.stop.Stop.TheVariants.{Refused, Unwritten, WrongWords}
@@ -52,11 +52,8 @@ HasStopped words (Refused r) before after =
     ((r ≡ memory_refusal) × Keeps before after) ⊎ HasFailedAt words (Refused r) before after
 HasStopped words (Unwritten r) before after = HasFailedAt words (Unwritten r) before after
 
--- The program stopped, and not for its words. What was told ends in a beginning of the one line
--- that tells why, which may be empty: that says nothing of what was written.
-pub record HasFailed (words : List Word) (before after told_after : Option (List ℕ)) : Type 0 where
+-- the program stopped, and not for its words
+pub record HasFailed (words : List Word) (before after : Option (List ℕ)) : Type 0 where
   pub stop : Stop
   pub status : status_after stop ≡ 1
   pub stopped : HasStopped words stop before after
-  pub told_before : Option (List ℕ)
-  pub told : IsBegun (codes "dpbn") stop told_before told_after

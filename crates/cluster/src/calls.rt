@@ -39,7 +39,7 @@ pub fn dpbn_main<O: Write, E: Write>(
     ensures unheld { result ≡ 3 → HasCarriedOut (map string_bytes words.now) 3 (O.contents out.old)
         (O.contents out.new) }
     ensures fault { result ≡ 1 → HasFailed (map string_bytes words.now) (O.contents out.old)
-        (O.contents out.new) (E.contents err.new) }
+        (O.contents out.new) }
     ensures wrong_words { result ≡ 2 → ¬ AreTaken (map string_bytes words.now) }
     ensures quiet { result ≡ 2 → Keeps (O.contents out.old) (O.contents out.new) }
 {

@@ -34,7 +34,8 @@ package_of_bare group path n = record {
 
 -- each path with its bare package
 abbrev pub packages_of : (Text → Text) → List Text → List BarePackage → Tree
-packages_of group paths bare_packages = map (λ e. package_of_bare group e.0 e.1) (zip paths bare_packages)
+packages_of group paths bare_packages =
+    map (λ e. package_of_bare group e.0 e.1) (zip paths bare_packages)
 
 -- what a variable is set to, or the empty text where it isn't set
 abbrev pub text_of_value : Option Value → Text
@@ -111,7 +112,8 @@ is_marked_by resolutions row = not (is_empty (text_of_value row.ignore))
     && are_met resolutions (numbers_of_value row.run))
 
 -- the bare package says of a row's package what these resolutions say of its dependencies
-pub record IsBarePackageOf (resolutions : List Resolution) (row : Row) (n : BarePackage) : Type 0 where
+pub record IsBarePackageOf (resolutions : List Resolution) (row : Row)
+    (n : BarePackage) : Type 0 where
   pub name : name_in row ≡ Some n.name
   pub build : IsSetOf n.build.items
       (listed_positions resolutions (numbers_of_value row.build)
@@ -134,4 +136,5 @@ resolutions_in table = map (resolution_of_word table.paths.keys table.rows.items
 
 -- the bare packages are those of the table's rows
 abbrev pub AreBarePackagesOfTable : Table → List BarePackage → Type 0
-AreBarePackagesOfTable table bare_packages = AreBarePackagesOf (resolutions_in table) table.rows.items bare_packages
+AreBarePackagesOfTable table bare_packages =
+    AreBarePackagesOf (resolutions_in table) table.rows.items bare_packages
