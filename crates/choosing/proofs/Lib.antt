@@ -2,7 +2,7 @@ mod Arrivals
 mod ByCase
 mod Choosings
 mod Elsewhere
-mod Eventful
+pub mod Eventful
 mod FirstOwn
 mod Firsts
 mod Going

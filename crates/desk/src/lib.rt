@@ -4,7 +4,6 @@
 
 mod away;
 mod desk;
-mod free;
 mod pace;
 mod posted;
 mod reading;

@@ -1,12 +1,13 @@
--- What a turn asks of a node that is up in a world is an event.
-use Rattle.std.proofs.Common.{◌≡◌, ℕ, Bool, true, false, not, ◌&&◌, nat_le, [], ◌∷◌, Option, None, Some, length, slice_get, refl, ap, ◌∙◌}
+-- What a turn asks of a node that is up in a world is an event; what an event asks, a turn asks.
+use Rattle.std.proofs.Common.{◌≡◌, ℕ, Bool, true, false, not, ◌&&◌, nat_le, [], ◌∷◌, Option, None, Some, length, slice_get, refl, sym, ap, subst, ◌∙◌}
 use Rattle.std.proofs.lemmas.Bool.{lt-leb}
 use Rattle.std.proofs.lemmas.Option.{slice_get-get_or, slice_get_within}
-use Rattle.events.specs.Events.{Event, Ask, Built, Claim, Deliver, Failed, Nudge, is_step, node_of}
+use Rattle.events.specs.Events.{Event, Ask, Built, Claim, Deliver, Failed, Nudge, Restart, Stop, StopIn, is_step, node_of}
 use Rattle.faults.specs.Answers.{first_that_applies}
 use Rattle.hosts.specs.Hosts.{IsOfATurn, WasOffered}
 use Rattle.node.specs.Step.{Asked, Comes, Does, IsAsked}
 use Rattle.protocol.specs.declared.input.Input.TheVariants as inputs
+use Rattle.world.proofs.Foreign.{get_contains}
 use Rattle.world.specs.Happening.{Asks, Happens, Steps, fault_before, is_up, up_of}
 use Rattle.world.specs.World.{World, WorldNode}
 use Rattle.world.specs.declared.fault.WorldFault.{WorldFault}
@@ -114,3 +115,34 @@ module _ (w : World) (k : ℕ) (x : WorldNode) (stands : slice_get w.nodes k ≡
     },
   )
   event_of (Does (inputs.Message m)) is came = absurd is
+
+-- ---- what an event asks
+
+-- a step asks for something of a turn
+pub asks_turn : (w : World) (e : Event) (asked : Asked) → is_step e ≡ true → Asks w e asked
+    → IsAsked asked → IsOfATurn asked
+asks_turn w (Claim n path host above) asked step asks can =
+    subst IsOfATurn (sym asks) (subst IsAsked asks can)
+asks_turn w (Built n path packages) asked step asks can = subst IsOfATurn (sym asks) tt
+asks_turn w (Failed n path) asked step asks can = subst IsOfATurn (sym asks) tt
+asks_turn w (Nudge n) asked step asks can = subst IsOfATurn (sym asks) tt
+asks_turn w (Ask n path) asked step asks can = subst IsOfATurn (sym asks) tt
+asks_turn w (Deliver d n) asked step (text, at, asks) can = subst IsOfATurn (sym asks) tt
+asks_turn w (Stop n) asked step asks can = absurd asks
+asks_turn w (StopIn e l) asked step asks can =
+    absurd (let no : false ≡ true = step in cc)
+asks_turn w (Restart n) asked step asks can = absurd asks
+
+-- and what comes was sent
+pub asks_sent : (w : World) (e : Event) (asked : Asked) → is_step e ≡ true → Asks w e asked
+    → WasOffered w.sent asked
+asks_sent w (Claim n path host above) asked step asks = subst (WasOffered w.sent) (sym asks) tt
+asks_sent w (Built n path packages) asked step asks = subst (WasOffered w.sent) (sym asks) tt
+asks_sent w (Failed n path) asked step asks = subst (WasOffered w.sent) (sym asks) tt
+asks_sent w (Nudge n) asked step asks = subst (WasOffered w.sent) (sym asks) tt
+asks_sent w (Ask n path) asked step asks = subst (WasOffered w.sent) (sym asks) tt
+asks_sent w (Deliver d n) asked step (text, at, asks) =
+    subst (WasOffered w.sent) (sym asks) (get_contains w.sent d text at)
+asks_sent w (Stop n) asked step asks = absurd asks
+asks_sent w (StopIn e l) asked step asks = absurd (let no : false ≡ true = step in cc)
+asks_sent w (Restart n) asked step asks = absurd asks

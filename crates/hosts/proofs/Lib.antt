@@ -1,4 +1,5 @@
 mod Asking
+mod Becoming
 mod Events
 mod Holding
 mod Mirrored

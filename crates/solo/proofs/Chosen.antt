@@ -47,6 +47,12 @@ members_here n is k s at = by (k == n.member.me) n.stopped at
 abbrev pub came_of : Option (ℕ × Vec ℕ Global) → Arrived
 came_of o = option_map (λ d. (d.0, d.1.items)) o
 
+-- where nothing is made ready of a choice, it was to do nothing
+pub nothing_taken : {D : Type 0} (m : LoggedNode D) (chosen : Chosen) → IsMade m chosen None
+    → chosen ≡ None
+nothing_taken m None made = refl
+nothing_taken m (Some x) made = absurd made
+
 -- what is told of a node that stayed is told of the node before
 module _ {D : Type 0} (m n : LoggedNode D) (stays : m ≡ n) (new : LoggedNode D)
     (came : Arrived) where
@@ -167,16 +173,6 @@ module _ {D P : Type 0} (given : P → Option (List Arrived)) (does : P → Call
         no_memory memory = wants (t.leaves ∙ ap (left_by n (Comes t.text)) memory) f
             (t.tells ∙ ap told memory)
 
-    -- nothing was taken
-    nothing_came : IsMade old.node (comes_to (only n) came) None
-        → comes_to (only n) came ≡ None
-    nothing_came made = by (comes_to (only n) came) refl made
-      where
-        by : (c : Chosen) → comes_to (only n) came ≡ c → IsMade old.node c None
-            → comes_to (only n) came ≡ None
-        by None e made = e
-        by (Some x) e made = absurd made
-
     -- ---- what it does of itself
 
     module _ (nothing : IsMade old.node (comes_to (only n) came) None) where
@@ -188,7 +184,7 @@ module _ {D P : Type 0} (given : P → Option (List Arrived)) (does : P → Call
           → IsChosen given does vouches old new (AllBuilds builds) [] (Some (me, Does input))
       own_chosen input own =
           by_own given does vouches old new builds (no_job none) came goes (Some (me, Does input))
-          (nothing_came nothing)
+          (nothing_taken old.node (comes_to (only n) came) nothing)
           (this_one_does n count old.pending input own (in_turn old.pending.next count)
           (in_turns me old.pending.next count is.one_of_them))
 
@@ -197,7 +193,7 @@ module _ {D P : Type 0} (given : P → Option (List Arrived)) (does : P → Call
       own_made same None (None, own, part) = record {
         chosen = None;
         is_chosen = by_own given does vouches old new builds (no_job none) came goes None
-            (nothing_came nothing)
+            (nothing_taken old.node (comes_to (only n) came) nothing)
             (none_does n count old.pending own (in_turn old.pending.next count));
         made = tt;
         same = same;

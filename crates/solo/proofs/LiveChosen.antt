@@ -23,6 +23,7 @@ use Rattle.protocol.specs.Given.{Given}
 use Rattle.protocol.specs.Member.{IsMember}
 use Rattle.protocol.specs.State.{State}
 use Rattle.protocol.specs.declared.input.Input.{Input}
+use Rattle.solo.proofs.Chosen.{nothing_taken}
 use Rattle.solo.proofs.Each.{none_does_so, this_does_so}
 use Rattle.solo.proofs.LiveCase.{answer_here, by_answer, by_arrival, by_left, by_some}
 use Rattle.solo.proofs.Only.{in_range, in_turns}
@@ -180,16 +181,6 @@ module _ {D P : Type 0} (given : P → Option (List Arrived)) (does : P → Call
         no_memory memory = wants (t.leaves ∙ ap (left_by n (Comes t.text)) memory) f
             (t.tells ∙ ap told memory)
 
-    -- nothing was taken
-    nothing_came : IsMade old.node (comes_to (only n) came) None
-        → comes_to (only n) came ≡ None
-    nothing_came made_is = by (comes_to (only n) came) refl made_is
-      where
-        by : (c : Chosen) → comes_to (only n) came ≡ c → IsMade old.node c None
-            → comes_to (only n) came ≡ None
-        by None e m = e
-        by (Some x) e m = absurd m
-
     -- ---- what is left
 
     module _ (nothing : IsMade old.node (comes_to (only n) came) None) where
@@ -201,7 +192,8 @@ module _ {D P : Type 0} (given : P → Option (List Arrived)) (does : P → Call
           → IsChosen given does vouches old new (SoFar made wish) []
           (option_map (λ input. (me, Does input)) o)
       left_chosen o e = by_left given does vouches old new made wish (no_answer none) came goes
-          (option_map (λ input. (me, Does input)) o) (nothing_came nothing)
+          (option_map (λ input. (me, Does input)) o)
+          (nothing_taken old.node (comes_to (only n) came) nothing)
           (sym (left_is n is old.pending wish ∙ ap (option_map (λ input. (me, Does input))) e))
 
       left_made : new.node ≡ old.node → (o : Option Readied) → IsPart old.node Left o

@@ -1,17 +1,14 @@
 -- The event by which a node is asked something.
-use Rattle.std.proofs.Common.{◌≡◌, ◌<◌, ℕ, Bool, true, false, not, ◌&&◌, ◌||◌, ◌+◌, cond, nat_le, List, [], ◌∷◌, Option, None, Some, get_or, length, slice_get, refl, sym, ap, subst, ◌∙◌, true≢false}
+use Rattle.std.proofs.Common.{◌≡◌, ◌<◌, ℕ, Bool, true, false, not, ◌&&◌, nat_le, List, [], ◌∷◌, Option, None, Some, get_or, length, slice_get, refl, sym, ap, subst, ◌∙◌}
 use Rattle.std.proofs.lemmas.Bool.{lt-leb}
 use Rattle.std.proofs.lemmas.List.Quantifiers.{position-Some}
 use Rattle.std.proofs.lemmas.Option.{slice_get-get_or, slice_get_within}
-use Rattle.std.proofs.lemmas.Iterator.Adapters.{position_from-zero}
-use Rattle.std.specs.List.{position_from}
-use Rattle.std.specs.Prelude.{is_some, option_map, position}
+use Rattle.std.specs.Prelude.{option_map, position}
 use Rattle.std.specs.Str.{bytes_eq}
 use Rattle.choosing.specs.Events.{event_of, event_of_input}
 use Rattle.events.specs.Events.{Event, Claim, Built, Failed, Nudge, Ask, Deliver, is_step, node_of}
 use Rattle.faults.specs.Answers.{first_that_applies}
-use Rattle.faults.specs.Bytes.{Text, is_among}
-use Rattle.listing.proofs.Settings.{eq_flip}
+use Rattle.faults.specs.Bytes.{Text}
 use Rattle.node.specs.Step.{Asked, Comes, Does}
 use Rattle.protocol.specs.declared.input.Input.{Input}
 use Rattle.protocol.specs.declared.input.Input.TheVariants as inputs
@@ -162,33 +159,3 @@ one_chosen w sent s a b e first second =
     let number : a.0 ≡ b.0 = sym x.of_node ∙ y.of_node in
     let asked : a.1 ≡ b.1 = one_asked w e a.1 b.1 (x.asks w s) (y.asks w s) in
     λ i. (number i, asked i)
-
--- ---- bytes that were sent
-
-found_from : (text : Text) (n : ℕ) (texts : List Text)
-    → is_some (position_from (bytes_eq text) n texts) ≡ is_among texts text
-found_from text n [] = refl
-found_from text n (t ∷ ts) =
-    by (bytes_eq text t) (bytes_eq t text) (eq_flip text t)
-    (position_from (bytes_eq text) (n + 1) ts) (found_from text (n + 1) ts)
-  where
-    by : (a b : Bool) → a ≡ b → (o : Option ℕ) → is_some o ≡ is_among ts text
-        → is_some (cond a (Some n) o) ≡ (b || is_among ts text)
-    by true true same o rest = refl
-    by false false same o rest = rest
-    by true false same o rest = absurd (true≢false same)
-    by false true same o rest = absurd (true≢false (sym same))
-
-found_among : (text : Text) (texts : List Text)
-    → is_some (position (bytes_eq text) texts) ≡ is_among texts text
-found_among text texts =
-    ap is_some (position_from-zero (bytes_eq text) texts) ∙ found_from text 0 texts
-
--- they are delivered by an event
-pub sent_is : (sent : List Text) (k : ℕ) (text : Text) → is_among sent text ≡ true
-    → is_some (event_of sent (k, Comes text)) ≡ true
-sent_is sent k text among = by (position (bytes_eq text) sent) (found_among text sent ∙ among)
-  where
-    by : (o : Option ℕ) → is_some o ≡ true → is_some (option_map (λ d. Deliver d k) o) ≡ true
-    by None wrong = absurd (true≢false (sym wrong))
-    by (Some d) is = refl

@@ -1,3 +1,4 @@
+mod AfterTurn
 mod AnyCase
 mod Below
 mod Disks
@@ -8,6 +9,7 @@ mod Led
 mod Moving
 mod OneStep
 mod Openings
+mod Refusing
 mod Settling
 mod Standing
 mod Stepping

@@ -1,14 +1,11 @@
 -- A turn, by what it answers: what that is in the world, and what it leaves.
-use Rattle.std.proofs.Common.{◌≡◌, ◌++◌, ◌⊎◌, ◌+◌, ◌<◌, ◌≤◌, ℕ, Bool, true, false, List, [], ◌∷◌, Option, None, Some, Result, Ok, Err, length, refl, sym, ap, subst, ◌∙◌, arith, inl, inr, ⊎_elim, true≢false, if◌then◌else◌}
-use Rattle.std.proofs.lemmas.List.{length-set}
-use Rattle.std.proofs.lemmas.Option.{slice_get_within}
-use Rattle.std.specs.Prelude.{IfErr, IfNone, IfOk, IfSome, is_some}
+use Rattle.std.proofs.Common.{◌≡◌, ◌++◌, ◌⊎◌, ℕ, List, [], ◌∷◌, Option, None, Some, Result, Ok, Err, length, refl, sym, subst, inl, inr, ⊎_elim}
+use Rattle.std.specs.Prelude.{IfErr, IfNone, IfOk, IfSome}
 use Rattle.choice.specs.Acts.{asked_by}
 use Rattle.choice.specs.Choice.{Chosen}
-use Rattle.choice.specs.Pending.{Pending, has_failed, kept_after, with_failed}
 use Rattle.choice.specs.declared.fault.TurnFault.{TurnFault}
 use Rattle.choice.specs.declared.fault.TurnFault.TheVariants as refused
-use Rattle.choosing.specs.Choosing.{IsChosenAs, IsChosenBy, NoneIsForeign, RefusesAt, looked_for}
+use Rattle.choosing.specs.Choosing.{IsChosenAs, IsChosenBy, looked_for}
 use Rattle.choosing.specs.Events.{event_of}
 use Rattle.choosing.specs.Handed.{Handed, IsChoiceBy, answers_first}
 use Rattle.choosing.specs.Here.{here_in}
@@ -16,132 +13,19 @@ use Rattle.choosing.specs.declared.chosen.Chosen.{Chosen as Ready}
 use Rattle.events.specs.Events.{Event, StopIn, event_view, node_of}
 use Rattle.events.specs.declared.event.Event as declared
 use Rattle.events.specs.declared.event.Left.TheVariants as left
-use Rattle.faults.specs.Bytes.{Text}
-use Rattle.world.proofs.Hosting.{IsHosted, refuses_there}
-use Rattle.world.proofs.OneList.{each_run_is_acts}
-use Rattle.world.proofs.Runs.{none_is_foreign}
-use Rattle.world.proofs.Safe.{few_members}
-use Rattle.node.specs.Arrival.{Arrival, Strange, Waits, Whole, arrival_of}
-use Rattle.node.specs.State.{NodeState}
-use Rattle.node.specs.Step.{Asked, Comes, Does, Taken, Takes, heard, nothing, step_on}
-use Rattle.node.specs.declared.fault.Foreign.{Foreign}
-use Rattle.node.specs.declared.fault.Foreign.TheVariants as foreign
-use Rattle.node.specs.declared.fault.NodeFault.{NodeFault}
-use Rattle.node.specs.declared.fault.NodeFault.TheVariants as fault
-use Rattle.package_record.proofs.BuildsRead.{build_is_read}
+use Rattle.node.specs.Step.{Comes, Does}
 use Rattle.ports.specs.Kept.{Arrived, GoesOnBy, Parcel}
-use Rattle.protocol.specs.Answers.{Answer}
-use Rattle.protocol.specs.State.{OpenClaim, State}
-use Rattle.protocol.specs.Step as members
-use Rattle.protocol.specs.declared.input.Input.TheVariants as inputs
-use Rattle.protocol.specs.declared.refusal.Refusal.{Refusal}
 use Rattle.stable_record.specs.History.{History}
-use Rattle.turns.proofs.AnyCase.{still_in_any}
-use Rattle.turns.proofs.EventOf.{IsEventOf, event_is, sent_is}
-use Rattle.turns.proofs.Moving.{down_in_any, down_on_logs, full_there, down_were_kept, has_failed_at, has_happened, has_stopped, keeps_with, leaves_notes, offers_sends, others_stay, taken_in_any, taken_leaves, taken_on_logs, taken_were_kept, went_down}
-use Rattle.turns.proofs.Standing.{hosted, led_there, made_there}
-use Rattle.turns.proofs.Still.{are_untouched, is_same, same_count, still_on_logs, still_world}
-use Rattle.turns.specs.AnyCase.{StandsInAnyCase}
+use Rattle.turns.proofs.Moving.{full_there, has_failed_at, has_happened, keeps_with, leaves_notes, offers_sends, others_stay, taken_leaves, went_down}
+use Rattle.turns.proofs.Refusing.{refused_so, some_of}
+use Rattle.turns.proofs.Still.{are_untouched, is_same}
 use Rattle.turns.specs.Faults.{IsLeftBy, IsTurnFaultFor}
 use Rattle.turns.specs.State.{AreOnLogs, ClusterState, IsWorldOf, taken}
-use Rattle.turns.specs.Turn.{AreUntouched, HasFailedAt, HasHappened, IsChosenFor, IsEventChosenFor, IsSame, KeepsWith, LeavesItsNotes, Offers, OffersNothing, OthersStay, WentDown, WereKept}
-use Rattle.turns.specs.inside.Turning.{GoesDown, IsDue, IsMadeReady, IsTurn, StandsStill, TakesStep, turning_of}
-use Rattle.wire.specs.Reading.{datagram_of}
-use Rattle.wire.specs.declared.datagram.Piece.{Piece}
+use Rattle.turns.specs.Turn.{AreUntouched, HasFailedAt, HasHappened, IsChosenFor, IsEventChosenFor, IsSame, KeepsWith, LeavesItsNotes, Offers, OffersNothing, OthersStay, WentDown}
+use Rattle.turns.specs.inside.Turning.{GoesDown, IsDue, IsMadeReady, IsTurn, StandsStill, turning_of}
 use Rattle.world.specs.Happening.{IsRefused}
-use Rattle.world.specs.World.{World, up_node}
+use Rattle.world.specs.World.{World}
 use Rattle.world.specs.declared.fault.WorldFault.TheVariants as worlds
-
-some_of : {X : Type 0} (o : Option X) → is_some o ≡ true → (x : X) × (o ≡ Some x)
-some_of None wrong = absurd (true≢false (sym wrong))
-some_of (Some x) is = (x, refl)
-
--- ---- what a choice needs of a cluster that is a world
-
-never : (f : NodeFault) (t : Taken) → ◌≡◌ {A = Result Taken NodeFault} (Err f) (Ok t) → ⊥
-never f t e = cc
-
-faults_same : (f g : NodeFault) → ◌≡◌ {A = Result Taken NodeFault} (Err f) (Err g) → f ≡ g
-faults_same f g e = cc
-
--- a node that runs refuses bytes as foreign alone
-heard_foreign : (pieces : List Piece) (r : Result Answer Refusal) (f : NodeFault)
-    → Err f ≡ heard pieces r → (g : Foreign) × (f ≡ fault.Foreign g)
-heard_foreign pieces (Ok a) f is = absurd (never f (record { answer = a; pieces = pieces }) is)
-heard_foreign pieces (Err r) f is =
-    (foreign.Message r, faults_same f (fault.Foreign (foreign.Message r)) is)
-
-step_foreign : (s : State) (a : Arrival) (f : NodeFault) → Err f ≡ step_on s a
-    → (g : Foreign) × (f ≡ fault.Foreign g)
-step_foreign s (Strange g pieces) f is =
-    (g, faults_same f (fault.Foreign g) is)
-step_foreign s (Waits pieces) f is =
-    absurd (never f (record { answer = nothing s; pieces = pieces }) is)
-step_foreign s (Whole m pieces) f is = heard_foreign pieces (members.heard s m) f is
-
-comes_foreign : (n : NodeState) (text : Text) (f : NodeFault) → n.stopped ≡ false
-    → Takes n (Comes text) (Err f) → (g : Foreign) × (f ≡ fault.Foreign g)
-comes_foreign n text f up takes =
-    step_foreign n.member (arrival_of n.member n.pieces (datagram_of text)) f
-    (takes.right_is ∙ ap (λ b. if b then Err fault.Stopped
-    else step_on n.member (arrival_of n.member n.pieces (datagram_of text))) up)
-
-module _ {D P : Type 0} (c : ClusterState D P) (w : World) (is : IsWorldOf c w) where
-  pub few_nodes : length c.nodes ≡ length c.weights → length c.nodes ≤ 9
-  few_nodes count = omega (arith, few_members c.weights is.made.weigh, count)
-
-  -- what a node refuses, the world refuses
-  pub refused_so : (k : ℕ) (asked : Asked) (e : Event) → event_of c.sent (k, asked) ≡ Some e
-      → (f : NodeFault) → RefusesAt c.nodes k asked f → IsRefused w e (worlds.Node f)
-  refused_so k asked e known f refuses =
-      let event : IsEventOf c.sent k asked e = event_is c.sent k asked e known in
-      let there : IsHosted w k refuses.node.node =
-      hosted c w is k refuses.node refuses.stands refuses.up in
-      inr (
-        event.passes w (record {
-          node = up_node refuses.node.node;
-          stands = there.stands;
-          up = refl;
-          sent_is = is.sent;
-        }),
-        refuses_there w e refuses.node.node
-            (subst (λ j. IsHosted w j refuses.node.node) (sym event.of_node) there)
-            asked (event.asks w is.sent) f refuses.refuses,
-      )
-
-  -- no node refuses what was sent
-  pub none_foreign : NoneIsForeign c.nodes c.sent
-  none_foreign k text f among refuses =
-      let e = some_of (event_of c.sent (k, Comes text)) (sent_is c.sent k text among) in
-      let g = comes_foreign refuses.node.node text f refuses.up refuses.refuses in
-      let there : IsRefused w e.0 (worlds.Node (fault.Foreign g.0)) =
-      subst (λ x. IsRefused w e.0 (worlds.Node x)) g.1
-      (refused_so k (Comes text) e.0 e.1 f refuses) in
-      none_is_foreign build_is_read each_run_is_acts w.division w.weights (taken c) w e.0 g.0
-      (made_there c w is) (led_there c w is) there
-
--- ---- whose turn it is then
-
-next_failed : (p : Pending) (o : Option OpenClaim) → (with_failed p o).next ≡ p.next
-next_failed p None = refl
-next_failed p (Some o) = by (has_failed p o.unit)
-  where
-    by : (b : Bool)
-        → (if b then p else record p { failed = p.failed ++ o.unit ∷ [] }).next ≡ p.next
-    by true = refl
-    by false = refl
-
-next_after : (p : Pending) (k : ℕ) (s : State) (asked : Asked)
-    → ((kept_after p k s asked).next ≡ p.next) ⊎ ((kept_after p k s asked).next ≡ k + 1)
-next_after p k s (Comes text) = inl refl
-next_after p k s (Does (inputs.Claim path host above)) = inr refl
-next_after p k s (Does (inputs.Built path given)) = inl refl
-next_after p k s (Does (inputs.Failed path)) = inl (next_failed p s.claim)
-next_after p k s (Does inputs.Nudge) = inr refl
-next_after p k s (Does (inputs.Ask path)) = inl refl
-next_after p k s (Does (inputs.Message m)) = inl refl
-
--- ---- the turn
 
 -- What a turn promises where it answers this.
 pub record Promises {D P : Type 0} (is_kept : D → Type 0) (history : D → History)
@@ -167,18 +51,6 @@ pub record Promises {D P : Type 0} (is_kept : D → Type 0) (history : D → His
       → taken new ≡ taken old ++ StopIn e left.None ∷ []
       → LeavesItsNotes is_kept history old new e k)
   pub device : IfErr result (λ f. (k : ℕ) → f ≡ refused.Down k → HasFailedAt failures old new k)
-
--- What holds of the cluster then.
-pub record StandsThen {D P : Type 0} (is_kept : D → Type 0) (history : D → History)
-    (old new : ClusterState D P) : Type 0 where
-  pub world : World
-  pub is_world : IsWorldOf new world
-  pub on_logs : AreOnLogs is_kept history new
-  pub kept_before : WereKept is_kept old new
-  pub count : length new.nodes ≡ length old.nodes
-  pub placed : old.pending.next < length old.nodes + 1
-      → new.pending.next < length new.nodes + 1
-  pub any_case : StandsInAnyCase old → StandsInAnyCase new
 
 module _ {D P : Type 0} (is_kept : D → Type 0) (history : D → History) (failures : D → ℕ)
     (given : P → Option (List Arrived)) (offered : P → Option (List Parcel))
@@ -281,7 +153,7 @@ module _ {D P : Type 0} (is_kept : D → Type 0) (history : D → History) (fail
       ⊎ ((k : ℕ) × (f ≡ refused.Down k) × ((r : Ready) × (e : Event) × (k ≡ r.node)
       × GoesDown is_kept history failures offered (turning_of old) (turning_of new) r e))
 
-  still_or_down : (f : TurnFault) → IsTurnOf (Err f) → IsStillOrDown f
+  pub still_or_down : (f : TurnFault) → IsTurnOf (Err f) → IsStillOrDown f
   still_or_down f (inl t) = inl t.1
   still_or_down refused.Memory (inr t) = inl t.2
   still_or_down (refused.Node f) (inr t) = inl t.2.2
@@ -385,78 +257,3 @@ module _ {D P : Type 0} (is_kept : D → Type 0) (history : D → History) (fail
         down_leaves k e (subst (λ g. IsTurnOf (Err g)) is_down t) events;
     device = λ k is_down. down_failed k (subst (λ g. IsTurnOf (Err g)) is_down t);
   }
-
-  -- ---- what stands then
-
-  still_then : StandsStillHere → StandsThen is_kept history old new
-  still_then still = record {
-    world = w;
-    is_world = still_world is_kept history offered old new division weights still w is;
-    on_logs = still_on_logs is_kept history offered old new division weights still on_logs;
-    kept_before = λ k before after stood stands kept.
-        (still_untouched still k before after stood stands kept).0;
-    count = same_count is_kept history old.nodes new.nodes still.nodes;
-    placed = λ placed. omega (
-      arith,
-      placed,
-      same_count is_kept history old.nodes new.nodes still.nodes,
-      ap (λ (p : Pending). p.next) still.pending,
-    );
-    any_case = still_in_any old new division weights (still_same still);
-  }
-
-  next_then : (r : Ready) (e : Event)
-      (took : TakesStep is_kept history offered (turning_of old) (turning_of new) r e)
-      → length new.nodes ≡ length old.nodes → old.pending.next < length old.nodes + 1
-      → new.pending.next < length new.nodes + 1
-  next_then r e took many placed =
-      let node = took.due.at.node in
-      let within = slice_get_within old.nodes r.node node took.due.at.stands in
-      let next = ap (λ (p : Pending). p.next) took.pending in
-      ⊎_elim
-      (λ same. omega (arith, placed, many, next, same))
-      (λ later. omega (arith, within, many, next, later))
-      (next_after old.pending r.node node.node.member (asked_by r.readied.act))
-
-  taken_then : (r : Ready) (e : Event)
-      → TakesStep is_kept history offered (turning_of old) (turning_of new) r e
-      → StandsThen is_kept history old new
-  taken_then r e took =
-      let many = ap length took.nodes ∙ length-set old.nodes r.node took.after in
-      let h = has_happened is_kept history offered old new division weights r e took w is in
-      record {
-        world = h.0;
-        is_world = h.2;
-        on_logs = taken_on_logs is_kept history offered old new division weights r e took on_logs;
-        kept_before = taken_were_kept is_kept history offered old new division weights r e took;
-        count = many;
-        placed = next_then r e took many;
-        any_case = taken_in_any is_kept history offered old new division weights r e took is.made;
-      }
-
-  down_then : (r : Ready) (e : Event)
-      → GoesDown is_kept history failures offered (turning_of old) (turning_of new) r e
-      → StandsThen is_kept history old new
-  down_then r e goes =
-      let many = ap length goes.nodes ∙ length-set old.nodes r.node goes.after in
-      let h = has_stopped is_kept history failures offered old new division weights r e goes w is in
-      record {
-        world = h.0;
-        is_world = h.2;
-        on_logs = down_on_logs is_kept history failures offered old new division weights r e goes
-            on_logs;
-        kept_before = down_were_kept is_kept history failures offered old new division weights r e
-            goes;
-        count = many;
-        placed = λ placed.
-            omega (arith, placed, many, ap (λ (p : Pending). p.next) goes.pending);
-        any_case = down_in_any is_kept history failures offered old new division weights r e goes
-            is.made;
-      }
-
-  pub stands_then : (result : Result (Option declared.Event) TurnFault) → IsTurnOf result
-      → StandsThen is_kept history old new
-  stands_then (Ok None) t = still_then t.1
-  stands_then (Ok (Some e)) t = taken_then t.0 (event_view e) t.2
-  stands_then (Err f) t = ⊎_elim still_then (λ down. down_then down.2.0 down.2.1 down.2.3)
-      (still_or_down f t)

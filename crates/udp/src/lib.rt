@@ -1,6 +1,7 @@
 //! A port over UDP.
 #![tactic(auto)]
 
+mod addresses;
 mod guard;
 mod hosts;
 mod inbox;
@@ -13,8 +14,9 @@ mod tallies;
 mod told;
 mod udp_port;
 
+pub use crate::addresses::loopback;
 pub use crate::guard::Guard;
 pub use crate::hosts::{HostsFault, parse_hosts};
 pub use crate::patience::Hurry;
 pub use crate::tallies::{Tallies, Tally};
-pub use crate::udp_port::{UdpPort, loopback};
+pub use crate::udp_port::UdpPort;

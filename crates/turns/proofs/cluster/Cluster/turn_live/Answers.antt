@@ -1,10 +1,12 @@
 use Rattle.std.proofs.Common.{map, refl, subst, ◌∙◌}
 use Rattle.std.specs.Prelude.{option_map}
 use Rattle.choosing.specs.Handed.{SoFar, made_of}
+use Rattle.turns.proofs.AfterTurn.{StandsThen, stands_then}
 use Rattle.turns.proofs.AnyCase.{listed_in_any}
 use Rattle.turns.proofs.ByCalls.{has_called}
 use Rattle.turns.proofs.Led.{one_list, safe}
-use Rattle.turns.proofs.Turns.{Promises, StandsThen, none_foreign, promises, stands_then}
+use Rattle.turns.proofs.Refusing.{none_foreign}
+use Rattle.turns.proofs.Turns.{Promises, promises}
 use Rattle.turns.specs.Calls.{HasCalledFor}
 use Rattle.turns.specs.State.{ClusterState}
 use Rattle.turns.specs.Turn.{WereKept}

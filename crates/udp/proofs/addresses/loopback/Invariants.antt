@@ -1,6 +1,6 @@
 use Rattle.std.proofs.Common.{◌≡◌, ◌≤◌, length}
 use Rattle.udp.specs.Ways.{AreLocal}
-use Rattle.udp.proofs.udp_port.loopback.Given as goal
+use Rattle.udp.proofs.addresses.loopback.Given as goal
 
 abbrev pub invariant-loop-member : goal.invariant-loop-member
 invariant-loop-member l = record {

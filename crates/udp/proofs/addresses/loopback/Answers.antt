@@ -1,7 +1,7 @@
 use Rattle.std.proofs.Common.{ℕ, subst, arith}
 use Rattle.udp.proofs.Coming.{CountUp-more, longer}
 use Rattle.udp.specs.Ways.{IsLocal}
-use Rattle.udp.proofs.udp_port.loopback.Goals as goal
+use Rattle.udp.proofs.addresses.loopback.Goals as goal
 
 pub loop-member-preserved : goal.loop-member-preserved
 loop-member-preserved c =
