@@ -14,6 +14,7 @@ mod held;
 mod jobs;
 mod known;
 mod member;
+mod messages;
 mod naming;
 mod nudging;
 mod open_claim;
