@@ -1,5 +1,5 @@
 //! Claims, and questions for what is agreed.
-ghost use Rattle.std.specs.Prelude.{◌≡◌, ◌<◌, IfOk, length};
+ghost use Rattle.std.specs.Prelude.{◌<◌, IfOk, length};
 ghost use Rattle.protocol.specs.Answers.{answered, everyone};
 ghost use Rattle.protocol.specs.InTheAgreement.{view};
 ghost use Rattle.member.specs.inside.Steps.{IsPrepared, Makes, opened_in};

@@ -2,6 +2,7 @@
 #![tactic(auto)]
 
 mod fault;
+mod finishing;
 mod kept;
 mod laws;
 mod node;

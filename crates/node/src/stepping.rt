@@ -1,88 +1,26 @@
 //! The steps of a node.
-ghost use Rattle.std.specs.Prelude.{
-  ◌≡◌,
-  ◌+◌,
-  ◌≤◌,
-  ◌<◌,
-  ◌⊎◌,
-  IfErr,
-  IfOk,
-  IsErrOf,
-  List,
-  OnErr,
-  OnOk,
-  ℕ,
-  false,
-  true,
-  vec_capacity,
-  vec_len,
-};
-ghost use Rattle.std.specs.Option.{ForSome, option_copied};
+ghost use Rattle.std.specs.Prelude.{◌≡◌, ◌≤◌, ◌<◌, ◌⊎◌, IfErr, IfOk, IsErrOf, OnOk, true};
 ghost use Rattle.faults.specs.Answers.{map_ok};
-ghost use Rattle.member.specs.Prepared.{MayBeTaken};
 ghost use Rattle.protocol.specs.Step as members;
 ghost use Rattle.stable_record.specs.Faults.{HasRisen};
-ghost use Rattle.stable_record.specs.OpenLog.{Holds};
 ghost use Rattle.wire.specs.Joining.{bytes_of};
 ghost use Rattle.wire.specs.Messages.{IsGoodBody};
 ghost use Rattle.wire.specs.Pieces.{IsPiece};
 ghost use Rattle.wire.specs.Reading.{joined as message_of};
 ghost use Rattle.node.specs.Arrival.{arrival_of_all, arrival_of_piece, refusal_of};
-ghost use Rattle.node.specs.Calls.{
-  HasFilled,
-  HasHandled,
-  HasPrepared,
-  HasTaken,
-  IsCause,
-  IsLogCause,
-  LeavesItsNoteAtMost,
-  left_by,
-};
+ghost use Rattle.node.specs.Calls.{HasFilled, HasHandled, HasPrepared, IsCause, LeavesItsNoteAtMost, left_by};
 ghost use Rattle.node.specs.Kept.{with_piece, without};
-ghost use Rattle.node.specs.OnLog.{IsOnLog, LacksRoom, LeavesOneMoreAtMost};
-ghost use Rattle.node.specs.Parcels.{datagrams_to};
+ghost use Rattle.node.specs.OnLog.{IsOnLog};
 ghost use Rattle.node.specs.Ranges.{IsGoodInput};
-ghost use Rattle.node.specs.Step.{
-  Comes,
-  Does,
-  IsReadyFor,
-  answer_then,
-  changed,
-  heard,
-  note_in,
-  sends_in,
-  taken_by,
-};
-ghost use Rattle.node.specs.inside.Stepping.{
-  AreKept,
-  ComesAs,
-  GoesOnWith,
-  HasRoomForText,
-  IsNoteCause,
-  IsPrepared,
-  LacksRoomFor,
-  MakesReady,
-  committed,
-  dropped_by,
-  entry_len,
-  foreign_by,
-  is_device,
-  refused_by,
-  strange_by,
-  with_text,
-};
+ghost use Rattle.node.specs.Step.{Comes, Does, IsReadyFor, changed, heard, taken_by};
+ghost use Rattle.node.specs.inside.Stepping.{AreKept, ComesAs, IsPrepared, MakesReady, dropped_by, foreign_by, refused_by, strange_by};
 
-use crate::kept::{
-    change_kept, drop_pieces, has_number, is_last, joined, known_build, make_room, test_header,
-};
-use crate::noted::Noted;
-use crate::opening::told;
+use crate::kept::{drop_pieces, has_number, is_last, joined, known_build, test_header};
 use crate::{Change, Foreign, Node, NodeFault, Out, Ready};
 use ballots::Message;
-use claims::Job;
-use member::{Input, Member, Step};
-use protocol::{Outcome, Refusal};
-use stable_record::{Disk, Log, LogFault};
+use member::Input;
+use protocol::Refusal;
+use stable_record::{Disk, LogFault};
 use wire::{Datagram, Header, Piece, WireFault, decode};
 
 impl<'a, D: Disk> Node<'a, D> {
@@ -221,61 +159,6 @@ impl<'a, D: Disk> Node<'a, D> {
         }
     }
 
-    /// Takes a step that was made ready from the present facts. First its note goes to the log;
-    /// once that is on the disk, its datagrams and its job come out. After `Device` nothing has
-    /// come out, and the node is `Stopped` until it is opened again; after every other refusal
-    /// nothing has changed.
-    ///
-    /// # Errors
-    ///
-    /// `Memory`, and those of `Log::append`.
-    pub fn finish(&mut self, ready: Ready) -> Result<Out, NodeFault>
-        requires present { IsReadyFor self.old.node ready }
-        ensures taken { IfOk result
-            (HasTaken self.old.node self.new.node (taken_by self.old.node ready)) }
-        ensures on_log { D.is_kept self.new.log.disk → IsOnLog D.history self.old
-            → OnOk result (IsOnLog D.history self.new) }
-
-        // A crash at any moment of the call, and after it, leaves the notes from before it, with
-        // the step's note or without.
-        ensures any_moment { D.is_kept self.new.log.disk → IsOnLog D.history self.old
-            → LeavesOneMoreAtMost self.old.node (note_in ready.step)
-            (D.history self.old.log.disk) (D.history self.new.log.disk) }
-
-        // What was said of the disk before still stands, so that calls can follow one another.
-        ensures kept { D.is_kept self.new.log.disk → D.is_kept self.old.log.disk }
-        ensures later { D.failures_of self.old.log.disk ≤ D.failures_of self.new.log.disk }
-
-        // Each refusal has its cause, and says what it leaves of the node, and of the log.
-        ensures causes { IfErr result (IsLogCause self.old.log (note_in ready.step)) }
-        ensures within { OnOk result (¬ (LacksRoom self.old.log (note_in ready.step))) }
-        ensures full { LacksRoom self.old.log (note_in ready.step)
-            → IsErrOf result NodeFault.Memory ⊎ IsErrOf result (NodeFault.Log LogFault.Full) }
-        ensures device { IsErrOf result (NodeFault.Log LogFault.Device)
-            → HasRisen (D.failures_of self.old.log.disk) (D.failures_of self.new.log.disk) }
-        ensures stops { IsErrOf result (NodeFault.Log LogFault.Device)
-            → self.new.node ≡ record self.old.node { stopped = true } }
-        ensures refused { IfErr result (λ f. (f ≡ NodeFault.Log LogFault.Device)
-            ⊎ (self.new.node ≡ self.old.node)) }
-        ensures still_on_log { D.is_kept self.new.log.disk → IsOnLog D.history self.old
-            → IfErr result (λ f. (f ≡ NodeFault.Log LogFault.Device)
-            ⊎ (IsOnLog D.history self.new
-            × (D.history self.new.log.disk ≡ D.history self.old.log.disk))) }
-    {
-        if let Err(memory) = make_room(&mut self.pieces) {
-            drop(ready);
-            return Err(NodeFault::from(memory));
-        }
-        let note = ready.note();
-        match write_note(&mut self.log, &mut self.noted, &mut self.stopped, note) {
-            Ok(()) => Ok(take(&mut self.member, &mut self.pieces, ready)),
-            Err(fault) => {
-                drop(ready);
-                Err(fault)
-            }
-        }
-    }
-
     /// Takes the step on an input: `prepare`, and then `finish`.
     ///
     /// # Errors
@@ -354,144 +237,6 @@ impl<'a, D: Disk> Node<'a, D> {
     {
         let ready = self.prepare_datagram(bytes)?;
         self.finish(ready)
-    }
-}
-
-/// Writes the note of a step to the log of a node that is not stopped, if there is a note. Where
-/// the device fails, the node stops.
-fn write_note<D: Disk>(
-    log: &mut Log<D>,
-    noted: &mut Noted,
-    stopped: &mut bool,
-    note: Option<&[u8]>,
-) -> Result<(), NodeFault>
-    requires node_runs { stopped.old ≡ false }
-    requires log_runs { log.old.stopped ≡ false }
-    ensures noted { OnOk result
-        (noted.new.texts ≡ with_text noted.old.texts (option_copied note.entry)) }
-    ensures not_noted { OnErr result (noted.new.texts ≡ noted.old.texts) }
-    ensures acknowledged { D.is_kept log.new.disk → (texts : List (List ℕ))
-        → Holds D.history log.old texts
-        → OnOk result (Holds D.history log.new (with_text texts (option_copied note.entry))) }
-    ensures any_moment { D.is_kept log.new.disk → (texts : List (List ℕ))
-        → Holds D.history log.old texts
-        → GoesOnWith log.old.identity texts (option_copied note.entry) (D.history log.old.disk)
-        (D.history log.new.disk) }
-    ensures kept { D.is_kept log.new.disk → D.is_kept log.old.disk }
-    ensures later { D.failures_of log.old.disk ≤ D.failures_of log.new.disk }
-    ensures owner { log.new.identity ≡ log.old.identity }
-    ensures end { OnOk result
-        (log.new.end ≡ log.old.end + entry_len (option_copied note.entry)) }
-    ensures same_end { OnErr result (log.new.end ≡ log.old.end) }
-    ensures causes { IfErr result (IsNoteCause log.old (option_copied note.entry)) }
-    ensures within { OnOk result (¬ (LacksRoomFor log.old (option_copied note.entry))) }
-    ensures is_full { LacksRoomFor log.old (option_copied note.entry)
-        → IsErrOf result (NodeFault.Log LogFault.Full) }
-    ensures device { IsErrOf result (NodeFault.Log LogFault.Device)
-        → HasRisen (D.failures_of log.old.disk) (D.failures_of log.new.disk) }
-    ensures together { log.new.stopped ≡ stopped.new }
-    ensures goes_on { OnOk result (stopped.new ≡ false) }
-    ensures stops { IsErrOf result (NodeFault.Log LogFault.Device) → stopped.new ≡ true }
-    ensures stays { IfErr result (λ f. (f ≡ NodeFault.Log LogFault.Device)
-        ⊎ (stopped.new ≡ false)) }
-    ensures refused { D.is_kept log.new.disk → (texts : List (List ℕ))
-        → Holds D.history log.old texts
-        → IfErr result (λ f. (f ≡ NodeFault.Log LogFault.Device)
-        ⊎ (Holds D.history log.new texts
-        × (D.history log.new.disk ≡ D.history log.old.disk))) }
-{
-    match write(log, noted, note) {
-        Ok(()) => Ok(()),
-        Err(fault) => {
-            *stopped = is_device(fault);
-            Err(told(fault))
-        }
-    }
-}
-
-/// Adds the note to the log, if there is one. At `Ok` it is on the disk.
-fn write<D: Disk>(log: &mut Log<D>, noted: &mut Noted, note: Option<&[u8]>) -> Result<(), LogFault>
-    ensures noted { OnOk result
-        (noted.new.texts ≡ with_text noted.old.texts (option_copied note.entry)) }
-    ensures not_noted { OnErr result (noted.new.texts ≡ noted.old.texts) }
-    ensures acknowledged { D.is_kept log.new.disk → (texts : List (List ℕ))
-        → Holds D.history log.old texts
-        → OnOk result (Holds D.history log.new (with_text texts (option_copied note.entry))) }
-    ensures any_moment { D.is_kept log.new.disk → (texts : List (List ℕ))
-        → Holds D.history log.old texts
-        → GoesOnWith log.old.identity texts (option_copied note.entry) (D.history log.old.disk)
-        (D.history log.new.disk) }
-    ensures kept { D.is_kept log.new.disk → D.is_kept log.old.disk }
-    ensures later { D.failures_of log.old.disk ≤ D.failures_of log.new.disk }
-    ensures owner { log.new.identity ≡ log.old.identity }
-    ensures end { OnOk result
-        (log.new.end ≡ log.old.end + entry_len (option_copied note.entry)) }
-    ensures same_end { OnErr result (log.new.end ≡ log.old.end) }
-    ensures full { IsErrOf result LogFault.Full → LacksRoomFor log.old (option_copied note.entry) }
-    ensures within { OnOk result (¬ (LacksRoomFor log.old (option_copied note.entry))) }
-    ensures is_full { log.old.stopped ≡ false → LacksRoomFor log.old (option_copied note.entry)
-        → IsErrOf result LogFault.Full }
-    ensures room { IsErrOf result LogFault.Device
-        → HasRoomForText log.old (option_copied note.entry) }
-    ensures device { IsErrOf result LogFault.Device
-        → HasRisen (D.failures_of log.old.disk) (D.failures_of log.new.disk) }
-    ensures stopped { IsErrOf result LogFault.MustReopen → log.old.stopped ≡ true }
-    ensures no_opening { IsErrOf result LogFault.NotALog ⊎ IsErrOf result LogFault.OtherCluster
-        → ⊥ }
-    ensures stops { IsErrOf result LogFault.Device → log.new.stopped ≡ true }
-    ensures goes_on { log.new.stopped ≡ true
-        → log.old.stopped ≡ true ⊎ IsErrOf result LogFault.Device }
-    ensures refused { D.is_kept log.new.disk → (texts : List (List ℕ))
-        → Holds D.history log.old texts
-        → IsErrOf result LogFault.Memory ⊎ IsErrOf result LogFault.Full
-        → Holds D.history log.new texts × (D.history log.new.disk ≡ D.history log.old.disk) }
-{
-    if let Some(text) = note {
-        log.append(text)?;
-        noted.note(text);
-    }
-    Ok(())
-}
-
-/// Takes a step whose note is on the disk. It takes no memory.
-fn take(member: &mut Member<'_>, pieces: &mut Vec<Piece>, ready: Ready) -> Out
-    requires room { vec_len pieces.old < vec_capacity pieces.old }
-    requires step { ForSome ready.step (MayBeTaken member.old) }
-    ensures member { member.new ≡ committed member.old ready.step }
-    ensures pieces { pieces.new.items ≡ changed ready.change pieces.old.items }
-    ensures sends { result.sends ≡ datagrams_to (sends_in ready.step) }
-    ensures job { result.job ≡ (answer_then member.old ready.step).job }
-{
-    let (step, sends, change) = ready.apart();
-    change_kept(pieces, change);
-    let job = commit(member, step);
-    Out { sends, job }
-}
-
-/// Takes the member's part of a step, if it has one. It takes no memory.
-fn commit(member: &mut Member<'_>, step: Option<Step>) -> Option<Job>
-    requires { ForSome step (MayBeTaken member.old) }
-    ensures member { member.new ≡ committed member.old step }
-    ensures job { result ≡ (answer_then member.old step).job }
-{
-    match step {
-        Some(step) => {
-            let Outcome { note, sends, job } = member.commit(step);
-            drop(note);
-            drop(sends);
-            job
-        }
-        None => None,
-    }
-}
-
-/// Whether the fault is one of the device, which stops a node.
-fn is_device(fault: LogFault) -> bool
-    ensures { result ≡ is_device fault }
-{
-    match fault {
-        LogFault::Device => true,
-        _ => false,
     }
 }
 
