@@ -8,6 +8,7 @@ import json
 import os
 import re
 import signal
+import stat
 import subprocess
 import tempfile
 import time
@@ -433,6 +434,31 @@ def refused_reads(tally):
         add(tally, "a note of which a read was refused", list(held.records) == [b"a/b"] and held.units == {b"a/b"}, (held.records, held.units))
 
 
+def on_the_disk(tally):
+    """What is written for the node, or kept in the store, is whole and on the disk before it has its name, and then its folder is."""
+    module, calls, fsync, rename = build_jobs(), [], os.fsync, os.rename
+
+    def synced(number):
+        it = os.fstat(number)
+        calls.append("folder" if stat.S_ISDIR(it.st_mode) else it.st_size)
+        fsync(number)
+
+    def renamed(old, new):
+        calls.append("rename")
+        rename(old, new)
+
+    with tempfile.TemporaryDirectory() as folder:
+        with open(f"{folder}/source", "wb") as file:
+            file.write(b"large" * 10_000)
+        try:
+            os.fsync, os.rename = synced, renamed
+            module.put(folder, "name", ["x" * 10_000, "y" * 10_000])
+            module.Store(folder, None, folder).keep(f"{folder}/source", digest_of(f"{folder}/source"))
+        finally:
+            os.fsync, os.rename = fsync, rename
+    add(tally, "what is written, the system's calls", calls == [20_000, "rename", "folder", 50_000, "rename", "folder"], calls)
+
+
 def commands(tally):
     """A command is found from where build-jobs is started, and one that isn't there is told at once."""
     with laid(BUILD + '; echo "$0 $@" > "$OUT/a:b/words"', more=("--", "x", "--", "-j", "--")) as (node, driver):
@@ -601,6 +627,7 @@ def run(tally):
     what_is_no_job(tally)
     where_it_stands(tally)
     refused_reads(tally)
+    on_the_disk(tally)
     drivers_that_end(tally)
     nodes_that_go_on(tally)
     builds_that_misbehave(tally)

@@ -538,6 +538,57 @@ def late_answers(tally, host, names):
     check(tally, "the same, whole", host.shows(I=2, Q=6), host.lines()[-2:])
 
 
+TWO = "a/b.FULLPKGNAME=b-1\na/c.FULLPKGNAME=c-1\n"
+
+
+def rests_behind_all_jobs(tally):
+    """A node whose open claim is answered, while the other one of its two jobs is built still, comes to rest behind that one."""
+    name = "two jobs, and a rest"
+    with lone(TWO, "--jobs", "2", "--rest", "1") as host:
+        first, second = host.job("a/b"), host.job("a/c")
+        host.hand_in("done", second, b'{"a/c":[]}')
+        held = host.shows(I=1, Q=1)
+        time.sleep(4)
+        check(tally, f"{name}, while one is built", held and host.node.poll() is None, host.node.poll(), host.lines()[-4:])
+        host.hand_in("done", first, b'{"a/b":[]}')
+        until(lambda: host.node.poll() is not None, 30)
+        check(tally, f"{name}, how it ends", host.node.poll() == 0, host.node.poll(), host.lines()[-4:])
+
+
+def taken_away(tally):
+    """A job that is taken away is posted again: that of the open claim, and one whose claim was given up for that; and no more jobs
+    are out than are told."""
+    with lone(TWO + "a/d.FULLPKGNAME=d-1\n", "--jobs", "2") as host:
+        names = {unit: host.job(unit) for unit in ("a/b", "a/c")}
+        for unit, name in reversed(names.items()):
+            os.unlink(f"{host.work}/jobs/{name}")
+            again = until(lambda: host.jobs().get(unit) == name, 20)
+            check(tally, f"the job of {unit}, taken away", again, host.jobs(), host.lines()[-4:])
+        time.sleep(1)
+        check(tally, "two jobs, and no third", sorted(host.jobs()) == ["a/b", "a/c"], host.jobs())
+        for unit, name in names.items():
+            host.hand_in("done", name, b'{"%s":[]}' % unit.encode())
+        check(tally, "what was taken away, built", host.shows(I=2, Q=1), host.lines()[-4:])
+
+
+def killed_while_it_builds(tally):
+    """A node that is killed and run again while its job is built doesn't have it built again."""
+    script = 'echo >> "$TOP/begun"; until [ -e "$TOP/go" ]; do sleep 0.05; done; mkdir "$OUT/a:b"'
+    with lone("a/b.FULLPKGNAME=b-1\n") as host:
+        with open(host.out("driver"), "wb") as out:
+            host.driver = subprocess.Popen([f"{TOP}/tools/build-jobs", host.work, host.log, "--", "sh", "-c", script], stdin=subprocess.DEVNULL,
+                                           stdout=out, stderr=out, env={**os.environ, "TOP": host.folder})
+        is_begun = until(lambda: size_of(f"{host.folder}/begun") > 0, 30)
+        for _ in range(3):
+            host.kill("node")
+            host.start_node("--rest", "1")
+            host.shows(Q=1)
+        put(f"{host.folder}/go", b"")
+        until(lambda: host.node.poll() is not None, 30)
+        told = host.node.poll(), contents(f"{host.folder}/begun") if is_begun else b"", host.begun()
+        check(tally, "a node that is killed while its job is built", told == (0, b"\n", 1), told, host.lines()[-4:])
+
+
 def other_runs(tally):
     """A folder that has files, beside a log without notes, is that of another run, and nothing of it changes; what is half written
     doesn't count."""
@@ -844,7 +895,7 @@ def run(tally):
         os.environ.pop(word, None)
     for one in (no_calls, faults, a_day):
         one(tally)
-    beside(tally, (answers, other_runs, beside_nodes, quiet, unanswered, voted_by_nobody, no_majority, long_run, manual_page, readme))
+    beside(tally, (answers, rests_behind_all_jobs, taken_away, killed_while_it_builds, other_runs, beside_nodes, quiet, unanswered, voted_by_nobody, no_majority, long_run, manual_page, readme))
     if not shutil.which("bmake"):
         print("tests/run: no bmake here: nothing is built of Makefiles", flush=True)
         return
