@@ -233,6 +233,7 @@ def odd_jobs(tally):
         node.held.clear()
         node.hold("c/d", {"c/d": []})
         add(tally, "other dependencies of the same path", len(driver.lines()) == 2 and not os.listdir(f"{node.work}/done"), driver.lines())
+        add(tally, "what it waits for", driver.tells(re.escape(f"? e/f waits: {node.log} hasn't all that it is to be built on")), driver.lines())
         os.unlink(f"{node.work}/jobs/{waits}")
         add(tally, "a log that was made anew", bool(node.take(node.post("e/f", built=["c/d"]))), driver.lines())
         driver.end()
