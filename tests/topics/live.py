@@ -576,8 +576,9 @@ def killed_while_it_builds(tally):
     script = 'echo >> "$TOP/begun"; until [ -e "$TOP/go" ]; do sleep 0.05; done; mkdir "$OUT/a:b"'
     with lone("a/b.FULLPKGNAME=b-1\n") as host:
         with open(host.out("driver"), "wb") as out:
-            host.driver = subprocess.Popen([f"{TOP}/tools/build-jobs", host.work, host.log, "--", "sh", "-c", script], stdin=subprocess.DEVNULL,
-                                           stdout=out, stderr=out, env={**os.environ, "TOP": host.folder})
+            words = [f"{TOP}/tools/build-jobs", host.work, host.log, "--", "sh", "-c", script]
+            host.driver = subprocess.Popen(words, stdin=subprocess.DEVNULL, stdout=out, stderr=out,
+                                           env={**os.environ, "TOP": host.folder})
         is_begun = until(lambda: size_of(f"{host.folder}/begun") > 0, 30)
         for _ in range(3):
             host.kill("node")
@@ -895,7 +896,8 @@ def run(tally):
         os.environ.pop(word, None)
     for one in (no_calls, faults, a_day):
         one(tally)
-    beside(tally, (answers, rests_behind_all_jobs, taken_away, killed_while_it_builds, other_runs, beside_nodes, quiet, unanswered, voted_by_nobody, no_majority, long_run, manual_page, readme))
+    beside(tally, (answers, rests_behind_all_jobs, taken_away, killed_while_it_builds, other_runs, beside_nodes, quiet,
+                   unanswered, voted_by_nobody, no_majority, long_run, manual_page, readme))
     if not shutil.which("bmake"):
         print("tests/run: no bmake here: nothing is built of Makefiles", flush=True)
         return
