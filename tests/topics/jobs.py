@@ -8,6 +8,7 @@ import json
 import os
 import re
 import signal
+import stat
 import subprocess
 import tempfile
 import time
@@ -108,10 +109,10 @@ def until(holds, seconds=LIMIT):
 class Driver:
     """build-jobs on a node's folder, with a script for each build."""
 
-    def __init__(self, node, script, *words):
+    def __init__(self, node, script, *words, more=()):
         self.out = f"{node.folder}/driver.{time.monotonic_ns()}"
         with open(self.out, "xb") as out:
-            self.process = subprocess.Popen([f"{TOP}/tools/build-jobs", *words, node.work, node.log, "--", "sh", "-c", script],
+            self.process = subprocess.Popen([f"{TOP}/tools/build-jobs", *words, node.work, node.log, "--", "sh", "-c", script, *more],
                                             stdin=subprocess.DEVNULL, stdout=out, stderr=out, env={**os.environ, "TOP": node.folder})
 
     def lines(self):
@@ -128,12 +129,12 @@ class Driver:
 
 
 @contextlib.contextmanager
-def laid(script, *words):
-    """A node that has just opened its log, and a driver that works for it."""
+def laid(script, *words, more=()):
+    """A node that has just opened its log, and a driver that works for it, with more words for the script."""
     with tempfile.TemporaryDirectory() as folder:
         node = Node(folder)
         node.open()
-        driver = Driver(node, script, *words)
+        driver = Driver(node, script, *words, more=more)
         try:
             yield node, driver
         finally:
@@ -232,6 +233,7 @@ def odd_jobs(tally):
         node.held.clear()
         node.hold("c/d", {"c/d": []})
         add(tally, "other dependencies of the same path", len(driver.lines()) == 2 and not os.listdir(f"{node.work}/done"), driver.lines())
+        add(tally, "what it waits for", driver.tells(re.escape(f"? e/f waits: {node.log} hasn't all that it is to be built on")), driver.lines())
         os.unlink(f"{node.work}/jobs/{waits}")
         add(tally, "a log that was made anew", bool(node.take(node.post("e/f", built=["c/d"]))), driver.lines())
         driver.end()
@@ -364,8 +366,105 @@ def what_the_system_refuses(tally):
         add(tally, "a work folder that was made anew", told == (1, f"build-jobs: {node.work} was taken away, or made anew", False), told)
 
 
+def what_is_no_job(tally):
+    """What stands among the jobs and is none, whatever it is and says, keeps no other job back."""
+    odd = {"a name of other bytes": b"@unit a/\xff\n@package a/b\n", "a name with a zero byte": b"@unit a/b\n@package a/\0\n", "no path": b"@unit ../x\n@package ../x\n"}
+    with laid(BUILD) as (node, driver):
+        for what, text in (*odd.items(), ("no host", b"@unit a/c\n@package a/c\n@host x\n")):
+            task = f"@tree {TREE}\n".encode() + text.partition(b"@host")[0]
+            odd[what] = hashlib.sha256(task).hexdigest()
+            with open(f"{node.work}/jobs/.odd", "wb") as file:
+                file.write(f"@tree {TREE}\n".encode() + text + b"@host 1\n@claim 1.1\n")
+            os.rename(f"{node.work}/jobs/.odd", f"{node.work}/jobs/{odd[what]}")
+        os.mkdir(f"{node.work}/jobs/{'1' * 64}")
+        os.mkfifo(f"{node.work}/jobs/{'2' * 64}")
+        made = node.take(node.post("z/b"))
+        for what, name in (*odd.items(), ("a folder", "1" * 64), ("a FIFO", "2" * 64)):
+            add(tally, f"a job that is {what}", driver.tells(f"[?] jobs/{name} is no job: .*"), driver.lines())
+        begun = [line for line in driver.lines() if line.startswith(">")]
+        add(tally, "a job beside these", bool(made) and begun == ["> z/b, on 0 packages: 1 of 1"], driver.lines())
+
+
+def where_it_stands(tally):
+    """A work folder may have any name; what can't be told, since its output is full, or nobody reads it, keeps nothing back."""
+    with tempfile.TemporaryDirectory() as folder:
+        os.mkdir(f"{folder}/w\udcff")
+        node = Node(f"{folder}/w\udcff")
+        node.open()
+        driver = Driver(node, "exit 3")
+        why = until(lambda: bool(os.listdir(f"{node.work}/failed"))) if node.post("a/b") else ""
+        add(tally, "a work folder of other bytes", bool(why) and driver.process.poll() is None, os.listdir(f"{node.work}/failed"))
+        driver.end()
+    for what, number in (("a full disk", os.open("/dev/full", os.O_WRONLY)), ("nobody", unread())):
+        with tempfile.TemporaryDirectory() as folder:
+            node = Node(folder)
+            node.open()
+            process = subprocess.Popen([f"{TOP}/tools/build-jobs", node.work, node.log, "--", "sh", "-c", f"{BUILD}; test -e '{folder}/mended'"],
+                                       stdin=subprocess.DEVNULL, stdout=number, stderr=subprocess.PIPE)
+            os.close(number)
+            name = node.post("a/b")
+            why = node.failed(name)
+            with open(f"{folder}/mended", "w"):
+                os.unlink(f"{node.work}/failed/{name}")
+            made = node.take(name)
+            process.terminate()
+            told = process.communicate(timeout=LIMIT)[1], process.returncode
+            add(tally, f"lines for {what}", bool(why) and bool(made) and told == (b"", 143), (why, made, told))
+
+
+def unread():
+    """A pipe that nobody reads any more, to be written."""
+    reads, writes = os.pipe()
+    os.close(reads)
+    return writes
+
+
+def refused_reads(tally):
+    """A note of which something couldn't be read is taken again."""
+    module = build_jobs()
+    with tempfile.TemporaryDirectory() as folder:
+        node = Node(folder)
+        node.open()
+        node.hold("a/b", {"a/b": [("x.sha256", f"SHA256 (x) = {'0' * 64}\nSIZE (x) = 5\n".encode())]})
+        held, large_in = module.Held(node.log), module.unpack.large_in
+        module.unpack.large_in = lambda *_: (_ for _ in ()).throw(OSError("refused"))
+        with contextlib.suppress(OSError):
+            held.look()
+        module.unpack.large_in = large_in
+        held.look()
+        add(tally, "a note of which a read was refused", list(held.records) == [b"a/b"] and held.units == {b"a/b"}, (held.records, held.units))
+
+
+def on_the_disk(tally):
+    """What is written for the node, or kept in the store, is whole and on the disk before it has its name, and then its folder is."""
+    module, calls, fsync, rename = build_jobs(), [], os.fsync, os.rename
+
+    def synced(number):
+        it = os.fstat(number)
+        calls.append("folder" if stat.S_ISDIR(it.st_mode) else it.st_size)
+        fsync(number)
+
+    def renamed(old, new):
+        calls.append("rename")
+        rename(old, new)
+
+    with tempfile.TemporaryDirectory() as folder:
+        with open(f"{folder}/source", "wb") as file:
+            file.write(b"large" * 10_000)
+        try:
+            os.fsync, os.rename = synced, renamed
+            module.put(folder, "name", ["x" * 10_000, "y" * 10_000])
+            module.Store(folder, None, folder).keep(f"{folder}/source", digest_of(f"{folder}/source"))
+        finally:
+            os.fsync, os.rename = fsync, rename
+    add(tally, "what is written, the system's calls", calls == [20_000, "rename", "folder", 50_000, "rename", "folder"], calls)
+
+
 def commands(tally):
     """A command is found from where build-jobs is started, and one that isn't there is told at once."""
+    with laid(BUILD + '; echo "$0 $@" > "$OUT/a:b/words"', more=("--", "x", "--", "-j", "--")) as (node, driver):
+        made = node.take(node.post("a/b"))
+        add(tally, "a command's words", made.get("a/b", {}).get("words") == b"-- x -- -j --\n", (made, driver.lines()))
     with tempfile.TemporaryDirectory() as folder:
         node = Node(folder)
         node.open()
@@ -526,6 +625,10 @@ def run(tally):
     side_by_side(tally)
     failures(tally)
     odd_jobs(tally)
+    what_is_no_job(tally)
+    where_it_stands(tally)
+    refused_reads(tally)
+    on_the_disk(tally)
     drivers_that_end(tally)
     nodes_that_go_on(tally)
     builds_that_misbehave(tally)

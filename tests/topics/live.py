@@ -9,12 +9,13 @@ import random
 import re
 import shutil
 import subprocess
+import sys
 import tempfile
 import time
 
 from topics import nodes, packages
 from topics.nodes import NODES, answer, beside, free_ports, logs_in, ordered, put, refused, taken
-from topics.tally import PROGRAM, TESTS, TOP, contents, difference
+from topics.tally import PROGRAM, TESTS, TOP, built_shim, contents, difference
 
 LIVE = f"{TESTS}/live"
 # the kinds of datagrams that offer a claim, propose a build and ask for a unit
@@ -25,6 +26,11 @@ LIMIT = 300
 # how much more memory a long run may have at its end than after its first part, in kB: of what is kept to be used again some
 # pages more may have been touched
 SPARE = 64
+# how long a turn waits of the last of nine members, where no patience is told and nothing comes, in milliseconds (dpbn(1): 20 times
+# 1 + 8/2), and how many such turns an hour has: a day of that member has the fewest, 864,000
+WAIT, HOUR = 100, 36_000
+# how long is waited for such a day, in seconds, and how many hours of it there have to be by then
+LONGEST_DAY, LEAST_HOURS = 45, 6
 
 
 def until(holds, seconds=LIMIT, nap=0.02):
@@ -54,7 +60,7 @@ class Host:
     def __init__(self, run, me):
         self.run, self.me = run, me
         self.work, self.log = f"{run.folder}/work-{me}", f"{run.folder}/logs/node-{me}.log"
-        self.node = self.driver = None
+        self.node = self.driver = self.environment = None
         self.began = 0
 
     def out(self, part):
@@ -66,7 +72,7 @@ class Host:
                  "--me", str(self.me), *self.run.peers, "--progress", "1", *words]
         with open(self.out("node"), "ab") as out, open(self.out("err"), "ab") as err:
             self.node = subprocess.Popen([NODES, "build", *words], cwd=self.run.folder, stdin=subprocess.DEVNULL, stdout=out,
-                                         stderr=err)
+                                         stderr=err, env=self.environment)
 
     def start_driver(self):
         with open(self.out("driver"), "ab") as out:
@@ -445,14 +451,14 @@ BAD = {"that is no text": ("a/bytes", b"{"), "of another unit": ("a/other", b'{"
 class Lone(Host):
     """A node for which the test builds: it stands in a folder with a listing, and its peers, if there are any, are the test's."""
 
-    def __init__(self, folder, listing, weights=(1,)):
+    def __init__(self, folder, listing, weights=(1,), me=0):
         self.folder, self.members = folder, len(weights)
         base = free_ports(self.members)
         self.places = [("127.0.0.1", base + me) for me in range(self.members)]
         self.peers = ["--base", str(base), "--weights", ",".join(map(str, weights))]
         put(f"{folder}/listing", listing.encode())
         os.makedirs(f"{folder}/logs", exist_ok=True)
-        super().__init__(self, 0)
+        super().__init__(self, me)
 
     def jobs(self):
         """The names of the jobs that are posted, by unit."""
@@ -530,6 +536,58 @@ def late_answers(tally, host, names):
     check(tally, "an answer that is half written", host.shows(I=1, Q=7) and "a/half" in host.jobs(), host.lines()[-2:])
     host.hand_in("done", names["a/half"], GOOD["a/half"].encode())
     check(tally, "the same, whole", host.shows(I=2, Q=6), host.lines()[-2:])
+
+
+TWO = "a/b.FULLPKGNAME=b-1\na/c.FULLPKGNAME=c-1\n"
+
+
+def rests_behind_all_jobs(tally):
+    """A node whose open claim is answered, while the other one of its two jobs is built still, comes to rest behind that one."""
+    name = "two jobs, and a rest"
+    with lone(TWO, "--jobs", "2", "--rest", "1") as host:
+        first, second = host.job("a/b"), host.job("a/c")
+        host.hand_in("done", second, b'{"a/c":[]}')
+        held = host.shows(I=1, Q=1)
+        time.sleep(4)
+        check(tally, f"{name}, while one is built", held and host.node.poll() is None, host.node.poll(), host.lines()[-4:])
+        host.hand_in("done", first, b'{"a/b":[]}')
+        until(lambda: host.node.poll() is not None, 30)
+        check(tally, f"{name}, how it ends", host.node.poll() == 0, host.node.poll(), host.lines()[-4:])
+
+
+def taken_away(tally):
+    """A job that is taken away is posted again: that of the open claim, and one whose claim was given up for that; and no more jobs
+    are out than are told."""
+    with lone(TWO + "a/d.FULLPKGNAME=d-1\n", "--jobs", "2") as host:
+        names = {unit: host.job(unit) for unit in ("a/b", "a/c")}
+        for unit, name in reversed(names.items()):
+            os.unlink(f"{host.work}/jobs/{name}")
+            again = until(lambda: host.jobs().get(unit) == name, 20)
+            check(tally, f"the job of {unit}, taken away", again, host.jobs(), host.lines()[-4:])
+        time.sleep(1)
+        check(tally, "two jobs, and no third", sorted(host.jobs()) == ["a/b", "a/c"], host.jobs())
+        for unit, name in names.items():
+            host.hand_in("done", name, b'{"%s":[]}' % unit.encode())
+        check(tally, "what was taken away, built", host.shows(I=2, Q=1), host.lines()[-4:])
+
+
+def killed_while_it_builds(tally):
+    """A node that is killed and run again while its job is built doesn't have it built again."""
+    script = 'echo >> "$TOP/begun"; until [ -e "$TOP/go" ]; do sleep 0.05; done; mkdir "$OUT/a:b"'
+    with lone("a/b.FULLPKGNAME=b-1\n") as host:
+        with open(host.out("driver"), "wb") as out:
+            words = [f"{TOP}/tools/build-jobs", host.work, host.log, "--", "sh", "-c", script]
+            host.driver = subprocess.Popen(words, stdin=subprocess.DEVNULL, stdout=out, stderr=out,
+                                           env={**os.environ, "TOP": host.folder})
+        is_begun = until(lambda: size_of(f"{host.folder}/begun") > 0, 30)
+        for _ in range(3):
+            host.kill("node")
+            host.start_node("--rest", "1")
+            host.shows(Q=1)
+        put(f"{host.folder}/go", b"")
+        until(lambda: host.node.poll() is not None, 30)
+        told = host.node.poll(), contents(f"{host.folder}/begun") if is_begun else b"", host.begun()
+        check(tally, "a node that is killed while its job is built", told == (0, b"\n", 1), told, host.lines()[-4:])
 
 
 def other_runs(tally):
@@ -701,6 +759,49 @@ def long_run(tally, first=10, rounds=30):
         check(tally, "a long run, its memory", right, told, host.lines()[-3:])
 
 
+def a_day(tally):
+    """A day of turns of the last of nine members, made short: one build never ends, another one failed, one waits for it, and nobody
+    answers. The node has no more memory at the day's end than after its first hour."""
+    listing = "".join(f"a/{it}.FULLPKGNAME={it}-1\n" for it in "bcd") + "a/d.BUILD_DEPENDS=a/b\n"
+    # what is loaded may not lie in a folder in memory everywhere
+    with tempfile.TemporaryDirectory() as shim, tempfile.TemporaryDirectory(dir=nodes.MEMORY) as folder:
+        if not built_shim(tally, shim, "day"):
+            return
+        host = Lone(folder, listing, (1,) * 8 + (100,), me=8)
+        host.environment = {**os.environ, "LD_PRELOAD": f"{shim}/day.so", "LOOKS": f"{folder}/looks", "WAIT": str(WAIT)}
+        try:
+            host.start_node("--patience", "0")
+            host.hand_in("failed", host.job("a/b"), b"on purpose")
+            host.job("a/c")
+            day_passed(tally, host, f"{folder}/looks")
+        finally:
+            host.end()
+
+
+def day_passed(tally, host, place):
+    """Waits for a day of the node, of which each look at its socket is a turn, and compares its memory."""
+    def turns():
+        return int.from_bytes(contents(place), sys.byteorder)
+
+    first, began, used = turns(), time.monotonic(), processor_time(host.node)
+    until(lambda: turns() >= first + HOUR, LONGEST_DAY)
+    early = memory_of(host.node)
+    until(lambda: turns() >= first + 24 * HOUR, began + LONGEST_DAY - time.monotonic())
+    late, count, took = memory_of(host.node), turns() - first, time.monotonic() - began
+    told = f"{count:,} turns, {count / HOUR:.1f} hours, in {took:.1f} s, {processor_time(host.node) - used:.1f} s of processor"
+    told += f"; memory of {early} kB after an hour, {late} kB at the end; a log of {size_of(host.log):,} bytes"
+    print(f"tests/run: a day of turns: {told}", flush=True)
+    check(tally, "a day of turns, its memory", late <= early + SPARE, told, host.lines()[-3:])
+    is_quiet = host.node.poll() is None and not any(b"fault" in line for line in host.lines())
+    check(tally, "a day of turns, how long it was", is_quiet and count >= LEAST_HOURS * HOUR, told, host.lines()[-3:])
+
+
+def processor_time(process):
+    """How long a processor worked for the process, in seconds."""
+    fields = contents(f"/proc/{process.pid}/stat").rpartition(b")")[2].split()
+    return (int(fields[11]) + int(fields[12])) / os.sysconf("SC_CLK_TCK")
+
+
 # ---- words, and what is refused before the first turn
 
 def wrong_words():
@@ -793,9 +894,10 @@ def run(tally):
     # what a make that runs the tests would have other makes do
     for word in ("MAKEFLAGS", "MFLAGS", "MAKELEVEL"):
         os.environ.pop(word, None)
-    for one in (no_calls, faults):
+    for one in (no_calls, faults, a_day):
         one(tally)
-    beside(tally, (answers, other_runs, beside_nodes, quiet, unanswered, voted_by_nobody, no_majority, long_run, manual_page, readme))
+    beside(tally, (answers, rests_behind_all_jobs, taken_away, killed_while_it_builds, other_runs, beside_nodes, quiet,
+                   unanswered, voted_by_nobody, no_majority, long_run, manual_page, readme))
     if not shutil.which("bmake"):
         print("tests/run: no bmake here: nothing is built of Makefiles", flush=True)
         return

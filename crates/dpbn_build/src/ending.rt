@@ -59,6 +59,12 @@ impl Rest {
         }
     }
 
+    /// Something is built here, whatever else comes about: what is waited for begins behind that.
+    fn begin_anew(&mut self, now: Instant) {
+        self.since = now;
+        self.moved_at = now;
+    }
+
     /// Whether nothing was noted and told for so many seconds.
     fn is_over(&self, now: Instant, seconds: u32) -> bool {
         now.duration_since(self.since) >= Duration::from_secs(u64::from(seconds))
@@ -107,28 +113,29 @@ fn waits_for_its_build<D: Disk, P: Port>(solo: &Solo<'_, D, P>) -> bool
     }
 }
 
-/// Whether nothing is built here; and nothing was noted or told for so many seconds, and nothing is
-/// left that the node could do, or nothing moved for so long that nothing will.
+/// Whether nothing is built here; and nothing was built, noted or told for so many seconds, and
+/// nothing is left that the node could do, or nothing moved for so long that nothing will.
 fn is_at_rest<D: Disk, P: Port>(
     rt: &HostRuntime,
     solo: &Solo<'_, D, P>,
-    office: &Office<'_>,
+    office: &mut Office<'_>,
     seconds: u32,
 ) -> bool {
     let now = office.pacing.now;
-    let is_over = office.rest.is_over(now, seconds) && is_done(solo, office);
-    if !is_over && !office.rest.is_long_over(now, seconds) {
+    if office.desk.is_building(rt, solo.node().member()) {
+        office.rest.begin_anew(now);
         return false;
     }
-    !office.desk.is_building(rt, solo.node().member())
+    let is_over = office.rest.is_over(now, seconds) && is_done(solo, office);
+    is_over || office.rest.is_long_over(now, seconds)
 }
 
-/// Whether a claim is open that nobody answers, or each queued unit failed here or has its build.
-/// (A claim that gave way is as good as none.)
+/// Whether a claim is open that nobody answers, or each queued unit failed here, and no job is out:
+/// one that has its answer is still to be claimed anew. (A claim that gave way is as good as none.)
 fn is_done<D: Disk, P: Port>(solo: &Solo<'_, D, P>, office: &Office<'_>) -> bool {
     let node = solo.node();
     if node.open_claim().is_some() && !solo.is_in_the_way() {
         return true;
     }
-    !office.desk.has_more(node.member())
+    office.desk.is_clear() && !office.desk.has_more(node.member())
 }
