@@ -3,7 +3,8 @@
  *
  * Loaded before the program (LD_PRELOAD). Each write at a place, each truncation and each sync is counted, from 1, and
  * appended as a line to the file that CALLS names: `write PLACE COUNT`, `cut LENGTH`, `sync` or `sync folder`. FAIL=N makes
- * the Nth of them fail before it does anything; its line ends in ` failed`. FAIL=N.. fails all from that one on.
+ * the Nth of them fail before it does anything; its line ends in ` failed`. FAIL=N.. fails all from that one on. Where RENAMES
+ * is set, a file that gets another name counts, too: `rename`.
  */
 #define _GNU_SOURCE
 #include <dlfcn.h>
@@ -86,6 +87,16 @@ fsync(int fd)
 	if (fstat(fd, &found) == 0 && S_ISDIR(found.st_mode))
 		return is_failed("sync folder") ? -1 : next(fd);
 	return is_failed("sync") ? -1 : next(fd);
+}
+
+int
+rename(const char *old, const char *new)
+{
+	static int (*next)(const char *, const char *);
+
+	if (next == NULL)
+		next = (int (*)(const char *, const char *))dlsym(RTLD_NEXT, "rename");
+	return getenv("RENAMES") != NULL && is_failed("rename") ? -1 : next(old, new);
 }
 
 /* A sync of the bytes alone doesn't bring a new length to the disk. */

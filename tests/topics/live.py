@@ -3,6 +3,7 @@ ports that fail and are mended, a host that comes late, answers that are none, h
 run."""
 import contextlib
 import fcntl
+import hashlib
 import json
 import os
 import random
@@ -29,6 +30,8 @@ SPARE = 64
 # how long a turn waits of the last of nine members, where no patience is told and nothing comes, in milliseconds (dpbn(1): 20 times
 # 1 + 8/2), and how many such turns an hour has: a day of that member has the fewest, 864,000
 WAIT, HOUR = 100, 36_000
+# how many bytes a large file has
+LARGE = 134_217_728
 # how long is waited for such a day, in seconds, and how many hours of it there have to be by then
 LONGEST_DAY, LEAST_HOURS = 45, 6
 
@@ -802,6 +805,94 @@ def processor_time(process):
     return (int(fields[11]) + int(fields[12])) / os.sysconf("SC_CLK_TCK")
 
 
+def posted_on_the_disk(tally):
+    """What a node writes into its work folder is on the disk before it has its name, and then its folder is."""
+    with tempfile.TemporaryDirectory() as shim, tempfile.TemporaryDirectory(dir=nodes.MEMORY) as folder:
+        if not built_shim(tally, shim, "calls"):
+            return
+        host = Lone(folder, "a/b.FULLPKGNAME=b-1\n")
+        host.environment = {**os.environ, "LD_PRELOAD": f"{shim}/calls.so", "CALLS": f"{folder}/calls", "RENAMES": "1"}
+        try:
+            host.start_node()
+            # the job, and then the mark of an answer that makes no build
+            name = host.job("a/b")
+            host.hand_in("done", name, b"{")
+            is_marked = host.is_failed("a/b", name)
+        finally:
+            host.end()
+        calls = contents(f"{folder}/calls").decode().split("\n")[:-1]
+        around = [calls[number - 1:number + 2] for number, call in enumerate(calls) if call == "rename"]
+        # the run file's, the job's and the mark's
+        right = is_marked and len(around) >= 3 and all(it == ["sync", "rename", "sync folder"] for it in around)
+        check(tally, "what a node posts, the system's calls", right, around, calls[-8:])
+
+
+# ---- large packages
+
+def held(host):
+    """How many packages the node told last that it holds."""
+    told = [it for it in map(LINE.fullmatch, host.lines()) if it]
+    return sum(map(int, told[-1].groups()[1:3])) if told else 0
+
+
+def start_storing(host, script):
+    """Starts a driver that keeps large files in its store, and gets what it lacks from those of the others."""
+    get = f'cp "{host.run.folder}/work-$HOST/store/$SHA256" "$TARGET"'
+    words = [f"{TOP}/tools/build-jobs", "--digests", "1000000", "--fetch", get, host.work, host.log, "--", "sh", "-c", script]
+    with open(host.out("driver"), "ab") as out:
+        host.driver = subprocess.Popen(words, stdin=subprocess.DEVNULL, stdout=out, stderr=out)
+
+
+def large(tally):
+    """Packages of hundreds of megabytes, each built at another host on those before: their large files go by digest, are fetched from
+    where they were built, and stand whole in the end."""
+    name, units = "large packages", ("x", "y", "z")
+    listing = "".join(f"a/{it}.FULLPKGNAME={it}-1\n" for it in units) + "a/y.BUILD_DEPENDS=a/x\na/z.BUILD_DEPENDS=a/x a/y\n"
+    script = f'd="$OUT/$(echo $PKGPATH | tr / :)" && mkdir "$d" && yes $PKGPATH | head -c {LARGE} > "$d/big" && '
+    script += 'for it in "$DEPS"/*/big; do if [ -e "$it" ]; then sha256sum < "$it"; fi; done > "$d/saw"'
+    with tempfile.TemporaryDirectory() as folder:
+        first = Lone(folder, listing, (1, 1, 1))
+        hosts = [first, Host(first, 1), Host(first, 2)]
+        try:
+            began = time.monotonic()
+            for host in hosts:
+                host.start_node("--takeover", "1")
+            for count, host in enumerate(hosts, 1):
+                start_storing(host, script)
+                is_built = until(lambda: all(held(it) == count for it in hosts), 60)
+                check(tally, f"{name}, built at host {host.me}", is_built, [it.lines()[-2:] for it in hosts], contents(host.out("driver")))
+                host.driver.terminate()
+                host.driver.wait(LIMIT)
+            print(f"tests/run: {name}: three of {LARGE:,} bytes, one on the other, in {time.monotonic() - began:.1f} s", flush=True)
+        finally:
+            for host in hosts:
+                host.end()
+        large_ones(tally, name, folder, hosts, units)
+
+
+def large_ones(tally, name, folder, hosts, units):
+    """What each log holds of the large packages, and what a store with all of their files makes of it."""
+    digests = [hashlib.sha256((f"a/{it}\n" * (LARGE // 4)).encode()).hexdigest() for it in units]
+    lists = []
+    for host in hosts:
+        said = packages.tool("unpack-log", host.log, f"{folder}/small-{host.me}")
+        lists.append((said, contents(f"{folder}/small-{host.me}/list")))
+    check(tally, f"{name}, the same everywhere", all(it == ((b"", b"", 0), lists[0][1]) for it in lists), lists)
+    os.mkdir(f"{folder}/store")
+    for host in hosts:
+        for it in names_in(f"{host.work}/store"):
+            if not it.startswith(".") and not os.path.exists(f"{folder}/store/{it}"):
+                os.link(f"{host.work}/store/{it}", f"{folder}/store/{it}")
+    check(tally, f"{name}, what was stored", names_in(f"{folder}/store") == sorted(digests), names_in(f"{folder}/store"), digests)
+    said = packages.tool("unpack-log", "--store", f"{folder}/store", hosts[0].log, f"{folder}/large")
+    saw = [contents(f"{folder}/large/a:{it}/saw").decode().split()[::2] for it in units]
+    sizes = [size_of(f"{folder}/large/a:{it}/big") for it in units]
+    right = said == (b"", b"", 0) and saw == [digests[:number] for number in range(3)] and sizes == [LARGE] * 3
+    check(tally, f"{name}, what they saw", right, said, saw, sizes)
+    audit = subprocess.run([PROGRAM, "audit", f"{folder}/listing", f"{folder}/large/list"], capture_output=True, timeout=LIMIT)
+    check(tally, f"{name}, the list", audit.stdout == b"yes\n", audit.stdout, audit.stderr)
+
+
 # ---- words, and what is refused before the first turn
 
 def wrong_words():
@@ -894,7 +985,7 @@ def run(tally):
     # what a make that runs the tests would have other makes do
     for word in ("MAKEFLAGS", "MFLAGS", "MAKELEVEL"):
         os.environ.pop(word, None)
-    for one in (no_calls, faults, a_day):
+    for one in (no_calls, faults, posted_on_the_disk, large, a_day):
         one(tally)
     beside(tally, (answers, rests_behind_all_jobs, taken_away, killed_while_it_builds, other_runs, beside_nodes, quiet,
                    unanswered, voted_by_nobody, no_majority, long_run, manual_page, readme))

@@ -1,5 +1,5 @@
 //! What is known here of builds: which are under way, which failed, and who was asked for what.
-ghost use Rattle.std.specs.Prelude.{◌≡◌, ◌⊎◌, ◌==◌, [], IfErr, OnErr, false, length, nat_eq, true};
+ghost use Rattle.std.specs.Prelude.{◌≡◌, ◌⊎◌, ◌==◌, [], IfErr, OnErr, None, false, length, nat_eq, true};
 ghost use Rattle.std.specs.List.{Any};
 ghost use Rattle.desk.specs.Keeping.{IsSameButFailed, IsSameButSeen};
 ghost use Rattle.desk.specs.Posted.{not_held};
@@ -61,6 +61,8 @@ impl<'f> Desk<'f> {
         ensures failed { result.failed.entries ≡ [] }
         ensures asked { result.asked.keys ≡ [] }
         ensures away { result.away.entries ≡ [] }
+        ensures next { result.next ≡ 0 }
+        ensures last { result.last ≡ None }
         ensures pace { result.pace ≡ pace }
     {
         Desk {

@@ -42,8 +42,8 @@ impl Part {
 /// before it gets its own, and then the folder is. Whenever a crash comes, a name stands for the
 /// whole file or for none.
 ///
-/// Two nodes of one run may have one folder: what is equal work has one name, and what each
-/// writes meanwhile has the node's number behind that.
+/// Two nodes of one run that have notes may have one folder: what is equal work has one name, and
+/// what each writes meanwhile has the node's number behind that.
 #[derive(Clone, Copy)]
 pub struct Folder<'f> {
     path: &'f str,
