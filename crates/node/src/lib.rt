@@ -2,7 +2,6 @@
 #![tactic(auto)]
 
 mod fault;
-mod finishing;
 mod kept;
 mod laws;
 mod node;
@@ -10,6 +9,7 @@ mod noted;
 mod opening;
 mod parcels;
 mod ready;
+mod step_end;
 mod stepping;
 mod written;
 
