@@ -145,11 +145,11 @@ module _ (w : World) (made : IsMade w.division w.weights) (acts : List (Act Valu
 
     counted_then : (j : ℕ) → j < length w.weights → voters w sent name c j ≡ true
         → with_member before k j ≡ true
-    counted_then j lt e = ⊎_elim
+    counted_then j lt voted = ⊎_elim
         (λ old. or_right (j == k) (before j) (counted_before j lt old))
         (λ new. or_left (j == k) (before j) (eq-eqb j k
         (votes_same c c k j (sym is_sent ∙ new.0)).0))
-        (old_or_new w made acts local m e s a name c j claim_good e)
+        (old_or_new w made acts local m e s a name c j claim_good voted)
 
     then_counted : (j : ℕ) → with_member before k j ≡ true → voters w sent name c j ≡ true
     then_counted j e = ⊎_elim
