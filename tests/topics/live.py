@@ -467,8 +467,9 @@ class Lone(Host):
         """The names of the jobs that are posted, by unit."""
         found = {}
         for name in names_in(f"{self.work}/jobs"):
-            if not name.startswith("."):
-                found[re.search(r"^@unit (.*)$", contents(f"{self.work}/jobs/{name}").decode(), re.MULTILINE)[1]] = name
+            unit = None if name.startswith(".") else re.search(rb"^@unit (.*)$", contents(f"{self.work}/jobs/{name}"), re.MULTILINE)
+            if unit:
+                found[unit[1].decode()] = name
         return found
 
     def job(self, unit):
