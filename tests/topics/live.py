@@ -594,6 +594,52 @@ def killed_while_it_builds(tally):
         check(tally, "a node that is killed while its job is built", told == (0, b"\n", 1), told, host.lines()[-4:])
 
 
+@contextlib.contextmanager
+def several(listing, *works):
+    """Nodes of one run, a folder in memory, each with its work folder's name; they aren't started, and their processes end with it."""
+    with tempfile.TemporaryDirectory(dir=nodes.MEMORY) as folder:
+        first = Lone(folder, listing, (1,) * len(works))
+        hosts = [first, *(Host(first, me) for me in range(1, len(works)))]
+        for host, work in zip(hosts, works):
+            host.work = f"{folder}/{work}"
+        try:
+            yield hosts
+        finally:
+            for host in hosts:
+                host.end()
+
+
+def one_folder(tally):
+    """Two nodes of one run that share a work folder, of which one is killed and started again: what is handed in there is held by all
+    three, and nothing is refused."""
+    with several(TWO, "shared", "shared", "other") as hosts:
+        first, second, _ = hosts
+        for host in hosts:
+            host.start_node("--takeover", "1")
+        first.hand_in("done", first.job("a/b"), b'{"a/b":[]}')
+        is_first = until(lambda: all(held(host) == 1 for host in hosts), 60)
+        second.kill("node")
+        second.start_node("--takeover", "1")
+        first.hand_in("done", first.job("a/c"), b'{"a/c":[]}')
+        is_second = until(lambda: all(held(host) == 2 for host in hosts), 60)
+        told = [line for host in hosts for line in host.lines() if b"fault" in line]
+        last = [host.lines()[-3:] for host in hosts]
+        check(tally, "two nodes of one work folder", is_first and is_second and not told, is_first, is_second, told, last)
+
+
+def overtaken(tally):
+    """A claim is taken over by another node while its build is under way: what was built is published all the same, once the unit is
+    claimed anew, and the other node, for which nobody builds, holds it, too."""
+    with several("a/b.FULLPKGNAME=b-1\n", "work-0", "work-1", "work-2") as hosts:
+        for host in hosts[:2]:
+            host.start_node("--takeover", "1")
+        is_over = until(lambda: all(names_in(f"{host.work}/jobs") for host in hosts[:2]), 60)
+        hosts[0].hand_in("done", hosts[0].job("a/b"), b'{"a/b":[{"hex":"78","name":"x"}]}')
+        is_held = until(lambda: all(held(host) == 1 for host in hosts[:2]), 60)
+        last = [host.lines()[-3:] for host in hosts[:2]]
+        check(tally, "a claim that is taken over while it is built", is_over and is_held, is_over, is_held, last)
+
+
 def other_runs(tally):
     """A folder that has files, beside a log without notes, is that of another run, and nothing of it changes; what is half written
     doesn't count."""
@@ -988,7 +1034,7 @@ def run(tally):
         os.environ.pop(word, None)
     for one in (no_calls, faults, posted_on_the_disk, large, a_day):
         one(tally)
-    beside(tally, (answers, rests_behind_all_jobs, taken_away, killed_while_it_builds, other_runs, beside_nodes, quiet,
+    beside(tally, (answers, rests_behind_all_jobs, taken_away, killed_while_it_builds, one_folder, overtaken, other_runs, beside_nodes, quiet,
                    unanswered, voted_by_nobody, no_majority, long_run, manual_page, readme))
     if not shutil.which("bmake"):
         print("tests/run: no bmake here: nothing is built of Makefiles", flush=True)
