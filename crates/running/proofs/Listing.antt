@@ -30,7 +30,7 @@ use Rattle.world.specs.Sent.{voters, with_sends}
 use Rattle.world.specs.World.{IsMade, World, WorldNode, member_at, node_at}
 use Rattle.running.specs.inside.Deciding.{claim_voted, decided_by, decision, message_in}
 use Rattle.running.specs.inside.Standing.{IsReached}
-use Rattle.running.specs.inside.Stepping.{with_decision}
+use Rattle.running.specs.inside.NodeSteps.{with_decision}
 use Rattle.running.proofs.Casting.{vote_of}
 use Rattle.running.proofs.VoteSent.{vote_is}
 use Rattle.running.proofs.NewVotes.{not_decided, said_same, says_it, votes_so}

@@ -32,8 +32,8 @@ use Rattle.running.specs.inside.Asking.{CanBeAsked, asked_by, refused_by}
 use Rattle.running.specs.inside.Deciding.{decision}
 use Rattle.running.specs.inside.Standing.{IsReached, IsStanding, StandsOn, disk_of, node_view, world_of}
 use Rattle.running.specs.inside.Tables.{AreListed, AreSame, list_in}
-use Rattle.running.specs.inside.Stepping.{RefusesStep, TakesStep, with_decision}
-use Rattle.running.specs.inside.Stopping.{IsStopped}
+use Rattle.running.specs.inside.NodeSteps.{RefusesStep, TakesStep, with_decision}
+use Rattle.running.specs.inside.Stops.{IsStopped}
 use Rattle.running.proofs.Listing.{step_lists}
 use Rattle.running.proofs.NodeStands.{is_full, lacks_room, same_so, stopped_so, took_so}
 use Rattle.running.proofs.Taking.{told_so}

@@ -14,7 +14,7 @@ use Rattle.running.specs.declared.slot.Slot.TheVariants.{Up}
 use Rattle.running.specs.declared.world_state.WorldState.{WorldState}
 use Rattle.running.specs.inside.Asking.{asked_by, refused_by}
 use Rattle.running.specs.inside.Standing.{IsReached, IsStanding, node_view, world_of}
-use Rattle.running.specs.inside.Stopping.{IsNotStoppedWith, IsStoppedWith, ReadiesStep, StandsReady}
+use Rattle.running.specs.inside.Stops.{IsNotStoppedWith, IsStoppedWith, ReadiesStep, StandsReady}
 use Rattle.running.proofs.PutBack.{stands_at}
 use Rattle.running.proofs.StateWith.{IsBut}
 use Rattle.running.proofs.StopsInside.{at_place, its_node, not_readied, readied_nodes, readied_stands, within}

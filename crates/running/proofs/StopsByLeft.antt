@@ -22,7 +22,7 @@ use Rattle.running.specs.declared.slot.DownNode.{DownNode}
 use Rattle.running.specs.declared.world_state.WorldState.{WorldState}
 use Rattle.running.specs.inside.Asking.{asked_by, refused_by}
 use Rattle.running.specs.inside.Standing.{IsReached, IsStanding, StandsOn, disk_of, file_of, node_view, world_of}
-use Rattle.running.specs.inside.Stopping.{IsNotStoppedWith, IsStopped, IsStoppedWith, ReadiesStep, TookNone, TookStep}
+use Rattle.running.specs.inside.Stops.{IsNotStoppedWith, IsStopped, IsStoppedWith, ReadiesStep, TookNone, TookStep}
 use Rattle.running.proofs.NodeStands.{IsLeftAs, lacks_room, stopped_so, took_so, torn_so}
 use Rattle.running.proofs.StateWith.{IsBut, put_again, put_there}
 use Rattle.running.proofs.StopsInside.{down_so, full_so, its_node, up_again, within}

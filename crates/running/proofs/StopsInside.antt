@@ -26,7 +26,7 @@ use Rattle.running.specs.declared.slot.DownNode.{DownNode}
 use Rattle.running.specs.declared.world_state.WorldState.{WorldState}
 use Rattle.running.specs.inside.Asking.{CanBeAsked, IsReadied, asked_by, refused_by}
 use Rattle.running.specs.inside.Standing.{IsReached, IsStanding, StandsOn, node_view, world_of}
-use Rattle.running.specs.inside.Stopping.{ReadiesStep, StandsReady}
+use Rattle.running.specs.inside.Stops.{ReadiesStep, StandsReady}
 use Rattle.running.proofs.NodeStands.{IsLeftAs, is_full, same_so}
 use Rattle.running.proofs.Taking.{told_so}
 use Rattle.running.proofs.StateWith.{IsBut, put_again, standing_with, world_with}

@@ -14,7 +14,7 @@ use Rattle.node.specs.declared.fault.NodeFault.TheVariants as node_fault
 use Rattle.protocol.specs.State.{Value}
 use Rattle.running.specs.declared.tables.Tables.{Tables}
 use Rattle.running.specs.inside.Asking.{IsReadied, asked_by, refused_by}
-use Rattle.running.specs.inside.Stepping.{HasFinished, RefusesStep, TakesStep}
+use Rattle.running.specs.inside.NodeSteps.{HasFinished, RefusesStep, TakesStep}
 use Rattle.stable_record.specs.InMemory.{mem_history}
 use Rattle.stable_record.specs.OpenLog.{Holds}
 use Rattle.stable_record.specs.declared.log.Log.{Log}

@@ -49,7 +49,7 @@ use Rattle.world.specs.Sent.{WasProposed, message, voters, with_sends}
 use Rattle.world.specs.World.{IsMade, World, WorldNode, member_at, node_at, up_node}
 use Rattle.world.proofs.Sending.{among_is, is_found, sends_stay, sends_there}
 use Rattle.running.specs.inside.Deciding.{makes_majority, value_under, voted_by, voters_in, voters_of}
-use Rattle.running.specs.inside.Stepping.{with_decision}
+use Rattle.running.specs.inside.NodeSteps.{with_decision}
 use Rattle.running.proofs.Casting.{IsNotedVote, vote_of, votes_are_noted, votes_same}
 use Rattle.running.proofs.VoteSent.{whole_text}
 use Rattle.running.proofs.NewVotes.{claim_is_same, fact_value, none_noted, not_decided, noted_vote, old_or_new, says_it, written}

@@ -9,13 +9,13 @@ ghost use Rattle.stable_record.specs.InMemory.{mem_history};
 ghost use Rattle.world.specs.Sent.{with_sends};
 ghost use Rattle.running.specs.inside.Asking.{CanBeAsked, IsReadied, refused_by};
 ghost use Rattle.running.specs.inside.Deciding.{decision};
-ghost use Rattle.running.specs.inside.Stepping.{
+ghost use Rattle.running.specs.inside.NodeSteps.{
   HasFinished,
   RefusesStep,
   TakesStep,
   with_decision,
 };
-ghost use Rattle.running.specs.inside.Stopping.{HasTakenOnLog, StaysOnLog};
+ghost use Rattle.running.specs.inside.Stops.{HasTakenOnLog, StaysOnLog};
 ghost use Rattle.running.specs.inside.Tables.{AreListed, AreSame, HasGrown, list_in};
 
 use crate::tables::Tables;

@@ -25,7 +25,7 @@ ghost use Rattle.running.specs.inside.Standing.{
   node_view,
   world_of,
 };
-ghost use Rattle.running.specs.inside.Stopping.{
+ghost use Rattle.running.specs.inside.Stops.{
   HasNotStopped,
   IsNotStoppedWith,
   IsReady,

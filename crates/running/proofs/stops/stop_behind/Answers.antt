@@ -3,7 +3,7 @@ use Rattle.std.proofs.lemmas.List.{length-set}
 use Rattle.std.proofs.lemmas.Option.{slice_get_within}
 use Rattle.std.proofs.lemmas.Result.{err_from_is_err_and}
 use Rattle.running.proofs.PutBack.{one_there, stands_at}
-use Rattle.running.specs.inside.Stopping.{IsReady}
+use Rattle.running.specs.inside.Stops.{IsReady}
 use Rattle.running.proofs.stops.stop_behind.Goals as goal
 
 pub index_mut-requires : goal.index_mut-requires
