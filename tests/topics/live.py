@@ -445,6 +445,8 @@ ANSWERED = "".join(f"a/{name}.FULLPKGNAME={name}-1\n" for name in SINGLE)
 ANSWERED += "a/unit,-main.FULLPKGNAME=unit-1\na/unit,-tests.FULLPKGNAME=unit-tests-1\n"
 # what is right for each unit, and what is none, by how that is
 GOOD = {"a/unit": UNIT, **{f"a/{name}": f'{{"a/{name}":[{{"hex":"78","name":"x"}}]}}\n' for name in SINGLE}}
+# what an answer has besides its unit's packages is not looked at
+GOOD["a/other"] = '{"a/other":[{"hex":"78","name":"x"}],"x/y":[{"hex":"","name":"@x"}]}\n'
 BAD = {"that is no text": ("a/bytes", b"{"), "of another unit": ("a/other", b'{"a/b":[]}'),
        "without a package": ("a/unit", b'{"a/unit,-main":[]}'),
        "with a bad name": ("a/name", b'{"a/name":[{"hex":"","name":"@x"}]}'),
