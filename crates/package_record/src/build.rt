@@ -9,8 +9,8 @@ ghost use Rattle.package_record.specs.BuildReading.{first_build_of, whole_build_
 ghost use Rattle.package_record.specs.Making.{build_fault};
 ghost use Rattle.package_record.specs.Packages.{AreOfOneGroup, contents_of};
 
+use crate::equality::are_same_records;
 use crate::gathering::{gather, test_all_names};
-use crate::same::are_same_records;
 use crate::{Files, Record, RecordFault, build_writing, several};
 use claims::{Claim, Deps, Texts};
 use faults::Memory;

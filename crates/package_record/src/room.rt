@@ -1,4 +1,5 @@
-//! How much room the text of a record takes, so that it is had at once and not piece by piece.
+//! How much room the text of a record takes, so that it is had at once and not piece by piece, and
+//! how many bytes its lines have besides their fields.
 
 use crate::File;
 use crate::fields::Fields;
@@ -9,13 +10,16 @@ use pkgpath::PkgPath;
 const FRONT: usize = 77;
 
 /// The bytes of a dependency's line besides its path and its name.
-const BUILT: usize = 74;
+pub const BUILT: usize = 74;
 
 /// The bytes of the line of a path to run besides the path.
-const RUN: usize = 6;
+pub const RUN: usize = 6;
 
 /// The most bytes that the three lines of a file have besides its name.
-const FILE: usize = 98;
+const MOST_FILE: usize = 98;
+
+/// The fewest bytes that these lines have besides the name: those of a size of one digit.
+pub const LEAST_FILE: usize = 79;
 
 fn built_room(deps: &[Dep]) -> usize {
     let mut room: usize = 0;
@@ -41,7 +45,9 @@ fn run_room(paths: &[PkgPath]) -> usize {
 fn lines_room(files: &[File]) -> usize {
     let mut room: usize = 0;
     for file in files {
-        room = room.saturating_add(FILE).saturating_add(file.name.len());
+        room = room
+            .saturating_add(MOST_FILE)
+            .saturating_add(file.name.len());
     }
     room
 }

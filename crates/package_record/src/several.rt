@@ -13,10 +13,10 @@ ghost use Rattle.package_record.specs.BuildReading.{
 };
 ghost use Rattle.package_record.specs.inside.Given.{Gives};
 
-use crate::alike::may_follow;
 use crate::cursor::Cursor;
 use crate::fault::ReadError;
 use crate::number::number_within;
+use crate::sharing::may_follow;
 use crate::{LIMIT, MOST_PACKAGES, Record, RecordFault};
 use faults::Memory;
 use std::alloc::Global;

@@ -20,24 +20,14 @@ use Rattle.running.proofs.StateWith.{IsBut}
 use Rattle.running.proofs.StopsInside.{at_place, its_node, not_readied, readied_nodes, readied_stands, within}
 use Rattle.running.proofs.StopsByLeft.{stops_in, stops_not}
 
-pub on_ok : {T E : Type 0} (r : Result T E) (P Q : Type 0) → (P → Q) → OnOk r P → OnOk r Q
-on_ok (Ok x) P Q f p = f p
-on_ok (Err g) P Q f p = tt
-
-pub on_err : {T E : Type 0} (r : Result T E) (P : E → Type 0) (Q : Type 0) → ((g : E) → P g → Q)
-    → IfErr r P → OnErr r Q
-on_err (Ok x) P Q f p = tt
-on_err (Err g) P Q f p = f g p
-
-pub if_err : {T E : Type 0} (r : Result T E) (P Q : E → Type 0) → ((g : E) → P g → Q g)
-    → IfErr r P → IfErr r Q
-if_err (Ok x) P Q f p = tt
-if_err (Err g) P Q f p = f g p
-
-pub either : {T E : Type 0} (r : Result T E) (P : Type 0) (Q : E → Type 0) (R : Type 0) → (P → R)
-    → ((g : E) → Q g → R) → OnOk r P → IfErr r Q → R
-either (Ok x) P Q R f g p q = f p
-either (Err h) P Q R f g p q = g h q
+-- The call that stops the node leaves the world in which it stopped there, or the one that stood.
+pub record IsLeftIn (s : WorldState) (e : Event) (l : Left) (t : WorldState)
+    (r : Result (Unit {0}) NodeFault) : Type 0 where
+  pub taken : OnOk r (StopsIn (world_of s) e l (world_of t))
+  pub same : OnErr r (world_of t ≡ world_of s)
+  pub refused : IfErr r
+      (λ f. (f ≡ fault.Memory) ⊎ IsRefusedByNode (world_of s) (events.StopIn e l) (refused_by f))
+  pub standing : IsStanding t
 
 module _ (s : WorldState) (e : Event) (l : Left) (standing : IsStanding s)
     (reached : IsReached (world_of s))
@@ -103,3 +93,15 @@ module _ (s : WorldState) (e : Event) (l : Left) (standing : IsStanding s)
           (subst (λ (ns : List Slot). IsNotStoppedWith l ns t.nodes.items (events.node_of e) r f)
           (nodes_are r h)
           (subst (λ i. IsNotStoppedWith l then_nodes t.nodes.items i r f) place_is none))
+
+      -- either way
+      pub left_there : (result : Result (Unit {0}) NodeFault)
+          → OnOk result (IsStoppedWith l then_nodes t.nodes.items place r)
+          → IfErr result (IsNotStoppedWith l then_nodes t.nodes.items place r)
+          → IsLeftIn s e l t result
+      left_there (Ok u) stopped none =
+          let left = stops_there stopped in
+          record { taken = left.0; same = tt; refused = tt; standing = left.1 }
+      left_there (Err f) stopped none =
+          let left = not_there f none in
+          record { taken = tt; same = left.0; refused = left.2; standing = left.1 }

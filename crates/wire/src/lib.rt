@@ -25,7 +25,6 @@ mod fault;
 mod fields;
 mod known;
 mod laws;
-mod likely;
 mod notes;
 mod pieces;
 mod writing;

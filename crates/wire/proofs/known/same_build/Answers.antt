@@ -16,6 +16,6 @@ returns-in-Ok c =
       build_is = c.is_of_unit.ensures.build;
       unit = c.is_of_unit.ensures.unit c.if-not-is_of_unit.false;
     } in
-    ap (λ (t : Text). build_in name (whole_build_of t)) (c.is_text_of.ensures c.if-not-is_text_of.false)
+    ap (λ (t : Text). build_in name (whole_build_of t)) (c.is_text.ensures c.if-not-is_text.false)
     ∙ whole_build_read build_is_read name build of
     ∙ ap (λ (b : Value). Ok b) (sym c.in-Ok.ensures)

@@ -3,7 +3,7 @@ use Rattle.faults.specs.Bytes.{Text}
 use Rattle.package_record.specs.Build.{lines_before, records_text}
 use Rattle.package_record.specs.Content.{Content, record_text}
 use Rattle.package_record.proofs.BuildTexts.{text_next}
-use Rattle.wire.proofs.known.behind_build.Goals as goal
+use Rattle.package_record.proofs.matching.behind_build.Goals as goal
 
 pub loop-record-preserved : goal.loop-record-preserved
 loop-record-preserved c =

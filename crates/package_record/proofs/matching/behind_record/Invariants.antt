@@ -1,7 +1,7 @@
 use Rattle.std.proofs.Common.{◌≡◌, ◌++◌, flat_map, map, take}
 use Rattle.package_record.specs.Content.{header_text}
 use Rattle.package_record.specs.FileView.{file_view}
-use Rattle.wire.proofs.known.behind_record.Given as goal
+use Rattle.package_record.proofs.matching.behind_record.Given as goal
 
 abbrev pub invariant-loop-file : goal.invariant-loop-file
 invariant-loop-file l =

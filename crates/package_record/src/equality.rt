@@ -4,7 +4,7 @@ ghost use Rattle.std.specs.Cmp.Lexicographic.{pointwise};
 ghost use Rattle.package_record.specs.FileView.{file_view};
 ghost use Rattle.package_record.specs.inside.Same.{is_same_content, is_same_file};
 
-use crate::alike::are_same_deps;
+use crate::sharing::are_same_deps;
 use crate::{File, Record};
 
 fn is_same_file(file: &File, other: &File) -> bool

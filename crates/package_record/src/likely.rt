@@ -1,19 +1,10 @@
 //! Whether a text may begin with that of a record which is known. All that is asked here costs no
 //! more than what came: a walk ends where the text does, and nothing is written.
 
+use crate::room::{BUILT, LEAST_FILE, RUN};
+use crate::{File, Record};
 use claims::Dep;
-use package_record::{File, Record};
 use pkgpath::PkgPath;
-
-/// The bytes of a dependency's line besides its path and its name.
-const BUILT: usize = 74;
-
-/// The bytes of the line of a path to run besides the path.
-const RUN: usize = 6;
-
-/// The fewest bytes that the three lines of a file have besides its name: those of a size of one
-/// digit.
-const FILE: usize = 79;
 
 /// The most digits that a number has.
 const DIGITS: usize = 20;
@@ -95,7 +86,7 @@ fn behind_files(room: usize, files: &[File]) -> Option<usize> {
     let mut left = room;
     for file in files {
         left = left
-            .checked_sub(FILE)?
+            .checked_sub(LEAST_FILE)?
             .checked_sub(file.name.len())?
             .checked_sub(file.bytes.len())?;
     }

@@ -1,6 +1,6 @@
 use Rattle.std.proofs.Common.{◌≡◌, ◌++◌, length, take}
 use Rattle.package_record.specs.Build.{lines_before, records_text}
-use Rattle.wire.proofs.known.behind_build.Given as goal
+use Rattle.package_record.proofs.matching.behind_build.Given as goal
 
 abbrev pub invariant-loop-record : goal.invariant-loop-record
 invariant-loop-record l =

@@ -1,7 +1,7 @@
 use Rattle.std.proofs.Common.{◌≡◌, drop}
 use Rattle.std.specs.Cmp.Lexicographic.{pointwise}
 use Rattle.package_record.specs.inside.Same.{is_same_content}
-use Rattle.package_record.proofs.same.are_same_records.Given as goal
+use Rattle.package_record.proofs.equality.are_same_records.Given as goal
 
 abbrev pub invariant-loop-index : goal.invariant-loop-index
 invariant-loop-index l = pointwise is_same_content l.records l.others
