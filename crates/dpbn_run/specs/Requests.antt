@@ -2,7 +2,7 @@
 use Rattle.std.specs.Prelude.{◌++◌, [], ◌∷◌, Bool, true, false, codes}
 use Rattle.ballots.specs.Value.{Value}
 use Rattle.ballots.specs.declared.message.Body.{Body}
-use Rattle.ballots.specs.declared.message.Body.TheVariants.{Offer, Promise, Propose, Vote, Agreed, Ask, Nay}
+use Rattle.ballots.specs.declared.message.Body.TheVariants.{Ask}
 use Rattle.faults.specs.Bytes.{Text}
 use Rattle.wire.specs.Spelling.{kind_of}
 use Rattle.wire.specs.declared.datagram.Datagram.{Datagram}
@@ -14,13 +14,8 @@ request_front = codes "DPB1" ++ kind_of Ask ∷ []
 
 -- whether a message asks for its unit
 abbrev pub body_asks : Body Value → Bool
-body_asks (Offer c) = false
-body_asks (Promise c report) = false
-body_asks (Propose c v) = false
-body_asks (Vote c) = false
-body_asks (Agreed v) = false
 body_asks Ask = true
-body_asks (Nay c promised) = false
+body_asks _ = false
 
 -- whether a datagram does
 abbrev pub asks : Datagram → Bool

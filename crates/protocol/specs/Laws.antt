@@ -58,13 +58,9 @@ pub record Says (s : State) (u : ℕ) (what : Option (messages.Message Value)) (
 -- Whether it goes to somebody, however many members there are: what all others are told goes to
 -- nobody where one is alone.
 abbrev pub must_go_out : messages.Message Value → Bool
-must_go_out (messages.Promise p) = true
-must_go_out (messages.Vote m c) = true
-must_go_out (messages.Nay m c p) = true
-must_go_out (messages.Propose b) = true
-must_go_out (messages.Offer c) = true
 must_go_out (messages.Agreed v) = false
 must_go_out messages.Ask = false
+must_go_out _ = true
 
 -- The answer is what the theory's node does by this outcome for the unit: the member is that node
 -- afterwards, notes what is noted there, and sends just what is said there.

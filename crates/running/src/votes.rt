@@ -32,12 +32,7 @@ fn claim_of(message: &Message) -> Option<Claim>
 {
     match &message.body {
         Body::Vote(claim) => Some(*claim),
-        Body::Offer(_)
-        | Body::Promise(_, _)
-        | Body::Propose(_, _)
-        | Body::Agreed(_)
-        | Body::Ask
-        | Body::Nay(_, _) => None,
+        _ => None,
     }
 }
 

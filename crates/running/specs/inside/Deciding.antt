@@ -24,13 +24,8 @@ sender_place = 5
 
 -- the claim that a body votes for
 abbrev pub claim_voted : Body Value → Option Claim
-claim_voted (body.Offer c) = None
-claim_voted (body.Promise c report) = None
-claim_voted (body.Propose c v) = None
 claim_voted (body.Vote c) = Some c
-claim_voted (body.Agreed v) = None
-claim_voted body.Ask = None
-claim_voted (body.Nay c promised) = None
+claim_voted _ = None
 
 -- the message that goes out, if one does
 abbrev pub message_in : List Send → Option (Message Value)
@@ -53,10 +48,8 @@ makes_majority weights voters sender =
 
 -- the build that the fact is a vote for, under the claim
 abbrev pub voted_in : Claim → Fact Value → Option Value
-voted_in c (fact.Opened round) = None
-voted_in c (fact.Promised d) = None
 voted_in c (fact.Voted d v) = if claim_same d c then Some v else None
-voted_in c (fact.Held v) = None
+voted_in c _ = None
 
 -- the build of the vote, if it is under the claim
 abbrev pub value_under : Claim → Ballot Value → Option Value
