@@ -14,13 +14,13 @@ import sys
 import tempfile
 import time
 
-from topics import nodes, packages
+from topics import nodes, packages, sealed
 from topics.nodes import NODES, answer, beside, free_ports, logs_in, ordered, put, refused, taken
 from topics.tally import PROGRAM, TESTS, TOP, built_shim, contents, difference
 
 LIVE = f"{TESTS}/live"
-# the kinds of datagrams that offer a claim, propose a build and ask for a unit
-OFFER, PROPOSAL, ASK = 1, 3, 6
+# the kinds of datagrams that offer a claim, promise it, propose a build and ask for a unit
+OFFER, PROMISE, PROPOSAL, ASK = 1, 2, 3, 6
 LINE = re.compile(rb"node (\d): I=(\d+) B=(\d+) Q=(\d+) T=(\d+) !=(\d+)")
 # how long something is waited for, in seconds
 LIMIT = 300
@@ -34,6 +34,8 @@ WAIT, HOUR = 100, 36_000
 LARGE = 134_217_728
 # how long is waited for such a day, in seconds, and how many hours of it there have to be by then
 LONGEST_DAY, LEAST_HOURS = 45, 6
+# how many bytes a log may have, and from how many on it is told how many it has (dpbn(1))
+MOST_OF_A_LOG, NEARLY_FULL = 2_147_483_648, 2_147_483_648 // 10 * 9
 
 
 def until(holds, seconds=LIMIT, nap=0.02):
@@ -642,6 +644,23 @@ def overtaken(tally):
         check(tally, "a claim that is taken over while it is built", is_over and is_held, is_over, is_held, last)
 
 
+def left_to_another(tally, takeover=4):
+    """A unit that was promised to another member, which is silent then: it isn't claimed before `--takeover` is over, and soon after."""
+    listing = "a/b.FULLPKGNAME=b-1\na/c.FULLPKGNAME=c-1\na/c.BUILD_DEPENDS=a/b\n"
+    with lone(listing, "--takeover", str(takeover), weights=(2, 1)) as host, taken(host.places[1][1]) as mouth:
+        job = host.job("a/b")
+        offer = sealed.front(b"DPB1", OFFER, 1, contents(host.log)[9:41], b"a/c") + sealed.claim(1, 1)
+        began = time.monotonic()
+        mouth.sendto(offer, host.places[0])
+        is_promised = until(lambda: PROMISE in came([mouth])[0], 20)
+        host.hand_in("done", job, b'{"a/b":[]}')
+        is_claimed = is_promised and until(lambda: "a/c" in host.jobs(), 60)
+        took = time.monotonic() - began
+        right = is_claimed and takeover <= took <= takeover + 10
+        told = f"promised: {is_promised}, claimed: {is_claimed}, after {took:.1f} s"
+        check(tally, f"a unit that is left to another member for {takeover} s", right, told, host.lines()[-3:])
+
+
 def other_runs(tally):
     """A folder that has files, beside a log without notes, is that of another run, and nothing of it changes; what is half written
     doesn't count."""
@@ -848,6 +867,64 @@ def day_passed(tally, host, place):
     check(tally, "a day of turns, how long it was", is_quiet and count >= LEAST_HOURS * HOUR, told, host.lines()[-3:])
 
 
+def nearly_full(tally):
+    """A log that has as many bytes as it may have before it is told, and with a note more: then it is told, once."""
+    with tempfile.TemporaryDirectory() as folder:
+        host = Lone(folder, "a/b.FULLPKGNAME=b-1\n")
+        try:
+            host.start_node("--rest", "1")
+            host.hand_in("done", host.job("a/b"), b'{"a/b":[]}')
+            is_built = until(lambda: host.node.poll() == 0, 20)
+            check(tally, "a log that is filled, what it holds", is_built, host.lines()[-3:])
+            fill(host.log, NEARLY_FULL)
+            for more in (b"", b"\1" + note_of(packages.note(1, "a/b", (9).to_bytes(8, "big")))):
+                add(host.log, more)
+                wanted = [b"dpbn: the log has %d of %d bytes" % (size_of(host.log), MOST_OF_A_LOG)] if more else []
+                host.start_node("--rest", "3")
+                until(lambda: host.node.poll() is not None, 120)
+                told = [line for line in host.lines() if not LINE.fullmatch(line)]
+                right = host.node.poll() == 0 and told == wanted
+                check(tally, f"a log with {len(more)} bytes more than it may have untold", right, host.node.poll(), told, wanted)
+        finally:
+            host.end()
+
+
+def note_of(text):
+    """A note in a log, behind its gate."""
+    return len(text).to_bytes(4, "big") + text
+
+
+def fill(log, size):
+    """Lengthens a log whose node is down by votes for what it holds until it has so many bytes."""
+    def vote(room):
+        """A vote that takes so many bytes with the gate before it."""
+        empty = len(packages.note(3, "a/b", packages.claim(1, 0) + packages.build(sign(b"")))) + 5
+        # the size in the record takes as many digits as it has
+        digits = next(it for it in range(1, 8) if len(str(room - empty - it + 1)) == it)
+        text = packages.build(sign(b"x" * (room - empty - digits + 1)))
+        return b"\1" + note_of(packages.note(3, "a/b", packages.claim(1, 0) + text))
+
+    def sign(text):
+        return packages.record("a/b", "b-1", [("x", text)], host=0)
+
+    left = size - size_of(log)
+    count = left // 4_000_000 - 1
+    large = vote(4_000_000)
+    with open(log, "r+b") as file:
+        file.seek(-1, os.SEEK_END)
+        for _ in range(count):
+            file.write(large)
+        rest = left - count * len(large)
+        file.write(vote(rest // 2) + vote(rest - rest // 2) + b"\0")
+
+
+def add(log, notes):
+    """Writes notes, each behind its open gate, at a log's end."""
+    with open(log, "r+b") as file:
+        file.seek(-1, os.SEEK_END)
+        file.write(notes + b"\0")
+
+
 def processor_time(process):
     """How long a processor worked for the process, in seconds."""
     fields = contents(f"/proc/{process.pid}/stat").rpartition(b")")[2].split()
@@ -1034,10 +1111,10 @@ def run(tally):
     # what a make that runs the tests would have other makes do
     for word in ("MAKEFLAGS", "MFLAGS", "MAKELEVEL"):
         os.environ.pop(word, None)
-    for one in (no_calls, faults, posted_on_the_disk, large, a_day):
+    for one in (no_calls, faults, posted_on_the_disk, large, nearly_full, a_day):
         one(tally)
-    beside(tally, (answers, rests_behind_all_jobs, taken_away, killed_while_it_builds, one_folder, overtaken, other_runs, beside_nodes, quiet,
-                   unanswered, voted_by_nobody, no_majority, long_run, manual_page, readme))
+    beside(tally, (answers, rests_behind_all_jobs, taken_away, killed_while_it_builds, one_folder, overtaken, left_to_another, other_runs,
+                   beside_nodes, quiet, unanswered, voted_by_nobody, no_majority, long_run, manual_page, readme))
     if not shutil.which("bmake"):
         print("tests/run: no bmake here: nothing is built of Makefiles", flush=True)
         return
