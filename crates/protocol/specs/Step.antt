@@ -76,10 +76,7 @@ stranger s path = if is_some (position_of s.division.tree path) then refusals.Ig
 -- Whether the letter says that the unit waits for what its build needs.
 abbrev pub is_waiting : Letter → Bool
 is_waiting letters.T = true
-is_waiting letters.Q = false
-is_waiting letters.B = false
-is_waiting letters.I = false
-is_waiting letters.Ignored = false
+is_waiting _ = false
 
 -- the first that applies: the unit is held, it waits, no round is left
 abbrev pub claim_refusal : State → Letter → ℕ → ℕ → Option Refusal
