@@ -12,6 +12,7 @@ import stat
 import subprocess
 import tempfile
 import time
+import types
 
 from topics import packages
 from topics.tally import TOP
@@ -266,19 +267,50 @@ def drivers_that_end(tally):
         for half in (f"done/.{name}.build-jobs", f"failed/.{name}.build-jobs", f"failed/.{name}.1"):
             with open(f"{node.work}/{half}", "w") as file:
                 file.write("{")
-        again = Driver(node, 'mkdir "$OUT/a:b" && echo again > "$OUT/a:b/x"')
+        again = Driver(node, 'mkdir "$OUT/$(echo $PKGPATH | tr / :)" && if [ $PKGPATH = a/b ]; then echo again > "$OUT/a:b/x"; fi')
         told = again.tells(re.escape(f"= a build of an earlier run goes on in {os.path.realpath(node.work)}/build/{left[0]}"))
         add(tally, "the next one tells it", told, again.lines())
-        made = node.take(name)
+        other = node.take(node.post("c/d")), is_alive(node.folder, "pid"), [line for line in again.lines() if line.startswith("> a/b")]
+        add(tally, "a unit of which a build goes on", other == ({"c/d": {}}, True, []), other)
         with open(f"{node.folder}/go", "w"):
-            until(lambda: not is_alive(node.folder, "pid"))
-        add(tally, "what is handed in", made == {"a/b": {"x": b"again\n"}} and node.is_forgotten(name), made)
+            made = node.take(name)
+        is_over = until(lambda: not is_alive(node.folder, "pid"))
+        add(tally, "what is handed in", is_over and made == {"a/b": {"x": b"again\n"}} and node.is_forgotten(name), made)
         left = os.listdir(f"{node.work}/done"), os.listdir(f"{node.work}/failed")
         add(tally, "what was half written, and not by the node", left == ([], [f".{name}.1"]), left)
-        again.end()
-        last = Driver(node, BUILD)
         add(tally, "what outlived is removed", until(lambda: os.listdir(f"{node.work}/build") == []), os.listdir(f"{node.work}/build"))
-        last.end()
+        again.end()
+
+
+def ends_of_builds(tally):
+    """A build that is ended may clean up first, though its shell ends at once; one that is over is handed in before the driver ends; and
+    what is mounted in its folder stays as it is."""
+    clean = 'python3 -c "import os, signal, time\ndef end(*_):\n time.sleep(0.5)\n open(os.environ[\'TOP\'] + \'/cleaned\', \'w\')\n os._exit(0)\nsignal.signal(15, end)\nopen(os.environ[\'TOP\'] + \'/up\', \'w\')\ntime.sleep(60)"; true'
+    for what, end in (("a signal", lambda node, driver: driver.end()), ("a unit that is held", lambda node, driver: node.hold("a/b", {"a/b": []}))):
+        with laid(clean) as (node, driver):
+            name = node.post("a/b")
+            until(lambda: os.path.exists(f"{node.folder}/up"))
+            end(node, driver)
+            right = until(lambda: os.path.exists(f"{node.folder}/cleaned")) and until(lambda: os.listdir(f"{node.work}/build") == [])
+            add(tally, f"{what}, what a build cleans up", right and not os.path.exists(f"{node.work}/failed/{name}"), driver.lines())
+    with laid(BUILD) as (node, driver):
+        until(lambda: os.path.exists(f"{node.work}/lock"))
+        os.rename(f"{node.work}/done", f"{node.folder}/done")
+        # a folder in which nothing can be made
+        os.symlink("/proc", f"{node.work}/done")
+        name = node.post("a/b")
+        driver.tells("[?] a/b waits: .*")
+        os.unlink(f"{node.work}/done")
+        os.rename(f"{node.folder}/done", f"{node.work}/done")
+        status = driver.end()
+        add(tally, "a signal, what is over", status == 143 and os.path.exists(f"{node.work}/done/{name}"), (status, driver.lines()))
+    with tempfile.TemporaryDirectory() as folder:
+        module = build_jobs()
+        os.makedirs(f"{folder}/x/ports")
+        told, module.told_by = module.told_by, lambda *_: f"/dev/sd0a on {os.path.realpath(folder)}/x/ports type ffs (local)\n".encode()
+        kept = not module.remove_folder(f"{folder}/x") and os.path.isdir(f"{folder}/x/ports")
+        module.told_by = told
+        add(tally, "a folder in which something is mounted", kept and module.remove_folder(f"{folder}/x"))
 
 
 def nodes_that_go_on(tally):
@@ -433,6 +465,44 @@ def refused_reads(tally):
         module.unpack.large_in = large_in
         held.look()
         add(tally, "a note of which a read was refused", list(held.records) == [b"a/b"] and held.units == {b"a/b"}, (held.records, held.units))
+        with open(node.log, "r+b") as file:
+            file.truncate(0)
+            file.write(packages.log([]))
+        held.look()
+        add(tally, "a log that is begun anew in place", (held.records, held.units) == ({}, set()), held.units)
+
+
+def told_once(tally):
+    """What the system refuses again is told again only where it is something else."""
+    module, lines = build_jobs(), []
+    driver = object.__new__(module.Driver)
+    driver.due, driver.told, driver.tell = {}, set(), lines.append
+    for number, place in ((28, "build/x.1"), (28, "build/x.2"), (13, "build/x.3")):
+        driver.put_off("name", "a/b waits", OSError(number, "refused", place))
+    wanted = [f"? a/b waits: [Errno {number}] refused: 'build/x.{count}'" for number, count in ((28, 1), (13, 3))]
+    add(tally, "what is refused again", lines == wanted, lines)
+
+
+def odd_fetches(tally):
+    """A fetch that leaves no file leaves nothing, and says why; and a file that somebody is about to put into the store stays."""
+    module, none = build_jobs(), hashlib.sha256(b"").hexdigest()
+    for what, command, digest in (("a folder", 'mkdir "$TARGET"', "0" * 64), ("a link", 'ln -s /dev/null "$TARGET"', none), ("nothing", "echo why >&2; false", none)):
+        with tempfile.TemporaryDirectory() as folder:
+            store = module.Store(f"{folder}/store", command, folder, f"{folder}/log")
+            large = types.SimpleNamespace(digest=digest, size=0, name=b"big")
+            store.get(large, b"1")
+            is_over = until(lambda: store.look() or not store.fetches)
+            left, told = os.listdir(store.folder), read(f"{folder}/log")
+            right = is_over and store.is_missed(large) and left == [] and told == ("why\n" if what == "nothing" else "")
+            add(tally, f"a fetch that leaves {what}", right, (left, told))
+    with tempfile.TemporaryDirectory() as folder:
+        store, large = module.Store(folder, None, folder), types.SimpleNamespace(digest=packages.digest(b"large"), size=5, name=b"big")
+        found = []
+        for text in (b"lar", b"large", b"LARGE"):
+            with open(f"{folder}/{large.digest}", "wb") as file:
+                file.write(text)
+            found.append((store.has(large), os.listdir(folder) != []))
+        add(tally, "a file that is put there bit by bit", found == [(False, True), (True, True), (False, False)], found)
 
 
 def on_the_disk(tally):
@@ -628,8 +698,11 @@ def run(tally):
     what_is_no_job(tally)
     where_it_stands(tally)
     refused_reads(tally)
+    told_once(tally)
+    odd_fetches(tally)
     on_the_disk(tally)
     drivers_that_end(tally)
+    ends_of_builds(tally)
     nodes_that_go_on(tally)
     builds_that_misbehave(tally)
     what_the_system_refuses(tally)

@@ -34,7 +34,7 @@ WAIT, HOUR = 100, 36_000
 LARGE = 134_217_728
 # how long is waited for such a day, in seconds, and how many hours of it there have to be by then
 LONGEST_DAY, LEAST_HOURS = 45, 6
-# how many bytes a log may have, and from how many on it is told how many it has (dpbn(1))
+# how many bytes a log may have, and how many before it is told how many it has (dpbn(1))
 MOST_OF_A_LOG, NEARLY_FULL = 2_147_483_648, 2_147_483_648 // 10 * 9
 
 
