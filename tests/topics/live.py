@@ -3,6 +3,7 @@ ports that fail and are mended, a host that comes late, answers that are none, h
 run."""
 import contextlib
 import fcntl
+import functools
 import hashlib
 import json
 import os
@@ -869,60 +870,66 @@ def day_passed(tally, host, place):
 
 def nearly_full(tally):
     """A log that has as many bytes as it may have before it is told, and with a note more: then it is told, once."""
+    name = "a log that is nearly full"
     with tempfile.TemporaryDirectory() as folder:
+        if shutil.disk_usage(folder).free < 2 * MOST_OF_A_LOG:
+            print(f"tests/run: {name}: there is no room for it here", flush=True)
+            return
         host = Lone(folder, "a/b.FULLPKGNAME=b-1\n")
         try:
             host.start_node("--rest", "1")
             host.hand_in("done", host.job("a/b"), b'{"a/b":[]}')
             is_built = until(lambda: host.node.poll() == 0, 20)
-            check(tally, "a log that is filled, what it holds", is_built, host.lines()[-3:])
-            fill(host.log, NEARLY_FULL)
-            for more in (b"", b"\1" + note_of(packages.note(1, "a/b", (9).to_bytes(8, "big")))):
-                add(host.log, more)
-                wanted = [b"dpbn: the log has %d of %d bytes" % (size_of(host.log), MOST_OF_A_LOG)] if more else []
+            check(tally, f"{name}, its node's build", is_built, host.lines()[-3:])
+            append(host.log, *votes(NEARLY_FULL - size_of(host.log)))
+            for more in ((), (behind_a_gate(packages.note(1, "a/b", (9).to_bytes(8, "big"))),)):
+                append(host.log, *more)
+                began, wanted = time.monotonic(), [b"dpbn: the log has %d of %d bytes" % (size_of(host.log), MOST_OF_A_LOG)] if more else []
                 host.start_node("--rest", "3")
                 until(lambda: host.node.poll() is not None, 120)
                 told = [line for line in host.lines() if not LINE.fullmatch(line)]
                 right = host.node.poll() == 0 and told == wanted
-                check(tally, f"a log with {len(more)} bytes more than it may have untold", right, host.node.poll(), told, wanted)
+                check(tally, f"{name}, and {len(more)} notes more", right, host.node.poll(), told, wanted)
+            print(f"tests/run: {name}: read, and at rest for 3 s, in {time.monotonic() - began:.1f} s", flush=True)
         finally:
             host.end()
 
 
-def note_of(text):
-    """A note in a log, behind its gate."""
-    return len(text).to_bytes(4, "big") + text
+def votes(room):
+    """Votes for builds of `a/b`, in a log, that take so many bytes together."""
+    size = 4_000_000
+    while room > 2 * size:
+        yield vote(size)
+        room -= size
+    yield vote(room // 2)
+    yield vote(room - room // 2)
 
 
-def fill(log, size):
-    """Lengthens a log whose node is down by votes for what it holds until it has so many bytes."""
-    def vote(room):
-        """A vote that takes so many bytes with the gate before it."""
-        empty = len(packages.note(3, "a/b", packages.claim(1, 0) + packages.build(sign(b"")))) + 5
-        # the size in the record takes as many digits as it has
-        digits = next(it for it in range(1, 8) if len(str(room - empty - it + 1)) == it)
-        text = packages.build(sign(b"x" * (room - empty - digits + 1)))
-        return b"\1" + note_of(packages.note(3, "a/b", packages.claim(1, 0) + text))
+@functools.cache
+def vote(size):
+    """One that takes so many bytes."""
+    def with_file(text):
+        build = packages.build(packages.record("a/b", "b-1", [("x", text)], host=0))
+        return behind_a_gate(packages.note(3, "a/b", packages.claim(1, 0) + build))
 
-    def sign(text):
-        return packages.record("a/b", "b-1", [("x", text)], host=0)
+    rest = size - len(with_file(b"")) + 1
+    # the record tells the file's size, in as many digits as that has
+    digits = next(it for it in range(1, 8) if len(str(rest - it)) == it)
+    return with_file(b"x" * (rest - digits))
 
-    left = size - size_of(log)
-    count = left // 4_000_000 - 1
-    large = vote(4_000_000)
+
+def behind_a_gate(note):
+    """A note as it stands in a log, behind its open gate."""
+    return b"\1" + len(note).to_bytes(4, "big") + note
+
+
+def append(log, *notes):
+    """Writes notes at the end of a log."""
     with open(log, "r+b") as file:
         file.seek(-1, os.SEEK_END)
-        for _ in range(count):
-            file.write(large)
-        rest = left - count * len(large)
-        file.write(vote(rest // 2) + vote(rest - rest // 2) + b"\0")
-
-
-def add(log, notes):
-    """Writes notes, each behind its open gate, at a log's end."""
-    with open(log, "r+b") as file:
-        file.seek(-1, os.SEEK_END)
-        file.write(notes + b"\0")
+        for note in notes:
+            file.write(note)
+        file.write(b"\0")
 
 
 def processor_time(process):
