@@ -130,11 +130,11 @@ def settled(folder, me):
     return now
 
 
-def has_told(folder, me, line, seconds=60):
-    """Waits until it has told a line."""
+def has_told(folder, me, *lines, seconds=60):
+    """Waits until it has told one of these lines."""
     until = time.monotonic() + seconds
     while time.monotonic() < until:
-        if line in lines_of(folder, me):
+        if not set(lines).isdisjoint(lines_of(folder, me)):
             return True
         time.sleep(0.02)
     return False
@@ -377,14 +377,17 @@ def strangers_of_the_run(tally):
             answer(["key", "second"], folder)
             put(f"{folder}/other", b"a/b.FULLPKGNAME=b-1.0\na/c.FULLPKGNAME=c-1.0\n")
             port = free_ports(1)
-            two = [begun(folder, me, keyed(port)) for me in (0, 1)]
             words = keyed(port, "second") if more else keyed(port)
             words += ["--weights", "1,1,2"] if name == "weights" else []
             third = begun(folder, 2, words, files=["other" if it == "listing" else it for it in SHARED] if files else SHARED)
+            # the others send nothing any more once they hold all
+            nodes.listening(third)
+            two = [begun(folder, me, keyed(port)) for me in (0, 1)]
             held = [has_told(folder, me, node_line(me, i=1)[:-1]) for me in (0, 1)]
             line = b"dpbn: member 2 seals otherwise: another key, listing, weights or members"
             named = [has_told(folder, me, line) for me in (0, 1)]
-            back = has_told(folder, 2, line.replace(b"member 2", b"member 0"))
+            # which of them sends it anything depends on who was the first to claim
+            back = has_told(folder, 2, *(line.replace(b"member 2", b"member %d" % me) for me in (0, 1)))
             for node in (*two, third):
                 over(node)
             tally.add(f"two nodes beside one with another {name}", "" if all(held) and all(named) and back else f"held {held}, named {named}, back {back}")
