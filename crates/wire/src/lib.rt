@@ -29,7 +29,9 @@ mod notes;
 mod pieces;
 mod writing;
 
-pub use crate::datagram::{Bytes, Carrier, Datagram, Header, MOST_PIECES, PIECE_SIZE, Piece};
+pub use crate::datagram::{
+    Bytes, Carrier, Datagram, Header, LONGEST_PIECE, MOST_PIECES, PIECE_SIZE, Piece, SENDER_PLACE,
+};
 pub use crate::laws::{no_text_begins_another, pieces_join, texts_are_read_again};
 
 /// The most bytes that a datagram may have.
