@@ -308,7 +308,7 @@ def ends_of_builds(tally):
         module = build_jobs()
         os.makedirs(f"{folder}/x/ports")
         told, module.told_by = module.told_by, lambda *_: f"/dev/sd0a on {os.path.realpath(folder)}/x/ports type ffs (local)\n".encode()
-        kept = not module.remove_folder(f"{folder}/x") and os.path.isdir(f"{folder}/x/ports")
+        kept = not any(module.remove_folder(f"{folder}/{it}") for it in ("x", "x/ports")) and os.path.isdir(f"{folder}/x/ports")
         module.told_by = told
         add(tally, "a folder in which something is mounted", kept and module.remove_folder(f"{folder}/x"))
 
