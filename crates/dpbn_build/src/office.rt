@@ -22,7 +22,7 @@ use work::WorkFault;
 /// How many bytes a log's file may have.
 const MOST_BYTES: u64 = 2_147_483_648;
 
-/// From how many bytes on it is told that the log is nearly full.
+/// Above how many bytes it is told that the log is nearly full.
 const NEARLY_FULL: u64 = MOST_BYTES / 10 * 9;
 
 /// How often it is looked at what ends or may be tried again, in milliseconds.

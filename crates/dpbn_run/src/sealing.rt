@@ -12,12 +12,7 @@ use listing::Tree;
 use program::Refusal;
 use seals::{Seal, fingerprint};
 use udp::Guard;
-
-/// How many bytes the longest datagram of a member has: a piece of a promise that reports a vote,
-/// of a unit whose name has 255 bytes. That is 38 bytes and the name behind its length in 2, two
-/// claims and a byte between them in 19, the length of the build in 4, the piece's number in 2, and
-/// 32,768 bytes of the build.
-const LONGEST: usize = 33_088;
+use wire::LONGEST_PIECE;
 
 /// What a datagram begins with that asks for a unit: as all that go out in whole, and its kind.
 const REQUEST_FRONT: [u8; 5] = [b'D', b'P', b'B', b'1', 6];
@@ -60,7 +55,7 @@ impl Sealing {
         ensures limited { result.front ≡ Some request_front }
     {
         let guard = match &self.key {
-            Some(key) => Guard::sealed(seal_under(key, tree, weights), LONGEST),
+            Some(key) => Guard::sealed(seal_under(key, tree, weights), LONGEST_PIECE),
             None => unsealed(self.is_open),
         };
         guard.limiting(front_of_requests())
@@ -101,7 +96,7 @@ fn unsealed(is_open: bool) -> Guard
     if is_open {
         Guard::open()
     } else {
-        Guard::unsealed(LONGEST)
+        Guard::unsealed(LONGEST_PIECE)
     }
 }
 

@@ -14,7 +14,8 @@ use Rattle.clap.specs.declared.error.kind.ErrorKind.{ErrorKind}
 use Rattle.clap.proofs.ValueTestLemmas.{accepts-Accepts}
 use Rattle.words.specs.Calls.{single}
 use Rattle.words.proofs.Entering.{Enters, enters_one, none_lacks}
-use Rattle.words.proofs.Uses.{AllFit, AreKnown, given_matched, known, none_or_matched, rows_fit}
+use Rattle.words.proofs.Rows.{AllFit, AreKnown}
+use Rattle.words.proofs.Uses.{given_matched, known, none_or_matched, rows_fit}
 use Rattle.dpbn_words.specs.Calls.{cluster_command, dpbn_app, matched, needed, number, option, shared, site}
 use Rattle.dpbn_words.specs.inside.Naming.{HasFiles, HasNumber, HasOneNode, HasSite, HasText, MayHaveNumber, NamesCall}
 

@@ -20,6 +20,7 @@ mod nudging;
 mod open_claim;
 mod packages;
 mod receivers;
+mod state;
 mod step;
 mod texts;
 

@@ -1,21 +1,15 @@
 //! A member, which contracts see as its tree with its units, its weights, its number, what it knows
 //! of each unit, and its open claim.
-ghost use Rattle.std.specs.Prelude.{◌≡◌, ◌<◌, IfErr, IfOk, OnErr, OnOk, None, Some};
-ghost use Rattle.std.specs.Prelude.{length, map, nat_lt, option_map, replicate};
+ghost use Rattle.std.specs.Prelude.{◌≡◌, ◌<◌, IfErr, IfOk, OnOk, None, Some};
+ghost use Rattle.std.specs.Prelude.{length, map, nat_lt, replicate};
 ghost use Rattle.std.specs.List.{list_all};
 ghost use Rattle.agreement.specs.Member.{no_facts};
-ghost use Rattle.std.specs.Option.{option_copied};
 ghost use Rattle.faults.specs.Answers.{map_ok};
-ghost use Rattle.agreement.specs.Votes.{report_of};
-ghost use Rattle.engine.specs.State as engines;
 ghost use Rattle.engine.specs.Division.{IsDivision};
 ghost use Rattle.protocol.specs.Answers.{after, tree_digest};
-ghost use Rattle.protocol.specs.Member.{IsMember};
 ghost use Rattle.protocol.specs.Restoring.{AreOnUnits, restored};
-ghost use Rattle.protocol.specs.State.{Value, engine_of, fresh, held_record};
-ghost use Rattle.protocol.specs.Step.{HasAnswered, HasHandled, facts_named, header_refusal, job_of_claim};
-ghost use Rattle.member.specs.KnownBuilds.{known_build, proposal_in};
-ghost use Rattle.member.specs.OpenClaims.{open_of};
+ghost use Rattle.protocol.specs.State.{Value, fresh};
+ghost use Rattle.protocol.specs.Step.{HasAnswered, HasHandled, header_refusal};
 ghost use Rattle.member.specs.Outcomes.{told};
 ghost use Rattle.member.specs.Prepared.{MayBeTaken, answer_by};
 ghost use Rattle.member.specs.shared.Fields.{facts_of_known};
@@ -23,16 +17,14 @@ ghost use Rattle.member.specs.inside.Steps.{IsPrepared};
 
 use crate::change::{change_claim, change_job};
 use crate::facts::keep_fact;
-use crate::held::HeldRecord;
 use crate::known::Known;
 use crate::naming::unit_named;
 use crate::{OpenClaim, Step};
-use ballots::{Claimer, Note, Weights};
+use ballots::{Note, Weights};
 use claims::{Claim, Job};
-use engine::{Counts, Engine, Letter, Units};
+use engine::{Engine, Units};
 use faults::Memory;
 use listing::Tree;
-use package_record::{Build, Record};
 use pkgpath::PkgPath;
 use protocol::{Input, Outcome, Refusal};
 use std::alloc::Global;
@@ -232,157 +224,6 @@ impl<'a> Member<'a> {
             Some(_) => Ok(()),
             None => Err(Refusal::Unlisted),
         }
-    }
-
-    /// The tree that it is over.
-    pub fn tree(&self) -> &'a Tree
-        ensures { result.now ≡ self.now.division.tree }
-    {
-        self.tree
-    }
-
-    /// The digest of its tree, by which messages of other trees are told.
-    pub fn tree_digest(&self) -> &[u8; 32]
-        ensures { result.now ≡ tree_digest self.now.division.tree }
-    {
-        &self.digest
-    }
-
-    /// The units of the tree, which facts are kept by.
-    pub fn units(&self) -> &Units<'a>
-        ensures division { result.now ≡ self.now.division }
-        ensures member { IsMember self.now }
-    {
-        &self.units
-    }
-
-    /// What each member weighs.
-    pub fn weights(&self) -> &Weights
-        ensures weights { result.now ≡ self.now.weights }
-        ensures member { IsMember self.now }
-    {
-        &self.weights
-    }
-
-    /// Its number among them.
-    pub fn me(&self) -> u8
-        ensures me { result ≡ self.now.me }
-        ensures member { IsMember self.now }
-    {
-        self.me
-    }
-
-    /// The record that is held for the package path.
-    pub fn held(&self, path: &PkgPath) -> Option<&Record>
-        ensures { option_copied result ≡ held_record self.now path.now }
-    {
-        let held = self.held_record(path)?;
-        Some(held.record())
-    }
-
-    /// The record that is held for the package path, with the digest that may be kept of it.
-    pub(crate) fn held_record(&self, path: &PkgPath) -> Option<HeldRecord<'_>>
-        ensures { result ≡ held_record self.now path.now }
-    {
-        let position = self.tree.position(path)?;
-        let unit = self.units.unit_of(position)?;
-        let held = self.known[unit as usize].held.as_ref()?;
-        held.record_of(path)
-    }
-
-    /// The letter of the package at the position.
-    pub fn letter(&self, position: u32) -> Letter
-        requires { position < length self.now.division.tree }
-        ensures letter { engines.HasLetter (engine_of self.now) position result }
-        ensures member { IsMember self.now }
-    {
-        self.engine.letter(position)
-    }
-
-    /// The least position at or behind this one with the letter Q, if a package has it.
-    pub fn queued_from(&self, from: u32) -> Option<u32>
-        ensures queued { engines.IsQueuedFrom (engine_of self.now) from result }
-        ensures member { IsMember self.now }
-    {
-        self.engine.queued_from(from)
-    }
-
-    /// How many packages have each letter.
-    pub fn counts(&self) -> Counts
-        ensures counts { engines.AreCounts (engine_of self.now) result }
-        ensures member { IsMember self.now }
-    {
-        self.engine.counts()
-    }
-
-    /// The claim that is open.
-    pub fn open_claim(&self) -> Option<&OpenClaim>
-        ensures claim { option_map open_of (option_copied result) ≡ self.now.claim }
-        ensures member { IsMember self.now }
-    {
-        self.claim.as_ref()
-    }
-
-    /// The job of the open claim, while that waits for a build.
-    pub fn job(&self) -> Option<&Job>
-        ensures { option_copied result ≡ job_of_claim self.now }
-    {
-        self.job.as_ref()
-    }
-
-    /// The greatest round that it opened for the unit that the path names, or 0.
-    pub fn opened(&self, path: &PkgPath) -> u64
-        ensures { result ≡ (facts_named self.now path.now).opened }
-    {
-        match self.units.find(path) {
-            Some(unit) => self.known[unit as usize].opened,
-            None => 0,
-        }
-    }
-
-    /// The greatest claim that it promised, or voted under, for the unit that the path names.
-    pub fn promised(&self, path: &PkgPath) -> Option<Claim>
-        ensures { result ≡ (facts_named self.now path.now).promised }
-    {
-        let unit = self.units.find(path)?;
-        self.known[unit as usize].voter.promised
-    }
-
-    /// Its last vote for the unit that the path names: the claim, and what it voted for.
-    pub fn voted(&self, path: &PkgPath) -> Option<&(Claim, Build)>
-        ensures { report_of (option_copied result) ≡ (facts_named self.now path.now).voted }
-    {
-        let unit = self.units.find(path)?;
-        self.known[unit as usize].voter.voted.as_ref()
-    }
-
-    /// A build of the unit that the path names, if one is held or proposed: the one that is held,
-    /// else the proposal of the open claim. One that comes again is mostly this.
-    pub fn known_build(&self, path: &PkgPath) -> Option<&Build>
-        ensures { option_copied result ≡ known_build self.now path.now }
-    {
-        let unit = self.units.find(path)?;
-        match &self.known[unit as usize].held {
-            Some(held) => Some(held.build()),
-            None => proposed(self.claim.as_ref(), unit),
-        }
-    }
-
-    /// What its collections are kept by.
-    pub fn allocator(&self) -> Global {
-        *self.known.allocator()
-    }
-}
-
-/// What the claim proposes, if it is for the unit and waits for votes.
-fn proposed(claim: Option<&OpenClaim>, unit: u32) -> Option<&Build>
-    ensures { option_copied result
-        ≡ proposal_in (option_map open_of (option_copied claim.entry)) unit }
-{
-    let claim = claim?;
-    match &claim.claimer {
-        Claimer::Voting { value, .. } if claim.unit == unit => Some(value),
-        _ => None,
     }
 }
 

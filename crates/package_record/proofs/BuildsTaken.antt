@@ -18,7 +18,8 @@ use Rattle.package_record.proofs.Following.{AllFollow, are_alike}
 use Rattle.package_record.proofs.BuildTexts.{lines_of_several, text_parts}
 use Rattle.package_record.proofs.Steps.{bind_ok, ok_is, refusal_ok, test_ok, ways}
 use Rattle.package_record.proofs.Taken.{begun, field_taken, line_taken}
-use Rattle.package_record.proofs.Whole.{empty_is, first_taken, join_behind, number_taken, whole_taken}
+use Rattle.package_record.proofs.HeaderLines.{number_taken}
+use Rattle.package_record.proofs.Whole.{empty_is, first_taken, join_behind, whole_taken}
 
 -- ---- the two lines
 

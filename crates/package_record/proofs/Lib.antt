@@ -25,5 +25,6 @@ pub mod Steps
 mod Taken
 pub mod Texts
 mod UnitPaths
+mod HeaderLines
 mod Whole
 mod TextLengths

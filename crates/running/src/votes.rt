@@ -22,9 +22,7 @@ use package_record::Build;
 use pkgpath::PkgPath;
 use stable_record::MemDisk;
 use std::alloc::Global;
-
-/// Where the number of its sender stands in a datagram.
-const SENDER: usize = 5;
+use wire::SENDER_PLACE;
 
 /// The claim that the message votes for, if it is a vote.
 fn claim_of(message: &Message) -> Option<Claim>
@@ -39,7 +37,7 @@ fn claim_of(message: &Message) -> Option<Claim>
 /// Those of the members that sent this vote. Votes of two members for one claim differ in their
 /// senders alone.
 fn voters(alloc: Global, weights: &Weights, sent: &Datagrams, text: &[u8]) -> Result<Tally, Memory>
-    requires { SENDER < length text.now }
+    requires { SENDER_PLACE < length text.now }
     ensures weights { IfOk result (λ tally. tally.weights ≡ weights.now) }
     ensures voters { IfOk result (λ tally. set_of tally
         ≡ voters_in weights.now sent.now text.now) }
@@ -47,7 +45,7 @@ fn voters(alloc: Global, weights: &Weights, sent: &Datagrams, text: &[u8]) -> Re
     let mut vote = DatagramBytes::new(text.to_vec(alloc)?);
     let mut tally = Tally::new(weights);
     for member in 0..weights.len() as u8 {
-        vote.put(SENDER, member);
+        vote.put(SENDER_PLACE, member);
         if sent.contains(&vote) {
             tally.join(member);
         }
@@ -74,7 +72,7 @@ fn voted_in(fact: &Fact, claim: Claim) -> Option<&Build>
 {
     match fact {
         Fact::Voted(under, build) => { if *under == claim { Some(build) } else { None } }
-        Fact::Opened(_) | Fact::Promised(_) | Fact::Held(_) => None,
+        _ => None,
     }
 }
 

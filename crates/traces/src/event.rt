@@ -25,7 +25,7 @@ ghost use Rattle.traces.specs.Events.{
 ghost use Rattle.events.specs.Events as events;
 ghost use Rattle.traces.specs.inside.Given.{Gives};
 
-use crate::fields::{field, hex, members, node, number, path, text};
+use crate::fields::{field, field_count, hex, node, number, path, text};
 use crate::files::{files, packages};
 use crate::read_error::ReadError;
 use events::{Event, Left, Torn};
@@ -45,7 +45,7 @@ fn claim(alloc: Global, value: &Value) -> Result<Event, ReadError>
     let path = path(alloc, value)?;
     let host = number(value, "host", 65_535)?;
     let above = number(value, "above", u64::MAX)?;
-    if members(value) != 5 {
+    if field_count(value) != 5 {
         return Err(ReadError::Bad);
     }
     Ok(Event::Claim {
@@ -73,7 +73,7 @@ fn built_alone(alloc: Global, value: &Value) -> Result<Event, ReadError>
     let node = node(value)?;
     let path = path(alloc, value)?;
     let files = files(alloc, field(value, "files")?)?;
-    if members(value) != 4 {
+    if field_count(value) != 4 {
         return Err(ReadError::Bad);
     }
     let packages = alone(alloc, &path, files)?;
@@ -102,7 +102,7 @@ fn built_several(alloc: Global, value: &Value) -> Result<Event, ReadError>
     let node = node(value)?;
     let path = path(alloc, value)?;
     let packages = packages(alloc, field(value, "packages")?)?;
-    if members(value) != 4 || own_files(&path, &packages).is_some() {
+    if field_count(value) != 4 || own_files(&path, &packages).is_some() {
         return Err(ReadError::Bad);
     }
     Ok(Event::Built {
@@ -119,7 +119,7 @@ fn node_and_path(alloc: Global, value: &Value) -> Result<(u8, PkgPath), ReadErro
 {
     let node = node(value)?;
     let path = path(alloc, value)?;
-    if members(value) == 3 {
+    if field_count(value) == 3 {
         Ok((node, path))
     } else {
         Err(ReadError::Bad)
@@ -132,7 +132,7 @@ fn node_alone(value: &Value) -> Result<u8, ReadError>
     ensures { Gives (λ n. n) result (node_alone_in (view value.now)) }
 {
     let node = node(value)?;
-    if members(value) == 2 {
+    if field_count(value) == 2 {
         Ok(node)
     } else {
         Err(ReadError::Bad)
@@ -162,7 +162,7 @@ fn deliver(value: &Value) -> Result<Event, ReadError>
 {
     let datagram = number(value, "datagram", u64::MAX)?;
     let node = node(value)?;
-    if members(value) == 3 {
+    if field_count(value) == 3 {
         Ok(Event::Deliver { datagram, node })
     } else {
         Err(ReadError::Bad)
@@ -244,7 +244,7 @@ fn clean_stop(alloc: Global, value: &Value) -> Result<Event, ReadError>
 {
     let input = field(value, "input")?;
     let left = left(text(value, "left")?)?;
-    if members(value) != 3 {
+    if field_count(value) != 3 {
         return Err(ReadError::Bad);
     }
     stop_in(alloc, input, left)
@@ -257,7 +257,7 @@ fn torn_stop(alloc: Global, value: &Value) -> Result<Event, ReadError>
 {
     let input = field(value, "input")?;
     let word = text(value, "left")?;
-    if word != "torn" || members(value) != 4 {
+    if word != "torn" || field_count(value) != 4 {
         return Err(ReadError::Bad);
     }
     let bytes = hex(alloc, value)?;

@@ -23,8 +23,8 @@ use pkgpath::{PathFault, PkgPath};
 use serde_json::Value;
 use std::alloc::Global;
 
-/// How many members an object has.
-pub fn members(value: &Value) -> usize
+/// How many fields an object has; 0, where the value is none.
+pub fn field_count(value: &Value) -> usize
     ensures { result ≡ count_in (view value.now) }
 {
     match value.as_object() {

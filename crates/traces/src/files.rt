@@ -5,7 +5,7 @@ ghost use Rattle.serde_json.specs.View.{view};
 ghost use Rattle.traces.specs.Fields.{file_in, files_in, package_in, packages_in};
 ghost use Rattle.traces.specs.inside.Given.{Gives};
 
-use crate::fields::{field, hex, members, path, text};
+use crate::fields::{field, field_count, hex, path, text};
 use crate::read_error::ReadError;
 use package_record::{File, Files};
 use pkgpath::PkgPath;
@@ -20,7 +20,7 @@ fn file(alloc: Global, value: &Value) -> Result<File, ReadError>
 {
     let bytes = hex(alloc, value)?;
     let name = text(value, "name")?;
-    if members(value) != 2 {
+    if field_count(value) != 2 {
         return Err(ReadError::Bad);
     }
     let name = Vec::from_slice(alloc, name.as_bytes())?;
@@ -48,7 +48,7 @@ fn package(alloc: Global, value: &Value) -> Result<(PkgPath, Files), ReadError>
 {
     let files = files(alloc, field(value, "files")?)?;
     let path = path(alloc, value)?;
-    if members(value) == 2 {
+    if field_count(value) == 2 {
         Ok((path, files))
     } else {
         Err(ReadError::Bad)

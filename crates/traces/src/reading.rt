@@ -19,7 +19,7 @@ ghost use Rattle.traces.specs.inside.Given.{Fails, Gives, IsEventsFault};
 ghost use Rattle.traces.specs.inside.Kept.{outer_of, weights_in};
 ghost use Rattle.traces.specs.inside.Listing.{answer};
 
-use crate::fields::{array, members, number, number_of};
+use crate::fields::{array, field_count, number, number_of};
 use crate::listed::Listed;
 use crate::read_error::ReadError;
 use crate::{Trace, TraceFault, stream};
@@ -56,7 +56,7 @@ fn equals(value: &Value) -> Result<Weights, ReadError>
 {
     let _items = array(value, "events")?;
     let weights = ones(number(value, "members", 9)?)?;
-    if members(value) == 2 {
+    if field_count(value) == 2 {
         Ok(weights)
     } else {
         Err(ReadError::Bad)
@@ -96,7 +96,7 @@ fn weighted(alloc: Global, value: &Value) -> Result<Weights, ReadError>
     let _items = array(value, "events")?;
     let count = number(value, "members", 9)?;
     let weights = table(count, bytes(alloc, value, "weights")?.as_slice())?;
-    if members(value) == 3 {
+    if field_count(value) == 3 {
         Ok(weights)
     } else {
         Err(ReadError::Bad)

@@ -1,5 +1,5 @@
 //! Datagrams that stand in line.
-ghost use Rattle.std.specs.Prelude.{◌≡◌, ◌+◌, ◌≤◌, ◌<◌, ◌++◌, ◌∷◌, ◌↔◌, [], IfSome, IsPermutation, IsTrue, Ok, OnErr, IfNone, false, length, option_map, option_to_list, slice_get, sum_by, true};
+ghost use Rattle.std.specs.Prelude.{◌≡◌, ◌+◌, ◌≤◌, ◌<◌, ◌++◌, ◌∷◌, ◌↔◌, [], IfSome, IsPermutation, IsTrue, Ok, OnErr, IfNone, Some, false, length, option_map, option_to_list, slice_get, sum_by, true};
 ghost use Rattle.udp.specs.Ways.{in_line};
 
 use faults::Memory;
@@ -103,6 +103,7 @@ impl<T: Drop> Line<T> {
     pub fn take_at(&mut self, place: usize) -> Option<Waiting<T>>
         ensures taken { IfSome result (λ w. IsPermutation self.old.waiting.items
             (w ∷ self.new.waiting.items)) }
+        ensures here { IfSome result (λ w. slice_get self.old.waiting.items place ≡ Some w) }
         ensures beyond { IfNone result (length self.old.waiting.items ≤ place) }
     {
         let taken = self.waiting.swap_remove_front(place)?;

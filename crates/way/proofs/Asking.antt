@@ -18,8 +18,7 @@ use Rattle.faults.specs.Bytes.{is_among}
 use Rattle.node.specs.Parcels.{datagrams_of}
 use Rattle.protocol.specs.Answers.{tree_digest}
 use Rattle.protocol.specs.InTheAgreement.{pair_of, view}
-use Rattle.protocol.specs.Restoring.{restored}
-use Rattle.protocol.specs.State.{Value, facts_at, fresh}
+use Rattle.protocol.specs.State.{Value, facts_at}
 use Rattle.protocol.specs.Step.{host_in, outcome_of}
 use Rattle.engine.specs.Division.{Division, unit_at}
 use Rattle.way.specs.Ways.{LeadsTo}
@@ -38,14 +37,14 @@ use Rattle.way.proofs.Unsaid.{unkept}
 use Rattle.wire.specs.Pieces.{split_of}
 use Rattle.wire.specs.Spelling.{datagram_text}
 use Rattle.wire.specs.declared.datagram.Datagram.TheVariants as datagrams
-use Rattle.protocol.specs.declared.sends.Send.{Send}
-use Rattle.world.specs.Sent.{WasSent, message, with_sends}
+use Rattle.world.specs.Sent.{WasSent, message}
 use Rattle.world.specs.World.{IsMade, World, WorldNode, member_at}
 use Rattle.world.proofs.Sending.{is_found}
 use Rattle.world.specs.Local.{AreKept}
 use Rattle.world.specs.Matches.{name_of, node_of}
 use Rattle.world.proofs.Speaking.{passes, sent_more}
 use Rattle.way.proofs.Polling.{get_left}
+use Rattle.way.proofs.Asked.{IsAsked, IsUnasked, asked_stays, facts_stay, offer_in, offer_stays, said_stays, unasked_stays}
 
 -- a vote that is told and read is that vote
 told_again : (r : Option (Ballot Value)) → report_of (option_map pair_of r) ≡ r
@@ -55,109 +54,28 @@ told_again (Some b) = refl
 module _ (division : Division) (weights : List ℕ) (made : IsMade division weights)
     (u : ℕ) (c : Claim) (me : ℕ) (at0 : ℕ) (told : ℕ → Option (Ballot Value)) (host : ℕ)
     (had : ℕ → Option Value) where
-  -- the claim's offer
-  abbrev pub offer_in : World → Message Value
-  offer_in w = message w (name_of w u) c.member (bodies.Offer c)
-
-  -- what node j promises
-  abbrev pub promise_in : World → ℕ → Message Value
-  promise_in w j = message w (name_of w u) j (bodies.Promise c (option_map pair_of (told j)))
-
-  -- Node j promised nothing at or above the claim, and its last vote is this one.
-  pub record IsUnasked (w : World) (j : ℕ) : Type 0 where
-    pub node : WorldNode
-    pub stands : slice_get w.nodes j ≡ Some node
-    pub on : node.up ≡ true
-    pub above : is_above c (facts_at (member_at w j node) u).promised ≡ true
-    pub voted : (facts_at (member_at w j node) u).voted ≡ told j
-
-  -- Node j promised the claim, and told so, and its last vote is this one still.
-  pub record IsAsked (w : World) (j : ℕ) : Type 0 where
-    pub node : WorldNode
-    pub stands : slice_get w.nodes j ≡ Some node
-    pub on : node.up ≡ true
-    pub promised : (facts_at (member_at w j node) u).promised ≡ Some c
-    pub voted : (facts_at (member_at w j node) u).voted ≡ told j
-    pub said : WasSent w.sent (promise_in w j)
-
   -- The node's claim, on this host, is this far, and the node holds what it held; some were asked, and
   -- these are still to be asked.
   pub record Asks (stage : Stage Value) (done ks : List ℕ) (w : World) : Type 0 where
     pub reached : IsReached division weights made w
     pub within : u < length w.division.units
     pub weigh : w.weights ≡ weights
-    pub is_offered : WasSent w.sent (offer_in w)
-    pub there : slice_get w.sent at0 ≡ Some (datagram_text (datagrams.Whole (offer_in w)))
+    pub is_offered : WasSent w.sent (offer_in u c w)
+    pub there : slice_get w.sent at0 ≡ Some (datagram_text (datagrams.Whole (offer_in u c w)))
     pub node : WorldNode
     pub stands : slice_get w.nodes me ≡ Some node
     pub on : node.up ≡ true
     pub far : stage_here node u ≡ stage
     pub on_host : host_in node.claim ≡ host
     pub holds : (q : ℕ) → (facts_at (member_at w me node) q).held ≡ had q
-    pub asked : (j : ℕ) → Contains done j → IsAsked w j
-    pub each : (j : ℕ) → Contains ks j → IsUnasked w j
-
-  pub facts_stay : (w y : World) → y.division ≡ w.division → y.weights ≡ w.weights → (j : ℕ)
-      (x : WorldNode) (q : ℕ) → facts_at (member_at y j x) q ≡ facts_at (member_at w j x) q
-  facts_stay w y d l j x q = ap₂ (λ (a : Division) (b : List ℕ).
-      facts_at (record (restored (fresh a b j) x.notes) { claim = x.claim }) q) d l
-
-  offer_stays : (w y : World) → y.division ≡ w.division → offer_in y ≡ offer_in w
-  offer_stays w y e = ap (λ (d : Division). record {
-    sender = c.member;
-    tree = tree_digest d.tree;
-    path = (unit_at d u).name;
-    body = bodies.Offer c;
-  }) e
-
-  pub unasked_stays : (w y : World) → y.division ≡ w.division → y.weights ≡ w.weights → (k j : ℕ)
-      (z : WorldNode) → y.nodes ≡ slice_set w.nodes k z → (j ≡ k → ⊥) → IsUnasked w j
-      → IsUnasked y j
-  unasked_stays w y d l k j z nodes ne p = record {
-    node = p.node;
-    stands = ap (λ m. slice_get m j) nodes ∙ put_elsewhere w.nodes k j z ne ∙ p.stands;
-    on = p.on;
-    above = ap (λ (f : Facts Value). is_above c f.promised) (facts_stay w y d l j p.node u)
-        ∙ p.above;
-    voted = ap (λ (f : Facts Value). f.voted) (facts_stay w y d l j p.node u) ∙ p.voted;
-  }
-
-  pub promise_stays : (w y : World) → y.division ≡ w.division → (j : ℕ)
-      → promise_in y j ≡ promise_in w j
-  promise_stays w y e j = ap (λ (d : Division). record {
-    sender = j;
-    tree = tree_digest d.tree;
-    path = (unit_at d u).name;
-    body = bodies.Promise c (option_map pair_of (told j));
-  }) e
-
-  -- what was told stays told
-  pub said_stays : (w y : World) → y.division ≡ w.division → (sends : List Send)
-      → y.sent ≡ with_sends w.sent sends → (j : ℕ) → WasSent w.sent (promise_in w j)
-      → WasSent y.sent (promise_in y j)
-  said_stays w y d sends sent j told_so =
-      subst (WasSent y.sent) (sym (promise_stays w y d j))
-      (subst (λ l. WasSent l (promise_in w j)) (sym sent)
-      (sent_more w.sent sends (promise_in w j) told_so))
-
-  pub asked_stays : (w y : World) → y.division ≡ w.division → y.weights ≡ w.weights
-      → (sends : List Send) → y.sent ≡ with_sends w.sent sends → (k j : ℕ)
-      (z : WorldNode) → y.nodes ≡ slice_set w.nodes k z → (j ≡ k → ⊥) → IsAsked w j
-      → IsAsked y j
-  asked_stays w y d l sends sent k j z nodes ne p = record {
-    node = p.node;
-    stands = ap (λ m. slice_get m j) nodes ∙ put_elsewhere w.nodes k j z ne ∙ p.stands;
-    on = p.on;
-    promised = ap (λ (f : Facts Value). f.promised) (facts_stay w y d l j p.node u) ∙ p.promised;
-    voted = ap (λ (f : Facts Value). f.voted) (facts_stay w y d l j p.node u) ∙ p.voted;
-    said = said_stays w y d sends sent j p.said;
-  }
+    pub asked : (j : ℕ) → Contains done j → IsAsked u c told w j
+    pub each : (j : ℕ) → Contains ks j → IsUnasked u c told w j
 
   module _ (w : World) (k : ℕ) (stage : Stage Value) (is_open : IsOpenStage stage)
       (done ks : List ℕ) (s : Asks stage done (k ∷ ks) w)
       (fresh_one : (j : ℕ) → Contains ks j → j ≡ k → ⊥)
       (old_one : (j : ℕ) → Contains done j → j ≡ k → ⊥) where
-    abbrev pub p : IsUnasked w k
+    abbrev pub p : IsUnasked u c told w k
     p = s.each k (zero, omega arith, refl)
 
     abbrev pub Promised : World → Type 0
@@ -295,7 +213,7 @@ module _ (division : Division) (weights : List ℕ) (made : IsMade division weig
             (facts_stay then y b.division_is b.weights_are me b.node u)
             ∙ ap (λ (m : Member Value). m.voted) member_is
 
-        unasked_here : IsUnasked then me → IsUnasked y me
+        unasked_here : IsUnasked u c told then me → IsUnasked u c told y me
         unasked_here q =
             let same : q.node ≡ stands_so.node =
             some_same q.node stands_so.node (sym q.stands ∙ stands_so.there) in
@@ -309,7 +227,7 @@ module _ (division : Division) (weights : List ℕ) (made : IsMade division weig
                   ∙ q.voted;
             }
 
-        asked_here : IsAsked then me → IsAsked y me
+        asked_here : IsAsked u c told then me → IsAsked u c told y me
         asked_here q =
             let same : q.node ≡ stands_so.node =
             some_same q.node stands_so.node (sym q.stands ∙ stands_so.there) in
@@ -321,25 +239,25 @@ module _ (division : Division) (weights : List ℕ) (made : IsMade division weig
                   ∙ ap (λ n. (facts_at (member_at then me n) u).promised) (sym same) ∙ q.promised;
               voted = voted_stays ∙ ap (λ n. (facts_at (member_at then me n) u).voted) (sym same)
                   ∙ q.voted;
-              said = said_stays then y b.division_is b.answer.sends b.sent me q.said;
+              said = said_stays u c told then y b.division_is b.answer.sends b.sent me q.said;
             }
 
-        asked_later : (j : ℕ) → IsAsked then j → IsAsked y j
+        asked_later : (j : ℕ) → IsAsked u c told then j → IsAsked u c told y j
         asked_later j q = ⊎_elim
-            (λ same. subst (IsAsked y) (sym same) (asked_here (subst (IsAsked then) same q)))
-            (λ other. asked_stays then y b.division_is b.weights_are b.answer.sends b.sent me j
+            (λ same. subst (IsAsked u c told y) (sym same) (asked_here (subst (IsAsked u c told then) same q)))
+            (λ other. asked_stays u c told then y b.division_is b.weights_are b.answer.sends b.sent me j
             b.node b.nodes_are other q)
             (cases_eq j me)
 
-        unasked_later : (j : ℕ) → IsUnasked then j → IsUnasked y j
+        unasked_later : (j : ℕ) → IsUnasked u c told then j → IsUnasked u c told y j
         unasked_later j q = ⊎_elim
-            (λ same. subst (IsUnasked y) (sym same) (unasked_here (subst (IsUnasked then) same q)))
-            (λ other. unasked_stays then y b.division_is b.weights_are me j b.node b.nodes_are
+            (λ same. subst (IsUnasked u c told y) (sym same) (unasked_here (subst (IsUnasked u c told then) same q)))
+            (λ other. unasked_stays u c told then y b.division_is b.weights_are me j b.node b.nodes_are
             other q)
             (cases_eq j me)
 
         -- the node that was asked now
-        asked_now : IsAsked then k
+        asked_now : IsAsked u c told then k
         asked_now = record {
           node = h.heard.node;
           stands = ap (λ l. slice_get l k) h.heard.nodes_are
@@ -356,15 +274,15 @@ module _ (division : Division) (weights : List ℕ) (made : IsMade division weig
               p.voted) was_sent;
         }
 
-        pub was_asked : (j : ℕ) → Contains (k ∷ done) j → IsAsked y j
-        was_asked j (zero, lt, e) = subst (IsAsked y) e (asked_later k asked_now)
+        pub was_asked : (j : ℕ) → Contains (k ∷ done) j → IsAsked u c told y j
+        was_asked j (zero, lt, e) = subst (IsAsked u c told y) e (asked_later k asked_now)
         was_asked j (suc i, lt, e) =
             let at : Contains done j = (i, omega (arith, lt), e) in
-            asked_later j (asked_stays w then h.heard.division_is h.heard.weights_are
+            asked_later j (asked_stays u c told w then h.heard.division_is h.heard.weights_are
             h.heard.answer.sends h.heard.sent k j h.heard.node h.heard.nodes_are (old_one j at) (s.asked j at))
 
-        pub offer_is : offer_in y ≡ offer_in w
-        offer_is = offer_stays w y (b.division_is ∙ h.heard.division_is)
+        pub offer_is : offer_in u c y ≡ offer_in u c w
+        offer_is = offer_stays u c w y (b.division_is ∙ h.heard.division_is)
 
         host_then : host_in (b.node).claim ≡ host
         host_then = host_stays division weights made then h.heard.reached me stands_so.node
@@ -390,11 +308,11 @@ module _ (division : Division) (weights : List ℕ) (made : IsMade division weig
           within = subst (λ (d : Division). u < length d.units) (sym b.division_is) in_then;
           weigh = b.weights_are ∙ weigh_then;
           is_offered = subst (WasSent y.sent) (sym offer_is)
-              (subst (λ l. WasSent l (offer_in w)) (sym (nothing_sent ∙ h.heard.sent))
-              (sent_more w.sent h.heard.answer.sends (offer_in w) s.is_offered));
+              (subst (λ l. WasSent l (offer_in u c w)) (sym (nothing_sent ∙ h.heard.sent))
+              (sent_more w.sent h.heard.answer.sends (offer_in u c w) s.is_offered));
           there = ap (λ l. slice_get l at0) (nothing_sent ∙ h.sent)
               ∙ get_left w.sent (datagrams_of theirs) at0
-              (datagram_text (datagrams.Whole (offer_in w))) s.there
+              (datagram_text (datagrams.Whole (offer_in u c w))) s.there
               ∙ ap (λ m. Some (datagram_text (datagrams.Whole m))) (sym offer_is);
           node = b.node;
           stands = stands_then;
@@ -403,7 +321,7 @@ module _ (division : Division) (weights : List ℕ) (made : IsMade division weig
           on_host = host_then;
           holds = holds_then;
           asked = was_asked;
-          each = λ j at. unasked_later j (unasked_stays w then h.heard.division_is
+          each = λ j at. unasked_later j (unasked_stays u c told w then h.heard.division_is
               h.heard.weights_are k j h.heard.node h.heard.nodes_are (fresh_one j at)
               (s.each j (suc at.0, omega (arith, at.1), at.2)));
         }

@@ -24,7 +24,8 @@ use Rattle.protocol.specs.declared.refusal.Refusal.TheVariants as refusals
 use Rattle.engine.specs.Division.{Division, number_found, unit_at}
 use Rattle.way.specs.Ways.{LeadsTo}
 use Rattle.way.proofs.Acting.{DidSo, IsPlain, does}
-use Rattle.way.proofs.Asking.{Asks, IsAsked, asked_stays, facts_stay, said_stays}
+use Rattle.way.proofs.Asked.{IsAsked, asked_stays, facts_stay, said_stays}
+use Rattle.way.proofs.Asking.{Asks}
 use Rattle.way.proofs.Deciding.{some_same}
 use Rattle.way.proofs.Going.{leads_also}
 use Rattle.way.proofs.NotYet.{waits_fresh}
@@ -139,14 +140,14 @@ module _ (division : Division) (weights : List ℕ) (made : IsMade division weig
       (asked : (j : ℕ) → Contains all j → Contains done j)
       (news : (j : ℕ) → Contains all j → Reaches (told j) c → ⊥) where
     abbrev WasAsked : World → ℕ → Type 0
-    WasAsked = IsAsked division weights made u c me at0 told host had
+    WasAsked = IsAsked u c told
 
     module _ (y : World) (d : Did y) where
       stands_then : slice_get y.nodes me ≡ Some d.node
       stands_then = ap (λ l. slice_get l me) d.nodes_are ∙ put_there w.nodes me x d.node s.stands
 
       stays : facts_at (member_at y me d.node) u ≡ facts_at (member_at w me d.node) u
-      stays = facts_stay division weights made u c me at0 told host had w y d.division_is
+      stays = facts_stay w y d.division_is
           d.weights_are me d.node u
 
       asked_here : WasAsked w me → WasAsked y me
@@ -162,7 +163,7 @@ module _ (division : Division) (weights : List ℕ) (made : IsMade division weig
             voted = ap (λ (f : Facts Value). f.voted) stays
                 ∙ ap (λ (m : Member Value). m.voted) d.here
                 ∙ ap (λ n. (facts_at (member_at w me n) u).voted) (sym same) ∙ q.voted;
-            said = said_stays division weights made u c me at0 told host had w y d.division_is
+            said = said_stays u c told w y d.division_is
                 its_answer.sends d.sent me q.said;
           }
 
@@ -170,7 +171,7 @@ module _ (division : Division) (weights : List ℕ) (made : IsMade division weig
       asked_then j at = ⊎_elim
           (λ same. subst (WasAsked y) (sym same)
           (asked_here (subst (WasAsked w) same (s.asked j (asked j at)))))
-          (λ other. asked_stays division weights made u c me at0 told host had w y d.division_is
+          (λ other. asked_stays u c told w y d.division_is
           d.weights_are its_answer.sends d.sent me j d.node d.nodes_are other (s.asked j (asked j at)))
           (cases_eq j me)
 

@@ -40,7 +40,8 @@ use Rattle.way.specs.Rounds.{last_round, next_claim, seen_at}
 use Rattle.way.specs.Ways.{LeadsTo}
 use Rattle.way.proofs.Acting.{DidSo, IsPlain, does, is_member}
 use Rattle.way.proofs.Adding.{datagrams_differ}
-use Rattle.way.proofs.Asking.{Asks, IsUnasked, facts_stay, unasked_stays}
+use Rattle.way.proofs.Asked.{IsUnasked, facts_stay, unasked_stays}
+use Rattle.way.proofs.Asking.{Asks}
 use Rattle.way.proofs.Deciding.{behind, some_same}
 use Rattle.way.proofs.NotYet.{no_offer}
 use Rattle.way.proofs.Pieces.{put_there}
@@ -258,7 +259,7 @@ module _ (division : Division) (weights : List ℕ) (made : IsMade division weig
       stands_then = ap (λ l. slice_get l me) d.nodes_are ∙ put_there w.nodes me x d.node stands
 
       abbrev IsNew : World → ℕ → Type 0
-      IsNew = IsUnasked division weights made u c me at0 told host had
+      IsNew = IsUnasked u c told
 
       new_before : (j : ℕ) → Contains asked j → IsNew w j
       new_before j at =
@@ -272,7 +273,7 @@ module _ (division : Division) (weights : List ℕ) (made : IsMade division weig
           }
 
       stays : (q : ℕ) → facts_at (member_at y me d.node) q ≡ facts_at (member_at w me d.node) q
-      stays = facts_stay division weights made u c me at0 told host had w y d.division_is
+      stays = facts_stay w y d.division_is
           d.weights_are me d.node
 
       -- the claim's node is to be asked, too
@@ -319,7 +320,7 @@ module _ (division : Division) (weights : List ℕ) (made : IsMade division weig
         asked = λ j at. absurd (omega (arith, at.1));
         each = λ j at. ⊎_elim
             (λ same. subst (IsNew y) (sym same) (new_here (subst (IsNew w) same (new_before j at))))
-            (λ other. unasked_stays division weights made u c me at0 told host had w y d.division_is
+            (λ other. unasked_stays u c told w y d.division_is
             d.weights_are me j d.node d.nodes_are other (new_before j at))
             (cases_eq j me);
       }

@@ -18,6 +18,7 @@ mod Deciding
 mod Turns
 mod Polling
 mod Coming
+mod Asked
 mod Asking
 mod Gathering
 mod Proposing
@@ -28,6 +29,7 @@ mod Seen
 mod Claiming
 mod Building
 mod Reported
+mod Telling
 mod Leading
 mod Holding
 mod Walking

@@ -24,7 +24,7 @@ use Rattle.protocol.specs.declared.sends.Send.{Send}
 use Rattle.engine.specs.Division.{Division, unit_at}
 use Rattle.way.proofs.Adding.{datagrams_differ}
 use Rattle.way.proofs.Appending.{sends_add}
-use Rattle.way.proofs.Asking.{IsAsked}
+use Rattle.way.proofs.Asked.{IsAsked}
 use Rattle.way.proofs.Coming.{get_behind, get_made, map_twice}
 use Rattle.way.proofs.Deciding.{put_elsewhere, some_same, stage_here}
 use Rattle.way.proofs.NotYet.{no_proposal}
@@ -199,7 +199,7 @@ module _ (division : Division) (weights : List ℕ) (made : IsMade division weig
       (all : List ℕ) (at0 : ℕ) (told : ℕ → Option (Ballot Value)) (host : ℕ)
       (had : ℕ → Option Value)
       (asked : (j : ℕ) → Contains all j
-      → IsAsked division weights made u c me at0 told host had y j)
+      → IsAsked u c told y j)
       (news : (j : ℕ) → Contains all j → Reaches (told j) c → ⊥) where
     same : proposal_in division weights made u c v (count_in v) (numbers_in v) goes_out
         (length w.sent) me y ≡ proposal

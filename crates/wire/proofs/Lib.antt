@@ -10,6 +10,7 @@ mod PieceTexts
 pub mod DatagramTexts
 pub mod PieceNumbers
 mod CutTexts
+mod Places
 pub mod Cutting
 mod Refused
 mod Rows

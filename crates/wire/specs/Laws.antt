@@ -2,20 +2,23 @@
 use Rattle.std.specs.Prelude.{◌≡◌, ◌<◌, ◌≤◌, ◌+◌, ◌++◌, ◌↔◌, ℕ, All, List, [], flat_map, length, map, slice_get, slice_index, Option, None, Some, option_map, Ok}
 use Rattle.std.specs.List.{range_with_len}
 use Rattle.faults.specs.Bytes.{Text}
+use Rattle.agreement.specs.declared.claim.Claim.{Claim}
 use Rattle.package_record.specs.Build.{build_text}
 use Rattle.ballots.specs.declared.message.Message.{Message}
 use Rattle.ballots.specs.declared.message.Note.{Note}
 use Rattle.ballots.specs.Value.{Value}
 use Rattle.wire.specs.Messages.{IsMessage, IsNote}
 use Rattle.wire.specs.Joining.{AreAllThere, bytes_of}
-use Rattle.wire.specs.Pieces.{IsDatagram, IsHeader, carried_in, header_with, message_with, piece_size, split_of}
+use Rattle.wire.specs.Pieces.{IsDatagram, IsHeader, IsPiece, carried_in, header_with, message_with, piece_size, split_of}
 use Rattle.wire.specs.Reading.{datagram_of, joined, note_of}
-use Rattle.wire.specs.Spelling.{datagram_text, note_text}
+use Rattle.wire.specs.Spelling.{datagram_text, note_text, piece_text}
 use Rattle.wire.specs.declared.datagram.Carrier.{Carrier}
+use Rattle.wire.specs.declared.datagram.Carrier.TheVariants as carriers
 use Rattle.wire.specs.declared.datagram.Datagram.{Datagram}
 use Rattle.wire.specs.declared.datagram.Datagram.TheVariants as datagrams
 use Rattle.wire.specs.declared.datagram.Header.{Header}
 use Rattle.wire.specs.declared.datagram.Piece.{Piece}
+use Rattle.wire.specs.declared.datagram.TheConstants.{LONGEST_PIECE, SENDER_PLACE}
 
 -- ---- texts
 
@@ -154,3 +157,26 @@ abbrev pub WhatIsJoinedIsAMessage : Type 0
 WhatIsJoinedIsAMessage =
     (h : Header) (text : Text) (m : Message Value)
     → IsHeader h → length text ≡ h.length → joined h text ≡ Ok m → IsJoined h text m
+
+-- ---- places and lengths
+
+-- who sent the datagram
+abbrev pub sender_of : Datagram → ℕ
+sender_of (datagrams.Whole m) = m.sender
+sender_of (datagrams.Piece p) = p.header.sender
+
+-- the sender's number stands at one place of each datagram
+abbrev pub SenderHasItsPlace : Type 0
+SenderHasItsPlace =
+    (d : Datagram) → slice_get (datagram_text d) SENDER_PLACE ≡ Some (sender_of d)
+
+-- no piece is longer than the longest
+abbrev pub NoPieceIsLonger : Type 0
+NoPieceIsLonger = (p : Piece) → IsPiece p → length (piece_text p) ≤ LONGEST_PIECE
+
+-- so long is a full piece of a promise that reports a vote, of a unit with a path of 255 bytes
+abbrev pub LongestPieceIsAPromises : Type 0
+LongestPieceIsAPromises =
+    (p : Piece) (c d : Claim) → IsPiece p → p.header.carrier ≡ carriers.Promise c d
+    → length p.header.path ≡ 255 → length p.bytes ≡ piece_size
+    → length (piece_text p) ≡ LONGEST_PIECE

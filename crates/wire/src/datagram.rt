@@ -14,6 +14,15 @@ pub const PIECE_SIZE: usize = 32_768;
 /// The most pieces that a message has.
 pub const MOST_PIECES: u16 = 128;
 
+/// Where the number of its sender stands in a datagram.
+pub const SENDER_PLACE: usize = 5;
+
+/// How many bytes the longest piece has: one of a promise that reports a vote, of a unit whose name
+/// has 255 bytes. That is 38 bytes and the name behind its length in 2, two claims and a byte
+/// between them in 19, the length of the build in 4, the piece's number in 2, and those of the
+/// build.
+pub const LONGEST_PIECE: usize = 33_088;
+
 /// Bytes, which contracts see as a list.
 #[derive(Drop)]
 pub struct Bytes {

@@ -29,8 +29,12 @@ mod notes;
 mod pieces;
 mod writing;
 
-pub use crate::datagram::{Bytes, Carrier, Datagram, Header, MOST_PIECES, PIECE_SIZE, Piece};
-pub use crate::laws::{no_text_begins_another, pieces_join, texts_are_read_again};
+pub use crate::datagram::{
+    Bytes, Carrier, Datagram, Header, LONGEST_PIECE, MOST_PIECES, PIECE_SIZE, Piece, SENDER_PLACE,
+};
+pub use crate::laws::{
+    no_text_begins_another, pieces_join, places_and_lengths, texts_are_read_again,
+};
 
 /// The most bytes that a datagram may have.
 pub const LONGEST: usize = 65_507;

@@ -15,7 +15,8 @@ use Rattle.clap.specs.declared.builder.value_parser.ValueParser.TheVariants.{Sig
 use Rattle.clap.specs.declared.error.kind.ErrorKind.{ErrorKind}
 use Rattle.clap.proofs.ValueTestLemmas.{accepts-Accepts}
 use Rattle.words.proofs.Entering.{Enters, enters_one, none_lacks}
-use Rattle.words.proofs.Uses.{AllFit, given_matched, known, rows_fit}
+use Rattle.words.proofs.Rows.{AllFit}
+use Rattle.words.proofs.Uses.{given_matched, known, rows_fit}
 use Rattle.words.specs.Calls.{AreTaken, IsWord, dpbr_app, faults_of, matched, status_command, word}
 use Rattle.words.specs.inside.Naming.{HasNumber, NamesCall}
 

@@ -17,10 +17,11 @@ use Rattle.protocol.specs.Step.{facts_named}
 use Rattle.protocol.specs.declared.sends.Send.{Send}
 use Rattle.wire.specs.Spelling.{datagram_text}
 use Rattle.wire.specs.declared.datagram.Datagram.TheVariants as datagram
+use Rattle.wire.specs.declared.datagram.TheConstants.{SENDER_PLACE}
 
 -- the number of a vote's sender stands behind four bytes and the kind
 abbrev pub sender_place : ℕ
-sender_place = 5
+sender_place = SENDER_PLACE
 
 -- the claim that a body votes for
 abbrev pub claim_voted : Body Value → Option Claim

@@ -97,6 +97,8 @@ impl<C: Clock> UdpPort<'_, C> {
             × (self.new.sends ≡ self.old.sends) × (self.new.hurry ≡ self.old.hurry) }
         ensures seal_stays { (self.new.inbox ≡ self.old.inbox)
             × (self.new.outbox ≡ self.old.outbox) }
+        ensures guard_stays { (self.new.most ≡ self.old.most)
+            × (self.new.is_open ≡ self.old.is_open) }
     {
         for _ in 0..LEAVE_AT_A_LOOK {
             if !self.let_one_leave() {
@@ -115,6 +117,8 @@ impl<C: Clock> UdpPort<'_, C> {
             × (self.new.sends ≡ self.old.sends) × (self.new.hurry ≡ self.old.hurry) }
         ensures seal_stays { (self.new.inbox ≡ self.old.inbox)
             × (self.new.outbox ≡ self.old.outbox) }
+        ensures guard_stays { (self.new.most ≡ self.old.most)
+            × (self.new.is_open ≡ self.old.is_open) }
     {
         let count = self.leaving.len();
         if count == 0 {
@@ -147,6 +151,8 @@ impl<C: Clock> UdpPort<'_, C> {
             × (self.new.sends ≡ self.old.sends) × (self.new.hurry ≡ self.old.hurry) }
         ensures seal_stays { (self.new.inbox ≡ self.old.inbox)
             × (self.new.outbox ≡ self.old.outbox) }
+        ensures guard_stays { (self.new.most ≡ self.old.most)
+            × (self.new.is_open ≡ self.old.is_open) }
     {
         let mut naps = NAPS_OF_A_FLUSH;
         while !self.leaving.is_empty() {
@@ -163,6 +169,8 @@ impl<C: Clock> UdpPort<'_, C> {
             × (self.new.sends ≡ self.old.sends) × (self.new.hurry ≡ self.old.hurry) }
         ensures seal_stays { (self.new.inbox ≡ self.old.inbox)
             × (self.new.outbox ≡ self.old.outbox) }
+        ensures guard_stays { (self.new.most ≡ self.old.most)
+            × (self.new.is_open ≡ self.old.is_open) }
     {
         let Some(first) = self.leaving.take_first() else {
             return naps;

@@ -2,7 +2,7 @@ use Rattle.std.proofs.lemmas.Result.{err_from_is_err_and}
 use Rattle.package_record.specs.BuildReading.{packages_of, several_of}
 use Rattle.package_record.specs.declared.RecordFault.TheVariants.{Memory}
 use Rattle.package_record.proofs.NextRecords.{passed_on, several_is, several_unread}
-use Rattle.package_record.proofs.Whole.{failed}
+use Rattle.package_record.proofs.HeaderLines.{failed}
 use Rattle.package_record.proofs.several.first_several.Goals as goal
 
 pub returns-in_err-count : goal.returns-in_err-count

@@ -1,5 +1,6 @@
 use Rattle.std.proofs.lemmas.Result.{err_from_is_err_and}
-use Rattle.package_record.proofs.Whole.{failed, whole_taken}
+use Rattle.package_record.proofs.HeaderLines.{failed}
+use Rattle.package_record.proofs.Whole.{whole_taken}
 use Rattle.package_record.specs.Views.{content_of}
 use Rattle.package_record.specs.Reading.{whole_of}
 use Rattle.package_record.proofs.package.Record.parse.Goals as goal

@@ -1,6 +1,7 @@
 use Rattle.std.proofs.Common.{ap, sym, ◌∙◌, List, ℕ, Ok}
 use Rattle.std.proofs.lemmas.Result.{err_from_is_err_and}
-use Rattle.package_record.proofs.Whole.{failed, first_taken, front_cut}
+use Rattle.package_record.proofs.HeaderLines.{failed}
+use Rattle.package_record.proofs.Whole.{first_taken, front_cut}
 use Rattle.package_record.specs.Content.{record_text}
 use Rattle.package_record.specs.Views.{content_of}
 use Rattle.package_record.specs.Reading.{first_of}

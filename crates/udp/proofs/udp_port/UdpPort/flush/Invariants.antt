@@ -8,6 +8,8 @@ invariant-loop-self g l = record {
   stays : (l.self.failures ≡ l.fn.self.failures) × (l.self.sends ≡ l.fn.self.sends) × (l.self.hurry ≡ l.fn.self.hurry);
   inbox : l.self.inbox ≡ l.fn.self.inbox;
   outbox : l.self.outbox ≡ l.fn.self.outbox;
+  most : l.self.most ≡ l.fn.self.most;
+  is_open : l.self.is_open ≡ l.fn.self.is_open;
 }
 
 abbrev pub decreases-loop-self : goal.decreases-loop-self

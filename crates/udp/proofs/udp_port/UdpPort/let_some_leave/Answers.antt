@@ -8,6 +8,8 @@ loop-init g c = record {
   stays = (refl, refl, refl);
   inbox = refl;
   outbox = refl;
+  most = refl;
+  is_open = refl;
 }
 
 pub loop-preserved : goal.loop-preserved
@@ -21,6 +23,8 @@ loop-preserved g c = record {
   );
   inbox = c.let_one_leave.ensures.seal_stays.0 ∙ c.loop.invariant.inbox;
   outbox = c.let_one_leave.ensures.seal_stays.1 ∙ c.loop.invariant.outbox;
+  most = c.let_one_leave.ensures.guard_stays.0 ∙ c.loop.invariant.most;
+  is_open = c.let_one_leave.ensures.guard_stays.1 ∙ c.loop.invariant.is_open;
 }
 
 pub returns-then-not-let_one_leave-clause-left : goal.returns-then-not-let_one_leave-clause-left

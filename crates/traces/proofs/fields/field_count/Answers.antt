@@ -1,7 +1,7 @@
 use Rattle.std.proofs.Common.{option_map, sym, ap, unwrap_or, ◌∙◌}
 use Rattle.serde_json.specs.Events.{members_len}
 use Rattle.serde_json.proofs.Views.{members_len-members_view}
-use Rattle.traces.proofs.fields.members.Goals as goal
+use Rattle.traces.proofs.fields.field_count.Goals as goal
 
 pub returns-in-Some : goal.returns-in-Some
 returns-in-Some c = c.len.ensures.len ∙ sym (members_len-members_view c.in-Some.members.now.entries) ∙ ap (λ o. unwrap_or (option_map members_len o) 0) c.in-Some.ensures
