@@ -232,7 +232,7 @@ all_files p hs q e =
 -- ---- the bytes
 
 -- the files that stand behind the header
-record Bodies (front : List NamedFile) (hs : List Head) (bytes : Text) (fs : List NamedFile) (rest : Text) : Type 0 where
+pub record Bodies (front : List NamedFile) (hs : List Head) (bytes : Text) (fs : List NamedFile) (rest : Text) : Type 0 where
   pub more : List NamedFile
   pub all : fs ≡ front ++ more
   pub parts : bytes ≡ flat_map (λ f. f.bytes) more ++ rest

@@ -120,19 +120,19 @@ module _ (division : Division) (weights : List ℕ) (made : IsMade division weig
     (r : IsReached division weights made w) (me : ℕ) (x : WorldNode)
     (stands : slice_get w.nodes me ≡ Some x) (up : x.up ≡ true)
     (u : ℕ) (within : u < length w.division.units) (host : ℕ) where
-  abbrev s : State
+  abbrev pub s : State
   s = member_at w me x
 
-  abbrev c : Claim
+  abbrev pub c : Claim
   c = next_claim w u me
 
-  abbrev told : ℕ → Option (Ballot Value)
+  abbrev pub told : ℕ → Option (Ballot Value)
   told j = (seen_at w u j).voted
 
-  abbrev had : ℕ → Option Value
+  abbrev pub had : ℕ → Option Value
   had q = (facts_at s q).held
 
-  abbrev at0 : ℕ
+  abbrev pub at0 : ℕ
   at0 = length w.sent
 
   -- so many datagrams each promises
@@ -201,7 +201,7 @@ module _ (division : Division) (weights : List ℕ) (made : IsMade division weig
 
   -- ---- each part of it
 
-  abbrev asked : List ℕ
+  abbrev pub asked : List ℕ
   asked = asked_of w
 
   news : (j : ℕ) → Contains asked j → Reaches (told j) c → ⊥
@@ -241,7 +241,7 @@ module _ (division : Division) (weights : List ℕ) (made : IsMade division weig
       }
 
   -- the node holds the unit, and this was said
-  abbrev Holds : Value → World → Type 0
+  abbrev pub Holds : Value → World → Type 0
   Holds v y = HoldsUnit y me u × Said v y
 
   module _ (enough : MakeMajority weights nobody asked) where
@@ -266,16 +266,16 @@ module _ (division : Division) (weights : List ℕ) (made : IsMade division weig
         (right : files_refusal s u given (next_build w s u host given) ≡ None) (y : World)
         (t : Asks division weights made u c me at0 told host had (Gathering c nobody None) [] asked
         y) where
-      abbrev behind : ℕ
+      abbrev pub behind : ℕ
       behind = behind_by division weights made u c me at0 told host had (length y.sent) asked
 
-      abbrev report : Option (Ballot Value)
+      abbrev pub report : Option (Ballot Value)
       report = report_by division weights made u c me at0 told host had None asked
 
-      abbrev build : Value
+      abbrev pub build : Value
       build = next_build w s u host given
 
-      abbrev asks_them : List Event
+      abbrev pub asks_them : List Event
       asks_them = asks_by division weights made u c me at0 told host had (length y.sent) asked
 
       -- who is asked, when all were

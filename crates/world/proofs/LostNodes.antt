@@ -162,7 +162,7 @@ step_so w ns e es u like s =
     }
 
 -- A stop inside a step, of which one thing was left, and another might have been.
-record StopsSo (w : World) (ns : List WorldNode) (e : Event) (l : Left) (es : List Event) (u : World)
+pub record StopsSo (w : World) (ns : List WorldNode) (e : Event) (l : Left) (es : List Event) (u : World)
     : Type 0 where
   pub nodes : List WorldNode
   pub stops : StopsIn (record w { nodes = ns }) e l (record u { nodes = nodes })
