@@ -188,7 +188,7 @@ all_built p ds q e =
 
 pub record ArePaths (ts : List Text) : Type 0 where
   pub paths : All IsPath ts
-  order : is_ascending ts ≡ true
+  pub order : is_ascending ts ≡ true
 
 run_step : (front : List Text) (p : Place) (t : Text) (q : Place) → run_at front p ≡ Ok (Some t, q) → ArePaths front → (p.lines ≡ (run_line t ∷ []) ++ q.lines) × ArePaths (front ++ t ∷ [])
 run_step front p path q e kept =

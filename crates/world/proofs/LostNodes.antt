@@ -129,9 +129,9 @@ module _ (w : World) (ns : List WorldNode) where
 -- The event happens with the other nodes, too, and leaves such worlds again.
 pub record GoesOnSo (w : World) (ns : List WorldNode) (e : Event) (es : List Event) (u : World) : Type 0
   where
-    nodes : List WorldNode
-    happens : Happens (record w { nodes = ns }) e (record u { nodes = nodes })
-    alike : AreAlike es u.nodes nodes
+    pub nodes : List WorldNode
+    pub happens : Happens (record w { nodes = ns }) e (record u { nodes = nodes })
+    pub alike : AreAlike es u.nodes nodes
 
 -- what a step leaves
 record StepsSo (w : World) (ns : List WorldNode) (e : Event) (es : List Event) (u : World) : Type 0
