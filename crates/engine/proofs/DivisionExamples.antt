@@ -6,9 +6,7 @@ use Rattle.listing.specs.Tree.{Package, Tree, is_marked_at}
 use Rattle.engine.specs.Division.{Division, number_found, number_of}
 use Rattle.engine.specs.Ignored.{AreTheIgnored}
 use Rattle.engine.specs.Units.{AreUnits, Unit, units_with}
-
-abbrev listed : Text → Text → List ℕ → Package
-listed path group build = record { path = path; group = group; name = codes "x-1"; build = build; run = []; is_marked = false }
+use Rattle.engine.proofs.ExampleTrees.{listed, pair, pair_free, single_pair, trio}
 
 -- nothing is ignored
 abbrev none : ℕ → Bool
@@ -18,9 +16,6 @@ abbrev unit : Text → List ℕ → List ℕ → Unit
 unit name packages build = record { name = name; packages = packages; build = build }
 
 -- ---- two packages of one group, of which the second needs the first to be built
-
-abbrev pair : Tree
-pair = listed (codes "a/b,-x") (codes "a/b") [] ∷ listed (codes "a/b,-y") (codes "a/b") (0 ∷ []) ∷ []
 
 -- one build makes both, and needs neither
 example_pair : units_with pair none ≡ unit (codes "a/b") (0 ∷ 1 ∷ []) [] ∷ []
@@ -37,25 +32,14 @@ free tree unmarked p = (
   }),
 )
 
-pair_free : (q : ℕ) → is_marked_at pair q ≡ true → ⊥
-pair_free zero h = true≢false (sym h)
-pair_free (suc zero) h = true≢false (sym h)
-pair_free (suc (suc q)) h = true≢false (sym h)
-
 example_pair_units : AreUnits pair (unit (codes "a/b") (0 ∷ 1 ∷ []) [] ∷ [])
 example_pair_units = record { ignored = none; are_ignored = free pair pair_free; are = refl }
-
-abbrev single_pair : Tree
-single_pair = listed (codes "a/b,-x") (codes "a/b,-x") [] ∷ listed (codes "a/b,-y") (codes "a/b,-y") (0 ∷ []) ∷ []
 
 -- each is a unit where each is a group of its own, and the second needs the first
 example_single_pair : units_with single_pair none ≡ unit (codes "a/b,-x") (0 ∷ []) [] ∷ unit (codes "a/b,-y") (1 ∷ []) (0 ∷ []) ∷ []
 example_single_pair = refl
 
 -- ---- two packages of one group, of which the first needs a third to be built
-
-abbrev trio : Tree
-trio = listed (codes "c/d,-p") (codes "c/d") (2 ∷ []) ∷ listed (codes "c/d,-q") (codes "c/d") [] ∷ listed (codes "e/f") (codes "e/f") [] ∷ []
 
 example_trio : units_with trio none ≡ unit (codes "c/d") (0 ∷ 1 ∷ []) (2 ∷ []) ∷ unit (codes "e/f") (2 ∷ []) [] ∷ []
 example_trio = refl

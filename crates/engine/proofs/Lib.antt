@@ -4,6 +4,7 @@ mod Bits
 mod Decided
 pub mod Dependents
 mod Division
+mod ExampleTrees
 mod DivisionExamples
 mod Dropping
 mod Examples

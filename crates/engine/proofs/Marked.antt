@@ -1,6 +1,6 @@
 -- The set that marks make.
 use Rattle.std.proofs.Common.{◌≡◌, ◌≢◌, ◌<◌, ◌&&◌, ◌||◌, ℕ, zero, suc, Bool, true, false, cond, nat_lt, nat_eq, List, length, set, sym, ap, ◌∙◌, refl, inl, inr, arith}
-use Rattle.std.proofs.lemmas.List.{get_or_past, get_or-set_same, get_or-set_other}
+use Rattle.std.proofs.lemmas.List.{get_or_past}
 use Rattle.std.proofs.lemmas.Bool.{cases_eq, cases_lt, cases_order, lt-ltb, le-ltb, eq-eqb, ne_eqb}
 use Rattle.std.proofs.lemmas.Bool.Decides.{nat_tests}
 use Rattle.std.specs.Cmp.{nat_cmp_total, unsigned_tied}
@@ -8,13 +8,8 @@ use Rattle.std.specs.FinSet as finset
 use Rattle.std.specs.FinSet.{nat_cmp-IsAntisymmetric}
 use Rattle.std.specs.Ordering.{nat_cmp}
 use Rattle.graph.specs.Marks.{has_mark}
+use Rattle.graph.proofs.Marked.{has_mark-other, has_mark-same}
 use Rattle.engine.specs.shared.Agreed.{marked_set, set_below}
-
-pub has_mark-same : (marks : List Bool) (p : ℕ) (mark : Bool) → p < length marks → has_mark (set marks p mark) p ≡ mark
-has_mark-same marks p mark within = get_or-set_same marks p mark false within
-
-pub has_mark-other : (marks : List Bool) (p q : ℕ) (mark : Bool) → q ≢ p → has_mark (set marks p mark) q ≡ has_mark marks q
-has_mark-other marks p q mark other = get_or-set_other marks p q mark false other
 
 below_more : (test : ℕ → Bool) (n q : ℕ) → test n ≡ true → (nat_eq q n || (nat_lt q n && test q)) ≡ (nat_lt q (suc n) && test q)
 below_more test n q passes = elim (cases_order q n) [

@@ -1,5 +1,6 @@
 -- What the parts of a line are, by places.
 use Rattle.std.proofs.Common.{◌≡◌, ◌<◌, ◌≤◌, ◌+◌, ◌-◌, ◌==◌, ◌&&◌, ◌||◌, ◌++◌, ◌∷◌, ℕ, Bool, true, false, not, length, take, drop, get_or, refl, sym, ap, ◌∙◌, arith, eq-eqb}
+use Rattle.std.proofs.Math.Bool.{and-false, or-true}
 use Rattle.std.specs.List.{after_first, after_last, before_last, position_or_len, suffix_len}
 use Rattle.std.proofs.Math.Seq.{drop-append-add, take-append_seam}
 use Rattle.std.proofs.lemmas.List.Folds.{list_any-append}
@@ -45,14 +46,6 @@ trimmed_is text s e se el front stop back last =
 
 -- ---- a line that is cut
 
-and_false : (b : Bool) → (b && false) ≡ false
-and_false true = refl
-and_false false = refl
-
-or_true : (b : Bool) → (b || true) ≡ true
-or_true true = refl
-or_true false = refl
-
 -- behind the last dot stand as many bytes as are left
 after_dot : (key : Text) (j : ℕ) → j < length key → get_or key j 0 ≡ dot
     → ((k : ℕ) → j < k → k < length key → (get_or key k 0 == dot) ≡ false)
@@ -81,13 +74,13 @@ module _ (line key value : Text) (cut : line ≡ key ++ equals_sign ∷ value)
   has_equals =
       ap (has_byte equals_sign) cut
       ∙ list_any-append (λ b. b == equals_sign) key (equals_sign ∷ value)
-      ∙ or_true (has_byte equals_sign key)
+      ∙ or-true (has_byte equals_sign key)
 
   pub no_dot : ((k : ℕ) → k < length key → (get_or key k 0 == dot) ≡ false) → is_cut line ≡ false
   no_dot lacks =
       ap (λ text. has_byte equals_sign line && has_byte dot text) key_is
       ∙ ap (λ b. has_byte equals_sign line && b) (none_anywhere (λ b. b == dot) key lacks)
-      ∙ and_false (has_byte equals_sign line)
+      ∙ and-false (has_byte equals_sign line)
 
   pub value_text_is : trimmed value ≡ value_text line
   value_text_is = sym (ap trimmed value_is)

@@ -1,5 +1,6 @@
 -- Sets of positions: ascending, each once.
 use Rattle.std.proofs.Common.{◌≡◌, ◌<◌, ◌≤◌, ◌+◌, ◌++◌, ◌&&◌, ◌||◌, ◌==◌, ℕ, suc, zero, Bool, true, false, cond, List, [], ◌∷◌, All, Contains, length, map, filter, get_or, position, Option, None, Some, refl, sym, ap, subst, ◌∙◌, arith, eq-eqb, true≢false, inl, inr}
+use Rattle.std.proofs.Math.Bool.{or-true}
 use Rattle.std.specs.List.{list_any, enumerate_from, filter_map, cons_option, IsDistinct, AllByRecursion, position_from}
 use Rattle.std.specs.List.Sorted.{IsStrictlyIncreasing}
 use Rattle.std.specs.Str.{bytes_eq}
@@ -38,14 +39,10 @@ pub contains_from_has : (p : ℕ) (xs : List ℕ) → has p xs ≡ true → Cont
 contains_from_has p [] h = cc
 contains_from_has p (x ∷ xs) h = contains_by p x xs (x == p) refl h (contains_from_has p xs)
 
-or_true : (b : Bool) → (b || true) ≡ true
-or_true true = refl
-or_true false = refl
-
 has_at : (p : ℕ) (xs : List ℕ) (k : ℕ) → k < length xs → get_or xs k p ≡ p → has p xs ≡ true
 has_at p [] k l e = absurd (omega arith)
 has_at p (x ∷ xs) zero l e = ap (λ b. b || has p xs) (eq-eqb x p e)
-has_at p (x ∷ xs) (suc k) l e = ap (λ b. (x == p) || b) (has_at p xs k (omega arith) e) ∙ or_true (x == p)
+has_at p (x ∷ xs) (suc k) l e = ap (λ b. (x == p) || b) (has_at p xs k (omega arith) e) ∙ or-true (x == p)
 
 pub has_from_contains : (p : ℕ) (xs : List ℕ) → Contains xs p → has p xs ≡ true
 has_from_contains p xs h = has_at p xs h.0 h.1 h.2

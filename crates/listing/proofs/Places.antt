@@ -1,5 +1,6 @@
 -- Where in a text a test first or last passes.
 use Rattle.std.proofs.Common.{◌≡◌, ◌<◌, ◌≤◌, ◌-◌, ℕ, suc, zero, Bool, true, false, cond, ◌||◌, nat_lt, List, [], ◌∷◌, length, take, drop, reverse, position, get_or, None, Some, refl, sym, ap, ◌∙◌, arith}
+use Rattle.std.proofs.Math.Bool.{or-true}
 use Rattle.std.specs.List.{suffix_len, position_or_len, before_first, list_any}
 use Rattle.std.proofs.lemmas.Bool.{ltb-true, ltb-false}
 use Rattle.std.proofs.lemmas.List.{drop_all, get_or-reverse, length-reverse, take_all, take_rest}
@@ -51,11 +52,7 @@ pub none_anywhere : (p : ℕ → Bool) (xs : List ℕ) → ((k : ℕ) → k < le
 none_anywhere p [] h = refl
 none_anywhere p (x ∷ xs) h = ap (λ b. b || list_any p xs) (h zero (omega arith)) ∙ none_anywhere p xs (λ k l. h (suc k) (omega arith))
 
-or_true : (b : Bool) → (b || true) ≡ true
-or_true true = refl
-or_true false = refl
-
 pub some_there : (p : ℕ → Bool) (xs : List ℕ) (k : ℕ) → k < length xs → p (get_or xs k 0) ≡ true → list_any p xs ≡ true
 some_there p [] k l h = absurd (omega arith)
 some_there p (x ∷ xs) zero l h = ap (λ b. b || list_any p xs) h
-some_there p (x ∷ xs) (suc k) l h = ap (λ b. p x || b) (some_there p xs k (omega arith) h) ∙ or_true (p x)
+some_there p (x ∷ xs) (suc k) l h = ap (λ b. p x || b) (some_there p xs k (omega arith) h) ∙ or-true (p x)

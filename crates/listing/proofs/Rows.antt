@@ -1,5 +1,6 @@
 -- Rows that stand for what lines set, and one more setting.
 use Rattle.std.proofs.Common.{◌≡◌, ◌<◌, ◌≤◌, ◌+◌, ◌++◌, ◌&&◌, ◌||◌, ◌⊎◌, ℕ, suc, zero, Bool, true, false, not, nat_le, List, [], ◌∷◌, length, set, option_and_then, option_map, Option, None, Some, Ok, Bor, IfSome, is_some, ◌≢◌, refl, sym, ap, subst, ◌∙◌, arith, if◌then◌else◌, get_or, inl, inr}
+use Rattle.std.proofs.Math.Bool.{and-false, or-true}
 use Rattle.std.specs.List.{list_any, IsDistinct}
 use Rattle.std.specs.Str.{bytes_eq}
 use Rattle.std.specs.Cmp.Lexicographic.{nat_list_eq_equiv}
@@ -38,14 +39,6 @@ first_false false b e = refl
 second_false : (a b : Bool) → (a || b) ≡ false → b ≡ false
 second_false true b e = cc
 second_false false b e = e
-
-or_true : (b : Bool) → (b || true) ≡ true
-or_true true = refl
-or_true false = refl
-
-and_false : (b : Bool) → (b && false) ≡ false
-and_false true = refl
-and_false false = refl
 
 absent_at : (ps : List Text) (q : Text) (k : ℕ) → list_any (bytes_eq q) ps ≡ false → k < length ps → bytes_eq q (get_or ps k []) ≡ false
 absent_at [] q k new l = absurd (omega arith)
@@ -189,7 +182,7 @@ other_path ps q j k once inj e ink apart =
 pub listed_at : (ps : List Text) (p : Text) (k : ℕ) → k < length ps → bytes_eq p (get_or ps k []) ≡ true → list_any (bytes_eq p) ps ≡ true
 listed_at [] p k within same = absurd (omega arith)
 listed_at (q ∷ ps) p zero within same = ap (λ b. b || list_any (bytes_eq p) ps) same
-listed_at (q ∷ ps) p (suc k) within same = ap (λ b. bytes_eq p q || b) (listed_at ps p k (omega arith) same) ∙ or_true (bytes_eq p q)
+listed_at (q ∷ ps) p (suc k) within same = ap (λ b. bytes_eq p q || b) (listed_at ps p k (omega arith) same) ∙ or-true (bytes_eq p q)
 
 -- the row of a path that is there takes a value
 pub rows_set : (ss : List Setting) (words more : List Text) (paths : List Text) (rows : List Row) (line : ℕ) (p : Text) (v : Variable) (x : Value) (i : ℕ) (d : Row)
@@ -290,7 +283,7 @@ not_too_many ss words paths rows s h (inl there) =
     ap (λ b. not b && nat_le most_paths (length (paths_of ss))) present
 not_too_many ss words paths rows s h (inr few) =
     let room : nat_le most_paths (length (paths_of ss)) ≡ false = ap (λ ps. nat_le most_paths (length ps)) (sym h.all) ∙ grind (arith, nat_tests) in
-    ap (λ b. not (is_among (paths_of ss) s.path) && b) room ∙ and_false (not (is_among (paths_of ss) s.path))
+    ap (λ b. not (is_among (paths_of ss) s.path) && b) room ∙ and-false (not (is_among (paths_of ss) s.path))
 
 -- ---- the first row without a name
 

@@ -32,7 +32,7 @@ use Rattle.world.proofs.Distinct.{has_path_of}
 use Rattle.world.specs.Matches.{Matches, WasSaid, name_of, packages_of}
 use Rattle.world.specs.Mirrored.{after_all_acts}
 use Rattle.world.specs.Needs.{may_build}
-use Rattle.world.proofs.Headers.{in_order, sent_was_said}
+use Rattle.world.proofs.Headers.{in_order, sent_was_said, some_same}
 use Rattle.world.proofs.Holding.{entry_listed}
 use Rattle.world.proofs.Recorded.{no_path_of_both}
 use Rattle.world.proofs.Safe.{majority_within, voted_there}
@@ -99,9 +99,6 @@ there_by_path list path e =
 some_record : (build : Value) → AreAlike build → (r : Content) × Contains build r
 some_record [] are = absurd are
 some_record (r ∷ rs) are = (r, (zero, omega arith, refl))
-
-some_same : {X : Type 0} (x y : X) → Some x ≡ Some y → x ≡ y
-some_same x y e = cc
 
 -- ---- before and after a step
 

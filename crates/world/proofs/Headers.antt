@@ -54,7 +54,7 @@ contains_map f (y ∷ ys) x (zero, within, e) = (zero, omega arith, ap f e)
 contains_map f (y ∷ ys) x (suc k, within, e) =
     let r = contains_map f ys x (k, omega (arith, within), e) in (suc r.0, omega (arith, r.1), r.2)
 
-only_one : {X : Type 0} (y x : X) → Contains (y ∷ []) x → y ≡ x
+pub only_one : {X : Type 0} (y x : X) → Contains (y ∷ []) x → y ≡ x
 only_one y x (zero, within, e) = e
 only_one y x (suc k, within, e) = absurd (omega arith)
 

@@ -21,12 +21,9 @@ use Rattle.world.specs.Local.{AreLocal}
 use Rattle.world.specs.Matches.{Matches, packages_of}
 use Rattle.world.specs.Mirrored.{after_all_acts}
 use Rattle.world.specs.Needs.{may_build}
-use Rattle.world.proofs.Headers.{in_order}
+use Rattle.world.proofs.Headers.{in_order, some_same}
 use Rattle.world.proofs.Members.{node_is_member}
 use Rattle.world.proofs.Monotone.{needs_are_monotone}
-
-some_same : {X : Type 0} (x y : X) → Some x ≡ Some y → x ≡ y
-some_same x y h = cc
 
 -- the packages of each entry are in the list
 pub entry_listed : (list : List (Entry Value)) (u : ℕ) (v : Value) → lookup list u ≡ Some v

@@ -22,6 +22,7 @@ use Rattle.wire.proofs.FieldTexts.{claim_read}
 use Rattle.wire.proofs.Numbers.{length-big_bytes}
 use Rattle.wire.proofs.Steps.{ok_is}
 use Rattle.world.proofs.Said.{has_preimage}
+use Rattle.world.proofs.Headers.{only_one, some_same}
 
 -- ---- lists
 
@@ -46,13 +47,6 @@ last_parts a b c d same e =
     let all : length a + length b ≡ length c + length d =
     sym (length-append a b) ∙ ap length e ∙ length-append c d in
     both_parts a b c d (omega (arith, all, same)) e
-
-some_same : {X : Type 0} (x y : X) → Some x ≡ Some y → x ≡ y
-some_same x y e = cc
-
-only_one : {X : Type 0} (y x : X) → Contains (y ∷ []) x → y ≡ x
-only_one y x (zero, within, e) = e
-only_one y x (suc k, within, e) = absurd (omega arith)
 
 -- ---- fields
 
