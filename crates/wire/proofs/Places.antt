@@ -47,8 +47,8 @@ header_length h =
     let front = front_text (codes "DPB2") (carrier_kind h.carrier) h.sender h.tree h.path in
     omega (
       arith,
-      length-append front (carrier_text h.carrier ++ big_bytes 4 h.length),
-      length-append (carrier_text h.carrier) (big_bytes 4 h.length),
+      length-append (front ++ carrier_text h.carrier) (big_bytes 4 h.length),
+      length-append front (carrier_text h.carrier),
       length-big_bytes 4 h.length,
       front_length (carrier_kind h.carrier) h.sender h.tree h.path,
     )
@@ -60,8 +60,8 @@ piece_length : (p : Piece)
 piece_length p =
     omega (
       arith,
-      length-append (header_text p.header) (big_bytes 2 p.number ++ p.bytes),
-      length-append (big_bytes 2 p.number) p.bytes,
+      length-append (header_text p.header ++ big_bytes 2 p.number) p.bytes,
+      length-append (header_text p.header) (big_bytes 2 p.number),
       length-big_bytes 2 p.number,
       header_length p.header,
     )
