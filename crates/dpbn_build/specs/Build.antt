@@ -1,5 +1,5 @@
 -- What `dpbn build` prints, and what is told where it can't run.
-use Rattle.std.specs.Prelude.{◌≡◌, ◌<◌, ◌⊎◌, ◌==◌, ◌&&◌, ⊤, ℕ, Option, None, Some, if◌then◌else◌, option_map}
+use Rattle.std.specs.Prelude.{◌≡◌, ◌<◌, ◌⊎◌, ◌==◌, ◌&&◌, ℕ, Option, None, Some, if◌then◌else◌, option_map}
 use Rattle.dpbn_build.specs.Turns.{HaveTurned}
 pub use Rattle.dpbn_node.specs.Node.{IsNodeText, RefusesNode}
 pub use Rattle.dpbn_node.specs.Runs.{AreGood, letters_of}
@@ -22,6 +22,7 @@ use Rattle.stable_record.specs.History.{seen}
 use Rattle.stable_record.specs.RealFile.{file_agrees, file_history}
 use Rattle.stable_record.specs.declared.file_disk.FileDisk.{FileDisk}
 use Rattle.stable_record.specs.declared.identity.Identity.{Identity}
+use Rattle.udp.specs.Calls.{DoesOverUdp}
 
 -- ---- what is printed
 
@@ -30,7 +31,7 @@ use Rattle.stable_record.specs.declared.identity.Identity.{Identity}
 pub record HasBuilt (rest : Option ℕ) (old new : Running) : Type 0 where
   pub last : Running
   pub turned : HaveTurned file_agrees file_history (λ disk. disk.failures) (λ port. None)
-      (λ port. None) (λ port call after. ⊤) port_vouches
+      (λ port. None) DoesOverUdp port_vouches
       (λ port hurry. record port { hurry = hurry }) rest old last
   pub flushed : HasFlushed last new
 

@@ -1,5 +1,5 @@
 -- What `dpbn node` prints, and what is told where it can't run.
-use Rattle.std.specs.Prelude.{◌≡◌, ◌<◌, ◌⊎◌, ⊤, ℕ, List, Option, None, option_map}
+use Rattle.std.specs.Prelude.{◌≡◌, ◌<◌, ◌⊎◌, ℕ, List, Option, None, option_map}
 use Rattle.std.specs.declared.rt.LibcRuntime.{LibcRuntime}
 use Rattle.dpbn_node.specs.Given.{RefusesWeights}
 use Rattle.dpbn_node.specs.Runs.{HasFlushed, IsOfNode, IsOfNodeOn, IsRunOf, RefusesPlace, RefusesStart, RunOf, Running, letters_of, port_vouches}
@@ -18,16 +18,18 @@ use Rattle.solo.specs.Turns.{HaveTurned}
 use Rattle.stable_record.specs.RealFile.{file_agrees, file_history}
 use Rattle.stable_record.specs.declared.file_disk.FileDisk.{FileDisk}
 use Rattle.trace_files.specs.Builds.{AreBuilds, RefusesBuildsFile}
+use Rattle.udp.specs.Calls.{DoesOverUdp}
 use Rattle.udp.specs.declared.udp_port.UdpPort.{UdpPort}
 
 -- ---- what is printed
 
 -- So many turns, each by these builds, led from one state of the node to another, whose port then
--- handed the system all that waited to leave.
+-- handed the system all that waited to leave. In each turn the port went through the turn's calls,
+-- and each did to it what such a call does over UDP.
 pub record HasRun (builds : Given) (turns : ℕ) (old new : Running) : Type 0 where
   pub last : Running
   pub turned : HaveTurned file_agrees file_history (λ disk. disk.failures) (λ port. None)
-      (λ port. None) (λ port call after. ⊤) port_vouches (AllBuilds builds) turns old last
+      (λ port. None) DoesOverUdp port_vouches (AllBuilds builds) turns old last
   pub flushed : HasFlushed last new
 
 -- The line says what the node shows after so many turns.

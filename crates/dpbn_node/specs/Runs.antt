@@ -1,5 +1,6 @@
 -- Of which run a node is, how it begins there, and what is told where it can't.
 use Rattle.std.specs.Prelude.{◌≡◌, ◌≢◌, ◌≤◌, ◌⊎◌, ◌++◌, ⊤, ℕ, Bool, true, false, List, [], Option, None, Some, Ok, if◌then◌else◌, length, option_map, string_bytes}
+use Rattle.std.specs.declared.net.socket_addr.SocketAddr.{SocketAddr}
 use Rattle.std.specs.declared.rt.LibcRuntime.{LibcRuntime}
 use Rattle.choice.specs.Pending.{nothing_kept}
 use Rattle.dpbn_node.specs.Given.{AreTold}
@@ -32,9 +33,11 @@ use Rattle.stable_record.specs.History.{seen}
 use Rattle.stable_record.specs.Opening.{Opens, OpensAsLeft}
 use Rattle.stable_record.specs.RealFile.{file_agrees, file_history}
 use Rattle.stable_record.specs.declared.file_disk.FileDisk.{FileDisk}
-use Rattle.udp.specs.Hosts.{IsFirstBad}
+use Rattle.udp.specs.Calls.{IsSamePort}
+use Rattle.udp.specs.Hosts.{IsFirstBad, WriteHosts}
 use Rattle.udp.specs.Inbox.{is_vouched_for}
 use Rattle.udp.specs.Leaving.{texts_of as texts_that_wait}
+use Rattle.udp.specs.Ways.{AreLocal, IsSeatOf}
 use Rattle.udp.specs.declared.udp_port.UdpPort.{UdpPort}
 
 -- ---- nodes
@@ -52,8 +55,10 @@ abbrev pub port_vouches : UdpPort LibcRuntime → Text → Type 0
 port_vouches port text = is_vouched_for port.inbox.key port.inbox.came text ≡ true
 
 -- The port handed the system all that waited to leave, in order and each once, and nothing else.
+-- It is the same port.
 pub record HasFlushed (old new : Running) : Type 0 where
   pub same : new ≡ record old { port = new.port }
+  pub same_port : IsSamePort old.port new.port
   pub left : new.port.leaving.waiting.items ≡ []
   pub handed : new.port.handed.all
       ≡ old.port.handed.all ++ texts_that_wait old.port.leaving.waiting.items
@@ -80,11 +85,13 @@ pub record IsOfNodeOn (log : FileDisk) (port : UdpPort LibcRuntime) (tree : Tree
 
 -- ---- runs
 
--- Of which run a node is: over which tree, what its members weigh, and its key, if it has one; then
--- whether all who send are heard where it has none, and whether a log of it has to be there.
+-- Of which run a node is: over which tree, what its members weigh, where they listen, and its key,
+-- if it has one; then whether all who send are heard where it has none, and whether a log of it has
+-- to be there.
 pub record RunOf : Type 0 where
   pub tree : Tree
   pub weights : List ℕ
+  pub addresses : List SocketAddr
   pub key : Option Text
   pub is_open : Bool
   pub is_continued : Bool
@@ -94,13 +101,21 @@ abbrev pub is_local : Peers → Bool
 is_local (Base port) = true
 is_local (Hosts text) = false
 
+-- So many members listen where the words say: on this host, by the first port, or at the hosts that
+-- the text writes.
+abbrev pub Listen : Peers → ℕ → List SocketAddr → Type 0
+Listen (Base port) members addresses = (length addresses ≡ members) × AreLocal port addresses
+Listen (Hosts text) members addresses =
+    (length addresses ≡ members) × WriteHosts (pieces_at comma text.now) addresses
+
 -- So the words say, of so many members with these weights, if they are told: a listing describes
--- the tree, in which each path is a group of its own or not, so many members weigh what is told,
--- and the key is that of the file. Strangers are heard where all members are on one host alone.
+-- the tree, in which each path is a group of its own or not, so many members weigh what is told
+-- and listen there, and the key is that of the file. Strangers are heard where all members are on one host alone.
 pub record IsRunOf (is_single : Bool) (members : ℕ) (weights : Option Text) (peers : Peers)
     (run : Run) (of : RunOf) : Type 0 where
   pub described : IsDescribed is_single of.tree
   pub told : AreTold members weights of.weights
+  pub listen : Listen peers members of.addresses
   pub has_key : IsKeyOf (option_map (λ t. t.now) run.key) of.key
   pub open_to : of.is_open ≡ is_local peers
   pub continued : of.is_continued ≡ run.is_continued
@@ -110,6 +125,7 @@ abbrev pub run_at : Tree → List ℕ → Place → RunOf
 run_at tree weights place = record {
   tree = tree;
   weights = weights;
+  addresses = place.addresses.items;
   key = place.sealing.key;
   is_open = place.sealing.is_open;
   is_continued = place.is_continued;
@@ -123,14 +139,22 @@ pub record IsGuarded (of : RunOf) (port : UdpPort LibcRuntime) : Type 0 where
   pub sealed : of.key ≢ None → port.is_open ≡ false
   pub closed : of.is_open ≡ false → port.is_open ≡ false
 
--- A start in the run was made for the member, and the port guards the run.
+-- The port is that of the member's node alone: it sits at its address among those of the run, and
+-- sends to those of the others.
+pub record IsSeated (of : RunOf) (me : ℕ) (port : UdpPort LibcRuntime) : Type 0 where
+  pub seat : IsSeatOf port.seats.items me 0
+  pub lone : length port.seats.items ≡ 1
+  pub addresses : port.addresses.items ≡ of.addresses
+
+-- A start in the run was made for the member, and the port is its own and guards the run.
 pub record HasBegun (of : RunOf) (me : ℕ) (begun : Begun) : Type 0 where
   pub started : IsStarted (owner of.tree of.weights me) (shown_of of.key) of.is_continued
       (option_map string_bytes begun.start.unwritten)
+  pub seated : IsSeated of me begun.port
   pub guarded : IsGuarded of begun.port
 
 -- So it is of the member's node, which was opened on the log on which a start in the run was made,
--- kept nothing yet, and has a port that guards the run.
+-- kept nothing yet, and has a port of its own that guards the run.
 pub record IsOfNode (of : RunOf) (me : ℕ) (Is : Running → Type 0) : Type 0 where
   pub begun : Begun
   pub has_begun : HasBegun of me begun

@@ -7,6 +7,7 @@ ghost use Rattle.dpbn_node.specs.Runs.{
   IsHostsRefusal,
   IsLogRefusal,
   IsNodeOf,
+  Listen,
   RefusesPlace,
   RefusesStart,
   is_local,
@@ -16,6 +17,7 @@ ghost use Rattle.dpbn_node.specs.Runs.{
 };
 ghost use Rattle.dpbn_run.specs.Keys.{IsKeyOf};
 ghost use Rattle.program.specs.Refusals.{memory_refusal};
+ghost use Rattle.udp.specs.Ways.{IsSeatOf};
 
 use ballots::Weights;
 use dpbn_run::{Sealing, identity_of, key_of_words, start_of};
@@ -59,6 +61,7 @@ pub fn place_of_words(
     requires few { members ≤ 9 }
     requires peers { AreGood peers.now }
     ensures each { IfOk result (λ place. length place.addresses.items ≡ members) }
+    ensures listen { IfOk result (λ place. Listen peers.now members place.addresses.items) }
     ensures key { IfOk result
         (λ place. IsKeyOf (option_map (λ t. t.now) run.now.key) place.sealing.key) }
     ensures open_to { IfOk result (λ place. place.sealing.is_open ≡ is_local peers.now) }
@@ -93,6 +96,7 @@ fn addresses_of(alloc: Global, members: u8, peers: &Peers<'_>) -> Result<Vec<Soc
     requires few { members ≤ 9 }
     requires peers { AreGood peers.now }
     ensures count { IfOk result (λ addresses. length addresses.items ≡ members) }
+    ensures listen { IfOk result (λ addresses. Listen peers.now members addresses.items) }
     ensures refused { IfErr result
         (λ r. (r ≡ memory_refusal) ⊎ IsHostsRefusal members peers.now r) }
 {
@@ -162,6 +166,9 @@ fn port_of<'c>(
     guard: Guard,
 ) -> Result<UdpPort<'c, HostRuntime>, Refusal>
     requires { me < length addresses.items }
+    ensures seat { IfOk result (λ port. IsSeatOf port.seats.items me 0) }
+    ensures lone { IfOk result (λ port. length port.seats.items ≡ 1) }
+    ensures addresses { IfOk result (λ port. port.addresses.items ≡ addresses.items) }
     ensures sealed { IfOk result (λ port. (port.inbox.key ≡ guard.seal)
         × (port.outbox.key ≡ guard.seal)) }
     ensures open { IfOk result (λ port. port.is_open ≡ guard.is_open) }

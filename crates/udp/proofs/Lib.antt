@@ -3,4 +3,5 @@ mod InboxLemmas
 mod Coming
 mod RequestLemmas
 mod Leaving
+mod SentAway
 mod TallyLemmas

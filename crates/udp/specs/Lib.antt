@@ -7,5 +7,6 @@ pub mod Requests
 pub mod Waiting
 pub mod Coming
 pub mod Outbox
+pub mod Calls
 pub mod Tallies
 pub mod inside

@@ -1,6 +1,8 @@
 //! Nodes that hear each other over UDP.
 ghost use Rattle.std.specs.Prelude.{◌≡◌, ◌<◌, [], IfErr, IfOk, IfSome, None, OnErr, OnOk, length, true};
+ghost use Rattle.ports.specs.Calls.{Received, Sent, told};
 ghost use Rattle.ports.specs.Kept.{counted, one_more};
+ghost use Rattle.udp.specs.Calls.{DoesOverUdp};
 ghost use Rattle.udp.specs.Inbox.{StillVouches, came_as, is_vouched_for};
 ghost use Rattle.udp.specs.Leaving.{IsLeft};
 ghost use Rattle.udp.specs.Refusals.{CannotStart};
@@ -277,10 +279,14 @@ impl<'c, C: Clock> Port for UdpPort<'c, C> {
 
     ghost failures_of = { λ p. p.failures };
 
+    ghost does = { DoesOverUdp };
+
     ghost vouches = { λ p text. is_vouched_for p.inbox.key p.inbox.came text ≡ true };
 
     fn receive(&mut self) -> Result<Option<(u8, Vec<u8>)>, PortFault>
         ensures cause { self.new.failures ≡ counted result self.old.failures }
+
+        ensures does { DoesOverUdp self.old (Received (told result)) self.new }
 
         // The bytes that came were this text, as it comes under the seal.
         ensures vouched { IfOk result (λ o. IfSome o
@@ -309,6 +315,9 @@ impl<'c, C: Clock> Port for UdpPort<'c, C> {
         ensures vouches_on { StillVouches self.old.inbox self.new.inbox }
         ensures seal_stays { (self.new.inbox.key ≡ self.old.inbox.key)
             × (self.new.outbox.key ≡ self.old.outbox.key) }
+
+        ensures does { DoesOverUdp self.old
+            (Sent (record { from = from; to = to; text = bytes.now }) result) self.new }
 
         // It was offered.
         ensures offered { (self.new.sends ≡ one_more self.old.sends)

@@ -1,6 +1,7 @@
 //! What comes to a port: the sockets are looked at, and what came is taken off them.
 ghost use Rattle.std.specs.Prelude.{◌≡◌, Err, None, Ok, false, true};
 ghost use Rattle.ports.specs.Kept.{one_more};
+ghost use Rattle.udp.specs.Calls.{setup_of};
 ghost use Rattle.udp.specs.Inbox.{GoesOn};
 ghost use Rattle.udp.specs.Leaving.{IsLeft};
 ghost use Rattle.udp.specs.Waiting.{patience_at};
@@ -20,6 +21,7 @@ impl<C: Clock> UdpPort<'_, C> {
             × (self.new.sends ≡ self.old.sends) × (self.new.hurry ≡ self.old.hurry) }
         ensures leaving { IsLeft self.old.leaving.waiting.items self.old.handed.all
             self.new.leaving.waiting.items self.new.handed.all }
+        ensures setup { setup_of self.new ≡ setup_of self.old }
     {
         let mut has_failed = false;
         let patience = self.patience_now();
@@ -52,6 +54,7 @@ impl<C: Clock> UdpPort<'_, C> {
             × (self.new.sends ≡ self.old.sends) × (self.new.hurry ≡ self.old.hurry) }
         ensures leaving { IsLeft self.old.leaving.waiting.items self.old.handed.all
             self.new.leaving.waiting.items self.new.handed.all }
+        ensures setup { setup_of self.new ≡ setup_of self.old }
     {
         let has_failed = self.take_in();
         self.let_some_leave();
@@ -67,6 +70,7 @@ impl<C: Clock> UdpPort<'_, C> {
         ensures leaving { (self.new.leaving ≡ self.old.leaving)
             × (self.new.handed ≡ self.old.handed) }
         ensures outbox { self.new.outbox ≡ self.old.outbox }
+        ensures setup { setup_of self.new ≡ setup_of self.old }
     {
         let now = Instant::now(self.clock).ok();
         self.tallies.look(now);
@@ -97,6 +101,7 @@ impl<C: Clock> UdpPort<'_, C> {
             × (self.new.leaving ≡ self.old.leaving) × (self.new.handed ≡ self.old.handed) }
         ensures stays { (self.new.sends ≡ self.old.sends)
             × (self.new.hurry ≡ self.old.hurry) }
+        ensures setup { setup_of self.new ≡ setup_of self.old }
     {
         if has_failed {
             self.failures = self.failures.saturating_add(1);

@@ -1,8 +1,9 @@
 //! What leaves a port: what is offered to it is handed to the system at once, or waits to leave.
-ghost use Rattle.std.specs.Prelude.{◌≡◌, ◌≢◌, ◌++◌, ◌∷◌, [], IfSome, Ok, map, true};
+ghost use Rattle.std.specs.Prelude.{◌≡◌, ◌≢◌, ◌++◌, ◌∷◌, ℕ, [], IfSome, Ok, map, true};
+ghost use Rattle.udp.specs.Calls.{setup_of};
 ghost use Rattle.udp.specs.Inbox.{GoesOn, came_as};
 ghost use Rattle.udp.specs.Leaving.{HandsOver, HasLeft, IsLeft};
-ghost use Rattle.udp.specs.Ways.{HasNoSeat, HasWay, LeavesBy, in_line};
+ghost use Rattle.udp.specs.Ways.{HasNoSeat, HasWay, IsSeatOf, LeavesBy, in_line};
 
 use crate::line::Waiting;
 use crate::sockets::{Seat, Sent, Way, hand_over, seat_of, way_of};
@@ -35,8 +36,12 @@ impl<C: Clock> UdpPort<'_, C> {
             → LeavesBy self.old.seats.items self.old.addresses.items from to
             (came_as self.old.outbox.key bytes.now)
             self.old.leaving.waiting.items self.new.leaving.waiting.items }
+        ensures here { (place : ℕ) → IsSeatOf self.old.seats.items to place
+            → self.new.leaving.waiting.items ≡ self.old.leaving.waiting.items }
         ensures lost { result ≢ Ok true
             → self.new.leaving.waiting.items ≡ self.old.leaving.waiting.items }
+        ensures handed { self.new.handed.all ≡ self.old.handed.all }
+        ensures setup { setup_of self.new ≡ setup_of self.old }
     {
         let Some(way) = way_of(&self.seats, &self.addresses, from, to) else {
             return Ok(false);
@@ -56,6 +61,7 @@ impl<C: Clock> UdpPort<'_, C> {
             × (self.new.sends ≡ self.old.sends) × (self.new.hurry ≡ self.old.hurry) }
         ensures leaving { (self.new.leaving ≡ self.old.leaving)
             × (self.new.handed ≡ self.old.handed) }
+        ensures setup { setup_of self.new ≡ setup_of self.old }
     {
         let sent = match self.outbox.bytes() {
             Some(bytes) => hand_over(&self.seats, way, bytes),
@@ -80,6 +86,8 @@ impl<C: Clock> UdpPort<'_, C> {
             ≡ in_line self.old.leaving.waiting.items ++ (way, bytes) ∷ []) }
         ensures lost { result ≢ Ok true
             → self.new.leaving.waiting.items ≡ self.old.leaving.waiting.items }
+        ensures handed { self.new.handed ≡ self.old.handed }
+        ensures setup { setup_of self.new ≡ setup_of self.old }
     {
         let is_put = match self.outbox.bytes() {
             Some(bytes) => self.leaving.put(self.alloc, way, bytes)?,
@@ -97,8 +105,7 @@ impl<C: Clock> UdpPort<'_, C> {
             × (self.new.sends ≡ self.old.sends) × (self.new.hurry ≡ self.old.hurry) }
         ensures seal_stays { (self.new.inbox ≡ self.old.inbox)
             × (self.new.outbox ≡ self.old.outbox) }
-        ensures guard_stays { (self.new.most ≡ self.old.most)
-            × (self.new.is_open ≡ self.old.is_open) }
+        ensures setup { setup_of self.new ≡ setup_of self.old }
     {
         for _ in 0..LEAVE_AT_A_LOOK {
             if !self.let_one_leave() {
@@ -117,8 +124,7 @@ impl<C: Clock> UdpPort<'_, C> {
             × (self.new.sends ≡ self.old.sends) × (self.new.hurry ≡ self.old.hurry) }
         ensures seal_stays { (self.new.inbox ≡ self.old.inbox)
             × (self.new.outbox ≡ self.old.outbox) }
-        ensures guard_stays { (self.new.most ≡ self.old.most)
-            × (self.new.is_open ≡ self.old.is_open) }
+        ensures setup { setup_of self.new ≡ setup_of self.old }
     {
         let count = self.leaving.len();
         if count == 0 {
@@ -151,8 +157,7 @@ impl<C: Clock> UdpPort<'_, C> {
             × (self.new.sends ≡ self.old.sends) × (self.new.hurry ≡ self.old.hurry) }
         ensures seal_stays { (self.new.inbox ≡ self.old.inbox)
             × (self.new.outbox ≡ self.old.outbox) }
-        ensures guard_stays { (self.new.most ≡ self.old.most)
-            × (self.new.is_open ≡ self.old.is_open) }
+        ensures setup { setup_of self.new ≡ setup_of self.old }
     {
         let mut naps = NAPS_OF_A_FLUSH;
         while !self.leaving.is_empty() {
@@ -169,8 +174,7 @@ impl<C: Clock> UdpPort<'_, C> {
             × (self.new.sends ≡ self.old.sends) × (self.new.hurry ≡ self.old.hurry) }
         ensures seal_stays { (self.new.inbox ≡ self.old.inbox)
             × (self.new.outbox ≡ self.old.outbox) }
-        ensures guard_stays { (self.new.most ≡ self.old.most)
-            × (self.new.is_open ≡ self.old.is_open) }
+        ensures setup { setup_of self.new ≡ setup_of self.old }
     {
         let Some(first) = self.leaving.take_first() else {
             return naps;

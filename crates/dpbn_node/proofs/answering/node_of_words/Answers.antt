@@ -10,6 +10,7 @@ returns-clause-refused g c =
     let is_of : IsTold c.args.files.now c.args.peers.now c.args.run.now of = record {
       described = c.in_ok-tree.ensures.ok;
       told = c.in_ok-given.ensures.weights;
+      listen = c.in_ok-place.ensures.listen;
       has_key = c.in_ok-place.ensures.key;
       open_to = c.in_ok-place.ensures.open_to;
       continued = c.in_ok-place.ensures.continued;

@@ -12,6 +12,7 @@ returns-clause-begun c =
       started = subst (λ i. IsStarted i (shown_of c.args.place.sealing.key)
           c.args.place.is_continued unwritten)
           c.identity_of-identity.ensures c.in_ok-start.ensures.started;
+      seated = record { seat = port.seat; lone = port.lone; addresses = port.addresses };
       guarded = record {
         opens = port.sealed.0 ∙ guard.sealed;
         seals = port.sealed.1 ∙ guard.sealed;

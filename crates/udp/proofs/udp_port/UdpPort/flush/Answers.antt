@@ -21,6 +21,5 @@ loop-self-preserved g c = record {
   );
   inbox = c.let_first_leave-naps.ensures.seal_stays.0 ∙ c.loop-self.invariant.inbox;
   outbox = c.let_first_leave-naps.ensures.seal_stays.1 ∙ c.loop-self.invariant.outbox;
-  most = c.let_first_leave-naps.ensures.guard_stays.0 ∙ c.loop-self.invariant.most;
-  is_open = c.let_first_leave-naps.ensures.guard_stays.1 ∙ c.loop-self.invariant.is_open;
+  setup = c.let_first_leave-naps.ensures.setup ∙ c.loop-self.invariant.setup;
 }

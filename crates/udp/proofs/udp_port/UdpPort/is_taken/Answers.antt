@@ -4,3 +4,8 @@ pub returns-in-Some-seat_of-clause-away : goal.returns-in-Some-seat_of-clause-aw
 returns-in-Some-seat_of-clause-away g c taken none =
     let here = rw c.deref-3.ensures.value at c.in-Some-seat_of.ensures in
     absurd (none c.in-Some-seat_of.field-0 here)
+
+pub returns-in-None-clause-here : goal.returns-in-None-clause-here
+returns-in-None-clause-here g c place seat =
+    let none = rw c.deref-3.ensures.value at c.in-None.ensures in
+    absurd (none place seat)

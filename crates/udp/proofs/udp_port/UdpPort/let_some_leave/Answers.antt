@@ -8,8 +8,7 @@ loop-init g c = record {
   stays = (refl, refl, refl);
   inbox = refl;
   outbox = refl;
-  most = refl;
-  is_open = refl;
+  setup = refl;
 }
 
 pub loop-preserved : goal.loop-preserved
@@ -23,8 +22,7 @@ loop-preserved g c = record {
   );
   inbox = c.let_one_leave.ensures.seal_stays.0 ∙ c.loop.invariant.inbox;
   outbox = c.let_one_leave.ensures.seal_stays.1 ∙ c.loop.invariant.outbox;
-  most = c.let_one_leave.ensures.guard_stays.0 ∙ c.loop.invariant.most;
-  is_open = c.let_one_leave.ensures.guard_stays.1 ∙ c.loop.invariant.is_open;
+  setup = c.let_one_leave.ensures.setup ∙ c.loop.invariant.setup;
 }
 
 pub returns-then-not-let_one_leave-clause-left : goal.returns-then-not-let_one_leave-clause-left

@@ -1,4 +1,5 @@
 use Rattle.std.proofs.Common.{◌≡◌}
+use Rattle.udp.specs.Calls.{setup_of}
 use Rattle.udp.specs.Leaving.{IsLeft}
 use Rattle.udp.proofs.udp_port.UdpPort.let_some_leave.Given as goal
 
@@ -8,6 +9,5 @@ invariant-loop g l = record {
   stays : (l.self.failures ≡ l.fn.self.failures) × (l.self.sends ≡ l.fn.self.sends) × (l.self.hurry ≡ l.fn.self.hurry);
   inbox : l.self.inbox ≡ l.fn.self.inbox;
   outbox : l.self.outbox ≡ l.fn.self.outbox;
-  most : l.self.most ≡ l.fn.self.most;
-  is_open : l.self.is_open ≡ l.fn.self.is_open;
+  setup : setup_of l.self ≡ setup_of l.fn.self;
 }

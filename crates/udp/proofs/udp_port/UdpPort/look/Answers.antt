@@ -9,6 +9,7 @@ loop-look-init g c = record {
   outbox = refl;
   stays = (refl, refl, refl);
   leaving = IsLeft-none c.args.self.now.leaving.waiting.items c.args.self.now.handed.all;
+  setup = refl;
 }
 
 pub loop-look-preserved : goal.loop-look-preserved
@@ -22,6 +23,7 @@ loop-look-preserved g c = record {
   );
   leaving = IsLeft-more c.args.self.now.leaving.waiting.items c.loop-look.self.leaving.waiting.items c.look_once.new.self.leaving.waiting.items
       c.args.self.now.handed.all c.loop-look.self.handed.all c.look_once.new.self.handed.all c.loop-look.invariant.leaving c.look_once.ensures.leaving;
+  setup = c.look_once.ensures.setup ∙ c.loop-look.invariant.setup;
 }
 
 pub returns-then-not-is_empty-clause-leaving : goal.returns-then-not-is_empty-clause-leaving

@@ -1,0 +1,98 @@
+-- What calls do to a port over UDP.
+use Rattle.std.specs.Prelude.{◌≡◌, ◌⊎◌, ◌++◌, ℕ, Bool, IsPermutation, List, [], ◌∷◌, Option, Result, Ok, Err}
+use Rattle.std.specs.declared.net.socket_addr.SocketAddr.{SocketAddr}
+use Rattle.faults.specs.Bytes.{Text}
+use Rattle.ports.specs.Calls.{Call, Received, Sent, WentThrough}
+use Rattle.ports.specs.Kept.{Parcel}
+use Rattle.ports.specs.declared.fault.PortFault.{PortFault}
+use Rattle.udp.specs.Inbox.{came_as}
+use Rattle.udp.specs.Leaving.{IsLeft, texts_of}
+use Rattle.udp.specs.Ways.{HasNoSeat, HasWay, IsSeatOf, LeavesBy}
+use Rattle.udp.specs.declared.sockets.Seat.{Seat}
+use Rattle.udp.specs.declared.udp_port.UdpPort.{UdpPort}
+
+-- Where nodes sit and members listen, and whom the port hears: datagrams of at most so many bytes,
+-- of others than the members or not, and what a request begins with.
+pub record Setup : Type 0 where
+  pub seats : List Seat
+  pub addresses : List SocketAddr
+  pub most : ℕ
+  pub is_open : Bool
+  pub front : Option (List ℕ)
+
+abbrev pub setup_of : {C : Type 0} → UdpPort C → Setup
+setup_of p = record {
+  seats = p.seats.items;
+  addresses = p.addresses.items;
+  most = p.most;
+  is_open = p.is_open;
+  front = p.front;
+}
+
+-- It is the same port: so set up, and under this key.
+pub record IsSamePort {C : Type 0} (old new : UdpPort C) : Type 0 where
+  pub setup : setup_of new ≡ setup_of old
+  pub heard : new.inbox.key ≡ old.inbox.key
+  pub sent : new.outbox.key ≡ old.outbox.key
+
+-- Of those that waited to leave some were handed to the system, each once, and the others wait.
+pub record LetsLeave {C : Type 0} (old new : UdpPort C) : Type 0 where
+  pub same : IsSamePort old new
+  pub left : IsLeft old.leaving.waiting.items old.handed.all new.leaving.waiting.items
+      new.handed.all
+
+-- What is taken goes from a node here to a member. For a node of another process it waits behind
+-- the others, as it leaves under the key; for one that is here nothing more waits, and neither
+-- where it is refused.
+abbrev pub TakesIn : {C : Type 0} → UdpPort C → Parcel → Result (Unit {0}) PortFault → UdpPort C
+    → Type 0
+TakesIn old parcel (Ok u) new =
+    HasWay old.seats.items old.addresses.items parcel.from parcel.to
+    × (HasNoSeat old.seats.items parcel.to
+    → LeavesBy old.seats.items old.addresses.items parcel.from parcel.to
+    (came_as old.outbox.key parcel.text) old.leaving.waiting.items new.leaving.waiting.items)
+    × ((place : ℕ) → IsSeatOf old.seats.items parcel.to place
+    → new.leaving.waiting.items ≡ old.leaving.waiting.items)
+TakesIn old parcel (Err f) new = new.leaving.waiting.items ≡ old.leaving.waiting.items
+
+-- So a datagram was offered, and nothing that waits was handed to the system.
+pub record IsOffered {C : Type 0} (old : UdpPort C) (parcel : Parcel)
+    (answer : Result (Unit {0}) PortFault) (new : UdpPort C) : Type 0 where
+  pub same : IsSamePort old new
+  pub handed : new.handed.all ≡ old.handed.all
+  pub taken : TakesIn old parcel answer new
+
+-- what a call does to the port
+abbrev pub DoesOverUdp : {C : Type 0} → UdpPort C → Call → UdpPort C → Type 0
+DoesOverUdp old (Received answer) new = LetsLeave old new
+DoesOverUdp old (Sent parcel answer) new = IsOffered old parcel answer new
+
+-- These texts leave by the calls, in order: of each send that was taken for a node of another
+-- process the text, as it leaves under the key, and nothing else.
+abbrev pub AreSentAway : List Seat → Option Text → List Call → List Text → Type 0
+AreSentAway seats key [] texts = texts ≡ []
+AreSentAway seats key (Received answer ∷ calls) texts = AreSentAway seats key calls texts
+AreSentAway seats key (Sent parcel (Err f) ∷ calls) texts = AreSentAway seats key calls texts
+AreSentAway seats key (Sent parcel (Ok u) ∷ calls) texts =
+    (((place : ℕ) × IsSeatOf seats parcel.to place) × AreSentAway seats key calls texts)
+    ⊎ (HasNoSeat seats parcel.to
+    × ((more : List Text) × (texts ≡ came_as key parcel.text ∷ more)
+    × AreSentAway seats key calls more))
+
+-- what was handed to the system, and what waits to leave
+abbrev pub out_of : {C : Type 0} → UdpPort C → List Text
+out_of p = p.handed.all ++ texts_of p.leaving.waiting.items
+
+-- Nothing leaves the port but what the calls send: it is the same port, and what was handed to the
+-- system or waits is what was or did so before, and what they send away, each once.
+pub record LeavesWhatIsSent {C : Type 0} (old : UdpPort C) (calls : List Call) (new : UdpPort C)
+    : Type 0 where
+  pub same : IsSamePort old new
+  pub texts : List Text
+  pub sent : AreSentAway old.seats.items old.outbox.key calls texts
+  pub out : IsPermutation (out_of old ++ texts) (out_of new)
+
+-- Law: so it is of a port that went through these calls.
+abbrev pub CallsLeaveWhatIsSent : Type 0 → Type 0
+CallsLeaveWhatIsSent C = (old new : UdpPort C) (calls : List Call)
+    → WentThrough DoesOverUdp old calls new → LeavesWhatIsSent old calls new
