@@ -110,7 +110,8 @@ Listen (Hosts text) members addresses =
 
 -- So the words say, of so many members with these weights, if they are told: a listing describes
 -- the tree, in which each path is a group of its own or not, so many members weigh what is told
--- and listen there, and the key is that of the file. Strangers are heard where all members are on one host alone.
+-- and listen there, and the key is that of the file. Strangers are heard where all members are on
+-- one host alone.
 pub record IsRunOf (is_single : Bool) (members : ℕ) (weights : Option Text) (peers : Peers)
     (run : Run) (of : RunOf) : Type 0 where
   pub described : IsDescribed is_single of.tree

@@ -5,7 +5,7 @@ use Rattle.faults.specs.Answers.{first_that_applies}
 use Rattle.faults.specs.Bytes.{Text}
 use Rattle.events.specs.Events as events
 use Rattle.events.specs.Events.{Event, is_step}
-use Rattle.world.proofs.Headers.{some_same}
+use Rattle.world.proofs.Equal.{some_same}
 use Rattle.node.specs.Step.{Asked, Comes, Does}
 use Rattle.protocol.specs.declared.input.Input.TheVariants as inputs
 use Rattle.world.specs.Happening.{Asks, lacks_datagram}

@@ -2,7 +2,7 @@
 use Rattle.std.proofs.Common.{◌≡◌, ◌<◌, ℕ, zero, suc, List, [], ◌∷◌, Some, length, slice_get, slice_index_or, slice_set, refl, sym, ap, ◌∙◌, arith}
 use Rattle.std.proofs.lemmas.Option.{slice_get-get_or}
 use Rattle.std.specs.List.{insert, remove}
-use Rattle.world.proofs.Headers.{some_same}
+use Rattle.world.proofs.Equal.{some_same}
 
 pub put_back : {X : Type 0} (xs : List X) (i : ℕ) (x : X) → i < length xs
     → insert (remove xs i) i x ≡ slice_set xs i x

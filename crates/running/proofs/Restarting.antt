@@ -8,7 +8,7 @@ use Rattle.std.proofs.lemmas.Option.{slice_get_within}
 use Rattle.faults.specs.Bytes.{Text}
 use Rattle.ballots.specs.declared.message.Note.{Note}
 use Rattle.events.specs.Events as events
-use Rattle.world.proofs.Headers.{some_same}
+use Rattle.world.proofs.Equal.{some_same}
 use Rattle.world.proofs.OneList.{each_run_is_acts}
 use Rattle.world.specs.Local.{AreLocal, IsOfUnit}
 use Rattle.listing.specs.Tree.{Tree}

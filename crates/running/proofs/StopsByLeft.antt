@@ -6,7 +6,7 @@ use Rattle.events.specs.Events.{Event}
 use Rattle.events.specs.declared.event.Left.{Left}
 use Rattle.events.specs.declared.event.Left.TheVariants as left
 use Rattle.world.proofs.ByStep.{note_answered}
-use Rattle.world.proofs.Headers.{some_same}
+use Rattle.world.proofs.Equal.{some_same}
 use Rattle.node.specs.OnLog.{LacksRoom}
 use Rattle.node.specs.State.{LoggedNode, NodeState, with_note}
 use Rattle.node.specs.Step.{Asked, IsAsked, ReadyStep, taken_by}

@@ -7,7 +7,7 @@ use Rattle.events.specs.Events as events
 use Rattle.events.specs.Events.{Event, is_step}
 use Rattle.events.specs.declared.event.Left.{Left}
 use Rattle.world.proofs.ByStep.{by_step, note_answered}
-use Rattle.world.proofs.Headers.{some_same}
+use Rattle.world.proofs.Equal.{some_same}
 use Rattle.world.proofs.Hosting.{IsHosted, acts_there, refused_there as refused_in_world, runs}
 use Rattle.node.specs.Calls.{left_by}
 use Rattle.node.specs.OnLog.{IsOnLog, LacksRoom}

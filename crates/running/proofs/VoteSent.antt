@@ -5,7 +5,7 @@ use Rattle.agreement.specs.declared.claim.Claim.{Claim}
 use Rattle.ballots.specs.declared.message.Body.{Body}
 use Rattle.ballots.specs.declared.message.Body.TheVariants as body
 use Rattle.ballots.specs.declared.message.Message.{Message}
-use Rattle.world.proofs.Headers.{some_same}
+use Rattle.world.proofs.Equal.{some_same}
 use Rattle.member.specs.Prepared.{Prepared}
 use Rattle.node.specs.Parcels.{datagrams_to, each_to}
 use Rattle.node.specs.Step.{sends_in}

@@ -32,7 +32,8 @@ use Rattle.world.proofs.Distinct.{has_path_of}
 use Rattle.world.specs.Matches.{Matches, WasSaid, name_of, packages_of}
 use Rattle.world.specs.Mirrored.{after_all_acts}
 use Rattle.world.specs.Needs.{may_build}
-use Rattle.world.proofs.Headers.{in_order, sent_was_said, some_same}
+use Rattle.world.proofs.Equal.{some_same}
+use Rattle.world.proofs.Headers.{in_order, sent_was_said}
 use Rattle.world.proofs.Holding.{entry_listed}
 use Rattle.world.proofs.Recorded.{no_path_of_both}
 use Rattle.world.proofs.Safe.{majority_within, voted_there}

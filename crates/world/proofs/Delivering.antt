@@ -43,7 +43,8 @@ use Rattle.world.specs.Needs.{may_build}
 use Rattle.world.proofs.Asking.{answers_with, never_ok, ok, ok_same, same_view}
 use Rattle.world.proofs.Cutting.{input_cut_is_act, made_here}
 use Rattle.world.proofs.Foreign.{IsWelcome, comes_welcome, get_contains}
-use Rattle.world.proofs.Headers.{divided, sent_was_said, some_same}
+use Rattle.world.proofs.Equal.{some_same}
+use Rattle.world.proofs.Headers.{divided, sent_was_said}
 use Rattle.world.proofs.Members.{node_is_member}
 use Rattle.world.proofs.Stopping.{cut_is_act, goes_down, one_more, values_there}
 use Rattle.world.proofs.StoppingInside.{cut_matches}

@@ -21,7 +21,7 @@ use Rattle.world.specs.World.{World, WorldNode, down_node, member_at, node_at, r
 use Rattle.world.specs.declared.fault.WorldFault.{WorldFault}
 use Rattle.world.specs.declared.fault.WorldFault.TheVariants as fault
 use Rattle.world.proofs.Members.{get_within}
-use Rattle.world.proofs.Headers.{some_same}
+use Rattle.world.proofs.Equal.{some_same}
 
 -- what a node's step is, taken or refused
 abbrev steps_ok : Taken → Result Taken NodeFault

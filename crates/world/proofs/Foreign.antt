@@ -53,7 +53,8 @@ use Rattle.world.specs.Local.{AreKept, AreLocal}
 use Rattle.world.specs.Matches.{Matches, WasSaid}
 use Rattle.world.specs.Mirrored.{after_all_acts}
 use Rattle.world.proofs.Arriving.{CameOf, joins_to, origin, read_as, whole_came}
-use Rattle.world.proofs.Headers.{carries, divided, ok, sent_was_said, some_same}
+use Rattle.world.proofs.Equal.{some_same}
+use Rattle.world.proofs.Headers.{carries, divided, ok, sent_was_said}
 use Rattle.world.proofs.Said.{has_preimage}
 
 -- ---- headers that are no reason to refuse

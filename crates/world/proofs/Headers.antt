@@ -44,6 +44,7 @@ use Rattle.world.specs.Mirrored.{after_all_acts}
 use Rattle.world.specs.Needs.{may_build}
 use Rattle.world.proofs.Monotone.{needs_are_monotone}
 use Rattle.world.proofs.Said.{each_is_of_a_message, has_preimage}
+use Rattle.world.proofs.Equal.{only_one, some_same}
 
 -- ---- lists
 
@@ -53,10 +54,6 @@ contains_map f [] x (k, within, e) = absurd (omega arith)
 contains_map f (y ∷ ys) x (zero, within, e) = (zero, omega arith, ap f e)
 contains_map f (y ∷ ys) x (suc k, within, e) =
     let r = contains_map f ys x (k, omega (arith, within), e) in (suc r.0, omega (arith, r.1), r.2)
-
-pub only_one : {X : Type 0} (y x : X) → Contains (y ∷ []) x → y ≡ x
-only_one y x (zero, within, e) = e
-only_one y x (suc k, within, e) = absurd (omega arith)
 
 map_same : {X Y : Type 0} (f g : X → Y) (xs : List X) → ((x : X) → Contains xs x → f x ≡ g x)
     → map f xs ≡ map g xs
@@ -102,9 +99,6 @@ pub record Carries (n : Message Value) (h : Header) : Type 0 where
   pub build : Value
   pub carried : carried_in n.body ≡ Some (carrier, build)
   pub header : header_with n carrier build ≡ h
-
-pub some_same : {X : Type 0} (x y : X) → Some x ≡ Some y → x ≡ y
-some_same x y h = cc
 
 pub carries : (n : Message Value) (d : Datagram) (h : Header) → Contains (split_of n) d
     → header_in d ≡ Some h → Carries n h

@@ -21,7 +21,8 @@ use Rattle.world.specs.Local.{AreLocal}
 use Rattle.world.specs.Matches.{Matches, packages_of}
 use Rattle.world.specs.Mirrored.{after_all_acts}
 use Rattle.world.specs.Needs.{may_build}
-use Rattle.world.proofs.Headers.{in_order, some_same}
+use Rattle.world.proofs.Equal.{some_same}
+use Rattle.world.proofs.Headers.{in_order}
 use Rattle.world.proofs.Members.{node_is_member}
 use Rattle.world.proofs.Monotone.{needs_are_monotone}
 

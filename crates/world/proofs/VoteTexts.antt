@@ -22,7 +22,7 @@ use Rattle.wire.proofs.FieldTexts.{claim_read}
 use Rattle.wire.proofs.Numbers.{length-big_bytes}
 use Rattle.wire.proofs.Steps.{ok_is}
 use Rattle.world.proofs.Said.{has_preimage}
-use Rattle.world.proofs.Headers.{only_one, some_same}
+use Rattle.world.proofs.Equal.{only_one, some_same}
 
 -- ---- lists
 
