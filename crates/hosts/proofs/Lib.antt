@@ -10,3 +10,4 @@ mod Running
 mod Starting
 mod Turning
 mod OnHosts
+mod Stopped

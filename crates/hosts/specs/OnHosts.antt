@@ -1,7 +1,8 @@
 -- Turns of crate `solo`, which a program takes one after the other, among all that becomes of
 -- hosts.
-use Rattle.std.specs.Prelude.{◌≡◌, ◌≢◌, ◌++◌, ℕ, List, Option, None, Some, Ok, Err, Contains, slice_get}
+use Rattle.std.specs.Prelude.{◌≡◌, ◌≢◌, ◌++◌, ℕ, true, List, [], Option, None, Some, Ok, Err, Contains, IfOk, slice_get}
 use Rattle.choice.specs.Acts.{asked_by}
+use Rattle.choice.specs.Choice.{Chosen}
 use Rattle.choice.specs.declared.fault.TurnFault.TheVariants as refused
 use Rattle.faults.specs.Bytes.{Text}
 use Rattle.hosts.specs.Hosts.{Down, Host, Hosts, IsLeft, Up, WasOffered, sends_of}
@@ -79,3 +80,23 @@ VouchedTurnsAreOfARun {D} {P} is_kept history failures_of given offered does vou
     → IsTurn is_kept history failures_of given offered does vouches handed old new answer
     → VouchesForOffered vouches new.port h.offered
     → (g : Hosts) × Run tree weights first g × IsAfterTurn h g k old new left answer
+
+-- Nothing became of the node in the turn: it took no step and is as it was, and its port was asked
+-- as for a choice, whichever it is, and was offered nothing.
+pub record HasOnlyAsked {D P : Type 0} (given : P → Option (List Arrived))
+    (does : P → Call → P → Type 0) (vouches : P → Text → Type 0) (handed : Handed)
+    (old new : SoloState D P) (answer : Outcome) : Type 0 where
+  pub nothing : IfOk answer (λ o. o ≡ None)
+  pub node : new.node.node ≡ old.node.node
+  pub asked : (chosen : Chosen) × IsChosen given does vouches old new handed [] chosen
+
+-- Law: so it is in each turn of a node that went down. So its host stays as it is: down, with what
+-- is left on its log.
+abbrev pub StoppedNodesStay : {D P : Type 0} → (D → Type 0) → (D → History) → (D → ℕ)
+    → (P → Option (List Arrived)) → (P → Option (List Parcel)) → (P → Call → P → Type 0)
+    → (P → Text → Type 0) → Type 0
+StoppedNodesStay {D} {P} is_kept history failures_of given offered does vouches =
+    (handed : Handed) (old new : SoloState D P) (answer : Outcome)
+    → old.node.node.stopped ≡ true
+    → IsTurn is_kept history failures_of given offered does vouches handed old new answer
+    → HasOnlyAsked given does vouches handed old new answer
