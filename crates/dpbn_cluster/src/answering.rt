@@ -1,5 +1,5 @@
 //! The answer of `dpbn cluster` to its words.
-ghost use Rattle.std.specs.Prelude.{◌≡◌, ◌≤◌, ◌⊎◌, [], IfErr, IfOk, length, map};
+ghost use Rattle.std.specs.Prelude.{◌≡◌, ◌≤◌, ◌⊎◌, ◌++◌, ◌∷◌, [], IfErr, IfOk, length, map};
 ghost use Rattle.dpbn_cluster.specs.Cluster.{
   IsClusterRefusal,
   IsClusterText,
@@ -10,7 +10,9 @@ ghost use Rattle.dpbn_cluster.specs.Cluster.{
 ghost use Rattle.dpbn_cluster.specs.Running.{AreEventsOfTurns, HasRunTo};
 ghost use Rattle.dpbn_node.specs.Node.{socket_refusal};
 ghost use Rattle.events.specs.Events.{event_view};
+ghost use Rattle.faults.specs.Bytes.{line_feed};
 ghost use Rattle.program.specs.Refusals.{IsSystemRefusal, memory_refusal};
+ghost use Rattle.traces.specs.Written.{trace_text};
 ghost use Rattle.turns.specs.State.{IsWorldOf};
 ghost use Rattle.engine.specs.Division.{Division};
 ghost use Rattle.world.specs.World.{World, start};
@@ -21,6 +23,7 @@ use choice::TurnFault;
 use dpbn_node::{Given, given_of_words, log_of_file};
 use dpbn_words::Files;
 use events::Event;
+use faults::Memory;
 use listing::Tree;
 use ports::Port;
 use program::{Answer, Refusal, tree_of_file};
@@ -195,10 +198,20 @@ fn keep(
     let Some(path) = path else {
         return Ok(());
     };
-    let weights = weights.copy();
-    let mut text = Vec::new(rt.alloc());
-    write_trace(&Trace { weights, events }, &mut text)?;
-    text.extend_from_slice(b"\n")?;
+    let text = text_of(rt.alloc(), weights, events)?;
     fs::write(rt, path, text.as_slice())?;
     Ok(())
+}
+
+/// The text of the trace of the events, with a line feed behind it.
+fn text_of(alloc: Global, weights: &Weights, events: Vec<Event>) -> Result<Vec<u8>, Memory>
+    ensures { IfOk result (λ text. text.items
+        ≡ trace_text (record { weights = weights.now; events = map event_view events.items })
+        ++ line_feed ∷ []) }
+{
+    let weights = weights.copy();
+    let mut text = Vec::new(alloc);
+    write_trace(&Trace { weights, events }, &mut text)?;
+    text.extend_from_slice(b"\n")?;
+    Ok(text)
 }
