@@ -33,7 +33,7 @@ use Rattle.stable_record.specs.History.{seen}
 use Rattle.stable_record.specs.Opening.{Opens, OpensAsLeft}
 use Rattle.stable_record.specs.RealFile.{file_agrees, file_history}
 use Rattle.stable_record.specs.declared.file_disk.FileDisk.{FileDisk}
-use Rattle.udp.specs.Calls.{IsSamePort}
+use Rattle.udp.specs.Calls.{setup_of}
 use Rattle.udp.specs.Hosts.{IsFirstBad, WriteHosts}
 use Rattle.udp.specs.Inbox.{is_vouched_for}
 use Rattle.udp.specs.Leaving.{texts_of as texts_that_wait}
@@ -55,10 +55,12 @@ abbrev pub port_vouches : UdpPort LibcRuntime → Text → Type 0
 port_vouches port text = is_vouched_for port.inbox.key port.inbox.came text ≡ true
 
 -- The port handed the system all that waited to leave, in order and each once, and nothing else.
--- It is the same port.
+-- It is so set up as it was, nothing came, and the key stays.
 pub record HasFlushed (old new : Running) : Type 0 where
   pub same : new ≡ record old { port = new.port }
-  pub same_port : IsSamePort old.port new.port
+  pub setup : setup_of new.port ≡ setup_of old.port
+  pub inbox : new.port.inbox ≡ old.port.inbox
+  pub outbox : new.port.outbox ≡ old.port.outbox
   pub left : new.port.leaving.waiting.items ≡ []
   pub handed : new.port.handed.all
       ≡ old.port.handed.all ++ texts_that_wait old.port.leaving.waiting.items
