@@ -1,4 +1,7 @@
-use Rattle.std.proofs.Common.{refl}
+use Rattle.std.proofs.Common.{◌∙◌, ap, refl}
+use Rattle.std.specs.declared.rt.LibcRuntime.{LibcRuntime}
+use Rattle.udp.specs.Calls.{setup_of}
+use Rattle.udp.specs.declared.udp_port.UdpPort.{UdpPort}
 use Rattle.dpbn_node.proofs.turning.run.Goals as goal
 
 pub returns : goal.returns
@@ -9,6 +12,12 @@ returns g c =
       turned = c.take_turns.ensures;
       flushed = record {
         same = refl;
+        setup = rw seen (c.flush.ensures.setup
+            ∙ ap (λ (p : UdpPort LibcRuntime). setup_of p) c.port.ensures.value);
+        inbox = rw seen (c.flush.ensures.seal_stays.0
+            ∙ ap (λ (p : UdpPort LibcRuntime). p.inbox) c.port.ensures.value);
+        outbox = rw seen (c.flush.ensures.seal_stays.1
+            ∙ ap (λ (p : UdpPort LibcRuntime). p.outbox) c.port.ensures.value);
         left = rw seen c.flush.ensures.left;
         handed = rw (seen, c.flush.ensures.handed, c.port.ensures.value) refl;
       };
