@@ -22,7 +22,7 @@ returns-in_err-office-clause-refused g c =
         start = record { disk = c.has_notes.new.disk; unwritten = begun.start.unwritten };
         port = begun.port;
       },
-      record { started = has.started; guarded = has.guarded },
+      record { started = has.started; seated = has.seated; guarded = has.guarded },
       subst (λ i. LacksNotes i c.has_notes.new.disk) c.identity_of.ensures
           (c.in_ok-is_noted.ensures.lacks work.0),
       work.1,
@@ -40,7 +40,7 @@ returns-clause-built g c =
           start = record { disk = c.has_notes.new.disk; unwritten = begun.start.unwritten };
           port = begun.port;
         };
-        has_begun = record { started = has.started; guarded = has.guarded };
+        has_begun = record { started = has.started; seated = has.seated; guarded = has.guarded };
         opened = built;
       },
     )) c.build_on_log.ensures.built
