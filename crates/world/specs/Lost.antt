@@ -1,5 +1,5 @@
--- Nodes that are lost: they went down inside a step, and never start again. What they were left
--- with matters to nobody.
+-- Lost nodes: they went down inside a step and never start again. What remains on their logs
+-- affects no other node.
 use Rattle.std.specs.Prelude.{◌≡◌, ◌≢◌, ◌⊎◌, ◌++◌, ◌∷◌, ℕ, false, List, Some, All, length, slice_get}
 use Rattle.std.specs.List.{AllZip}
 use Rattle.events.specs.Events.{Event, Restart, StopIn, node_of}
@@ -11,35 +11,35 @@ use Rattle.world.specs.Happening.{Leads, StopsIn}
 use Rattle.world.specs.Headline.{HasOneList}
 use Rattle.world.specs.World.{IsMade, World, WorldNode, start}
 
--- None of the events starts node k again.
+-- None of the events restarts node k.
 abbrev pub NeverStarts : ℕ → List Event → Type 0
 NeverStarts k events = All (λ e. e ≢ Restart k) events
 
--- Where a stop inside a step left nothing of its note, no later event starts its node again.
+-- After a stop inside a step that left nothing of its note, no later event restarts that node.
 abbrev pub StayDown : List Event → Type 0
 StayDown events =
     (before behind : List Event) (step : Event)
     → events ≡ before ++ StopIn step left.None ∷ behind → NeverStarts (node_of step) behind
 
--- And each of these stops could have left the whole note: the log had room for it.
+-- Each of these stops could also have left the whole note: the log had room for it.
 abbrev pub CouldLeaveAll : World → List Event → Type 0
 CouldLeaveAll w events =
     (before behind : List Event) (step : Event) (u : World)
     → events ≡ before ++ StopIn step left.None ∷ behind → Leads w before u
     → (v : World) × StopsIn u step left.Whole v
 
--- The second event is the first one; or both are stops inside one step, of which the first left
--- nothing of its note, and the second anything.
+-- The events are equal; or both are stops inside the same step, the first left nothing of its note,
+-- and the second left anything.
 abbrev pub IsLeftAs : Event → Event → Type 0
 IsLeftAs e f =
     (f ≡ e) ⊎ ((step : Event) × (l : Left) × (e ≡ StopIn step left.None) × (f ≡ StopIn step l))
 
--- The lists of events differ, at most, in what such stops left.
+-- The lists of events differ at most in what such stops left.
 abbrev pub AreLeftAs : List Event → List Event → Type 0
 AreLeftAs events others = AllZip IsLeftAs events others
 
--- The worlds differ, at most, in nodes that are down in both: what was sent is the same, and so are
--- the list and each node that is up.
+-- The worlds differ at most in nodes that are down in both. What was sent, the list, and each node
+-- that is up are equal.
 pub record IsButLost (w v : World) : Type 0 where
   pub but : v ≡ record w { nodes = v.nodes }
   pub count : length v.nodes ≡ length w.nodes
@@ -47,9 +47,9 @@ pub record IsButLost (w v : World) : Type 0 where
       → slice_get w.nodes k ≡ Some x → slice_get v.nodes k ≡ Some y
       → (y ≡ x) ⊎ ((x.up ≡ false) × (y.up ≡ false))
 
--- Where nodes went down inside steps that left nothing of their notes, and never start again,
--- anything might have been left in place of nothing: the events lead then, too, to a world, which
--- differs at most in nodes that are down, and has one list.
+-- Suppose that nodes went down inside steps, that these stops left nothing of their notes, and that
+-- the nodes never start again. Then the stops might as well have left anything: the changed events
+-- lead to a world as well. It differs at most in nodes that are down, and it has one list.
 abbrev pub AnythingMayBeLeft : Type 0
 AnythingMayBeLeft =
     (division : Division) (weights : List ℕ) (events others : List Event) (w : World)

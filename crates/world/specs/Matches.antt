@@ -1,4 +1,4 @@
--- A world as the agreement theory sees it: one agreement for each unit, whose values are builds.
+-- A world as the agreement theory sees it: one agreement for each unit, with builds as its values.
 use Rattle.engine.specs.Division.{unit_at}
 use Rattle.std.specs.Prelude.{◌≡◌, ◌<◌, ℕ, List, [], ◌∷◌, ◌++◌, All, Contains, Some, filter, length, map, option_map, reverse, slice_get}
 use Rattle.std.specs.Str.{bytes_eq}
@@ -25,18 +25,18 @@ use Rattle.world.specs.World.{World, WorldNode, member_at}
 abbrev pub name_of : World → ℕ → Text
 name_of w u = (unit_at w.division u).name
 
--- node k as a node of the theory
+-- node k as a node of the agreement theory
 abbrev pub node_of : World → ℕ → WorldNode → nodes.Node Value
 node_of w k x =
     record { facts = facts_at (member_at w k x); up = x.up; claim = option_map claim_of x.claim }
 
--- what node k noted of unit u, the last note first
+-- what node k noted about unit u, the latest note first
 abbrev pub log_of : World → ℕ → WorldNode → List (theory_of_one.Note Value)
 log_of w u x =
     map (λ n. note_of n.fact) (reverse (filter (λ n. bytes_eq n.path (name_of w u)) x.notes))
 
--- The datagram is one of a message that a member of the world said, for a unit, and that was sent,
--- with all its pieces. The claims in it are of members of the world.
+-- The datagram belongs to a message that a member of the world said about a unit, and all of whose
+-- pieces were sent. The claims in it are of members of the world.
 pub record IsSaid (w : World) (c : Cluster Value) (text : Text) : Type 0 where
   pub message : Message Value
   pub unit : ℕ
@@ -49,38 +49,37 @@ pub record IsSaid (w : World) (c : Cluster Value) (text : Text) : Type 0 where
   pub claimers : All (λ k. k < length w.weights) (members_of message.body)
   pub said_there : Has (c.at unit).sent (said message.sender message.body)
 
--- the packages of the entries, those of the last entry first, as a list that grew at its end
+-- the packages of the entries, as a list that grows at its end; the entries come latest first
 abbrev pub packages_of : List (Entry Value) → List Content
 packages_of [] = []
 packages_of (e ∷ es) = packages_of es ++ e.value
 
--- Each node is, unit by unit, the member there,
+-- For each unit, each node is the theory's member there.
 abbrev pub AreMembers : World → Cluster Value → Type 0
 AreMembers w c =
     (k u : ℕ) (x : WorldNode) → slice_get w.nodes k ≡ Some x → u < length w.division.units
     → (c.at u).members k ≡ nodes.view (node_of w k x) u
 
--- and noted the same.
+-- For each unit, each node noted what the theory's member noted.
 abbrev pub NotedTheSame : World → Cluster Value → Type 0
 NotedTheSame w c =
     (k u : ℕ) (x : WorldNode) → slice_get w.nodes k ≡ Some x → u < length w.division.units
     → (c.at u).logs k ≡ log_of w u x
 
--- The votes that were said were sent,
+-- Votes that were said in the theory were sent.
 abbrev pub VotesWereSent : World → Cluster Value → Type 0
 VotesWereSent w c =
     (u m : ℕ) (b : Claim) → u < length w.division.units → Has (c.at u).sent (theory.Vote m b)
     → WasSent w.sent (message w (name_of w u) m (Vote b))
 
--- and so were the proposals.
+-- Proposals that were said in the theory were sent.
 abbrev pub ProposalsWereSent : World → Cluster Value → Type 0
 ProposalsWereSent w c =
     (u : ℕ) (b : Claim) (v : Value) → u < length w.division.units
     → Has (c.at u).sent (theory.Propose (ballot b v))
     → WasSent w.sent (message w (name_of w u) b.member (Propose b v))
 
--- The world is, unit by unit, what the agreements are: what was sent was said, and the lists are
--- one.
+-- The world matches the agreements, unit by unit: what was sent was said, and the lists are equal.
 pub record Matches (w : World) (c : Cluster Value) : Type 0 where
   pub members : AreMembers w c
   pub logs : NotedTheSame w c
@@ -90,7 +89,7 @@ pub record Matches (w : World) (c : Cluster Value) : Type 0 where
   pub list : w.agreed ≡ packages_of c.list
   pub units : All (λ e. e.path < length w.division.units) c.list
 
--- The message was said for a unit by a member of the world, and the claims in it are of members.
+-- The message was said about a unit by a member of the world, and the claims in it are of members.
 pub record WasSaid (w : World) (c : Cluster Value) (m : Message Value) : Type 0 where
   pub unit : ℕ
   pub listed : unit < length w.division.units

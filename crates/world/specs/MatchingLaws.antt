@@ -1,4 +1,4 @@
--- What the world's runs are in the agreement theory, and what follows for the list.
+-- How runs of a world correspond to the agreement theory, and what follows for the list.
 use Rattle.engine.specs.Division.{Division}
 use Rattle.std.specs.Prelude.{◌≡◌, ℕ, List}
 use Rattle.agreement.specs.AgreedList.{Act, IsMonotone}
@@ -19,23 +19,24 @@ use Rattle.world.specs.Safety.{EachIsOfAMessage, EqualHeaders, JobsStood, LaterR
 use Rattle.world.specs.World.{IsMade, World, start}
 use Rattle.world.specs.declared.fault.WorldFault.TheVariants as worlds
 
--- What may be built on some builds may be built on these and more.
+-- A build that is allowed on some builds is allowed on any larger set of them.
 abbrev pub NeedsAreMonotone : Type 0
 NeedsAreMonotone = (division : Division) → IsMonotone (may_build division)
 
--- Whatever happens, each node stays so.
+-- Every event preserves the invariant of nodes.
 abbrev pub EachEventKeepsLocal : Type 0
 EachEventKeepsLocal =
     (w v : World) (e : Event) → IsMade w.division w.weights → AreLocal w → EachIsOfAMessage w
     → Happens w e v → AreLocal v
 
--- The event is one act more, or none: the world that it leaves matches what the acts leave then.
+-- The event is at most one more act: the world after it matches what the acts leave with that act
+-- appended.
 abbrev pub IsOneActMore : Division → List ℕ → List (Act Value) → World → Event → World → Type 0
 IsOneActMore division weights acts w e v =
     (o : Option (Act Value)) × IsActOf w e o
     × Matches v (after_all_acts division weights (with_act acts o))
 
--- An event of a world that matches what some acts leave is one act more, or none.
+-- In a world that matches what some acts leave, an event is at most one more act.
 abbrev pub EachEventIsAnAct : Type 0
 EachEventIsAnAct =
     (division : Division) (weights : List ℕ) (acts : List (Act Value)) (w v : World) (e : Event)
@@ -44,7 +45,7 @@ EachEventIsAnAct =
     → Matches w (after_all_acts division weights acts)
     → Happens w e v → IsOneActMore division weights acts w e v
 
--- So each run is some acts.
+-- So each run corresponds to a list of acts.
 abbrev pub EachRunIsActs : Type 0
 EachRunIsActs =
     (division : Division) (weights : List ℕ) (events : List Event) (w : World)
@@ -53,8 +54,8 @@ EachRunIsActs =
     → (acts : List (Act Value)) × Mirrors division weights events w acts
     × Matches w (after_all_acts division weights acts) × AreLocal w
 
--- In a world that matches what acts leave, messages that were sent, with all their datagrams, are
--- one where pieces of theirs have equal headers.
+-- In a world that matches what acts leave, two messages of which all datagrams were sent are equal
+-- if a piece of one and a piece of the other have equal headers.
 abbrev pub MatchedHeadersAreEqual : Type 0
 MatchedHeadersAreEqual =
     (division : Division) (weights : List ℕ) (acts : List (Act Value)) (w : World)
@@ -63,7 +64,7 @@ MatchedHeadersAreEqual =
     → Matches w (after_all_acts division weights acts)
     → EqualHeaders w × EachIsOfAMessage w
 
--- In such a world each message whose datagrams were all sent was said.
+-- In such a world each message of which all datagrams were sent was said.
 abbrev pub SentWasSaid : Type 0
 SentWasSaid =
     (division : Division) (weights : List ℕ) (acts : List (Act Value)) (w : World)
@@ -72,7 +73,7 @@ SentWasSaid =
     → Matches w (after_all_acts division weights acts)
     → WasSent w.sent m → WasSaid w (after_all_acts division weights acts) m
 
--- There no event is refused as foreign, where nodes are as they have to be.
+-- In such a world, if nodes satisfy their invariant, no event is refused as foreign.
 abbrev pub MatchedIsNotForeign : Type 0
 MatchedIsNotForeign =
     (division : Division) (weights : List ℕ) (acts : List (Act Value)) (w : World) (e : Event)
@@ -81,8 +82,8 @@ MatchedIsNotForeign =
     → Matches w (after_all_acts division weights acts)
     → IsRefused w e (worlds.Node (faults.Foreign f)) → ⊥
 
--- There a claim has at most one proposal, a promise bounds the votes of its member, and a proposal
--- at or above a claim for which a majority noted votes repeats its build.
+-- In such a world a claim has at most one proposal, a promise bounds the votes of its member, and a
+-- proposal at or above a claim for which a majority noted votes repeats its build.
 abbrev pub MatchedVotesAreLawful : Type 0
 MatchedVotesAreLawful =
     (division : Division) (weights : List ℕ) (acts : List (Act Value)) (w : World)
@@ -91,7 +92,7 @@ MatchedVotesAreLawful =
     → Matches w (after_all_acts division weights acts)
     → OneProposal w × PromisesBound w × LaterRepeats w
 
--- And each vote that was sent was noted, where nodes are as they have to be.
+-- In such a world, if nodes satisfy their invariant, each vote that was sent was noted.
 abbrev pub MatchedVotesAreNoted : Type 0
 MatchedVotesAreNoted =
     (division : Division) (weights : List ℕ) (acts : List (Act Value)) (w : World)
@@ -100,7 +101,7 @@ MatchedVotesAreNoted =
     → Matches w (after_all_acts division weights acts)
     → SentVotesAreNoted w
 
--- And what nodes hold is in the list, where nodes are as they have to be.
+-- In such a world, if nodes satisfy their invariant, what they hold is in the list.
 abbrev pub MatchedHeldIsListed : Type 0
 MatchedHeldIsListed =
     (division : Division) (weights : List ℕ) (acts : List (Act Value)) (w : World)
@@ -109,26 +110,26 @@ MatchedHeldIsListed =
     → Matches w (after_all_acts division weights acts)
     → HeldIsListed w
 
--- what each run has at each moment
+-- what each run satisfies at every point
 pub record IsSafe (division : Division) (weights : List ℕ) (events : List Event) (last : World) :
     Type 0 where
-  -- a claim has at most one proposal
+  -- A claim has at most one proposal.
   pub one_proposal : AtEachMoment division weights events last (λ early w. OneProposal w)
-  -- a promise bounds every earlier vote of its member
+  -- A promise bounds every earlier vote of its member.
   pub promises_bound : AtEachMoment division weights events last (λ early w. PromisesBound w)
-  -- a vote that was sent, was noted before
+  -- A vote that was sent was noted first.
   pub votes_noted : AtEachMoment division weights events last (λ early w. SentVotesAreNoted w)
-  -- a proposal above a claim for which a majority noted votes repeats its build
+  -- A proposal above a claim for which a majority noted votes repeats its build.
   pub later_repeats : AtEachMoment division weights events last (λ early w. LaterRepeats w)
-  -- the dependencies of every build ever proposed stood in the list when its job was given
+  -- The dependencies of every build ever proposed were in the list when its job was given.
   pub jobs_stood : AtEachMoment division weights events last
       (λ early w. JobsStood division weights early w)
-  -- messages that were sent, with all their datagrams, are one where pieces have equal headers
+  -- Messages of which all datagrams were sent are equal if pieces of theirs have equal headers.
   pub equal_headers : AtEachMoment division weights events last
       (λ early w. EqualHeaders w × EachIsOfAMessage w)
 
--- P holds at each moment of each run: of the world at its end, of the events up to that moment, and
--- of the world that stood then.
+-- P holds at every point of each run. Its arguments are the world at the end of the run, the events
+-- up to that point, and the world then.
 abbrev pub InEachRun : (World → List Event → World → Type 0) → Type 0
 InEachRun P =
     (division : Division) (weights : List ℕ) (events : List Event) (last : World)

@@ -1,4 +1,4 @@
--- A run of a world, and the acts of the agreements that it is.
+-- A run of a world together with the acts of the agreements that it corresponds to.
 use Rattle.engine.specs.Division.{Division, number_found}
 use Rattle.std.specs.Prelude.{◌≡◌, ◌++◌, ℕ, true, List, [], ◌∷◌, Option, None, Some, slice_get}
 use Rattle.faults.specs.Bytes.{Text}
@@ -16,12 +16,12 @@ use Rattle.world.specs.Needs.{may_build}
 use Rattle.world.specs.Happening.{Happens}
 use Rattle.world.specs.World.{World, WorldNode, member_at, start}
 
--- what the job of a claim on this host makes of the files
+-- the build that a claim's job on this host makes of the files
 abbrev pub made_of : State → ℕ → ℕ → Claim → Given → Value
 made_of s u host c files = build_by s u (job_of s u host c) files
 
--- The event is that node k, which is up, took a Built for unit u, for which its open claim waited,
--- and this is the build of the claim's job and the event's files.
+-- The event is a Built for unit u at node k, which is up and whose open claim waited for it.
+-- `build` is what the claim's job makes of the event's files.
 pub record MakesBuild (w : World) (e : Event) (k u : ℕ) (build : Value) : Type 0 where
   pub path : Text
   pub files : Given
@@ -35,24 +35,24 @@ pub record MakesBuild (w : World) (e : Event) (k u : ℕ) (build : Value) : Type
   pub opened : node.claim ≡ Some (record { unit = u; host = host; progress = Building claim })
   pub build_is : build ≡ made_of (member_at w k node) u host claim files
 
--- what the acts leave
+-- the cluster of agreements after the acts
 abbrev pub after_all_acts : Division → List ℕ → List (Act Value) → Cluster Value
 after_all_acts division weights acts =
     after_acts (is_majority weights) (may_build division) acts beginning
 
--- the acts, and one more, if there is one
+-- the acts, with one more appended if there is one
 abbrev pub with_act : List (Act Value) → Option (Act Value) → List (Act Value)
 with_act acts None = acts
 with_act acts (Some a) = acts ++ a ∷ []
 
--- Where the act builds, the event is that its member built this.
+-- If the act is a build, the event is that its member built this.
 abbrev pub IsActOf : World → Event → Option (Act Value) → Type 0
 IsActOf w e None = Prim.Unit {0}
 IsActOf w e (Some a) =
     (k : ℕ) (v : Value) → a.event ≡ theory_of_one.Take k (theory.Built v)
     → MakesBuild w e k a.path v
 
--- The world and what the acts leave are one at each moment: each event was one act, or none.
+-- The world matches what the acts leave at every point: each event was one act or none.
 pub data Mirrors (division : Division) (weights : List ℕ) : List Event → World → List (Act Value)
     → Type 0 where
   at_start : Mirrors division weights [] (start division weights) []

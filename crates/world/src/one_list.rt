@@ -1,5 +1,5 @@
-//! What the events of a world are in the agreement theory, and what follows for a world that
-//! matches what acts of it leave.
+//! How events of a world correspond to acts of the agreement theory, and what follows for a world
+//! that matches what its acts leave.
 ghost use Rattle.std.specs.Prelude.{All};
 ghost use Rattle.world.specs.MatchingLaws.{
   EachEventIsAnAct,
@@ -45,21 +45,21 @@ ghost use Rattle.world.specs.Safety.{
   SentVotesAreNoted,
 };
 
-/// What a build needs is spoiled by nothing that is held besides.
+/// Holding more builds never makes a build's dependencies unmet.
 pub fn needs_are_monotone()
     ensures { NeedsAreMonotone }
 {}
 
-/// Each event is one act of the agreements, or none, and leaves nodes as they have to be; so each
-/// run is some acts.
+/// Each event is one act of the agreements or none, and preserves the invariant of nodes. So each
+/// run corresponds to a list of acts.
 pub fn events_are_acts()
     ensures acts { EachEventIsAnAct }
     ensures local { EachEventKeepsLocal }
     ensures runs { EachRunIsActs }
 {}
 
-/// What was sent, with all its datagrams, was said by a member; messages that were sent so are one
-/// where pieces of theirs have equal headers; and nothing that was sent is foreign to a node.
+/// A message of which all datagrams were sent was said by a member. Two such messages are equal if
+/// pieces of theirs have equal headers, and no node refuses anything sent as foreign.
 pub fn sent_was_said()
     ensures said { SentWasSaid }
     ensures headers { MatchedHeadersAreEqual }
@@ -73,10 +73,10 @@ pub fn matched_worlds_are_safe()
     ensures held { MatchedHeldIsListed }
 {}
 
-/// In a world that is reached each event happens or is refused, where a host that it names has 16
-/// bits. It leaves one world at most, one that happens is not refused, and none is refused with two
-/// faults, nor as foreign. Some list stands after each step that a node takes. So from the start
-/// events lead to one world.
+/// In a reachable world each event happens or is refused, provided that the host that it names has
+/// 16 bits. It leaves at most one world. An event that happens is not refused, none is refused with
+/// two faults, and none as foreign. There is a next list after each step that a node takes. So from
+/// the start, events lead to one world.
 pub fn events_have_one_answer()
     ensures world { OneWorldFollows }
     ensures run { EventsLeadToOneWorld }
@@ -86,11 +86,12 @@ pub fn events_have_one_answer()
     ensures foreign { NothingSentIsForeign }
 {}
 
-/// For every list of events, at each moment, one list of packages stands, which only grows, with at
-/// most one package a path; each was built by a host under a claim for its unit, after every
-/// dependency in its signature stood in the list with that very signature; every package a node
-/// holds is in it, and a path a node shows installable has its run closure held there.
-/// So two nodes never hold different packages for one path, at one moment or at two.
+/// For every list of events, at every point, there is one list of packages. It only grows, and it
+/// has at most one package for each path. Each package was built by a host under a claim for its
+/// unit, after every dependency in its signature was in the list with exactly that signature. Every
+/// package that a node holds is in the list, and if a node shows a path as installable, it holds
+/// the path's run closure. So two nodes never hold different packages for one path, at the same
+/// point or at different ones.
 pub fn worlds_have_one_list()
     ensures grows { InEachRun (λ last early w. IsBeginningOf w.agreed last.agreed) }
     ensures one_a_path { InEachRun (λ last early w. HasOneAPath w) }
@@ -116,9 +117,9 @@ pub fn worlds_have_one_list()
     ensures together { EachRunHasOneList }
 {}
 
-/// Where nodes went down inside a step that left nothing of its note, and never start again,
-/// anything might have been left in place of nothing: the events lead then, too, to a world with
-/// one list, which differs in nodes that are down alone.
+/// Suppose that nodes went down inside steps, that these stops left nothing of their notes, and
+/// that the nodes never start again. Then the stops might as well have left anything: the changed
+/// events lead to a world with one list as well, which differs only in nodes that are down.
 pub fn anything_may_be_left()
     ensures { AnythingMayBeLeft }
 {}
