@@ -1,10 +1,10 @@
-//! What a member of the agreement is asked, what it answers, and what holds of that.
+//! What a member of the agreement is asked, what it answers, and the laws of this.
 //!
-//! A member stands here as a value: its tree with its units, its weights, its number, what it
-//! knows of each unit, and its open claim. What it notes and says is what a member of the agreement
-//! theory does, unit by unit, with one claim open in all. What is stated here is who gets a
+//! Here a member is a value: its tree with its units, the weights, its number, what it knows of
+//! each unit, and its open claim. Unit by unit, it notes and says what a member of the agreement
+//! theory does, with at most one claim open over all units. This crate states who receives a
 //! message, what a host is to build, and which inputs are refused. The code that keeps such a value
-//! stands above.
+//! is in the crates above.
 #![tactic(auto)]
 
 mod by_path;

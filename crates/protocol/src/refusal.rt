@@ -7,7 +7,7 @@ use faults::{Fault, WantOfMemory};
 use package_record::RecordFault;
 use thiserror::Error;
 
-/// Why an input is refused. Of several reasons the first that is tested is the one.
+/// Why an input is refused: the first test that fails decides.
 #[derive(Clone, Copy, Debug, PartialEq, Eq, Error)]
 pub enum Refusal {
     #[error("out of memory")]
@@ -69,7 +69,7 @@ impl Fault for Refusal {
 }
 
 impl Refusal {
-    /// The number of the fault that is behind it: why the files make no build.
+    /// The number of the underlying fault: why the files make no build.
     pub fn cause(&self) -> Option<u32>
         ensures { result ≡ cause_of self.now }
     {
