@@ -1,4 +1,4 @@
--- A code for pasts, by which a proof tells them apart: a record keeps one, for clauses alone.
+-- A coding of pasts. Proofs compare pasts by it, and a record keeps one that only contracts read.
 use Rattle.std.specs.Prelude.{◌≡◌, ◌⊎◌, ℕ, ◌+◌, ◌≤◌, max, Bool, List, [], ◌∷◌, ◌++◌, length, take, drop, refl}
 use Rattle.std.specs.Coded.{Coded, Coded-set, coded_ℕ, coded_bool, coded_list, coded×, coded⊎, prop_coded, code_by, ×_prop, Π_prop, le_prop}
 use Rattle.std.proofs.Common.{inl, inr}
@@ -78,7 +78,7 @@ abbrev cut_code : (len : ℕ) (old new : List ℕ) → Coded (CutOrNot len old n
 cut_code len old new =
     coded⊎ (prop_coded (same_prop new old)) (prop_coded (same_prop new (take len old)))
 
--- a file with two things that are so of it
+-- the coding of a file with two proofs about it
 abbrev three_code : (P Q : List ℕ → Type 0) → ((d : List ℕ) → Coded (P d))
     → ((d : List ℕ) → Coded (Q d)) → Coded ((d : List ℕ) × P d × Q d)
 three_code P Q p q =
