@@ -1,4 +1,4 @@
-//! What files make.
+//! The build that files make.
 ghost use Rattle.std.specs.Prelude.{◌≡◌, Some, slice_get, true};
 ghost use Rattle.claims.specs.Claim.{IsClaim};
 ghost use Rattle.faults.specs.Answers.{IsRightUnless};
@@ -14,7 +14,7 @@ use pkgpath::PkgPath;
 use protocol::{Packages, Refusal};
 use running::World;
 
-/// What the files make of the unit that the path names, under the claim.
+/// The build that the files make for the unit that the path names, under the claim.
 pub(crate) fn build_of(
     world: &World<'_>,
     node: u8,

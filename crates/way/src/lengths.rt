@@ -1,4 +1,4 @@
-//! In how many datagrams a message goes out.
+//! The number of datagrams of a message.
 ghost use Rattle.std.specs.Prelude.{◌≡◌, ◌≤◌, IfOk, Some, true};
 ghost use Rattle.engine.specs.Division.{number_found};
 ghost use Rattle.way.specs.Length.{pieces_in};
@@ -12,7 +12,7 @@ use pkgpath::PkgPath;
 use running::World;
 use wire::PIECE_SIZE;
 
-/// How many datagrams the promise of the node, which is up, takes: one, or those of its last vote
+/// The number of datagrams of the promise of the node, which is up: one, or those of its last vote
 /// for the unit that the path names.
 pub(crate) fn promised_in(world: &World<'_>, node: u8, path: &PkgPath) -> Result<u64, Memory>
     requires { is_up world.now.world node ≡ true }
@@ -27,7 +27,7 @@ pub(crate) fn promised_in(world: &World<'_>, node: u8, path: &PkgPath) -> Result
     }
 }
 
-/// In how many datagrams the build goes out.
+/// The number of datagrams of a build.
 pub(crate) fn pieces_in(build: &Build) -> Result<u64, Memory>
     ensures count { IfOk result (λ count. count ≡ pieces_in build.now) }
     ensures few { IfOk result (λ count. count ≤ most_pieces) }

@@ -1,4 +1,4 @@
-//! What a way is made of, or why there is none.
+//! The parts of a way, or why there is none.
 ghost use Rattle.std.specs.Prelude.{◌≡◌, ◌⊎◌, IfErr, IfOk, MatchResult, None, Some, slice_get, true};
 ghost use Rattle.faults.specs.Answers.{IsRightUnless};
 ghost use Rattle.protocol.specs.Given.{Given};
@@ -19,20 +19,20 @@ use pkgpath::PkgPath;
 use protocol::{Packages, Refusal};
 use running::World;
 
-/// What a way is made of.
+/// The parts of a way.
 #[derive(Drop)]
 pub(crate) struct Plan {
     /// The nodes that are asked, in order of number.
     pub(crate) asked: ArrayVec<u8, 9>,
-    /// The round that the claim has to be above.
+    /// The round that the claim must exceed.
     pub(crate) last: u64,
-    /// What the files make, under the claim in the round above that.
+    /// What the files make, under the claim in the round after that.
     pub(crate) build: Build,
 }
 
-/// What the way is made of on which the node comes to hold the unit that the path names. Tests come
-/// in this order: whether there is the node, whether it is up, whether the path is listed, whether
-/// the unit can be built now, whether a majority is up, whether a round is left, and the files.
+/// The parts of the way by which the node obtains the unit that the path names. Tests are in this
+/// order: whether the node exists, whether it is up, whether the path is listed, whether the unit
+/// can be built now, whether a majority is up, whether a round is left, and the files.
 pub(crate) fn planned(
     world: &World<'_>,
     node: u8,
@@ -56,7 +56,7 @@ pub(crate) fn planned(
     Ok(Plan { asked, last, build })
 }
 
-/// Whether there is such a node, and it is up.
+/// Whether the node exists and is up.
 fn test_node(world: &World<'_>, node: u8) -> Result<(), WayFault>
     ensures { MatchResult result (λ _. absence_of world.now.world node ≡ None)
         (λ f. absence_of world.now.world node ≡ Some f) }
@@ -130,7 +130,7 @@ fn next_build(
     }
 }
 
-/// A member's refusal as that of a way.
+/// A member's refusal, as a refusal of a way.
 fn fault_of(refusal: Refusal) -> WayFault
     ensures { result ≡ fault_of refusal }
 {

@@ -1,4 +1,4 @@
-//! The events of a way, one after the other.
+//! The events of a way, in order.
 ghost use Rattle.std.specs.Prelude.{◌≡◌, ◌≤◌, ◌<◌, ◌+◌, ◌*◌, ◌^◌, ◌++◌, All, IfOk, OnOk, Some, length, map, suc, true};
 ghost use Rattle.events.specs.Events.{Built, Claim, event_view};
 ghost use Rattle.running.specs.History.{IsHistory};
@@ -19,7 +19,7 @@ use protocol::Packages;
 use running::World;
 use std::alloc::Global;
 
-/// The events of the way that is planned.
+/// The events of the planned way.
 pub(crate) fn events_of(
     alloc: Global,
     world: &World<'_>,
@@ -55,7 +55,7 @@ pub(crate) fn events_of(
     Ok(events)
 }
 
-/// The node's claim for an equal path.
+/// The node's claim for a copy of the path.
 fn claimed(node: u8, path: &PkgPath, host: u16, above: u64) -> Result<Event, Memory>
     ensures { IfOk result (λ event. event_view event ≡ Claim node path.now host above) }
 {
@@ -68,7 +68,7 @@ fn claimed(node: u8, path: &PkgPath, host: u16, above: u64) -> Result<Event, Mem
     })
 }
 
-/// The node's build of an equal path, of these files.
+/// The node's Built for a copy of the path, with these files.
 fn built(node: u8, path: &PkgPath, packages: Packages) -> Result<Event, Memory>
     ensures { IfOk result (λ event. event_view event ≡ Built node path.now packages) }
 {
@@ -80,8 +80,8 @@ fn built(node: u8, path: &PkgPath, packages: Packages) -> Result<Event, Memory>
     })
 }
 
-/// The offer comes to each of these, which are up, and what it promises to the node whose offer it
-/// is. The number of the datagram that is sent next is answered.
+/// Delivers the offer to each of these nodes, which are up, and each promise to the node that made
+/// the offer. Returns the number of the next datagram to be sent.
 fn ask(
     world: &World<'_>,
     events: &mut Vec<Event>,
@@ -112,8 +112,8 @@ fn ask(
     Ok(next)
 }
 
-/// The proposal, which takes so many datagrams from this one on, comes to each of these, and its
-/// vote to the node whose proposal it is.
+/// Delivers the proposal, of the given number of datagrams from this one on, to each of these
+/// nodes, and each vote to the node that made the proposal.
 fn propose(
     events: &mut Vec<Event>,
     node: u8,
@@ -136,7 +136,7 @@ fn propose(
     Ok(())
 }
 
-/// So many datagrams, from the first on, come to the node.
+/// Delivers `count` datagrams, from the first on, to the node.
 fn deliver(events: &mut Vec<Event>, first: u64, count: u64, node: u8) -> Result<(), Memory>
     requires { first + count < 2 ^ 64 }
     ensures { OnOk result (map event_view events.new.items ≡ map event_view events.old.items

@@ -1,4 +1,4 @@
-//! What the nodes that are up are, and know of a unit.
+//! Which nodes are up, and what they know of a unit.
 ghost use Rattle.std.specs.Prelude.{◌≡◌, All, MatchOption, None, Some, false, true};
 ghost use Rattle.std.specs.Option.{option_copied};
 ghost use Rattle.agreement.specs.Votes.{report_of};
@@ -16,8 +16,8 @@ use package_record::Build;
 use pkgpath::PkgPath;
 use running::World;
 
-/// The nodes that are asked: the least that are up and a majority, in order of number. Where those
-/// that are up are no majority, there are none such.
+/// The nodes that are asked: the first ones that are up and together a majority, in order of
+/// number. None if those that are up are not a majority.
 pub(crate) fn asked(world: &World<'_>) -> Option<ArrayVec<u8, 9>>
     requires { IsHistory world.now }
     ensures { MatchOption result (is_majority_up world.now.world ≡ false)
@@ -38,7 +38,7 @@ pub(crate) fn asked(world: &World<'_>) -> Option<ArrayVec<u8, 9>>
 }
 
 /// The greatest round that the node, which is up, opened for the unit that the path names, or that
-/// a node which is up promised for it.
+/// any node that is up promised for it.
 pub(crate) fn last_round(world: &World<'_>, node: u8, path: &PkgPath) -> u64
     requires { is_up world.now.world node ≡ true }
     ensures { (u : _) → number_found world.now.world.division path.now ≡ Some u
@@ -51,8 +51,8 @@ pub(crate) fn last_round(world: &World<'_>, node: u8, path: &PkgPath) -> u64
     last
 }
 
-/// The round of what the node promised for the unit that the path names, or 0. Of a node that is
-/// down nothing is seen.
+/// The round that the node promised for the unit that the path names, or 0. Nothing is known of a
+/// node that is down.
 fn round_promised(world: &World<'_>, node: u8, path: &PkgPath) -> u64
     ensures { (u : _) → number_found world.now.world.division path.now ≡ Some u
         → result ≡ round_in (seen_at world.now.world u node).promised }
@@ -66,8 +66,8 @@ fn round_promised(world: &World<'_>, node: u8, path: &PkgPath) -> u64
     }
 }
 
-/// Of the last votes of these nodes, which are up, for the unit that the path names, that under the
-/// greatest claim.
+/// The vote with the greatest claim among the last votes of these nodes, which are up, for the unit
+/// that the path names.
 pub(crate) fn report<'w>(
     world: &'w World<'_>,
     asked: &[u8],

@@ -1,4 +1,4 @@
--- What a way is made of.
+-- The parts of a way.
 use Rattle.std.specs.Prelude.{◌≡◌, ◌<◌, ℕ, suc, true, Some, Result, Ok, Err, slice_get, nat_lt, if◌then◌else◌}
 use Rattle.agreement.specs.declared.claim.Claim.{Claim}
 use Rattle.claims.specs.Claim.{greatest_round}
@@ -28,11 +28,11 @@ pub record IsShown (w : World) (k : ℕ) (path : Text) : Type 0 where
   pub named : number_found w.division path ≡ Some unit
   pub queued : HasLetter (member_at w k node) unit letters.Q
 
--- what member s makes of the files for unit u, under the claim, or why they make none
+-- what member s makes of the files for unit u under the claim, or why they make no build
 abbrev pub made_under : State → ℕ → ℕ → Claim → Given → Result Value Refusal
 made_under s u host c given = made_by s u (job_of s u host c) given
 
--- a member's refusal as that of a way
+-- a member's refusal, as a refusal of a way
 abbrev pub fault_of : Refusal → WayFault
 fault_of refusals.Memory = fault.Memory
 fault_of refusals.Unlisted = fault.Refused refusals.Unlisted
@@ -46,20 +46,20 @@ fault_of refusals.OtherTree = fault.Refused refusals.OtherTree
 fault_of refusals.NotAMember = fault.Refused refusals.NotAMember
 fault_of refusals.OtherPackages = fault.Refused refusals.OtherPackages
 
--- a member's answer with its refusal as that of a way
+-- a member's answer, with its refusal as a refusal of a way
 abbrev pub as_way : Result Value Refusal → Result Value WayFault
 as_way (Ok build) = Ok build
 as_way (Err r) = Err (fault_of r)
 
--- what member s makes of the files under its claim in the round above this one, or why it makes
--- none
+-- what member s makes of the files under its claim in the round above this one, or why there is no
+-- such build
 abbrev pub next_or_fault : State → ℕ → ℕ → ℕ → Given → Result Value WayFault
 next_or_fault s u host last given =
     if nat_lt last greatest_round
     then as_way (made_under s u host (record { round = suc last; member = s.me }) given)
     else Err (fault.Refused refusals.RoundsSpent)
 
--- The way for node k is made of this.
+-- These are the parts of the way for node k.
 pub record IsPlan (w : World) (k : ℕ) (path : Text) (host : ℕ) (given : Given)
     (plan : Plan) : Type 0 where
   pub shown : IsShown w k path
