@@ -1,10 +1,10 @@
-//! How many packages have each letter.
+//! The number of packages with each letter.
 ghost use Rattle.std.specs.Prelude.{◌≡◌, ◌<◌, ◌^◌, length};
 ghost use Rattle.engine.specs.State.{counts_of};
 
 use engine::{Counts, Letter};
 
-/// How many there are of each letter.
+/// The count of each letter.
 pub(crate) fn counts_of(letters: &[Letter]) -> Counts
     requires { length letters.now < 2 ^ 31 }
     ensures { result ≡ counts_of letters.now }

@@ -1,5 +1,5 @@
-//! Which packages are not installable where some are held: those that are not held, and the held
-//! ones that need one of these to run, through others too.
+//! Which packages are not installable, given which are held: those that are not held, and the held
+//! ones that need one of these to run, directly or indirectly.
 ghost use Rattle.std.specs.Prelude.{◌≡◌, IfOk, length};
 ghost use Rattle.graph.specs.Lists.{AreReversed};
 ghost use Rattle.graph.specs.Marks.{has_mark};
@@ -26,7 +26,7 @@ pub(crate) fn lacking_marks(alloc: Global, tree: &Tree, held: &[bool]) -> Result
     marks_of(alloc, len, walk.found())
 }
 
-/// The positions without a mark, of so many.
+/// Those of the `len` positions that have no mark.
 fn unheld_positions(alloc: Global, len: u32, held: &[bool]) -> Result<Vec<u32>, Memory>
     requires { length held.now ≡ len }
     ensures { IfOk result (λ unheld. AreUnmarked held.now len unheld.items) }
@@ -40,7 +40,7 @@ fn unheld_positions(alloc: Global, len: u32, held: &[bool]) -> Result<Vec<u32>, 
     Ok(unheld)
 }
 
-/// At each package those of the held ones that need it to run.
+/// For each package, the held ones that need it to run.
 fn runs_of_held(alloc: Global, tree: &Tree, held: &[bool]) -> Result<Reversed, Memory>
     requires { length held.now ≡ length tree.now }
     ensures { IfOk result (λ runs. AreReversed (length tree.now) (length tree.now)

@@ -1,4 +1,4 @@
-//! The letter of each package, by what is held and what lacks something.
+//! The letter of each package, by what is held and what is not installable.
 ghost use Rattle.std.specs.Prelude.{◌≡◌, ◌<◌, ℕ, All, Contains, IfOk, OnOk, false, length, true};
 ghost use Rattle.engine.specs.Letters.{IsLetter};
 ghost use Rattle.graph.specs.Marks.{has_mark};

@@ -1,4 +1,4 @@
-//! The letters of a tree's packages where some of them are held, found in one pass.
+//! The letters of a tree's packages, given which are held, computed in one pass.
 #![tactic(auto)]
 
 mod counting;

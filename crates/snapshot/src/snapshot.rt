@@ -1,4 +1,4 @@
-//! The letters where some packages are held, which contracts see as a tree and a set of positions.
+//! The letters, given which packages are held. Contracts see a tree and a set of positions.
 ghost use Rattle.std.specs.Prelude.{◌≡◌, ◌<◌, ℕ, IfOk, length};
 ghost use Rattle.engine.specs.State.{AreCounts, HasLetter, has_agreed};
 ghost use Rattle.graph.specs.Marks.{has_mark};
@@ -11,8 +11,8 @@ use listing::Tree;
 use std::alloc::Global;
 use std::marker::Model;
 
-/// The letters of a tree's packages where some of them are held. It is made at once and stays as it
-/// is: where packages come to be held one by one, an `Engine` tells their letters.
+/// The letters of a tree's packages, given which are held. A snapshot is computed once and never
+/// changes; if packages become held one by one, use an `Engine`.
 #[derive(Drop)]
 pub struct Snapshot<'a> {
     units: Units<'a>,
@@ -37,8 +37,8 @@ impl<'a> Model for Snapshot<'a> {
 }
 
 impl<'a> Snapshot<'a> {
-    /// The letters of the tree with these units, where those packages are held whose positions have
-    /// a mark.
+    /// The letters of the tree with these units, if exactly the packages whose positions have a
+    /// mark are held.
     pub fn new(
         alloc: Global,
         tree: &Tree,
@@ -63,7 +63,7 @@ impl<'a> Snapshot<'a> {
         self.letters[position as usize]
     }
 
-    /// How many packages have each letter.
+    /// The number of packages with each letter.
     pub fn counts(&self) -> Counts
         ensures { AreCounts self.now result }
     {
