@@ -1,4 +1,4 @@
--- What a node lacks of the agreed list, and what of that it shows as queued.
+-- What a node lacks of the agreed list, and which of that it shows as queued.
 use Rattle.engine.specs.Division.{number_found, unit_at}
 use Rattle.engine.specs.Letters.{CanBeBuilt}
 use Rattle.engine.specs.State as engine
@@ -14,8 +14,8 @@ use Rattle.world.specs.World.{World, WorldNode, member_at}
 
 -- ---- what is claimed
 
--- What a node has a claim open for is queued there: the unit isn't held, and all that its build
--- needs is installable.
+-- A unit for which a node has an open claim is queued there: the unit isn't held, and all that its
+-- build needs is installable.
 abbrev pub ClaimedIsQueued : World → Type 0
 ClaimedIsQueued w =
     (k : ℕ) (x : WorldNode) (o : OpenClaim) → slice_get w.nodes k ≡ Some x → x.claim ≡ Some o
@@ -27,15 +27,15 @@ ClaimedIsQueued w =
 abbrev pub stands_in : Tree → List Content → ℕ → Bool
 stands_in tree list p = has_path list (path_at tree p)
 
--- The package's unit could be built by who holds what the list has, and no more: all that the build
--- needs is installable on that.
+-- The package's unit could be built by a node that holds exactly what the list has: all that the
+-- build needs is installable then.
 pub record IsReadyOn (tree : Tree) (list : List Content) (r : Content) : Type 0 where
   pub position : ℕ
   pub of_package : position_of tree r.path ≡ Some position
   pub can : CanBeBuilt tree (stands_in tree list) position
 
--- Each package of the list stands behind all that its unit's build needs, and behind all that this
--- needs to run.
+-- Each package of the list comes after all that its unit's build needs, and after all that these
+-- need to run.
 abbrev pub StandsBehindItsNeeds : World → Type 0
 StandsBehindItsNeeds w =
     (before : List Content) (r : Content) (behind : List Content)
@@ -49,7 +49,7 @@ abbrev pub Holds : World → ℕ → WorldNode → Content → Type 0
 Holds w k x r = holds w k x r.path ≡ Some r
 
 -- Node k shows the package as queued: nothing of its unit is held there, and each package of the
--- unit has the letter Q. The unit is the one that a question by the package's path asks for.
+-- unit has the letter Q. A question by the package's path asks for this unit.
 pub record IsQueuedAt (w : World) (k : ℕ) (x : WorldNode) (r : Content) : Type 0 where
   pub position : ℕ
   pub of_package : position_of w.division.tree r.path ≡ Some position
@@ -60,8 +60,8 @@ pub record IsQueuedAt (w : World) (k : ℕ) (x : WorldNode) (r : Content) : Type
   pub letters : All (λ p. engine.HasLetter (engine_of (member_at w k x)) p letters.Q)
       (unit_at w.division unit).packages
 
--- Where a node holds all that stands in the list before a package, but not that one, it shows it as
--- queued.
+-- If a node holds everything before a package in the list, but not that package, it shows the
+-- package as queued.
 abbrev pub FirstMissingIsQueued : World → Type 0
 FirstMissingIsQueued w =
     (k : ℕ) (x : WorldNode) (before : List Content) (r : Content) (behind : List Content)
@@ -75,7 +75,7 @@ pub record IsMissingAndQueued (w : World) (k : ℕ) (x : WorldNode) (r : Content
   pub lacks : ¬ Holds w k x r
   pub queued : IsQueuedAt w k x r
 
--- So where a node lacks any package of the list, it lacks one that it shows as queued.
+-- So if a node lacks any package of the list, it lacks one that it shows as queued.
 abbrev pub WhatIsMissingIsQueued : World → Type 0
 WhatIsMissingIsQueued w =
     (k : ℕ) (x : WorldNode) (r : Content) → slice_get w.nodes k ≡ Some x → Contains w.agreed r

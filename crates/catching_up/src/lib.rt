@@ -1,7 +1,7 @@
-//! Why a node catches up that asks for what it shows as queued, and for nothing else: of what is
-//! agreed and it lacks, something is always queued there.
+//! Why a node catches up if it asks only for what it shows as queued: of the agreed packages that
+//! it lacks, some package is always queued there.
 //!
-//! The function, whose body is empty, carries a law.
+//! The function has an empty body and states a law.
 #![tactic(auto)]
 
 ghost use Rattle.catching_up.specs.Missing.{
@@ -12,10 +12,11 @@ ghost use Rattle.catching_up.specs.Missing.{
 };
 ghost use Rattle.world.specs.MatchingLaws.{InEachRun};
 
-/// At each moment of a run, what a node has a claim open for is queued there. So each package of
-/// the agreed list stands behind all that its unit's build needs, and all that this needs to run.
-/// So the first package of the list that a node lacks is queued there, with all of its unit, of
-/// which it holds nothing; and where it lacks any of the list, it lacks one that is queued.
+/// At every point of a run, a unit for which a node has an open claim is queued there. So each
+/// package of the agreed list comes after all that its unit's build needs, and after all that these
+/// need to run. So the first package of the list that a node lacks is queued there, with all of its
+/// unit, of which the node holds nothing. And if the node lacks any package of the list, it lacks
+/// one that is queued.
 pub fn what_is_missing_is_queued()
     ensures claimed { InEachRun (λ last early w. ClaimedIsQueued w) }
     ensures behind { InEachRun (λ last early w. StandsBehindItsNeeds w) }
