@@ -1,5 +1,5 @@
--- What may happen to the nodes of a world. This is an event's value: a boxed event in it has no
--- place in memory here.
+-- What may happen to the nodes of a world. These are the values of events, in which a boxed event
+-- is just an event.
 use Rattle.std.specs.Prelude.{ℕ, Bool, true, false}
 use Rattle.faults.specs.Bytes.{Text}
 use Rattle.protocol.specs.Given.{Given}
@@ -8,21 +8,21 @@ use Rattle.events.specs.declared.event.Left.{Left}
 
 -- A path names a unit: it is the unit's name, or the path of any of its packages.
 pub data Event : Type 0 where
-  -- the node, the path, the host, and the round above which a claim is opened
+  -- the node, the path, the host, and the round that the claim's round must exceed
   Claim : ℕ → Text → ℕ → ℕ → Event
   -- the node, the path, and the files of the unit's packages
   Built : ℕ → Text → Given → Event
   Failed : ℕ → Text → Event
   Nudge : ℕ → Event
   Ask : ℕ → Text → Event
-  -- the number of the datagram, and the node that it comes to
+  -- the number of the datagram, and the node that receives it
   Deliver : ℕ → ℕ → Event
   Stop : ℕ → Event
-  -- A node stops inside the step of an event, and that much is left of its note.
+  -- A node stops inside the step of an event; `Left` says how much of the step's note remains.
   StopIn : Event → Left → Event
   Restart : ℕ → Event
 
--- the event
+-- the value of a declared event
 abbrev pub event_view : declared.Event → Event
 event_view (declared.Claim n path host above) = Claim n path host above
 event_view (declared.Built n path packages) = Built n path packages

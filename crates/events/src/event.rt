@@ -8,7 +8,7 @@ use protocol::Packages;
 use std::alloc::Global;
 use std::marker::Model;
 
-/// Bytes that a torn write left, which contracts see as a list.
+/// Bytes that a torn write left. Contracts see them as a list.
 #[derive(Drop)]
 pub struct Torn {
     bytes: Vec<u8>,
@@ -23,7 +23,7 @@ impl Model for Torn {
 }
 
 impl Torn {
-    /// These bytes.
+    /// Wraps these bytes.
     pub fn new(bytes: Vec<u8>) -> Torn
         ensures { result ≡ bytes.items }
     {
@@ -37,7 +37,7 @@ impl Torn {
         self.bytes.as_slice()
     }
 
-    /// Equal bytes. It fails only for want of memory.
+    /// Copies the bytes. Returns `Memory` if out of memory.
     pub fn copy(&self) -> Result<Torn, Memory>
         ensures { IfOk result (λ torn. torn ≡ self.now) }
     {
@@ -51,14 +51,14 @@ impl Torn {
 pub enum Left {
     /// Nothing new.
     None,
-    /// These bytes behind the closed gate, which a restart cuts off.
+    /// These bytes after the closed gate. A restart cuts them off.
     Torn(Torn),
     /// The whole note.
     Whole,
 }
 
 impl Left {
-    /// Equally much. It fails only for want of memory.
+    /// Copies the value. Returns `Memory` if out of memory.
     pub fn copy(&self) -> Result<Left, Memory>
         ensures { IfOk result (λ left. left ≡ self.now) }
     {
@@ -71,10 +71,10 @@ impl Left {
 }
 
 /// What may happen to a node. A path names a unit: it is the unit's name, or the path of any of its
-/// packages. A node has a number below that of the members; another number is of no node.
+/// packages. Node numbers are below the number of members; no node has another number.
 #[derive(Drop)]
 pub enum Event {
-    /// The node opens a claim for the unit, for this host to build it, in a round above this one.
+    /// The node opens a claim for the unit, in a round above `above`, for this host to build it.
     Claim {
         node: u8,
         path: PkgPath,
@@ -92,7 +92,7 @@ pub enum Event {
         node: u8,
         path: PkgPath,
     },
-    /// The node says again what its open claim waits for.
+    /// The node sends again what its open claim waits for.
     Nudge {
         node: u8,
     },
@@ -101,7 +101,7 @@ pub enum Event {
         node: u8,
         path: PkgPath,
     },
-    /// A datagram that was sent comes to the node. Datagrams count from 0.
+    /// The node receives a datagram that was sent. Datagrams are counted from 0.
     Deliver {
         datagram: u64,
         node: u8,
@@ -123,7 +123,7 @@ pub enum Event {
 }
 
 impl Event {
-    /// An equal event. It fails only for want of memory.
+    /// Copies the event. Returns `Memory` if out of memory.
     pub fn copy(&self, alloc: Global) -> Result<Event, Memory>
         ensures { IfOk result (λ event. event_view event ≡ event_view self.now) }
     {
@@ -155,7 +155,7 @@ impl Event {
         }
     }
 
-    /// The event of a stop inside the step of this one. It fails only for want of memory.
+    /// The event of a stop inside the step of this one. Returns `Memory` if out of memory.
     pub fn stop_in(alloc: Global, input: Event, left: Left) -> Result<Event, Memory>
         ensures { IfOk result (λ event. event_view event ≡ StopIn (event_view input) left) }
     {
@@ -164,7 +164,7 @@ impl Event {
     }
 }
 
-/// A claim for an equal path.
+/// A claim for a copy of the path.
 fn copy_of_claim(node: u8, path: &PkgPath, host: u16, above: u64) -> Result<Event, Memory>
     ensures { IfOk result (λ event. event_view event ≡ Claim node path.now host above) }
 {
@@ -177,7 +177,7 @@ fn copy_of_claim(node: u8, path: &PkgPath, host: u16, above: u64) -> Result<Even
     })
 }
 
-/// An equal build of an equal path.
+/// A Built with copies of the path and the packages.
 fn copy_of_built(node: u8, path: &PkgPath, packages: &Packages) -> Result<Event, Memory>
     ensures { IfOk result (λ event. event_view event ≡ Built node path.now packages.now) }
 {
@@ -190,7 +190,7 @@ fn copy_of_built(node: u8, path: &PkgPath, packages: &Packages) -> Result<Event,
     })
 }
 
-/// A failed build of an equal path.
+/// A Failed for a copy of the path.
 fn copy_of_failed(node: u8, path: &PkgPath) -> Result<Event, Memory>
     ensures { IfOk result (λ event. event_view event ≡ Failed node path.now) }
 {
@@ -198,7 +198,7 @@ fn copy_of_failed(node: u8, path: &PkgPath) -> Result<Event, Memory>
     Ok(Event::Failed { node, path })
 }
 
-/// A question for an equal path.
+/// An Ask for a copy of the path.
 fn copy_of_ask(node: u8, path: &PkgPath) -> Result<Event, Memory>
     ensures { IfOk result (λ event. event_view event ≡ Ask node path.now) }
 {
