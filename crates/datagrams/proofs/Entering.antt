@@ -1,4 +1,4 @@
--- What is entered in the table stands behind what was there, and is there once.
+-- What is entered in the table is appended, and is there only once.
 use Rattle.std.proofs.Common.{◌≡◌, ◌≤◌, ℕ, zero, suc, Bool, true, false, cond, List, [], ◌∷◌, ◌++◌, length, map, take, fold, refl, sym, ap, ◌∙◌, arith}
 use Rattle.std.specs.Prelude.{Contains}
 use Rattle.std.specs.List.{list_any}
@@ -16,7 +16,7 @@ use Rattle.datagrams.specs.Growing.{HasGrown}
 
 -- ---- growing
 
--- what begins a beginning begins the whole
+-- prefixes are transitive
 pub grown_on : (a b c : List Text) → HasGrown a b → HasGrown b c → HasGrown a c
 grown_on a b c ab bc =
     let less : length a ≤ length b = omega (arith, length-take (length a) b, ap length ab) in
@@ -25,7 +25,7 @@ grown_on a b c ab bc =
 pub grown_none : (a : List Text) → HasGrown a a
 grown_none a = take_all (length a) a (omega arith)
 
--- one more is behind
+-- entering one more appends it
 pub grown_text : (a : List Text) (text : Text) → HasGrown a (with_datagram a text)
 grown_text a text = by (is_among a text)
   where
@@ -35,13 +35,13 @@ grown_text a text = by (is_among a text)
 
 -- ---- a datagram
 
--- a key that equals the text is the text among these
+-- a key equals the text if the text is among the keys
 pub among_keys : (text : Text) (keys : List Text)
     → list_any (bytes_eq text) keys ≡ is_among keys text
 among_keys text [] = refl
 among_keys text (k ∷ keys) = rw (nat_list_eq_equiv.symm text k, among_keys text keys) refl
 
--- a table takes a key as what was sent takes a datagram
+-- inserting a key in a table is entering a datagram in the list of those sent
 pub key_entered : (keys : List Text) (text : Text)
     → insert_key bytes_eq keys text ≡ with_datagram keys text
 key_entered keys text =
@@ -49,7 +49,7 @@ key_entered keys text =
 
 -- ---- datagrams to several receivers
 
--- datagrams that are all there add nothing
+-- entering datagrams that are all there adds nothing
 all_there : (sent texts : List Text) → ((t : Text) → Contains texts t → Contains sent t)
     → fold with_datagram sent texts ≡ sent
 all_there sent [] there = refl
@@ -76,7 +76,7 @@ for_more sent texts (r ∷ rs) =
     (all_there then texts (λ t m. texts_there sent texts t m))
     ∙ for_more sent texts rs
 
--- Where there is a receiver, what goes to all of them is what goes to one.
+-- If there is a receiver, sending to all of them enters the same as sending to one.
 pub once_for_all : (sent texts : List Text) (receivers : List ℕ) → (length receivers ≡ 0 → ⊥)
     → fold with_datagram sent texts
     ≡ fold with_datagram sent (map (λ s. s.1) (parcels_to receivers texts))
@@ -89,7 +89,7 @@ once_for_all sent texts (r ∷ rs) some =
     ∙ fold-append with_datagram sent texts others
     ∙ for_more sent texts rs)
 
--- Where there is none, nothing goes out.
+-- If there is none, nothing is sent.
 pub nobody : (sent texts : List Text) (receivers : List ℕ) → length receivers ≡ 0
     → sent ≡ fold with_datagram sent (map (λ s. s.1) (parcels_to receivers texts))
 nobody sent texts [] none = refl

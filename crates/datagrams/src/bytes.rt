@@ -1,4 +1,4 @@
-//! The bytes of a datagram, as a table keeps them.
+//! The bytes of a datagram, as a table stores them.
 ghost use Rattle.std.specs.Prelude.{◌≡◌, ◌<◌, ◌∷◌, [], length, nat_eq, slice_set};
 ghost use Rattle.std.proofs.Common.{rules};
 ghost use Rattle.std.specs.Cmp.{partial_equiv_from_equiv};
@@ -23,7 +23,7 @@ impl Model for DatagramBytes {
 }
 
 impl DatagramBytes {
-    /// These.
+    /// Wraps these bytes.
     pub fn new(bytes: Vec<u8>) -> DatagramBytes
         ensures { result ≡ bytes.items }
     {
@@ -37,7 +37,7 @@ impl DatagramBytes {
         self.bytes.as_slice()
     }
 
-    /// Puts another byte in a place.
+    /// Replaces the byte at an index.
     pub fn put(&mut self, place: usize, byte: u8)
         requires { place < length self.old }
         ensures { self.new ≡ slice_set self.old place byte }

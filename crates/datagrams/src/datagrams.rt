@@ -1,4 +1,4 @@
-//! The different datagrams that were sent.
+//! The distinct datagrams that were sent.
 ghost use Rattle.std.specs.Prelude.{◌≡◌, [], OnOk, fold, length, map, option_map, position, slice_get, take};
 ghost use Rattle.std.specs.Str.{bytes_eq};
 ghost use Rattle.faults.specs.Bytes.{is_among};
@@ -13,7 +13,7 @@ use node::Parcels;
 use std::alloc::Global;
 use std::marker::Model;
 
-/// The different datagrams that were sent, in order of first sending. Contracts see the list of
+/// The distinct datagrams that were sent, in order of first sending. Contracts see the list of
 /// them.
 #[derive(Drop)]
 pub struct Datagrams {
@@ -29,7 +29,7 @@ impl Model for Datagrams {
 }
 
 impl Datagrams {
-    /// Nothing was sent.
+    /// An empty table: nothing was sent.
     pub fn new(alloc: Global) -> Datagrams
         ensures { result ≡ [] }
     {
@@ -38,14 +38,14 @@ impl Datagrams {
         }
     }
 
-    /// How many there are.
+    /// The number of datagrams.
     pub fn len(&self) -> usize
         ensures { result ≡ length self.now }
     {
         self.sent.len()
     }
 
-    /// The table.
+    /// The table as a set.
     pub fn as_set(&self) -> &IndexSet<DatagramBytes>
         ensures { result.now.keys ≡ self.now }
     {
@@ -76,15 +76,15 @@ impl Datagrams {
         self.sent.get_index_of(text)
     }
 
-    /// Keeps so many. It takes no memory.
+    /// Truncates the table to the first `count` datagrams. Does not allocate.
     pub fn cut_back(&mut self, count: usize)
         ensures { self.new ≡ take count self.old }
     {
         self.sent.truncate(count);
     }
 
-    /// Enters the datagrams, each once, however many members get it. One that was sent before keeps
-    /// its number.
+    /// Enters the datagrams, each once, however many members receive it. One that was sent before
+    /// keeps its number.
     pub fn enter(&mut self, sends: &Parcels) -> Result<(), Memory>
         ensures ok { OnOk result (self.new
             ≡ fold with_datagram self.old (map (λ s. s.1) sends.now)) }
@@ -97,7 +97,7 @@ impl Datagrams {
         self.enter_all(texts)
     }
 
-    /// Enters these.
+    /// Enters these datagrams.
     fn enter_all(&mut self, texts: &[Vec<u8>]) -> Result<(), Memory>
         ensures ok { OnOk result (self.new
             ≡ fold with_datagram self.old (texts_in texts.now)) }

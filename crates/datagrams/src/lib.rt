@@ -1,4 +1,4 @@
-//! The datagrams that nodes sent, as a table.
+//! The table of datagrams that nodes sent.
 #![tactic(auto)]
 
 mod bytes;
