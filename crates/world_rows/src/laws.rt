@@ -1,4 +1,4 @@
-//! What follows from the public laws of worlds alone.
+//! What follows from only the public laws of worlds.
 ghost use Rattle.std.specs.Prelude.{◌≡◌, ℕ, Contains, List, Some, slice_get, true};
 ghost use Rattle.agreement.specs.Claims.{AtMost};
 ghost use Rattle.agreement.specs.Quorums.{is_majority};
@@ -39,7 +39,7 @@ pub fn installable_is_listed()
     worlds_have_one_list();
 }
 
-/// Two nodes at two moments of a run hold the same.
+/// Nodes at two points of a run never hold different packages for one path.
 pub fn never_differ()
     ensures { (division : Division) (weights : List ℕ) (early late : List Event) (v w : World)
         → IsMade division weights → Leads (start division weights) early v → Leads v late w
@@ -50,8 +50,8 @@ pub fn never_differ()
     world::events_in_parts();
 }
 
-/// Where votes that were sent under the claim of a proposal are a majority, each proposal at or
-/// above that claim repeats its build.
+/// If the votes that were sent under the claim of a proposal are from a majority, each proposal at
+/// or above that claim repeats its build.
 pub fn sent_votes_bind_later_proposals()
     ensures { (division : Division) (weights : List ℕ) (events : List Event) (last : World)
         (name : Text) (c d : Claim) (a b : Value) → IsMade division weights
@@ -64,8 +64,8 @@ pub fn sent_votes_bind_later_proposals()
     events_lead_to_later_worlds();
 }
 
-/// The list at the end of what `dpbr run` prints is read again, and an audit of it says yes, on the
-/// tree that the listing describes.
+/// The list at the end of what `dpbr run` prints can be parsed, and an audit accepts it, on the
+/// tree of the listing.
 pub fn printed_runs_are_allowed()
     ensures { (rules : Rules) (listing trace text : Text)
         (is : IsRunOfListing rules listing trace text) → (entries : List Entry)

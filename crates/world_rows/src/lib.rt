@@ -1,4 +1,5 @@
-//! A world's calls one after the other, and its laws together, over what they say and no more.
+//! Checks that the contracts of a world compose: calls one after another, and the laws together,
+//! using nothing but these contracts.
 #![tactic(auto)]
 
 mod audits;

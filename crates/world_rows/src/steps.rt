@@ -1,4 +1,4 @@
-//! Steps of a world in a row.
+//! Several steps of a world, one after another.
 ghost use Rattle.std.specs.Prelude.{◌≡◌, ◌++◌, ◌∷◌, [], IfOk, OnOk, map};
 ghost use Rattle.events.specs.Events.{event_view};
 ghost use Rattle.running.specs.History.{AlongRun, taken};
@@ -24,7 +24,7 @@ pub fn take_two(world: &mut World<'_>, first: &Event, second: &Event) -> Result<
     world.step(second)
 }
 
-/// Takes two events, and what a node held before them no node holds otherwise after them.
+/// Takes two events. No node then holds another package for a path than a node held before.
 pub fn take_two_alike(
     world: &mut World<'_>,
     first: &Event,

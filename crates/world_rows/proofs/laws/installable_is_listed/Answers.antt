@@ -6,14 +6,14 @@ use Rattle.world.specs.Headline.{AtEachMoment, HeldIsListed, InstallableIsHeld, 
 use Rattle.world.specs.World.{World}
 use Rattle.world_rows.proofs.laws.installable_is_listed.Goals as goal
 
--- what holds at each moment holds at the end
+-- what holds at every point of a run holds at its end
 at_end : (division : Division) (weights : List ℕ) (events : List Event) (last : World) (P : World → Type 0)
     → AtEachMoment division weights events last (λ early w. P w) → P last
 at_end division weights events last P always =
     let there = always events [] (sym (append-nil events)) in
     subst P (sym there.2) there.3
 
--- what is some is something
+-- an option that is some has a value
 what_is : (o : Option Content) → is_some o ≡ true → (r : Content) × (o ≡ Some r)
 what_is None none = absurd (let bad : false ≡ true = none in cc)
 what_is (Some r) there = (r, refl)

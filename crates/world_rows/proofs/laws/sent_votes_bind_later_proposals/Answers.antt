@@ -10,7 +10,7 @@ use Rattle.world.specs.World.{start}
 use Rattle.world_rows.proofs.Knowing.{at_end}
 use Rattle.world_rows.proofs.laws.sent_votes_bind_later_proposals.Goals as goal
 
--- there are nine members at most
+-- there are at most nine members
 few_members : (weights : List ℕ) → AreWeights weights → length weights ≤ most_members
 few_members weights are =
     let counted = and_parts (nat_le 1 (length weights) && nat_le (length weights) most_members) (list_all is_weight weights) are in
