@@ -1,4 +1,4 @@
--- Events that are taken one after the other.
+-- Events that are taken one after another.
 use Rattle.std.proofs.Common.{◌≡◌, ◌⊎◌, ◌<◌, ◌+◌, ◌++◌, ℕ, List, [], ◌∷◌, append_assoc, drop, get_or, length, map, take, inl, inr, refl, sym, ap, subst, ◌∙◌}
 use Rattle.std.proofs.lemmas.List.{map-append, take-append-drop, take_more}
 use Rattle.events.specs.Events.{Event, event_view}
@@ -12,7 +12,7 @@ use Rattle.world.specs.declared.fault.WorldFault.{WorldFault}
 use Rattle.world.specs.declared.fault.WorldFault.TheVariants as fault
 use Rattle.world.proofs.Leading.{leads_together}
 
--- those so far and one more
+-- the events so far and one more
 more_taken : (es : List declared.Event) (i : ℕ) (e : declared.Event) → i < length es
     → e ≡ get_or es i e
     → map event_view (take (i + 1) es) ≡ map event_view (take i es) ++ event_view e ∷ []
@@ -20,7 +20,7 @@ more_taken es i e lt is =
     ap (map event_view) (take_more es i e lt ∙ ap (λ y. take i es ++ y ∷ []) (sym is))
     ∙ map-append event_view (take i es) (e ∷ [])
 
--- after those so far one more was taken
+-- one more event was taken after those so far
 pub one_more : (h g k : History) (es : List declared.Event) (i : ℕ) (e : declared.Event)
     → i < length es → e ≡ get_or es i e → HasTaken h (map event_view (take i es)) g
     → Happens g.world (event_view e) k.world → taken k ≡ taken g ++ event_view e ∷ []
@@ -34,7 +34,7 @@ one_more h g k es i e lt is before happens kept =
           ∙ append_assoc (taken h) (map event_view (take i es)) (event_view e ∷ []);
     })
 
--- those so far, the next one, and those behind it
+-- the events so far, the next one, and those after it
 pub in_parts : (es : List declared.Event) (i : ℕ) (e : declared.Event) → i < length es → e ≡ get_or es i e
     → map event_view es ≡ map event_view (take i es) ++ event_view e ∷ map event_view (drop (i + 1) es)
 in_parts es i e lt is =
@@ -48,7 +48,7 @@ in_parts es i e lt is =
     again [] y zs = refl
     again (x ∷ xs) y zs = ap (λ l. x ∷ l) (again xs y zs)
 
--- why an event is refused, if it can be for want of room alone
+-- why an event is refused, if that can only be because a log is full
 pub for_room : (w : World) (e : Event) (f : WorldFault) → (f ≡ fault.Memory) ⊎ IsRefused w e f
     → (IsRefused w e f → f ≡ no_room)
     → (f ≡ fault.Memory) ⊎ ((f ≡ no_room) × IsRefused w e no_room)

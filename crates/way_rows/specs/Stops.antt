@@ -1,4 +1,4 @@
--- What becomes of a world in which a way is asked for and taken.
+-- The effects on a world when a way is asked for and taken.
 use Rattle.std.specs.Prelude.{◌≡◌, ◌⊎◌, ℕ, List, ◌∷◌, ◌++◌}
 use Rattle.events.specs.Events.{Event}
 use Rattle.faults.specs.Bytes.{Text}
@@ -17,13 +17,13 @@ use Rattle.world.specs.declared.fault.WorldFault.TheVariants as worlds
 
 -- ---- events that are taken
 
--- These were taken, in turn, and no other: they led from the one world to the other.
+-- Exactly these events were taken, in order: they led from the one world to the other.
 pub record HasTaken (h : History) (events : List Event) (h' : History) : Type 0 where
   pub led : Leads h.world events h'.world
   pub kept : taken h' ≡ taken h ++ events
 
--- Of these events those before one were taken, and no other. That one is refused in the world that
--- stood then, for want of room on its node's log; or memory was wanting.
+-- Exactly the events before one of these were taken. That one is refused in the world that they led
+-- to, because the log of its node is full, or memory ran out.
 pub record StopsAt (h : History) (events : List Event) (h' : History)
     (f : WorldFault) : Type 0 where
   pub before : List Event
@@ -35,7 +35,7 @@ pub record StopsAt (h : History) (events : List Event) (h' : History)
 
 -- ---- a way that is asked for
 
--- A way was granted and told, and its events were taken. So the node holds the unit.
+-- A way was granted and returned, and its events were taken. So the node holds the unit.
 pub record HasArrived (h : History) (k : ℕ) (path : Text) (host : ℕ) (given : Given)
     (h' : History) : Type 0 where
   pub granted : IsGranted h.world k path host given
@@ -44,7 +44,7 @@ pub record HasArrived (h : History) (k : ℕ) (path : Text) (host : ℕ) (given 
   pub has_taken : HasTaken h way h'
   pub holds : HoldsUnit h'.world k is_way.unit
 
--- A way was granted and told, and stopped at one of its events.
+-- A way was granted and returned, but taking it stopped at one of its events.
 pub record StopsOnWay (h : History) (k : ℕ) (path : Text) (host : ℕ) (given : Given)
     (h' : History) (f : WorldFault) : Type 0 where
   pub granted : IsGranted h.world k path host given
@@ -52,8 +52,8 @@ pub record StopsOnWay (h : History) (k : ℕ) (path : Text) (host : ℕ) (given 
   pub is_way : HasWay h.world k path host given way
   pub stops : StopsAt h way h' f
 
--- No way is told, for one of its reasons or for want of memory, and all is as it was; or a way
--- stopped at an event.
+-- There is no way, for one of its reasons or because memory ran out, and nothing changed; or taking
+-- the way stopped at an event.
 abbrev pub StopsSo : History → ℕ → Text → ℕ → Given → History → Stopped → Type 0
 StopsSo h k path host given h' (NoWay f) =
     (h' ≡ h) × ((f ≡ ways.Memory) ⊎ HasNoWay h.world k path host given f)

@@ -1,4 +1,4 @@
-//! The events of a way, one after the other.
+//! Taking the events of a way, in order.
 ghost use Rattle.std.specs.Prelude.{◌≡◌, IfErr, OnOk, Some, map};
 ghost use Rattle.events.specs.Events.{event_view};
 ghost use Rattle.running.specs.History.{IsHistory};
@@ -14,24 +14,22 @@ use std::alloc::Global;
 use way::{WayFault, way_on, ways_arrive};
 use world::WorldFault;
 
-/// Why a node does not come to hold a unit.
+/// Why a node does not obtain a unit.
 #[derive(Debug, Drop)]
 pub enum Stopped {
-    /// No way is told.
+    /// There is no way.
     NoWay(WayFault),
     /// The world refuses an event of the way.
     Refused(WorldFault),
 }
 
-/// Asks for a way on which the node comes to hold the unit that the path names, and takes its
-/// events. Where that succeeds, a way was granted, just its events were taken, and the node holds
-/// the unit.
+/// Finds a way by which the node obtains the unit that the path names, and takes its events. On
+/// success a way was granted, exactly its events were taken, and the node holds the unit.
 ///
 /// # Errors
 ///
-/// `NoWay`, for a reason of those that `way_on` has or for want of memory, where nothing is
-/// changed; `Refused`, for want of room on a log or of memory, where the events of the way before
-/// that one were taken.
+/// `NoWay`, for a reason of `way_on` or if out of memory; nothing is changed then. `Refused`, if a
+/// log is full or out of memory; the events of the way before that one were taken.
 pub fn arrive(
     alloc: Global,
     world: &mut World<'_>,
@@ -56,7 +54,7 @@ pub fn arrive(
     }
 }
 
-/// Takes the events of a way, in order: all, or those before the first that is refused.
+/// Takes the events of a way, in order: all of them, or those before the first that is refused.
 pub fn go(world: &mut World<'_>, node: u8, events: &[Event]) -> Result<(), WorldFault>
     requires history { IsHistory world.old }
     requires way { (u : _) × IsWay world.old.world node u (map event_view events.now) }

@@ -1,5 +1,5 @@
-//! A way that is asked for and taken, over what the contracts of `way_on` and of a world say and no
-//! more.
+//! Checks that the contracts of `way_on` and of a world compose: finds a way and takes it, using
+//! nothing but these contracts.
 #![tactic(auto)]
 
 mod going;
