@@ -1,4 +1,4 @@
--- What an act makes of the agreements, path by path.
+-- The effects of an act on the agreements, path by path.
 use Rattle.std.proofs.Common.{◌≡◌, ℕ, Bool, true, false, not, List, Option, Some, None, refl, sym, ap, ◌∙◌, eqb, eqb-true, eq-eqb, is_some, ◌&&◌}
 use Rattle.std.proofs.lemmas.Bool.{and_from, cond_both, cond-false, cond-true, ne_eqb}
 use Rattle.agreement.specs.Agreed.{IsValue, decided_value}
@@ -13,7 +13,7 @@ use Rattle.agreement.proofs.Kept.{put_same}
 module _ (V : Type 0) (enough : Quorums) where
   -- ---- stops and restarts
 
-  -- what they make of a member
+  -- their effect on a member
   pub stop_here : (u : World V) (i : ℕ) → (u.members i).up ≡ true
       → (after_event enough u (Stop i)).members i ≡ down (u.members i)
   stop_here u i up =
@@ -29,7 +29,7 @@ module _ (V : Type 0) (enough : Quorums) where
       (Some (still (record (u.members i) { up = true; stage = Closed }))))).members i) up
       ∙ put_same u.members i _
 
-  -- one after the other, they only drop the open claim
+  -- a stop followed by a restart only drops the open claim
   pub dropped_here : (u : World V) (i : ℕ) → (u.members i).up ≡ true
       → (after_event enough (after_event enough u (Stop i)) (Restart i)).members i ≡
       record (u.members i) { up = true; stage = Closed }
@@ -38,9 +38,9 @@ module _ (V : Type 0) (enough : Quorums) where
       restart_here (after_event enough u (Stop i)) i (ap (λ m. m.up) s)
       ∙ ap (λ (m : Member V). record m { up = true; stage = Closed }) s
 
-  -- ---- what an event is elsewhere
+  -- ---- the effect of an event on other paths
 
-  -- a step that says nothing notes nothing
+  -- putting a value back where it was changes nothing
   put_again : {X : Type 0} (f : ℕ → X) (i j : ℕ) → put f i (f i) j ≡ f j
   put_again f i j = cond_both (eqb j i) (f i) (f j) (λ y. y ≡ f j)
       (λ same. ap f (sym (eqb-true j i same))) (λ other. refl)
@@ -66,7 +66,7 @@ module _ (V : Type 0) (enough : Quorums) where
 
   -- ---- the agreements after an event for a path
 
-  -- an act that may happen, and is not refused, is its event
+  -- an act that may happen and is not refused has the effect of its event
   pub act_is : (may : Needs V) (c : Cluster V) (p : ℕ) (e : Event V) (o : Outcome V)
       → may_happen may c p e ≡ true → outcome enough (c.at p) e ≡ Some o
       → after_act enough may c (record { path = p; event = e }) ≡ cluster_after enough c p e
@@ -74,7 +74,7 @@ module _ (V : Type 0) (enough : Quorums) where
       cond-true (may_happen may c p e && is_some (outcome enough (c.at p) e))
       (cluster_after enough c p e) c (and_from _ _ a (ap is_some s))
 
-  -- at its path
+  -- the agreement of its own path
   pub at_here : (c : Cluster V) (p : ℕ) (e : Event V) (o : Outcome V)
       → outcome enough (c.at p) e ≡ Some o
       → (cluster_after enough c p e).at p ≡ after (c.at p) (member_of e) o
@@ -83,7 +83,7 @@ module _ (V : Type 0) (enough : Quorums) where
       (eq-eqb p p refl)
       ∙ ap (after_any (c.at p) (member_of e)) s
 
-  -- and at the others
+  -- the agreements of the other paths
   pub at_there : (c : Cluster V) (p q : ℕ) (e : Event V) → (q ≡ p → ⊥)
       → (cluster_after enough c p e).at q ≡ run enough (elsewhere e) (c.at q)
   at_there c p q e ne =
@@ -92,7 +92,7 @@ module _ (V : Type 0) (enough : Quorums) where
 
   -- ---- the list
 
-  -- what is in the list settles its path
+  -- a path with an entry in the list has that entry's value
   settled : AreQuorums enough → (u : World V) (p : ℕ) (list : List (Entry V)) (a d : Option V)
       → IsValue enough u a
       → decided_value enough u.sent u.sent ≡ d → list_with p list a d ≡ list
@@ -101,7 +101,7 @@ module _ (V : Type 0) (enough : Quorums) where
   settled quorums u p list None (Some v) h e =
       let f = found V enough quorums (λ v. Unit {0}) u.sent u.sent v e in absurd (h f.0 f.1)
 
-  -- an event that sends nothing leaves the list
+  -- an event that sends nothing leaves the list unchanged
   pub list_stays : AreQuorums enough → (c : Cluster V) (p : ℕ) (e : Event V) (o : Outcome V)
       → IsValue enough (c.at p) (lookup c.list p) → outcome enough (c.at p) e ≡ Some o
       → o.send ≡ None

@@ -8,7 +8,7 @@ use Rattle.package_record.specs.Content.{Content}
 use Rattle.world.specs.Headline.{HasOneAPath, HeldIsListed, HoldAlike, IsBeginningOf}
 use Rattle.world.specs.World.{World}
 
--- an earlier package has another path than a later one
+-- an earlier package has a different path than a later one
 apart : (list : List Content) → AllPairs ◌≢◌ (map (λ r. r.path) list) → (i j : ℕ) (r q : Content)
     → i < j → j < length list
     → get_or list i r ≡ r → get_or list j q ≡ q → r.path ≡ q.path → ⊥
@@ -20,7 +20,7 @@ apart list one i j r q lt within er eq same =
     ∙ sym (ap (λ (r : Content). r.path) eq)
     ∙ sym (get_or-map (λ (r : Content). r.path) list j q r.path within))
 
--- so the list has one package for the path
+-- so the list has only one package for the path
 pub only_one_with : (list : List Content) → AllPairs ◌≢◌ (map (λ r. r.path) list) → (r q : Content)
     → Contains list r → Contains list q
     → r.path ≡ q.path → r ≡ q
@@ -41,7 +41,7 @@ only_one_with list one r q (i, wi, er) (j, wj, eq) same = ⊎_elim
     same_place : (i j : ℕ) → i ≡ j → i < length list → get_or list i r ≡ get_or list j q
     same_place i j e lt = any_default list i r q lt ∙ ap (λ k. get_or list k q) e
 
--- What nodes hold for a path, then and later, is one package, where all of it is in the list.
+-- What nodes hold for a path, earlier and later, is the same package, if all of it is in the list.
 pub held_alike : (v w : World) → HeldIsListed v → HeldIsListed w → IsBeginningOf v.agreed w.agreed
     → HasOneAPath w → HoldAlike v w
 held_alike v w then now grew one j k x y path r q sx sy hr hq =

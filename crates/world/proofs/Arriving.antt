@@ -1,4 +1,4 @@
--- What arrives whole at a node was said: in one datagram, or in pieces that it kept.
+-- A complete message that arrives at a node, in one datagram or in pieces that it kept, was said.
 use Rattle.std.proofs.Common.{◌≡◌, ◌==◌, ℕ, zero, suc, Bool, true, false, cond, filter, List, [], ◌∷◌, length, get_or, Option, None, Some, eqb-true, refl, sym, ap, ap₂, subst, ◌∙◌, arith, true≢false}
 use Rattle.std.specs.Prelude.{All, AllPairs, Contains}
 use Rattle.std.specs.Str.{bytes_eq}
@@ -36,7 +36,7 @@ use Rattle.world.proofs.Headers.{Carries, carries, ok, ok_same, said_equal, sent
 use Rattle.world.proofs.Said.{has_preimage}
 use Rattle.node.specs.Kept.{are_all, has_number}
 
--- ---- headers that are one
+-- ---- equal headers
 
 carriers_same : (a b : Carrier) → same_carrier a b ≡ true → a ≡ b
 carriers_same (carriers.Promise c d) (carriers.Promise e f) h =
@@ -72,7 +72,7 @@ headers_same a b h =
           size i;
     }
 
--- ---- the only one that passes
+-- ---- the only element that passes a test
 
 none_pass : {X : Type 0} (t : X → Bool) (xs : List X) → ((x : X) → Contains xs x → t x ≡ false)
     → filter t xs ≡ []
@@ -81,7 +81,7 @@ none_pass t (x ∷ xs) none =
     ap (λ b. cond b (x ∷ filter t xs) (filter t xs)) (none x (zero, omega arith, refl))
     ∙ none_pass t xs (λ y h. none y (suc h.0, omega (arith, h.1), h.2))
 
--- what passes first is the only one, where no two pass
+-- what passes first is the only one, if no two pass
 only_passes : {X : Type 0} (t : X → Bool) (xs : List X) (x : X) → Contains xs x → t x ≡ true
     → AllPairs (λ a b. t a ≡ true → t b ≡ true → ⊥) xs → filter t xs ≡ x ∷ []
 only_passes t [] x (k, within, e) on once = absurd (omega arith)
@@ -104,11 +104,11 @@ module _ (division : Division) (weights : List ℕ) (acts : List (Act Value)) (w
     (made : IsMade division weights)
     (of : (w.division ≡ division) × (w.weights ≡ weights))
     (m : Matches w (after_all_acts division weights acts)) (again : BuildTextIsReadAgain) where
-  -- what the acts leave
+  -- the cluster after the acts
   abbrev here : Cluster Value
   here = after_all_acts division weights acts
 
-  -- A message of which this is a datagram was sent, and said.
+  -- A message with this datagram was sent, and said.
   pub record CameOf (d : Datagram) : Type 0 where
     pub message : Message Value
     pub is_sent : WasSent w.sent message
@@ -130,7 +130,7 @@ module _ (division : Division) (weights : List ℕ) (acts : List (Act Value)) (w
             subst (Contains (split_of s.message)) same p.1;
       }
 
-  -- a message that comes in one datagram was sent
+  -- a message that arrives in one datagram was sent
   pub whole_came : (text : Text) (n : Message Value) → datagram_of text ≡ ok (datagrams.Whole n)
       → Contains w.sent text → WasSent w.sent n
   whole_came text n e h =
@@ -165,7 +165,7 @@ module _ (division : Division) (weights : List ℕ) (acts : List (Act Value)) (w
       (sent : All (λ p. CameOf (datagrams.Piece p)) pieces)
       (once : AllPairs (λ p q. is_numbered q.header q.number p ≡ false) pieces)
       (all : are_all h pieces ≡ true) where
-    -- the message of the first
+    -- the message of the first piece
     pub origin : CameOf (datagrams.Piece first)
     origin = All-contains (λ p. CameOf (datagrams.Piece p)) pieces first sent is_first
 
@@ -176,7 +176,7 @@ module _ (division : Division) (weights : List ℕ) (acts : List (Act Value)) (w
     origin_carries = carries origin.message (datagrams.Piece first) h origin.datagram
         (ap (λ (x : Header). Some x) its)
 
-    -- a piece with the header is one of that message's
+    -- a piece with that header belongs to that message
     of_origin : (q : Piece) → Contains pieces q → q.header ≡ h
         → Contains (split_of origin.message) (datagrams.Piece q)
     of_origin q there e =
@@ -191,7 +191,7 @@ module _ (division : Division) (weights : List ℕ) (acts : List (Act Value)) (w
     abbrev text : Text
     text = build_text origin_carries.build
 
-    -- so it is the piece of its number
+    -- so it is the piece with its number
     is_piece_at : (q : Piece) → Contains pieces q → q.header ≡ h → q ≡ piece_at h text q.number
     is_piece_at q there e =
         let split : split_of origin.message ≡ pieces_of
@@ -211,7 +211,7 @@ module _ (division : Division) (weights : List ℕ) (acts : List (Act Value)) (w
         piece_same : (a b : Piece) → datagrams.Piece a ≡ datagrams.Piece b → a ≡ b
         piece_same a b e = cc
 
-    -- and stands there once
+    -- it is there exactly once
     stands_once : (k : ℕ) → has_number h pieces k ≡ true → StandsOnce pieces (piece_at h text k)
     stands_once k there =
         let a = Any-from_list_any (is_numbered h k) pieces there in
@@ -242,7 +242,7 @@ module _ (division : Division) (weights : List ℕ) (acts : List (Act Value)) (w
     all_there k d l =
         stands_once _ (AllPass-from_list_all (has_number h pieces) (numbers_of h.length) all k d l)
 
-    -- What they join to is that message.
+    -- The pieces join to that message.
     pub joins_to : joined h (bytes_of h pieces) ≡ ok origin.message
     joins_to =
         ap (λ (x : Header). joined x (bytes_of x pieces)) (sym origin_carries.header)

@@ -1,4 +1,4 @@
--- What the step of an event is in the theory, where the event is no message.
+-- The step of an event in the theory, if the event is not a message.
 use Rattle.std.proofs.Common.{◌≡◌, ℕ, true, List, [], Some, None, Result, Ok, Err, sym, ap, ◌∙◌}
 use Rattle.agreement.specs.Member.{Member}
 use Rattle.agreement.specs.Messages as messages
@@ -26,7 +26,7 @@ use Rattle.world.specs.Local.{AreLocal}
 use Rattle.world.specs.Matches.{node_of}
 use Rattle.world.proofs.Members.{node_is_member}
 
--- ---- what a step answers
+-- ---- a step's answer
 
 abbrev pub ok : {X : Type 0} → X → Result X NodeFault
 ok x = Ok x
@@ -40,7 +40,7 @@ never_ok t f h = cc
 abbrev pub answers_with : Answer → Result Answer Refusal
 answers_with a = Ok a
 
--- a step that is taken on an input is what the member answers
+-- a step taken on an input is the member's answer
 pub taken_is : (pieces : List Piece) (r : Result Answer Refusal) (t : Taken) → ok t ≡ taken pieces r
     → r ≡ answers_with t.answer
 taken_is pieces (Ok a) t e =
@@ -54,7 +54,7 @@ pub same_view : (w : World) (k : ℕ) (x : WorldNode) (u : ℕ) → x.up ≡ tru
     → nodes.view (node_of w k x) u ≡ view (member_at w k x) u
 same_view w k x u up = ap (λ b. record (view (member_at w k x) u) { up = b }) up
 
--- what is answered whatever was sent, is answered to the members
+-- an answer that doesn't depend on what was sent is the same in the theory
 pub any_sent : (enough : Quorums) (i : ℕ) (y : Member Value) (sent : List (messages.Message Value))
     (input : theory.Input Value) (o : Outcome Value)
     → theory.answer enough i y [] input ≡ Some o → theory.answer enough i y sent input ≡ Some o
@@ -67,7 +67,7 @@ any_sent enough i y sent theory.Inquire o e = e
 
 -- ---- the input of an event
 
--- The event asks its node this, which is no message.
+-- The event asks this of its node, and it is not a message.
 pub record IsInputOf (w : World) (e : Event) (x : WorldNode) (t : Taken) (input : Input) : Type
     0 where
   pub no_message : IsNoMessage input
@@ -75,7 +75,7 @@ pub record IsInputOf (w : World) (e : Event) (x : WorldNode) (t : Taken) (input 
   pub given : answer (member_at w (events.node_of e) x) letter input ≡ answers_with t.answer
   pub answers : AnswersInput (member_at w (events.node_of e) x) input t.answer
 
--- so it is where the event asks for an input
+-- this holds for every event that asks for an input
 pub input_of : (w : World) → IsMade w.division w.weights → AreLocal w
     → (e : Event) (x : WorldNode) (t : Taken) (input : Input)
     → Acts w e x t → ((asked : Asked) → Asks w e asked → asked ≡ Does input) → IsNoMessage input

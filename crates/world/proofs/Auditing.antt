@@ -1,4 +1,4 @@
--- An audit of the list says yes.
+-- An audit accepts the list.
 use Rattle.std.proofs.Common.{◌≡◌, ◌≢◌, ◌<◌, ℕ, zero, suc, List, [], ◌∷◌, ◌++◌, length, map, get_or, None, Some, append_assoc, append-nil, refl, sym, ap, subst, arith}
 use Rattle.std.specs.Prelude.{All, AllPairs, Any, Contains}
 use Rattle.std.proofs.lemmas.List.{map-append}
@@ -24,7 +24,7 @@ use Rattle.world.proofs.Listed.{record_fits, stands_listed}
 
 -- ---- lists
 
--- what holds of each element and each later one
+-- a relation between each element and each later one
 first_of_pairs : {X : Type 0} (R : X → X → Type 0) (x : X) (xs : List X) → AllPairs R (x ∷ xs)
     → (y : X) → Contains xs y → R x y
 first_of_pairs R x xs pairs y h =
@@ -41,7 +41,7 @@ image f (y ∷ ys) x (zero, within, e) = (zero, omega arith, ap f e)
 image f (y ∷ ys) x (suc k, within, e) = let r =
     image f ys x (k, omega (arith, within), e) in (suc r.0, omega (arith, r.1), r.2)
 
--- those before have other paths than one behind them
+-- elements before this one have different paths
 others_before : (done : List Content) (r : Content) (rest : List Content)
     → AllPairs ◌≢◌ (paths_of (done ++ r ∷ rest)) → All (λ c. c.path ≢ r.path) done
 others_before [] r rest one k d lt = absurd (omega (arith, lt))
@@ -53,7 +53,7 @@ others_before (c ∷ cs) r rest one (suc k) d lt =
     others_before cs r rest (rest_of_pairs ◌≢◌ c.path (paths_of (cs ++ r ∷ rest)) one) k d
     (omega (arith, lt))
 
--- the paths of the first part differ
+-- the paths of the first part are distinct
 first_part : (done rest : List Content) → AllPairs ◌≢◌ (paths_of (done ++ rest))
     → AllPairs ◌≢◌ (paths_of done)
 first_part [] rest one i j d lt within = absurd (omega (arith, within))
@@ -75,7 +75,7 @@ first_part (c ∷ cs) rest one (suc i) (suc j) d lt within =
 
 -- ---- entries one by one
 
--- a signature that is in the list is one of an entry
+-- a signature in the list is that of an entry
 signed_entry : (done : List Content) (d : Dep) → HasSignature done d
     → Any (IsSignatureOf d) (map entry_of done)
 signed_entry done d (c, there, same) =
@@ -96,7 +96,7 @@ more_signed : (done : List Content) (r : Content) (d : Dep) → HasSignature don
     → HasSignature (done ++ r ∷ []) d
 more_signed done r d (c, there, same) = (c, Contains-append_left done (r ∷ []) c there, same)
 
--- the package fits, and stands on these
+-- Whether the package fits the tree and depends only on these packages.
 abbrev MayCome : Tree → List Content → Content → Type 0
 MayCome tree done r = Fits tree r.path r.name r.built r.run × All (HasSignature done) r.built
 
@@ -126,7 +126,7 @@ extend tree done (r ∷ rs) ok one each =
           q.built its.1,
     )))
 
--- So an audit of what stands in allowed entries says yes.
+-- So an audit accepts a list of allowed entries.
 pub audit_says_yes : (division : Division) → IsDivision division → (list : List (Entry Value))
     → IsAllowed (may_build division) list
     → All (λ n. n.path < length division.units) list → AllPairs ◌≢◌ (paths_of (packages_of list))

@@ -1,4 +1,4 @@
--- What a member builds for its open claim may be built on what it holds.
+-- What a member builds for its open claim is allowed on what the member holds.
 use Rattle.std.proofs.Common.{◌≡◌, ◌<◌, ◌&&◌, ℕ, zero, suc, Bool, true, false, List, [], ◌∷◌, length, map, Option, None, Some, find, option_and_then, slice_get, eqb, eqb-true, refl, sym, ap, subst, ◌∙◌, arith}
 use Rattle.std.specs.Prelude.{All, Contains, is_some}
 use Rattle.std.specs.List.{list_all}
@@ -40,7 +40,7 @@ use Rattle.world.proofs.Monotone.{needs_are_monotone}
 use Rattle.world.proofs.Recorded.{are_records, has_record, record_told}
 use Rattle.world.proofs.Speaking.{passes}
 
--- what passes is found
+-- if an element passes, one is found
 find_some : {X : Type 0} (t : X → Bool) (xs : List X) (x : X) → Contains xs x → t x ≡ true → (y : X)
     × (find t xs ≡ Some y)
 find_some t [] x (k, within, e) on = absurd (omega arith)
@@ -82,7 +82,7 @@ entry_allowed may (n ∷ ns) u v allowed e =
     value_is : (a b : Value) → Some a ≡ Some b → a ≡ b
     value_is a b e = cc
 
--- one signature twice
+-- equal signatures pass the test
 signed_alike : (a b : Dep) → a ≡ b → same_signature a b ≡ true
 signed_alike a b e =
     and_from (bytes_eq a.path b.path && bytes_eq a.name b.name) (bytes_eq a.digest b.digest)
@@ -96,7 +96,7 @@ module _ (division : Division) (weights : List ℕ) (acts : List (Act Value)) (w
     (of : (w.division ≡ division) × (w.weights ≡ weights)) (local : AreLocal w)
     (m : Matches w (after_all_acts division weights acts))
     (k : ℕ) (x : WorldNode) (stands : slice_get w.nodes k ≡ Some x) where
-  -- what the acts leave
+  -- the cluster after the acts
   abbrev here : Cluster Value
   here = after_all_acts division weights acts
 
@@ -106,13 +106,13 @@ module _ (division : Division) (weights : List ℕ) (acts : List (Act Value)) (w
   its_made : IsMade w.division w.weights
   its_made = made_here division weights acts w made of local m
 
-  -- what the node holds of a unit, its member holds
+  -- what the node holds of a unit, its member in the theory holds
   held_there : (q : ℕ) (v : Value) → (facts_at s q).held ≡ Some v → held_by here k q ≡ Some v
   held_there q v e = ap (λ (z : Member Value). z.held)
       (m.members k q x stands (held_within division weights acts w made of m local k q x v stands
       e)) ∙ e
 
-  -- it has the records of the unit's packages
+  -- what is held has the records of the unit's packages
   pub held_records : (q : ℕ) (v : Value) → (facts_at s q).held ≡ Some v
       → are_records_of w.division.tree (unit_at w.division q) (unit_at w.division q).packages v ≡
       true
@@ -126,7 +126,7 @@ module _ (division : Division) (weights : List ℕ) (acts : List (Act Value)) (w
       subst (λ (d : Division). are_records_of d.tree (unit_at d q) (unit_at d q).packages v ≡ true)
       (sym of.0) (are_records division made.divided a.0 q v a.1)
 
-  -- so a package that it holds has a record there
+  -- so a package that the member holds has a record there
   pub has_its_record : (p : ℕ) → p < length w.division.tree → holds_package s p ≡ true
       → (r : Content) × (held_record s (path_at w.division.tree p) ≡ Some r)
   has_its_record p lt held = by (number_of w.division p) refl held
@@ -165,7 +165,7 @@ module _ (division : Division) (weights : List ℕ) (acts : List (Act Value)) (w
     abbrev job : Task
     job = job_of s u host c
 
-    -- the job signs all that the build needs
+    -- the job has the signatures of everything that the build needs
     signs_all : map (λ (d : Dep). d.path) (deps_of s u) ≡ set_of
         (map (path_at w.division.tree) (unit_at w.division u).build)
     signs_all = jobs_have_all s u (λ i d lt.
@@ -186,7 +186,7 @@ module _ (division : Division) (weights : List ℕ) (acts : List (Act Value)) (w
         (record { path = refl; name = refl; built = signs_all; run = refl }))
         (recorded ps)
 
-    -- each is signed by what is held
+    -- each signature is that of a held package
     is_signed_there : (d : Dep) (r : Content) → held_record s d.path ≡ Some r → d ≡ signature r
         → is_signed (option_and_then (held_by here k) (unit_with w.division d.path)) d ≡ true
     is_signed_there d r e same = by (unit_with w.division d.path) e
@@ -221,7 +221,7 @@ module _ (division : Division) (weights : List ℕ) (acts : List (Act Value)) (w
         is_signed_there d b.0 b.1 b.2))
         (stand ps)
 
-    -- What is made by the job may be built.
+    -- What is made by the job is allowed.
     pub made_may_be_built : may_build division (held_by here k) u (build_by s u job given) ≡ true
     made_may_be_built = subst (λ (d : Division). may_build d (held_by here k) u
         (build_by s u job given) ≡ true) of.0

@@ -1,5 +1,5 @@
--- Each package of the list was built by an event: under a claim for its unit, on packages that
--- stood in the list.
+-- Each package of the list was built by an event: under a claim for its unit, on packages that were
+-- in the list.
 use Rattle.std.proofs.Common.{◌≡◌, ◌<◌, ℕ, suc, List, [], ◌∷◌, length, None, Some, eqb, eqb-true, sym, ap, subst, arith}
 use Rattle.std.specs.Prelude.{All, Contains}
 use Rattle.std.proofs.lemmas.Bool.{cond_both}
@@ -27,7 +27,7 @@ use Rattle.world.proofs.Monotone.{needs_are_monotone}
 use Rattle.world.proofs.Said.{has_preimage}
 use Rattle.world.proofs.Walking.{WasMade, built_was_made, mirrors_lead}
 
--- an entry's unit is one
+-- each entry is for a unit of the division
 pub entry_within : (n : ℕ) (list : List (Entry Value)) (u : ℕ) (v : Value)
     → All (λ e. e.path < n) list → lookup list u ≡ Some v → u < n
 entry_within n [] u v units e = absurd (let no : None ≡ Some v = e in cc)
@@ -37,14 +37,14 @@ entry_within n (x ∷ xs) u v units e =
     (λ other h. entry_within n xs u v (λ k d lt. units (suc k) d (omega (arith, lt))) h) e
 
 module _ (division : Division) (weights : List ℕ) (made : IsMade division weights) where
-  -- the world of a run is one of this tree
+  -- a run's world has this division and these weights
   pub of_run : (events : List Event) (w : World) (acts : List (Act Value))
       → Mirrors division weights events w acts → (w.division ≡ division) × (w.weights ≡ weights)
   of_run events w acts mirrors =
       let later = leads_later (start division weights) w events
       (mirrors_lead division weights events w acts mirrors) in (later.division, later.weights)
 
-  -- a record of what was made was built
+  -- a record of a build that was made was built by an event
   record_built : (events : List Event) (u : ℕ) (build : Value)
       (was : WasMade division weights events u build) → u < length division.units → (r : Content)
       → Contains build r
@@ -102,7 +102,7 @@ module _ (division : Division) (weights : List ℕ) (made : IsMade division weig
           was.makes.files)
           (unit_at was.world.division u).packages r (subst (λ b. Contains b r) was.makes.build_is h)
 
-  -- So each package of the list was.
+  -- So each package of the list was built by an event.
   pub list_was_built : (events : List Event) (w : World) (acts : List (Act Value))
       → Mirrors division weights events w acts
       → Matches w (after_all_acts division weights acts)

@@ -1,4 +1,4 @@
--- What a node's step refuses, notes and sends, and what a refusal leaves.
+-- What a node's step refuses, notes and sends, and the effect of a refusal.
 use Rattle.std.proofs.Common.{◌≡◌, false, List, Option, None, Some, Result, Ok, Err, refl, sym, subst}
 use Rattle.member.specs.Prepared.{Prepared}
 use Rattle.node.specs.Arrival.{Arrival, Strange, Waits, Whole, arrival_of}
@@ -18,7 +18,7 @@ use Rattle.wire.specs.declared.datagram.Piece.{Piece}
 
 -- ---- what a step refuses
 
--- A step never wants memory, nor does it ask the log.
+-- A step never runs out of memory, and never asks the log.
 abbrev pub IsByStep : Result Taken NodeFault → Type 0
 IsByStep (Ok t) = Prim.Unit {0}
 IsByStep (Err fault.Memory) = ⊥
@@ -47,15 +47,15 @@ stepped n letter (Does input) runs = rw runs
 stepped n letter (Comes text) runs = rw runs
     (arrived_by_step n.member (arrival_of n.member n.pieces (datagram_of text)))
 
--- So it is with what a node that runs refuses.
+-- This holds for everything that a running node refuses.
 pub by_step : (n : NodeState) (asked : Asked) (f : NodeFault) → n.stopped ≡ false
     → Takes n asked (Err f) → IsByStep (Err f)
 by_step n asked f runs takes =
     subst IsByStep (sym takes.right_is) (stepped n takes.letter asked runs)
 
--- ---- what a refusal leaves
+-- ---- the effect of a refusal
 
--- a refusal leaves the member
+-- a refusal leaves the member unchanged
 pub member_left : (n : NodeState) (asked : Asked) (f : NodeFault)
     → (left_by n asked f).member ≡ n.member
 member_left n asked fault.Memory = refl
@@ -69,7 +69,7 @@ member_left n asked (fault.Log log.OtherCluster) = refl
 member_left n asked fault.Stopped = refl
 member_left n asked (fault.Foreign f) = refl
 
--- and its notes
+-- a refusal leaves the notes unchanged
 pub notes_left : (n : NodeState) (asked : Asked) (f : NodeFault)
     → (left_by n asked f).notes ≡ n.notes
 notes_left n asked fault.Memory = refl

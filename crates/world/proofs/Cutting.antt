@@ -1,5 +1,5 @@
--- A stop inside an input's step that leaves its whole note is such a stop of the member; and a
--- claim that fails is dropped there.
+-- A stop inside an input's step that leaves its whole note is the same stop of the member; and a
+-- claim whose build failed is dropped there.
 use Rattle.std.proofs.Common.{◌≡◌, ℕ, true, List, [], Option, Some, None, sym, ap, subst, ◌∙◌}
 use Rattle.agreement.specs.AgreedList.{Act, Cluster}
 use Rattle.agreement.specs.Nodes as nodes
@@ -32,7 +32,7 @@ module _ (division : Division) (weights : List ℕ) (acts : List (Act Value)) (w
     (made : IsMade division weights)
     (of : (w.division ≡ division) × (w.weights ≡ weights)) (local : AreLocal w)
     (m : Matches w (after_all_acts division weights acts)) where
-  -- what the acts leave
+  -- the cluster after the acts
   abbrev here : Cluster Value
   here = after_all_acts division weights acts
 
@@ -40,7 +40,7 @@ module _ (division : Division) (weights : List ℕ) (acts : List (Act Value)) (w
   made_here = subst (λ (d : Division). IsMade d w.weights) (sym of.0)
       (subst (IsMade division) (sym of.1) made)
 
-  -- the answer, as the theory's member with this list of weights gives it at the unit
+  -- the answer of the theory's member for the unit, with these weights
   pub answered : (k : ℕ) (x : WorldNode) (u : ℕ) (input : theory.Input Value) (o : Outcome Value)
       → x.up ≡ true
       → theory.answer (is_majority w.weights) k (view (member_at w k x) u) [] input ≡ Some o
@@ -78,7 +78,7 @@ module _ (division : Division) (weights : List ℕ) (acts : List (Act Value)) (w
       act : Act Value
       act = record { path = i.answers.unit; event = StopIn (events.node_of e) i.answers.asks }
 
-  -- what is asked of a unit
+  -- what is asked for a unit
   pub asks_for : (o : Option ℕ) (f : ℕ → theory.Input Value) (u : ℕ) (input : theory.Input Value)
       → for_unit o f ≡ Some (u, input) → f u ≡ input
   asks_for None f u input e = absurd (let wrong : None ≡ Some (u, input) = e in cc)

@@ -1,4 +1,4 @@
--- What is decided in a step is decided in the agreements, so that the lists stay one.
+-- What a step decides is also decided in the agreements, so the lists stay equal.
 use Rattle.std.proofs.Common.{◌≡◌, ◌<◌, ◌==◌, ℕ, zero, suc, Bool, true, false, cond, List, [], ◌∷◌, ◌++◌, length, map, Option, None, Some, refl, sym, ap, subst, ◌∙◌, ⊎_elim, inl, inr, arith, eq-eqb}
 use Rattle.std.specs.Prelude.{All, Contains}
 use Rattle.std.specs.List.{list_any}
@@ -40,8 +40,7 @@ use Rattle.world.proofs.Safe.{majority_within, voted_there}
 
 -- ---- lists of entries
 
--- a package of the entries is one of a build that was allowed for another unit, where there is none
--- for this one
+-- if a unit has no entry, a package of the entries is of a build that was allowed for another unit
 record IsOfAnother (division : Division) (u : ℕ) (r : Content) : Type 0 where
   unit : ℕ
   listed : unit < length division.units
@@ -78,7 +77,7 @@ of_another division (e ∷ es) u allowed units none r h =
         (cond-true (e.path == u) (Some e.value) (lookup es u) is) ∙ none in cc)
     other_first false is none = (is, sym (ap (λ b. cond b (Some e.value) (lookup es u)) is) ∙ none)
 
--- what stands in the list has its path there
+-- a package in the list has its path there
 path_there : (list : List Content) (r : Content) → Contains list r → has_path list r.path ≡ true
 path_there list r h = has_path_of list r.path (image list r h)
   where
@@ -89,14 +88,14 @@ path_there list r h = has_path_of list r.path (image list r h)
     image (x ∷ xs) r (suc k, within, at) = let i =
         image xs r (k, omega (arith, within), at) in (suc i.0, omega (arith, i.1), i.2)
 
--- and the other way round
+-- conversely, a path in the list has a package there
 there_by_path : (list : List Content) (path : Text) → has_path list path ≡ true → (r : Content)
     × Contains list r × (r.path ≡ path)
 there_by_path list path e =
     let a = Any-from_list_any (λ (r : Content). bytes_eq r.path path) list e in
     (a.1, (a.0, a.2, a.3), same_bytes (a.1).path path a.4)
 
--- a build has a record
+-- a build has at least one record
 some_record : (build : Value) → AreAlike build → (r : Content) × Contains build r
 some_record [] are = absurd are
 some_record (r ∷ rs) are = (r, (zero, omega arith, refl))
@@ -119,22 +118,22 @@ module _ (division : Division) (weights : List ℕ) (acts more : List (Act Value
     (lookup (after_all_acts division weights acts).list u)
     (decided_value (is_majority weights) ((after_all_acts division weights more).at u).sent
     ((after_all_acts division weights more).at u).sent)) where
-  -- what the acts leave, before and after
+  -- the clusters after the acts, before and after the step
   abbrev old : Cluster Value
   old = after_all_acts division weights acts
 
   abbrev new : Cluster Value
   new = after_all_acts division weights more
 
-  -- the world after
+  -- the world after the step
   abbrev v : World
   v = record w { nodes = nodes; sent = sent; agreed = packages }
 
-  -- who voted for a claim then, in the agreement
+  -- the members that voted for a claim, in the agreement
   abbrev votes_in : Cluster Value → ℕ → Claim → ℕ → Bool
   votes_in c q b = theory.voters (c.at q).sent b
 
-  -- who voted there sent the vote
+  -- a member that voted there sent its vote
   vote_went_out : (q : ℕ) (b : Claim) (k : ℕ) → q < length w.division.units
       → votes_in new q b k ≡ true → voters w sent (name_of w q) b k ≡ true
   vote_went_out q b k lt e = (after.votes q k b lt (vote_sent (new.at q).sent b k e)).went_out
@@ -143,16 +142,16 @@ module _ (division : Division) (weights : List ℕ) (acts more : List (Act Value
       → votes_in old q b k ≡ true → voters w w.sent (name_of w q) b k ≡ true
   vote_had_gone_out q b k lt e = (m.votes q k b lt (vote_sent (old.at q).sent b k e)).went_out
 
-  -- majorities, by weights of this world and of the acts
+  -- majorities by the weights of this world and of the acts are the same
   enough_here : (S : ℕ → Bool) → is_majority w.weights S ≡ true → is_majority weights S ≡ true
   enough_here S e = subst (λ ws. is_majority ws S ≡ true) of.1 e
 
   enough_there : (S : ℕ → Bool) → is_majority weights S ≡ true → is_majority w.weights S ≡ true
   enough_there S e = subst (λ ws. is_majority ws S ≡ true) (sym of.1) e
 
-  -- ---- nothing is decided
+  -- ---- if nothing is decided
 
-  -- where votes are enough, something is agreed
+  -- if the votes are enough, something is agreed
   was_agreed : (q : ℕ) (b : Claim) → is_majority weights (votes_in old q b) ≡ true → (a : Value)
       × IsAgreed (is_majority weights) (old.at q) (ballot b a)
   was_agreed q b e =
@@ -166,8 +165,7 @@ module _ (division : Division) (weights : List ℕ) (acts more : List (Act Value
         ),
       )
 
-  -- so where nothing is agreed before, and something is proposed and voted for then, it is decided
-  -- now
+  -- so if nothing was agreed before, and a proposal has enough votes now, it is decided now
   decided_now : lookup old.list u ≡ None → (b : Ballot Value)
       → is_majority weights (votes_in new u b.claim) ≡ true
       → Has (new.at u).sent (messages.Propose b)
@@ -191,7 +189,7 @@ module _ (division : Division) (weights : List ℕ) (acts more : List (Act Value
             value (ballot b.claim a.0) a.1);
       }
 
-  -- where nothing is decided now, the entries stay
+  -- if nothing is decided now, the entries stay the same
   entries_stay : ((name : Text) (c : Claim) → IsDecided w sent name c → ⊥) → new.list ≡ old.list
   entries_stay none = goes_on ∙ by (lookup old.list u) refl
       (decided_value (is_majority weights) (new.at u).sent (new.at u).sent) refl
@@ -206,17 +204,17 @@ module _ (division : Division) (weights : List ℕ) (acts more : List (Act Value
           (new.at u).sent (new.at u).sent a e in
           absurd (none (name_of w u) (f.0).claim (decided_now is f.0 (f.1).0 (f.1).1))
 
-  -- ---- something is decided
+  -- ---- if something is decided
 
   module _ (build : Value) (d : IsDecidedFor w sent build) where
-    -- the proposal, and that it was said
+    -- the proposal, which was said
     abbrev proposal : Message Value
     proposal = message w d.name d.proposed.0 (Propose d.claim build)
 
     was : WasSaid v new proposal
     was = sent_was_said division weights more v made of after again proposal d.proposed.1
 
-    -- who voted for its claim
+    -- the members that voted for its claim
     voted_now : (k : ℕ) → k < length weights → voters w sent d.name d.claim k ≡ true
         → votes_in new was.unit d.claim k ≡ true
     voted_now k lt e = voted_there division weights more v made of after again was.unit d.name
@@ -230,7 +228,7 @@ module _ (division : Division) (weights : List ℕ) (acts more : List (Act Value
       was.said_there,
     )
 
-    -- at this unit: what was sent at the others was sent before
+    -- it is this step's unit: at other units everything sent had been sent before
     at_this : was.unit ≡ u
     at_this = ⊎_elim (λ same. same)
         (λ other. absurd (true≢false (sym (enough_there (voters w w.sent d.name d.claim)
@@ -252,11 +250,11 @@ module _ (division : Division) (weights : List ℕ) (acts more : List (Act Value
         by None none = absurd (none (ballot d.claim build) agreed_there)
         by (Some a) value = ap (λ x. Some x) (sym (value.1 (ballot d.claim build) agreed_there))
 
-    -- a package of it
+    -- some package of the build
     some : (r : Content) × Contains build r
     some = some_record build d.proposed.1.is_message.body.1.build_is.alike
 
-    -- where the unit had an entry before, it was this one, and the list stays
+    -- if the unit had an entry before, it was this one, and the list stays the same
     had_entry : (a : Value) → lookup old.list u ≡ Some a
         → with_build w.agreed build ≡ packages_of new.list
     had_entry a e =
@@ -277,7 +275,7 @@ module _ (division : Division) (weights : List ℕ) (acts more : List (Act Value
         cond-true (list_any (λ r. has_path w.agreed r.path) build) w.agreed (w.agreed ++ build)
         known ∙ m.list ∙ ap packages_of (sym stays)
 
-    -- and where it had none, its packages are new
+    -- if it had none, its packages are new
     had_none : lookup old.list u ≡ None → with_build w.agreed build ≡ packages_of new.list
     had_none none = by (decided_value (is_majority weights) (new.at u).sent (new.at u).sent) refl
       where

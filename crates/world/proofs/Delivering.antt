@@ -1,4 +1,4 @@
--- A stop inside a step is one of the member, whatever the step was.
+-- A stop inside any step is a stop of the member.
 use Rattle.std.proofs.Common.{◌≡◌, ◌⊎◌, ℕ, zero, suc, true, false, List, [], ◌∷◌, Some, Result, Ok, Err, option_map, slice_get, sym, ap, subst, ◌∙◌, inl, inr}
 use Rattle.agreement.specs.AgreedList.{Act, Cluster}
 use Rattle.agreement.specs.Nodes as nodes
@@ -49,7 +49,7 @@ use Rattle.world.proofs.Members.{node_is_member}
 use Rattle.world.proofs.Stopping.{cut_is_act, goes_down, one_more, values_there}
 use Rattle.world.proofs.StoppingInside.{cut_matches}
 
--- what is among the messages stands somewhere
+-- a message among those sent has an index
 has_place : {X : Type 0} (xs : List X) (x : X) → Has xs x → (k : ℕ) × (slice_get xs k ≡ Some x)
 has_place [] x h = absurd h
 has_place (y ∷ ys) x (inl e) = (zero, ap (λ z. Some z) e)
@@ -62,7 +62,7 @@ stop_in k input = StopIn k input
 abbrev takes : ℕ → theory.Input Value → theory_world.Event Value
 takes k input = Take k input
 
--- a stop inside a step builds nothing, and nor does a delivery
+-- neither a stop inside a step nor a delivery builds anything
 no_build_in_stop : (k j : ℕ) (input : theory.Input Value) (b : Value)
     → stop_in k input ≡ takes j (theory.Built b) → ⊥
 no_build_in_stop k j input b e = cc
@@ -71,7 +71,7 @@ pub no_build_in_delivery : (k j i : ℕ) (b : Value)
     → takes k (theory.Deliver i) ≡ takes j (theory.Built b) → ⊥
 no_build_in_delivery k j i b e = cc
 
--- a step that is taken on a message is what the member answers
+-- a step taken on a message is the member's answer
 pub heard_is : (pieces : List Piece) (r : Result Answer Refusal) (t : Taken) → ok t ≡ heard pieces r
     → r ≡ answers_with t.answer
 heard_is pieces (Ok a) t e = ap (λ (z : Taken). answers_with z.answer)
@@ -83,7 +83,7 @@ module _ (division : Division) (weights : List ℕ) (acts : List (Act Value)) (w
     (of : (w.division ≡ division) × (w.weights ≡ weights)) (local : AreLocal w)
     (m : Matches w (after_all_acts division weights acts))
     (again : BuildTextIsReadAgain) where
-  -- what the acts leave
+  -- the cluster after the acts
   abbrev here : Cluster Value
   here = after_all_acts division weights acts
 
@@ -92,7 +92,8 @@ module _ (division : Division) (weights : List ℕ) (acts : List (Act Value)) (w
     abbrev s : State
     s = member_at w k x
 
-    -- Nothing was done, but for the pieces, or the member answered a message that was sent.
+    -- Nothing was done, except that pieces were kept; or the member answered a message that was
+    -- sent.
     abbrev IsAnswered : Type 0
     IsAnswered = (t.answer ≡ nothing s)
         ⊎ ((n : Message Value) × WasSent w.sent n × (members.heard s n ≡ answers_with t.answer))
@@ -105,7 +106,7 @@ module _ (division : Division) (weights : List ℕ) (acts : List (Act Value)) (w
     by_arrival (Whole n pieces) is_sent e =
         inr (n, is_sent, heard_is pieces (members.heard s n) t e)
 
-    -- a message that was answered is one that comes to the member
+    -- a message that was answered is received by the member in the theory
     module _ (n : Message Value) (is_sent : WasSent w.sent n)
         (e : members.heard s n ≡ answers_with t.answer) where
       pub theirs : AnswersMessage s n t.answer
@@ -140,7 +141,7 @@ module _ (division : Division) (weights : List ℕ) (acts : List (Act Value)) (w
       abbrev act : Act Value
       act = record { path = theirs.unit; event = StopIn k (theory.Deliver place.0) }
 
-      -- so a stop inside that step is one of the member
+      -- so a stop inside that step is a stop of the member
       pub message_cut : (e : Event) (v : World)
           → v ≡ with_node w k (down_node (with_note x.notes t.answer.note) [])
           → IsOneActMore division weights acts w e v
@@ -158,7 +159,7 @@ module _ (division : Division) (weights : List ℕ) (acts : List (Act Value)) (w
             (outcome_of s theirs.unit n.sender n.body) t.answer delivered theirs.is)),
       )
 
-    -- what came, and what it was
+    -- the stop, for either case of the delivery
     pub deliver_cut : (e : Event) (v : World) → IsAnswered
         → v ≡ with_node w k (down_node (with_note x.notes t.answer.note) [])
         → IsOneActMore division weights acts w e v

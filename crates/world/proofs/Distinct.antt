@@ -1,4 +1,4 @@
--- At most one package a path, and no datagram sent twice.
+-- The list has at most one package for each path, and no datagram is listed twice among those sent.
 use Rattle.std.proofs.Common.{◌≡◌, ◌≢◌, ℕ, zero, suc, true, false, List, [], ◌∷◌, ◌++◌, refl, sym, ap, subst, ◌∙◌, arith, inl, inr, true≢false}
 use Rattle.std.specs.Prelude.{All, AllPairs, Contains}
 use Rattle.std.specs.List.{list_any}
@@ -27,7 +27,7 @@ use Rattle.world.specs.World.{World, start}
 use Rattle.world.proofs.Growing.{by_kind, each_moment, kept_on}
 use Rattle.world.proofs.Sending.{sends_once}
 
--- ---- lists whose elements differ
+-- ---- lists of distinct elements
 
 pairs_append : {X : Type 0} (R : X → X → Type 0) (xs ys : List X) → AllPairs R xs → AllPairs R ys
     → ((x : X) → Contains xs x → All (R x) ys) → AllPairs R (xs ++ ys)
@@ -39,7 +39,7 @@ pairs_append {X} R (x ∷ xs) ys first then across =
     (pairs_append R xs ys (λ i j d lt within. first (suc i) (suc j) d (omega (arith, lt))
     (omega (arith, within))) then (λ y m. across y (suc m.0, omega (arith, m.1), m.2)))
 
--- the paths of a build differ
+-- the paths of a build are distinct
 pub build_paths_differ : (name : Text) (build : Value) → IsBuildOf name build
     → AllPairs ◌≢◌ (paths_of build)
 build_paths_differ name build is = differ text_cmp nat_list_cmp_total (paths_of build)
@@ -50,7 +50,7 @@ pub proposed_is_build : (w : World) (sent : List Text) (name : Text) (c : _) (bu
     → WasProposed w sent name c build → IsBuildOf name build
 proposed_is_build w sent name c build p = p.1.is_message.body.1
 
--- ---- one package a path
+-- ---- one package for each path
 
 -- a path of the list is found there
 pub has_path_of : (list : List Content) (path : Text) → Contains (paths_of list) path
@@ -61,7 +61,7 @@ has_path_of (r ∷ rs) path (zero, within, e) =
 has_path_of (r ∷ rs) path (suc k, within, e) = or_right (bytes_eq r.path path) (has_path rs path)
     (has_path_of rs path (k, omega (arith, within), e))
 
--- no path of the list is that of a package that is added
+-- no path in the list is that of an added package
 paths_apart : (list : List Content) (build : Value)
     → list_any (λ r. has_path list r.path) build ≡ false
     → (path : Text) → Contains (paths_of list) path → All (λ other. path ≢ other) (paths_of build)
@@ -73,7 +73,7 @@ paths_apart list (r ∷ rs) none path m =
     ∙ parts.0))
     (paths_apart list rs parts.1 path m)
 
--- so each path has one package at most
+-- so each path has at most one package
 list_one : (w : World) (after : List Text) (list : List Content) → IsListAfter w after list
     → HasOneAPath w
     → AllPairs ◌≢◌ (paths_of list)
@@ -96,7 +96,8 @@ one_kept = by_kind (λ w v. HasOneAPath w → HasOneAPath v)
     (λ w v n s one. subst (λ l. AllPairs ◌≢◌ (paths_of l)) (sym (ap (λ u. u.agreed) s.leaves)) one)
     (λ w v n s one. subst (λ l. AllPairs ◌≢◌ (paths_of l)) (sym (ap (λ u. u.agreed) s.leaves)) one)
 
--- The list of a world that is reached has at most one package a path, and so it is at each moment.
+-- The list of a reachable world has at most one package for each path, and so it has at every
+-- point.
 pub one_there : (division : Division) (weights : List ℕ) (events : List Event) (w : World)
     → Leads (start division weights) events w → HasOneAPath w
 one_there division weights events w led =
@@ -120,7 +121,7 @@ sent_once_kept = by_kind (λ w v. AllPairs ◌≢◌ w.sent → AllPairs ◌≢�
     (λ w v n s once. subst (AllPairs ◌≢◌) (sym (ap (λ u. u.sent) s.leaves)) once)
     (λ w v n s once. subst (AllPairs ◌≢◌) (sym (ap (λ u. u.sent) s.leaves)) once)
 
--- No datagram is among the sent ones twice.
+-- No datagram is listed twice among those sent.
 pub nothing_sent_twice : (division : Division) (weights : List ℕ) (events : List Event) (w : World)
     → Leads (start division weights) events w → AllPairs ◌≢◌ w.sent
 nothing_sent_twice division weights events w led =

@@ -1,5 +1,5 @@
--- A step of a node is a step of its member: an act after which the world matches, and some list
--- stands.
+-- A step of a node is a step of its member: an act after which the world matches, and after which
+-- some list follows.
 use Rattle.std.proofs.Common.{◌≡◌, ◌<◌, ℕ, true, List, [], length, Some, slice_set, sym, ap, subst, ◌∙◌}
 use Rattle.std.specs.Prelude.{All}
 use Rattle.std.proofs.lemmas.List.Elements.{All-weaker}
@@ -44,13 +44,13 @@ use Rattle.world.proofs.Standing.{IsLeftAs, sent_here, sent_there}
 use Rattle.world.proofs.Stepping.{is_as_before, left_so, takes}
 use Rattle.world.proofs.Stopping.{one_more}
 
--- The event's node takes this step, whichever list stands then.
+-- The event's node takes this step, whichever list follows.
 pub record Acted (w : World) (e : Event) : Type 0 where
   pub node : WorldNode
   pub taken : Taken
   pub acts : Acts w e node taken
 
--- as it does where it is taken
+-- a step that is taken has been acted
 abbrev pub acted : (w v : World) (e : Event) → Steps w e v → Acted w e
 acted w v e s = record { node = s.node; taken = s.taken; acts = s.acts }
 
@@ -59,11 +59,11 @@ module _ (division : Division) (weights : List ℕ) (acts : List (Act Value)) (w
     (of : (w.division ≡ division) × (w.weights ≡ weights)) (local : AreLocal w)
     (m : Matches w (after_all_acts division weights acts))
     (again : BuildTextIsReadAgain) (e : Event) (s : Acted w e) where
-  -- what the acts leave
+  -- the cluster after the acts
   abbrev here : Cluster Value
   here = after_all_acts division weights acts
 
-  -- the node, before and then, and the member that it is
+  -- the node before and after, and its member
   abbrev k : ℕ
   k = whose e
 
@@ -76,8 +76,7 @@ module _ (division : Division) (weights : List ℕ) (acts : List (Act Value)) (w
   abbrev member : State
   member = member_at w k x
 
-  -- What the step is for a unit, in the theory. What it says can be written down, and names
-  -- members.
+  -- The step for a unit, in the theory. What it says can be encoded, and names members.
   pub record IsDone : Type 0 where
     pub unit : ℕ
     pub within : unit < length w.division.units
@@ -90,8 +89,8 @@ module _ (division : Division) (weights : List ℕ) (acts : List (Act Value)) (w
     pub written : All (λ (z : Send). IsMessage z.message) s.taken.answer.sends
     pub names : IsNaming (length w.weights) k outcome
 
-  -- It is an act there: what is built may be built, and the node is, for the other units, what the
-  -- act leaves of its member.
+  -- The step is an act there: what is built is allowed, and for the other units the node is what
+  -- the act leaves of its member.
   pub record IsAct : Type 0 where
     pub done : IsDone
     pub allowed : may_happen (may_build division) here done.unit (Take k done.input) ≡ true
@@ -121,7 +120,7 @@ module _ (division : Division) (weights : List ℕ) (acts : List (Act Value)) (w
     taken = takes (is_majority weights) w its_made here m k x s.acts.is_up.stands s.acts.is_up.up
         d.unit d.within d.input d.outcome s.taken d.answered d.is
 
-    -- so the act is its event
+    -- so the act has the effect of its event
     same : new ≡ stepped
     same = one_more division weights acts w m act
         ∙ act_is Value (is_majority weights) (may_build division) here d.unit (Take k d.input)
@@ -131,7 +130,7 @@ module _ (division : Division) (weights : List ℕ) (acts : List (Act Value)) (w
     left = left_so (is_majority weights) w its_made here m k x s.acts.is_up.stands s.acts.is_up.up
         d.unit d.within d.input d.outcome s.taken d.answered d.is a.there
 
-    -- the claims in what goes out are of members
+    -- the claims in what is sent are of members
     claimers : All (λ (z : Send). All (λ k. k < length w.weights) (members_of z.message.body))
         s.taken.answer.sends
     claimers = All-weaker (λ (z : Send). Says member d.unit d.outcome.send z.message)
@@ -143,7 +142,7 @@ module _ (division : Division) (weights : List ℕ) (acts : List (Act Value)) (w
     own : (b : Ballot Value) → d.outcome.send ≡ Some (messages.Propose b) → b.claim.member ≡ k
     own b is = d.names.send (messages.Propose b) is
 
-    -- the world then, if its list is that of the agreements
+    -- the world after the step, if its list is that of the agreements
     abbrev sent : List Text
     sent = with_sends w.sent s.taken.answer.sends
 
@@ -184,14 +183,14 @@ module _ (division : Division) (weights : List ℕ) (acts : List (Act Value)) (w
         ∙ ap (λ l. list_with d.unit here.list (lookup here.list d.unit)
         (decided_value (is_majority weights) l l)) sent_then
 
-    -- some list stands after the step,
+    -- some list follows after the step
     pub has_list : (list : List Content) × IsListAfter w sent list
     has_list =
         some_list division weights acts (with_act acts (Some act)) w made of m
         (slice_set w.nodes k then) sent (packages_of stepped.list) matches_then
         d.unit d.within others d.outcome.send said_then
 
-    -- and each that may is that of the agreements
+    -- each list that may follow is that of the agreements
     pub lists : (list : List Content) → IsListAfter w sent list → list ≡ packages_of stepped.list
     lists list is =
         list_is division weights acts (with_act acts (Some act)) w made of m
@@ -199,7 +198,7 @@ module _ (division : Division) (weights : List ℕ) (acts : List (Act Value)) (w
         d.unit d.within others goes_on list is
         ∙ ap (λ (c : Cluster Value). packages_of c.list) same
 
-  -- what a step is for the other units, if it opens no claim
+  -- the effect of a step on the other units, if it opens no claim
   pub no_other : (d : IsDone) → elsewhere (Take k d.input) ≡ []
       → ((nodes.view (node_of w k x) d.unit).stage ≡ Closed → d.outcome.member.stage ≡ Closed)
       → (q : ℕ) → (q ≡ d.unit → ⊥) → q < length w.division.units
@@ -212,7 +211,7 @@ module _ (division : Division) (weights : List ℕ) (acts : List (Act Value)) (w
       here m k x s.acts.is_up.stands s.acts.is_up.up
       d.unit d.within d.input d.outcome s.taken d.answered d.is closed q ne
 
--- So where the step is taken the event is one act more, and no other list may stand.
+-- So if the step is taken, the event is one more act, and no other list may follow.
 module _ (division : Division) (weights : List ℕ) (acts : List (Act Value)) (w : World)
     (made : IsMade division weights)
     (of : (w.division ≡ division) × (w.weights ≡ weights)) (local : AreLocal w)

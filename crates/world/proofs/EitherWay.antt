@@ -1,4 +1,4 @@
--- Each event happens, or is refused.
+-- Each event happens or is refused.
 use Rattle.std.proofs.Common.{◌≡◌, ◌⊎◌, ℕ, Bool, true, false, not, ◌&&◌, nat_le, List, [], ◌∷◌, length, Option, None, Some, Result, Ok, Err, slice_get, slice_index_or, refl, sym, ap, subst, ◌∙◌, arith, inl, inr, ⊎_elim}
 use Rattle.std.proofs.lemmas.Bool.{cases_lt, leb-false, true≢false}
 use Rattle.faults.specs.Answers.{first_that_applies}
@@ -33,7 +33,7 @@ use Rattle.world.specs.declared.fault.WorldFault.TheVariants as fault
 
 -- ---- tests
 
--- what holds where no test of five applies
+-- what holds if none of five tests applies
 record NoneApplies (a b c d e : Bool) : Type 0 where
   first : a ≡ false
   second : b ≡ false
@@ -58,7 +58,7 @@ not_false : (b : Bool) → not b ≡ false → b ≡ true
 not_false true e = refl
 not_false false e = absurd (true≢false e)
 
--- a note has room, or not
+-- there is room for a note, or not
 full_or_not : (n : NodeState) (noted : Option (Note Value)) → IsFull n noted
     ⊎ (IsFull n noted → ⊥)
 full_or_not n None = inr (λ full. full)
@@ -125,7 +125,7 @@ module _ (w : World) (units : AreUnits w.division.tree w.division.units) where
   some_answer k x (Does (inputs.Message n)) =
       (_, record { letter = Q; shown = tt; right_is = refl })
 
-  -- what becomes of an event
+  -- the event happens or is refused
   abbrev Goes : Event → Type 0
   Goes e = ((v : World) × Happens w e v) ⊎ ((f : WorldFault) × IsRefused w e f)
 
@@ -283,7 +283,7 @@ module _ (w : World) (units : AreUnits w.division.tree w.division.units) where
 
   -- ---- any event
 
-  -- what is known where no test applies
+  -- what is known if no test applies
   passed : (e : Event) → fault_before w e ≡ None
       → NoneApplies (is_bad_stop e) (nat_le (length w.nodes) (events.node_of e))
       (not (is_restart e) && not (is_up w (events.node_of e)))
@@ -298,7 +298,7 @@ module _ (w : World) (units : AreUnits w.division.tree w.division.units) where
   its_node e none = get_some w.nodes (events.node_of e)
       (leb-false (length w.nodes) (events.node_of e) (passed e none).second)
 
-  -- a node of which an event is asked that is no restart is up
+  -- the node of an event that isn't a restart is up
   is_on : (e : Event) → is_restart e ≡ false → (none : fault_before w e ≡ None)
       → IsUp w e (its_node e none).0
   is_on e other none = record {
@@ -308,14 +308,14 @@ module _ (w : World) (units : AreUnits w.division.tree w.division.units) where
         (sym (ap (λ b. not b && not (is_up w (events.node_of e))) other) ∙ (passed e none).third);
   }
 
-  -- some list stands after each step
+  -- some list follows after each step
   abbrev HaveLists : Type 0
   HaveLists = (e : Event) → is_step e ≡ true → (x : WorldNode) (t : Taken) → Acts w e x t
       → (list : List Content) × IsListAfter w (with_sends w.sent t.answer.sends) list
 
   module _ (lists : HaveLists) (e : Event)
       (can : (asked : Asked) → Asks w e asked → IsAsked asked) where
-    -- a step, where no test applies
+    -- a step, if no test applies
     step_either : (is : is_step e ≡ true) → is_restart e ≡ false → leaves_note e ≡ true
         → (none : fault_before w e ≡ None)
         → ((v : World) × Steps w e v) ⊎ ((f : WorldFault) × IsRefused w e f)
@@ -367,7 +367,7 @@ module _ (w : World) (units : AreUnits w.division.tree w.division.units) where
           },
         )
 
-    -- Each event happens, or is refused.
+    -- Each event happens or is refused.
     pub either_way : (e : Event) → ((asked : Asked) → Asks w e asked → IsAsked asked) → Goes e
     either_way e can = by (fault_before w e) refl
       where

@@ -1,4 +1,4 @@
--- An event leaves one world at most, or is refused with one fault.
+-- An event leaves at most one world, or is refused with one fault.
 use Rattle.std.proofs.Common.{◌≡◌, ◌&&◌, ℕ, Bool, true, false, not, nat_le, List, [], ◌∷◌, length, None, Some, Result, Ok, Err, slice_get, refl, sym, ap, ap₂, subst, ◌∙◌, inl, inr, true≢false}
 use Rattle.std.proofs.lemmas.Bool.{lt-leb}
 use Rattle.faults.specs.Answers.{first_that_applies}
@@ -23,16 +23,16 @@ use Rattle.world.specs.declared.fault.WorldFault.TheVariants as fault
 use Rattle.world.proofs.Members.{get_within}
 use Rattle.world.proofs.Equal.{some_same}
 
--- what a node's step is, taken or refused
+-- a node's step that is taken
 abbrev steps_ok : Taken → Result Taken NodeFault
 steps_ok t = Ok t
 
 abbrev refuses_with : NodeFault → Result Taken NodeFault
 refuses_with f = Err f
 
--- ---- what a node is asked, and what it answers
+-- ---- what a node is asked, and its answer
 
--- an event asks one thing
+-- an event asks exactly one thing
 one_asked : (w : World) (e : Event) (a b : Asked) → Asks w e a → Asks w e b → a ≡ b
 one_asked w (events.Claim n path host above) a b x y = x ∙ sym y
 one_asked w (events.Built n path files) a b x y = x ∙ sym y
@@ -72,7 +72,7 @@ one_node : (w : World) (k : ℕ) (x y : WorldNode) → slice_get w.nodes k ≡ S
     → slice_get w.nodes k ≡ Some y → x ≡ y
 one_node w k x y a b = some_same x y (sym a ∙ b)
 
--- What a node that is asked takes, or why it refuses.
+-- What a node takes when it is asked, or why it refuses.
 record IsAnswer (w : World) (e : Event) (x : WorldNode) (r : Result Taken NodeFault) : Type 0 where
   stands : slice_get w.nodes (events.node_of e) ≡ Some x
   asked : Asked
@@ -83,7 +83,7 @@ acted : (w : World) (e : Event) (x : WorldNode) (t : Taken) → Acts w e x t →
 acted w e x t a =
     record { stands = a.is_up.stands; asked = a.asked; asks = a.asks; takes = a.takes }
 
--- it is one
+-- there is only one answer
 one_answered : (w : World) (e : Event) (x y : WorldNode) (r q : Result Taken NodeFault)
     → IsAnswer w e x r → IsAnswer w e y q → (x ≡ y) × (r ≡ q)
 one_answered w e x y r q a b =
@@ -96,7 +96,7 @@ one_answered w e x y r q a b =
 took_same : (a b : Taken) → steps_ok a ≡ steps_ok b → a ≡ b
 took_same a b e = cc
 
--- so two steps of an event are one
+-- so two steps of an event are equal
 one_act : (w : World) (e : Event) (x y : WorldNode) (t u : Taken) → Acts w e x t → Acts w e y u
     → (x ≡ y) × (t ≡ u)
 one_act w e x y t u a b =
@@ -105,7 +105,7 @@ one_act w e x y t u a b =
 
 -- ---- one world follows
 
--- two worlds that a step leaves are one, where only one list may stand after it
+-- two worlds after a step are equal, if only one list may follow
 pub one_step : (w a b : World) (e : Event) (s : Steps w e a) (q : Steps w e b)
     → ((list : List Content) → IsListAfter w (with_sends w.sent s.taken.answer.sends) list
     → list ≡ a.agreed) → a ≡ b
@@ -145,7 +145,7 @@ one_restart w a b n s q =
 
 -- ---- one answer
 
--- what the node refuses, it refuses with one fault
+-- the node refuses with only one fault
 refused : (w : World) (e : Event) (f : NodeFault) (r : NodeRefuses w e f)
     → IsAnswer w e r.node (Err f)
 refused w e f r =
@@ -177,12 +177,12 @@ one_refusal w e f g (inr (none, inr (full, is))) (inr (also, inr (again, was))) 
 
 -- ---- what happens is not refused
 
--- a node that stands there is one of them
+-- a node at an index is within the list
 within_nodes : (w : World) (k : ℕ) (x : WorldNode) → slice_get w.nodes k ≡ Some x
     → nat_le (length w.nodes) k ≡ false
 within_nodes w k x e = let lt = get_within w.nodes k x e in lt-leb (length w.nodes) k lt
 
--- where no test applies
+-- what is tested first, if no test applies
 no_test : (a b c d e : Bool) → a ≡ false → b ≡ false → c ≡ false → d ≡ false → e ≡ false
     → (x y z u v : WorldFault)
     → first_that_applies ((a, x) ∷ (b, y) ∷ (c, z) ∷ (d, u) ∷ (e, v) ∷ []) ≡ None
@@ -193,7 +193,7 @@ no_test a b c d e ea eb ec ed ee x y z u v =
     ∙ ap (λ t. first_that_applies ((t, u) ∷ (e, v) ∷ [])) ed
     ∙ ap (λ t. first_that_applies ((t, v) ∷ [])) ee
 
--- an event at a node that is up, which is no restart
+-- an event at a node that is up passes the tests if it isn't a restart
 up_passes : (w : World) (e : Event) (x : WorldNode) → IsUp w e x → is_bad_stop e ≡ false
     → is_restart e ≡ false → lacks_datagram w e ≡ false → fault_before w e ≡ None
 up_passes w e x up good none there =
@@ -229,7 +229,7 @@ step_passes : (w : World) (e : Event) (x : WorldNode) (t : Taken) → is_bad_sto
     → is_restart e ≡ false → Acts w e x t → fault_before w e ≡ None
 step_passes w e x t good none a = up_passes w e x a.is_up good none (sent_there w e a.asked a.asks)
 
--- what passes the tests and is taken is refused by no node
+-- an event that passes the tests and is taken is refused by no node
 not_by_node : (w : World) (e : Event) (x : WorldNode) (t : Taken) (f : WorldFault)
     → IsAnswer w e x (Ok t)
     → (leaves_note e ≡ true → IsFull (node_at w (events.node_of e) x) t.answer.note → ⊥)
@@ -320,7 +320,7 @@ happens_not_refused w v (events.Stop n) f h = stop_not_refused w v n f h
 happens_not_refused w v (events.StopIn e l) f h = cut_not_refused w v e l f h
 happens_not_refused w v (events.Restart n) f h = restart_not_refused w v n f h
 
--- One world follows, where only one list may stand after a step.
+-- One world follows, if only one list may follow a step.
 pub one_follows : (w a b : World) (e : Event)
     → ((v : World) → is_step e ≡ true → (s : Steps w e v) (list : List Content)
     → IsListAfter w (with_sends w.sent s.taken.answer.sends) list → list ≡ v.agreed)

@@ -1,4 +1,4 @@
--- No datagram that was sent is foreign to a node.
+-- No datagram that was sent is refused as foreign.
 use Rattle.std.proofs.Common.{◌≡◌, ◌<◌, ℕ, zero, suc, Bool, true, false, not, ◌&&◌, ◌⊎◌, nat_le, List, [], ◌∷◌, length, None, Some, is_none, Result, Ok, Err, nat_lt, slice_get, refl, sym, ap, subst, ◌∙◌, arith, inl, inr, ⊎_elim}
 use Rattle.std.specs.Prelude.{All, AllPairs, Contains}
 use Rattle.std.specs.List.{list_all}
@@ -57,9 +57,9 @@ use Rattle.world.proofs.Equal.{some_same}
 use Rattle.world.proofs.Headers.{carries, divided, ok, sent_was_said}
 use Rattle.world.proofs.Said.{has_preimage}
 
--- ---- headers that are no reason to refuse
+-- ---- headers that give no reason to refuse
 
--- numbers that are all below
+-- numbers that are all below the bound
 all_below : (n : ℕ) (ks : List ℕ) → All (λ k. k < n) ks → list_all (λ k. nat_lt k n) ks ≡ true
 all_below n [] are = refl
 all_below n (k ∷ ks) are =
@@ -67,7 +67,7 @@ all_below n (k ∷ ks) are =
     (lt-ltb k n (All-head (λ k. k < n) k ks are))
     (all_below n ks (All-tail (λ k. k < n) k ks are))
 
--- of tests that all fail, none applies
+-- if all tests fail, none applies
 none_applies : (a b c : Bool) (x y z : Refusal) → a ≡ false → b ≡ false → c ≡ false
     → first_that_applies ((a, x) ∷ (b, y) ∷ (c, z) ∷ []) ≡ None
 none_applies a b c x y z ea eb ec =
@@ -90,11 +90,11 @@ not_refused s tree named path u et en eu =
 
 -- ---- in a world that matches
 
--- The step is no refusal of what came.
+-- The step does not refuse the datagram as foreign.
 abbrev pub IsNoStranger : Result Taken NodeFault → Type 0
 IsNoStranger r = (f : Foreign) → r ≡ Err (fault.Foreign f) → ⊥
 
--- What came is not strange; and if it is a message, it was sent.
+-- The datagram is not foreign; and if it completes a message, that message was sent.
 abbrev pub IsWelcome : World → Arrival → Type 0
 IsWelcome w (Strange f pieces) = ⊥
 IsWelcome w (Waits pieces) = Unit {0}
@@ -135,7 +135,7 @@ module _ (division : Division) (weights : List ℕ) (acts : List (Act Value)) (w
             (at_unit refusals.Unlisted (λ u. Ok (hears s u n.sender n.body)) u)) (named_there n a),
       )
 
-  -- the claims before the build are those of the message
+  -- the claims in the carrier are those of the message
   same_members : (c : Carrier) (v : Value) → members_of (body_with c v) ≡ members_in c
   same_members (carriers.Promise c d) v = refl
   same_members (carriers.Propose c) v = refl
@@ -159,14 +159,14 @@ module _ (division : Division) (weights : List ℕ) (acts : List (Act Value)) (w
       (All-cons (λ k. k < length w.weights) c.message.sender (members_in b.carrier) a.sender
       claimers) (named_there c.message a))
 
-  -- so what is welcome is answered
+  -- so a welcome datagram is answered
   pub welcome_step : (a : Arrival) → IsWelcome w a → IsNoStranger (step_on s a)
   welcome_step (Strange f pieces) welcome = absurd welcome
   welcome_step (Waits pieces) welcome = ok_is_none (record { answer = nothing s; pieces = pieces })
   welcome_step (Whole n pieces) is_sent = let t =
       answered pieces n is_sent in subst IsNoStranger (sym t.1) (ok_is_none t.0)
 
-  -- ---- what comes to a node that keeps these
+  -- ---- what arrives at a node that keeps these pieces
 
   module _ (pieces : List Piece) (kept : AreKept w pieces) where
     -- a piece that was not there before
@@ -187,7 +187,7 @@ module _ (division : Division) (weights : List ℕ) (acts : List (Act Value)) (w
       each_once : AllPairs (λ a b. is_numbered b.header b.number a ≡ false) (with_piece pieces p)
       each_once = with_once pieces p kept.once new
 
-      -- leaves its message waiting, or makes it whole
+      -- either its message still waits, or it is complete now
       new_piece : IsWelcome w (arrival_of_new pieces p)
       new_piece = cond_both (are_all p.header (with_piece pieces p))
           (arrival_of_all (without p.header pieces)
@@ -239,7 +239,7 @@ module _ (division : Division) (weights : List ℕ) (acts : List (Act Value)) (w
 
 -- ---- so no event is refused as foreign
 
--- a step that is refused so
+-- a step that is refused with this fault
 abbrev refused : NodeFault → Result Taken NodeFault
 refused f = Err f
 
@@ -252,7 +252,7 @@ taken_no_stranger pieces (Ok a) f e = ok_is_none (record { answer = a; pieces = 
 taken_no_stranger pieces (Err r) f e = let wrong : fault.Refused r ≡ fault.Foreign f =
     refused_same (fault.Refused r) (fault.Foreign f) e in cc
 
--- what is tested before the node is asked is no refusal of a node
+-- the tests before the node is asked are not refusals by a node
 five_tests : (a b c d e : Bool) (r : NodeFault) → first_that_applies (
     (a, worlds.BadTrace 0) ∷ (b, worlds.NoSuchNode) ∷ (c, worlds.NodeDown) ∷ (d, worlds.NodeUp)
     ∷ (e, worlds.NoSuchDatagram) ∷ []) ≡ Some (worlds.Node r) → ⊥
@@ -274,7 +274,7 @@ get_contains (y ∷ ys) zero x e = (zero, omega arith, some_same y x e)
 get_contains (y ∷ ys) (suc k) x e = let r =
     get_contains ys k x e in (suc r.0, omega (arith, r.1), r.2)
 
--- an event asks for an input, or brings what was sent
+-- an event asks for an input, or delivers what was sent
 asks_kinds : (w : World) (e : Event) (asked : Asked) → Asks w e asked
     → ((input : Input) × (asked ≡ Does input))
     ⊎ ((text : Text) × Contains w.sent text × (asked ≡ Comes text))
@@ -288,7 +288,7 @@ asks_kinds w (events.Stop n) asked h = absurd h
 asks_kinds w (events.StopIn e left) asked h = asks_kinds w e asked h
 asks_kinds w (events.Restart n) asked h = absurd h
 
--- No event is refused as foreign, in a world that matches and whose nodes are as they have to be.
+-- In a world that matches, if nodes satisfy their invariant, no event is refused as foreign.
 pub never_foreign : (division : Division) (weights : List ℕ) (acts : List (Act Value)) (w : World)
     → IsMade division weights
     → (w.division ≡ division) × (w.weights ≡ weights)

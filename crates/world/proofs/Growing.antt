@@ -1,4 +1,4 @@
--- What stays as it was whatever happens, and what is only added to.
+-- What never changes, and what only grows.
 use Rattle.std.proofs.Common.{◌≡◌, ◌<◌, ℕ, zero, suc, Bool, true, false, cond, List, [], ◌∷◌, ◌++◌, length, Option, None, Some, slice_get, slice_set, refl, sym, ap, subst, ◌∙◌, append_assoc, append-nil, arith, inl, inr, ⊎_elim}
 use Rattle.std.specs.List.{list_any}
 use Rattle.std.proofs.lemmas.List.{length-set}
@@ -40,7 +40,7 @@ by_kind P step within stop restart w v (Stop n) h = stop w v n h
 by_kind P step within stop restart w v (StopIn e l) h = within w v e l h
 by_kind P step within stop restart w v (Restart n) h = restart w v n h
 
--- the list after an event begins with the list before it
+-- the list before an event is a prefix of the list after it
 with_build_longer : (list : List Content) (build : Value)
     → IsBeginningOf list (with_build list build)
 with_build_longer list build = by_case (list_any (λ r. has_path list r.path) build)
@@ -57,13 +57,13 @@ list_longer w after list (inr (none, e)) = ([], e ∙ sym (append-nil w.agreed))
 
 -- ---- notes
 
--- the notes of each node come behind what it had noted
+-- the notes of each node only grow, by appending
 abbrev NotesStay : World → World → Type 0
 NotesStay w v =
     (k : ℕ) (x y : WorldNode) → slice_get w.nodes k ≡ Some x → slice_get v.nodes k ≡ Some y
     → (more : List (Note Value)) × (y.notes ≡ x.notes ++ more)
 
--- what stands at a place within a list
+-- an index within a list has an element
 pub get_some : {X : Type 0} (xs : List X) (k : ℕ) → k < length xs → (x : X)
     × (slice_get xs k ≡ Some x)
 get_some [] k lt = absurd (omega (arith, lt))
@@ -102,7 +102,7 @@ left_longer left.None notes noted = ([], sym (append-nil notes))
 left_longer (left.Torn bytes) notes noted = ([], sym (append-nil notes))
 left_longer left.Whole notes noted = with_note_longer notes noted
 
--- what comes behind what came behind
+-- prefixes are transitive
 behind_again : {X : Type 0} (a b c : List X) → (more : List X) × (b ≡ a ++ more) → (more : List X)
     × (c ≡ b ++ more)
     → (more : List X) × (c ≡ a ++ more)
@@ -118,7 +118,7 @@ notes_again w u v long f s k x y before after =
 
 -- ---- an event
 
--- another node is in its place, and nothing was sent
+-- only one node is replaced, and nothing was sent
 one_other : (w v : World) (n : ℕ) (x y : WorldNode) → slice_get w.nodes n ≡ Some x
     → (more : List (Note Value)) × (y.notes ≡ x.notes ++ more) → v ≡ with_node w n y
     → IsLater w v
@@ -154,7 +154,7 @@ event_later = by_kind IsLater step_later
     (λ w v n s. one_other w v n s.node (restarted_node s.node.notes) s.stands
     ([], sym (append-nil s.node.notes)) s.leaves)
 
--- and so it is with events in turn
+-- the same for several events
 pub same_later : (w v : World) → v ≡ w → IsLater w v
 same_later w v e = record {
   division = ap (λ u. u.division) e;
@@ -179,9 +179,9 @@ pub leads_later : (w v : World) (events : List Event) → Leads w events v → I
 leads_later w v [] l = same_later w v l
 leads_later w v (e ∷ es) l = then_later w l.0 v (event_later w l.0 e l.1) (leads_later l.0 v es l.2)
 
--- ---- at each moment
+-- ---- at every point
 
--- What holds at the start and is left by each event holds at each moment.
+-- What holds at the start, and after each event, holds at every point.
 pub each_moment : (division : Division) (weights : List ℕ) (P : List Event → World → Type 0)
     → ((events : List Event) (w : World) → Leads (start division weights) events w → P events w)
     → (events : List Event) (last : World) → Leads (start division weights) events last
@@ -191,7 +191,7 @@ each_moment division weights P each events last led early late e =
     (subst (λ es. Leads (start division weights) es last) e led) in
     (parts.0, parts.1, parts.2, each early parts.0 parts.1)
 
--- What holds at each moment holds at the end.
+-- What holds at every point holds at the end.
 pub at_end : (division : Division) (weights : List ℕ) (P : List Event → World → Type 0)
     (events : List Event) (last : World) → AtEachMoment division weights events last P
     → P events last
@@ -199,13 +199,13 @@ at_end division weights P events last each =
     let there = each events [] (sym (append-nil events)) in
     subst (P events) (sym there.2) there.3
 
--- what is kept by each event is kept by events in turn
+-- what each event preserves, all events preserve
 pub kept_on : (P : World → Type 0) → ((w v : World) (e : Event) → Happens w e v → P w → P v)
     → (w v : World) (events : List Event) → Leads w events v → P w → P v
 kept_on P step w v [] l h = subst P (sym l) h
 kept_on P step w v (e ∷ es) l h = kept_on P step l.0 v es l.2 (step w l.0 e l.1 h)
 
--- What the way from there to the end gives holds at each moment, too.
+-- What follows from the events from there to the end holds at every point, too.
 pub each_moment_to : (division : Division) (weights : List ℕ) (events : List Event) (last : World)
     (P : World → Type 0)
     → ((early late : List Event) (w : World) → Leads (start division weights) early w
@@ -217,7 +217,7 @@ each_moment_to division weights events last P each led early late e =
     (subst (λ es. Leads (start division weights) es last) e led) in
     (parts.0, parts.1, parts.2, each early late parts.0 parts.1 parts.2)
 
--- The list then is a beginning of the list at the end.
+-- The list at each point is a prefix of the list at the end.
 pub list_grows : (division : Division) (weights : List ℕ) (events : List Event) (last : World)
     → Leads (start division weights) events last
     → AtEachMoment division weights events last (λ early w. IsBeginningOf w.agreed last.agreed)

@@ -1,5 +1,5 @@
--- A message whose datagrams were all sent was said; and equal headers of sent pieces belong to
--- equal messages.
+-- A message of which all datagrams were sent was said; and pieces that were sent with equal headers
+-- belong to equal messages.
 use Rattle.std.proofs.Common.{◌≡◌, ◌≤◌, ℕ, zero, suc, true, List, [], ◌∷◌, length, map, Option, None, Some, Result, Ok, refl, sym, ap, subst, ◌∙◌, arith}
 use Rattle.std.specs.Prelude.{Contains, flat_map}
 use Rattle.std.proofs.lemmas.List.Elements.{All-contains}
@@ -70,20 +70,20 @@ some_first (d ∷ ds) n some e = (d, (zero, omega arith, refl))
 
 -- ---- datagrams of messages
 
--- what was read
+-- a successful parse
 abbrev pub ok : {X : Type 0} → X → Result X WireFault
 ok x = Ok x
 
 pub ok_same : {X : Type 0} (x y : X) → ok x ≡ ok y → x ≡ y
 ok_same x y h = cc
 
--- a datagram is read off its text
+-- a datagram is determined by its text
 one_datagram : (d e : Datagram) → IsDatagram d → IsDatagram e → datagram_text d ≡ datagram_text e
     → d ≡ e
 one_datagram d e first second same =
     ok_same d e (sym (datagram_again d first) ∙ ap datagram_of same ∙ datagram_again e second)
 
--- each datagram of a message that was sent was
+-- each datagram of a message that was sent was sent
 pub datagram_was_sent : (sent : List Text) (n : Message Value) → WasSent sent n → (d : Datagram)
     → Contains (split_of n) d
     → Contains sent (datagram_text d)
@@ -125,7 +125,7 @@ module _ (division : Division) (weights : List ℕ) (acts : List (Act Value)) (w
     (made : IsMade division weights)
     (of : (w.division ≡ division) × (w.weights ≡ weights))
     (m : Matches w (after_all_acts division weights acts)) where
-  -- what the acts leave
+  -- the cluster after the acts
   abbrev reached : Cluster Value
   reached = after_all_acts division weights acts
 
@@ -147,7 +147,7 @@ module _ (division : Division) (weights : List ℕ) (acts : List (Act Value)) (w
   pub divided : IsDivision w.division
   divided = subst IsDivision (sym of.0) made.divided
 
-  -- the build that a message carries is fixed by all that it says besides
+  -- the build that a message carries is determined by the rest of the message
   one_build : (u sender : ℕ) (c : Carrier) (v x : Value)
       → Has (reached.at u).sent (said sender (body_with c v))
       → Has (reached.at u).sent (said sender (body_with c x)) → v ≡ x
@@ -162,7 +162,7 @@ module _ (division : Division) (weights : List ℕ) (acts : List (Act Value)) (w
   one_build u sender carriers.Agreed v x first second =
       some_same v x (sym (told_there u v first) ∙ told_there u x second)
 
-  -- messages that were said and have one header are one
+  -- messages that were said with equal headers are equal
   pub said_equal : (a b : Message Value) (h : Header) → WasSaid w reached a → WasSaid w reached b
       → Carries a h → Carries b h → a ≡ b
   said_equal a b h sa sb ca cb =
@@ -205,7 +205,7 @@ module _ (division : Division) (weights : List ℕ) (acts : List (Act Value)) (w
       builds : ca.build ≡ cb.build
       builds = one_build sa.unit a.sender ca.carrier ca.build cb.build first second
 
-  -- each datagram of a message that was sent is one of a message that was said
+  -- each datagram of a message that was sent belongs to a message that was said
   record IsOfASaid (d : Datagram) : Type 0 where
     message : Message Value
     is_sent : WasSent w.sent message
@@ -261,7 +261,7 @@ module _ (division : Division) (weights : List ℕ) (acts : List (Act Value)) (w
           absurd (let wrong = p.2 in cc)
 
   module _ (again : BuildTextIsReadAgain) where
-    -- messages are one where all datagrams of the first are among those of the second, with one
+    -- messages are equal if all datagrams of the first are among those of the second, with the same
     -- header
     same_pieces : (a b : Message Value) (h : Header) → WasSent w.sent a → WasSent w.sent b
         → (ca : Carries a h) (cb : Carries b h)
@@ -352,7 +352,7 @@ module _ (division : Division) (weights : List ℕ) (acts : List (Act Value)) (w
             (said_equal o.message first.message h o.was_said first.was_said
             (carries o.message d h o.datagram (headed d m)) its) o.datagram)
 
-    -- What was sent, with all its datagrams, was said.
+    -- A message of which all datagrams were sent was said.
     pub sent_was_said : (n : Message Value) → WasSent w.sent n → WasSaid w reached n
     sent_was_said n s = by (carried_in n.body) refl
       where
@@ -360,8 +360,8 @@ module _ (division : Division) (weights : List ℕ) (acts : List (Act Value)) (w
         by None is = whole_was_said n s is
         by (Some x) is = build_was_said n x.0 x.1 s is
 
-    -- Equal headers of sent pieces belong to equal messages, and each datagram that was sent is one
-    -- of a message that was.
+    -- Pieces that were sent with equal headers belong to equal messages, and each datagram that was
+    -- sent belongs to a message of which all datagrams were sent.
     pub headers_are_equal : EqualHeaders w × EachIsOfAMessage w
     headers_are_equal = (
       λ a b p q sa sb e.

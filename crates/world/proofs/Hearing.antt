@@ -1,4 +1,4 @@
--- Each delivery is an act, or none.
+-- Each delivery is one act or none.
 use Rattle.std.proofs.Common.{◌≡◌, ◌⊎◌, ℕ, List, Some, slice_get, refl, ap, ◌∙◌, ⊎_elim, inl, inr}
 use Rattle.agreement.specs.AgreedList.{Act}
 use Rattle.agreement.specs.Quorums.{is_majority}
@@ -100,7 +100,7 @@ module _ (division : Division) (weights : List ℕ) (acts : List (Act Value)) (w
       is = λ j b built. absurd (no_build_in_delivery n j at.0 b built);
     }
 
-  -- So each delivery is an act, or does nothing but keep a piece.
+  -- So each delivery is an act, or does nothing except keep a piece.
   pub delivery_is_act : (s.taken.answer ≡ nothing member)
       ⊎ IsAct division weights acts w made of local m again (events.Deliver d n) s
   delivery_is_act =

@@ -52,7 +52,7 @@ module _ (division : Division) (weights : List ℕ) (acts : List (Act Value)) (w
     (made : IsMade division weights)
     (of : (w.division ≡ division) × (w.weights ≡ weights))
     (m : Matches w (after_all_acts division weights acts)) (local : AreLocal w) where
-  -- what the acts leave
+  -- the cluster after the acts
   abbrev here : Cluster Value
   here = after_all_acts division weights acts
 
@@ -60,7 +60,7 @@ module _ (division : Division) (weights : List ℕ) (acts : List (Act Value)) (w
   made_here = subst (λ (d : Division). IsMade d w.weights) (sym of.0)
       (subst (IsMade division) (sym of.1) made)
 
-  -- nothing is known of what is no unit
+  -- nothing is known of a number that isn't a unit's
   pub held_within : (k u : ℕ) (x : WorldNode) (build : Value) → slice_get w.nodes k ≡ Some x
       → (facts_at (member_at w k x) u).held ≡ Some build → u < length w.division.units
   held_within k u x build stands e = ⊎_elim (λ lt. lt)
@@ -71,7 +71,7 @@ module _ (division : Division) (weights : List ℕ) (acts : List (Act Value)) (w
       let wrong : None ≡ Some build = sym (ap (λ (f : Facts Value). f.held) none) ∙ e in cc))
       (cases_lt u (length w.division.units))
 
-  -- each package of a build that is held
+  -- each package of a held build is in the list
   builds_listed : (k u : ℕ) (x : WorldNode) (build : Value) → slice_get w.nodes k ≡ Some x
       → (facts_at (member_at w k x) u).held ≡ Some build → All (Contains w.agreed) build
   builds_listed k u x build stands e =
@@ -85,7 +85,7 @@ module _ (division : Division) (weights : List ℕ) (acts : List (Act Value)) (w
       (WasBuilt (is_majority weights) (may_build division) acts beginning) here
       (in_order division weights acts w made of m) k u build there))
 
-  -- and each package that is found by its path
+  -- each package found by its path is in the list
   package_listed : (k : ℕ) (x : WorldNode) (path : Text) (r : Content)
       → slice_get w.nodes k ≡ Some x
       → holds w k x path ≡ Some r → (r.path ≡ path) × Contains w.agreed r

@@ -1,5 +1,5 @@
--- A node that stands in a world, over whatever disk: its steps are the world's, and what it refuses is
--- refused there.
+-- A node in a world, over any disk: its steps are the world's, and what it refuses is refused
+-- there.
 use Rattle.std.proofs.Common.{◌≡◌, ◌≢◌, ◌<◌, ◌+◌, ℕ, zero, suc, true, false, List, [], ◌∷◌, Option, None, Some, Result, Ok, Err, slice_get, slice_set, refl, sym, ap, subst, ◌∙◌, arith, inl, inr}
 use Rattle.ballots.specs.declared.message.Note.{Note}
 use Rattle.events.specs.Events.{Event, is_step, node_of}
@@ -30,16 +30,16 @@ pub record IsHosted (w : World) (k : ℕ) (n : NodeState) : Type 0 where
   pub stands : slice_get w.nodes k ≡ Some (up_node n)
   pub is : n ≡ node_at w k (up_node n)
 
--- ---- places
+-- ---- indexes
 
--- who is put there stands there
+-- the element put at an index is there
 pub set_there : {X : Type 0} (xs : List X) (k : ℕ) (x y : X) → slice_get xs k ≡ Some x
     → slice_get (slice_set xs k y) k ≡ Some y
 set_there [] k x y e = absurd (let wrong : None ≡ Some x = e in cc)
 set_there (z ∷ zs) zero x y e = refl
 set_there (z ∷ zs) (suc k) x y e = set_there zs k x y e
 
--- and elsewhere all stay
+-- all other elements stay
 pub set_elsewhere : {X : Type 0} (xs : List X) (k j : ℕ) (y : X) → (j ≡ k → ⊥)
     → slice_get (slice_set xs k y) j ≡ slice_get xs j
 set_elsewhere [] k j y other = refl
@@ -50,7 +50,7 @@ set_elsewhere (z ∷ zs) (suc k) (suc j) y other = set_elsewhere zs k j y (λ e.
 
 -- ---- room
 
--- A log that ends behind the node's notes lacks room just where the notes say so.
+-- If the log ends after the node's notes, it lacks room exactly when the notes say so.
 module _ {D : Type 0} (n : LoggedNode D)
     (end : n.log.end ≡ gate_place (identity_of n.node.member) (texts_of n.node.notes)) where
   pub lack_of_full : (o : Option (Note Value)) → IsFull n.node o → LacksRoom n.log o
@@ -61,7 +61,7 @@ module _ {D : Type 0} (n : LoggedNode D)
   full_of_lack None lacks = lacks
   full_of_lack (Some note) lacks = omega (arith, lacks, end)
 
--- ---- a node that stands
+-- ---- a node in its world
 
 module _ (w : World) (k : ℕ) (n : NodeState) (is : n ≡ node_at w k (up_node n)) where
   -- it is not stopped
@@ -83,19 +83,19 @@ module _ (w : World) (k : ℕ) (n : NodeState) (is : n ≡ node_at w k (up_node 
   pub full_here : (o : Option (Note Value)) → IsFull (node_at w k (up_node n)) o → IsFull n o
   full_here o = subst (λ (x : NodeState). IsFull x o) (sym is)
 
-  -- and it stands so after each
+  -- it is still that node after each step
   pub after_stands : (t : Taken) → after n t ≡ node_at w k (up_node (after n t))
   after_stands t = subst (λ (x : NodeState). after x t ≡ node_at w k (up_node (after x t)))
       (sym is) refl
 
--- in a world over the same units and weights, too
+-- it is also that node in a world with the same units and weights
 pub stands_on : (w v : World) (k : ℕ) (n : NodeState) → v.division ≡ w.division
     → v.weights ≡ w.weights → n ≡ node_at w k (up_node n) → n ≡ node_at v k (up_node n)
 stands_on w v k n units weights is =
     is ∙ (λ i. node_at (record w { division = sym units i; weights = sym weights i }) k (up_node n))
 
--- The step that the node of the event took was the world's: the node stands in the world that it
--- left, and so do the others.
+-- The node's step on the event was the world's: in the world after it, this node and all others are
+-- in place.
 pub record HasStepped (w : World) (e : Event) (n : NodeState) (t : Taken) (v : World) : Type 0 where
   pub steps : Steps w e v
   pub division : v.division ≡ w.division
@@ -128,7 +128,7 @@ module _ (w : World) (e : Event) (n : NodeState) (hosted : IsHosted w (node_of e
     takes = takes_there w k n hosted.is asked (Ok t) takes;
   }
 
-  -- what it refuses is refused
+  -- what it refuses is refused in the world
   pub refuses_there : (asked : Asked) → Asks w e asked → (f : NodeFault) → Takes n asked (Err f)
       → IsRefusedByNode w e (worlds.Node f)
   refuses_there asked asks f takes = inl (
@@ -143,7 +143,7 @@ module _ (w : World) (e : Event) (n : NodeState) (hosted : IsHosted w (node_of e
     refl,
   )
 
-  -- and so is a step for whose note there is no room
+  -- a step for whose note there is no room is refused, too
   pub full_is_refused : leaves_note e ≡ true → (t : Taken) → Acts w e x t → IsFull n t.answer.note
       → IsRefusedByNode w e (worlds.Node (fault.Log log.Full))
   full_is_refused noted t acts full = inr (
@@ -157,7 +157,7 @@ module _ (w : World) (e : Event) (n : NodeState) (hosted : IsHosted w (node_of e
     refl,
   )
 
-  -- A stop inside the step may leave anything, where the log has room for its note.
+  -- A stop inside the step may leave anything, if the log has room for its note.
   pub stops_there : is_step e ≡ true → (t : Taken) → Acts w e x t → ¬ IsFull n t.answer.note
       → (l : Left) → (v : World) × StopsIn w e l v
   stops_there step t acts room l = (
@@ -177,7 +177,7 @@ module _ (w : World) (e : Event) (n : NodeState) (hosted : IsHosted w (node_of e
       room_for (left.Torn bytes) = tt
       room_for left.Whole = λ full. room (full_here w k n hosted.is t.answer.note full)
 
-  -- ---- in a world that is reached
+  -- ---- in a reachable world
 
   module _ (made : IsMade w.division w.weights) (events : List Event)
       (led : Leads (start w.division w.weights) events w) where
@@ -198,7 +198,7 @@ module _ (w : World) (e : Event) (n : NodeState) (hosted : IsHosted w (node_of e
             w.division w.weights events w e g made led
             (inr (may, refuses_there asked asks (fault.Foreign g) t)))
 
-    -- Its step is one of the world, where the log has room for its note.
+    -- Its step is one of the world, if the log has room for its note.
     pub steps_there : is_step e ≡ true → (t : Taken) → Acts w e x t → ¬ IsFull n t.answer.note
         → (v : World) × HasStepped w e n t v
     steps_there step t acts room = (

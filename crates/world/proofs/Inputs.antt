@@ -39,7 +39,7 @@ use Rattle.world.proofs.Opening.{failed_opens_none, inquire_opens_none, nudge_op
 use Rattle.world.proofs.Ranging.{in_range, is_one, known_named, own_stage}
 use Rattle.world.proofs.Stepping.{claims}
 
--- an input that is no message has nothing that could be out of range
+-- an input that is not a message has nothing that could be out of range
 pub good_input : (input : Input) → IsNoMessage input → IsGoodInput input
 good_input (inputs.Claim path host above) none = tt
 good_input (inputs.Built path given) none = tt
@@ -73,11 +73,11 @@ module _ (division : Division) (weights : List ℕ) (acts : List (Act Value)) (w
     (again : BuildTextIsReadAgain) (e : Event) (s : Acted w e) (input : Input)
     (asks : (a : Asked) → Asks w e a → a ≡ Does input)
     (none : IsNoMessage input) where
-  -- what the acts leave
+  -- the cluster after the acts
   abbrev here : Cluster Value
   here = after_all_acts division weights acts
 
-  -- the node, and the member that it is
+  -- the node, and its member
   abbrev k : ℕ
   k = events.node_of e
 
@@ -96,7 +96,7 @@ module _ (division : Division) (weights : List ℕ) (acts : List (Act Value)) (w
   pub is_member : IsMember member
   is_member = node_is_member w its_made local k x s.acts.is_up.stands
 
-  -- what the event is in the theory
+  -- the event in the theory
   pub its_input : IsInputOf w e x s.taken input
   its_input = input_of w its_made local e x s.taken input s.acts asks none
 
@@ -105,7 +105,7 @@ module _ (division : Division) (weights : List ℕ) (acts : List (Act Value)) (w
       (in_range w its_made local k x s.acts.is_up.stands)
       (good_input input none) its_input.given
 
-  -- for any name of what it is
+  -- for any value equal to what it asks
   abbrev pub done_so : (what : theory.Input Value) → what ≡ its_input.answers.asks
       → IsDone division weights acts w made of local m again e s
   done_so what is =
@@ -132,7 +132,7 @@ module _ (division : Division) (weights : List ℕ) (acts : List (Act Value)) (w
             i.answers.outcome theirs;
       }
 
-  -- a claim that is opened drops the one that was open
+  -- a claim that is opened drops the claim that was open
   module _ (above : ℕ) (is : theory.Start above ≡ its_input.answers.asks) where
     abbrev d : IsDone division weights acts w made of local m again e s
     d = done_so (theory.Start above) is
@@ -142,7 +142,7 @@ module _ (division : Division) (weights : List ℕ) (acts : List (Act Value)) (w
         → facts_at (member_at w k x) q ≡ facts_at (member_at w k then) q
     known_stays q ne = sym (facts_there w k x then d.unit d.outcome s.taken.answer d.is refl q ne)
 
-    -- and there no claim is open
+    -- no claim is open for another unit
     closed_there : (q : ℕ) → (q ≡ d.unit → ⊥)
         → nodes.stage_at (option_map claim_of s.taken.answer.claim) q ≡ Closed
     closed_there q ne =
@@ -183,7 +183,7 @@ module _ (division : Division) (weights : List ℕ) (acts : List (Act Value)) (w
     pub start_is_act : IsAct division weights acts w made of local m again e s
     start_is_act = record { done = d; allowed = refl; there = there; is = λ j b built. absurd cc }
 
-  -- a nudge says again what was said
+  -- a nudge sends again what was said
   pub nudge_is_act : theory.Nudge ≡ its_input.answers.asks
       → IsAct division weights acts w made of local m again e s
   nudge_is_act is =
@@ -209,7 +209,7 @@ module _ (division : Division) (weights : List ℕ) (acts : List (Act Value)) (w
         is = λ j b built. absurd cc;
       }
 
-  -- and a question asks
+  -- a question asks for the agreed value
   pub inquire_is_act : theory.Inquire ≡ its_input.answers.asks
       → IsAct division weights acts w made of local m again e s
   inquire_is_act is =

@@ -31,7 +31,7 @@ use Rattle.world.proofs.Holding.{find_is, held_within}
 use Rattle.world.proofs.Recorded.{record_of}
 use Rattle.world.proofs.Said.{has_preimage}
 
--- whether the position, if there is one, is of the set
+-- whether there is a position and it is in the set
 abbrev has_any : (ℕ → Bool) → Option ℕ → Bool
 has_any among None = false
 has_any among (Some p) = among p
@@ -61,7 +61,7 @@ module _ (division : Division) (weights : List ℕ) (acts : List (Act Value)) (w
     abbrev tree : Tree
     tree = w.division.tree
 
-    -- a record that is held names what its package runs on
+    -- a held record names its package's run dependencies
     record_runs : (path : Text) (r : Content) (p : ℕ) → held_record s path ≡ Some r
         → position_of tree path ≡ Some p → r.run ≡ set_of (map (path_at tree) (run_at tree p))
     record_runs path r p e at = by (unit_with w.division path) e
@@ -88,7 +88,7 @@ module _ (division : Division) (weights : List ℕ) (acts : List (Act Value)) (w
         by (Some u) e = of_build u (facts_at s u).held refl e
 
     module _ (p : ℕ) (i : IsInstallable tree (engine.has_agreed (engine_of s)) p) where
-      -- the paths of those that are installable together
+      -- the paths of the packages that are installable together
       abbrev S : Text → Bool
       S path = has_any i.among (position_of tree path)
 
@@ -124,7 +124,7 @@ module _ (division : Division) (weights : List ℕ) (acts : List (Act Value)) (w
               (agreed_is_held s q (i.all_held q there)) in
               ap is_some (ap (held_record s) (sym here.1) ∙ r.1)
 
-  -- What a node shows as installable is held with all that it runs on.
+  -- What a node shows as installable is held, with its whole run closure.
   pub installable_is_held : InstallableIsHeld w
   installable_is_held k p x path q stands up at letter closure =
       let i = letter.1 in

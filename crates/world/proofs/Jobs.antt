@@ -1,5 +1,5 @@
--- Each claim that waits for a build was given its job by the delivery that made it wait, when all
--- that the job signs stood in the list.
+-- Each claim that waits for a build was given its job by the delivery that made it wait, when
+-- everything that the job signs was in the list.
 use Rattle.std.proofs.Common.{◌≡◌, ◌⊎◌, ℕ, true, List, [], ◌∷◌, ◌++◌, length, None, Some, Ok, append_assoc, slice_get, slice_set, refl, sym, ap, subst, ◌∙◌, ⊎_elim, inl, inr, true≢false}
 use Rattle.std.specs.Prelude.{All}
 use Rattle.std.proofs.lemmas.List.Elements.{All-weaker}
@@ -54,7 +54,7 @@ use Rattle.world.proofs.Members.{facts_more, node_is_member}
 use Rattle.world.proofs.Runs.{all_fresh}
 use Rattle.world.proofs.Walking.{mirrors_lead}
 
--- what was given in the first part was given
+-- what was given in the first part of a run was given in the run
 pub given_later : (division : Division) (weights : List ℕ) (early late : List Event) (job : Task)
     → JobGiven division weights early job
     → JobGiven division weights (early ++ late) job
@@ -70,15 +70,15 @@ given_later division weights early late job g = record {
   gives = g.gives;
 }
 
--- ---- where a node with an open claim comes from
+-- ---- the origin of a node with an open claim
 
--- It was there, or it took the event's step.
+-- It was there before, or it took the event's step.
 data ComesFrom (w : World) (e : Event) (v : World) (k : ℕ) (z : WorldNode) : Type 0 where
   was_there : slice_get w.nodes k ≡ Some z → ComesFrom w e v k z
   took : is_step e ≡ true → (s : Steps w e v) → k ≡ kinds.node_of e
       → z ≡ up_node (steps.after (node_at w (kinds.node_of e) s.node) s.taken) → ComesFrom w e v k z
 
--- another node stands there, which has no claim
+-- otherwise another node was put there, which has no claim
 no_claim_there : (w : World) (e : Event) (v : World) (n k : ℕ) (y z : WorldNode) (o : OpenClaim)
     → v.nodes ≡ slice_set w.nodes n y → y.claim ≡ None
     → slice_get v.nodes k ≡ Some z → z.claim ≡ Some o → ComesFrom w e v k z
@@ -151,14 +151,14 @@ module _ (division : Division) (weights : List ℕ) (acts : List (Act Value)) (w
   is_member : IsMember s
   is_member = node_is_member w its_made local k x did.is_up.stands
 
-  -- The claim stood there with its job, or this step gave it.
+  -- The claim was there with its job, or this step gave the job.
   abbrev IsGiven : Type 0
   IsGiven = ((x.claim ≡ Some o)
       ⊎ (((d : ℕ) × (n : ℕ) × (e ≡ kinds.Deliver d n))
       × (t.answer.job ≡ Some (job_of s o.unit o.host c))))
       × (job_of (after s t.answer) o.unit o.host c ≡ job_of s o.unit o.host c)
 
-  -- the job stays, whatever it was that left the claim open
+  -- the job stays, whatever left the claim open
   job_stays : (input : Input) → IsInput input → Answers s input (Ok t.answer)
       → job_of (after s t.answer) o.unit o.host c ≡ job_of s o.unit o.host c
   job_stays input can answers =
@@ -200,7 +200,7 @@ module _ (division : Division) (weights : List ℕ) (acts : List (Act Value)) (w
         job_stays (inputs.Message message) tt answers,
       )
 
--- so it is with each step
+-- this holds for each step
 step_gives : (division : Division) (weights : List ℕ) (acts : List (Act Value)) (w : World)
     (made : IsMade division weights)
     (of : (w.division ≡ division) × (w.weights ≡ weights)) (local : AreLocal w)
@@ -251,7 +251,7 @@ step_gives division weights acts w made of local m again (kinds.Restart n) x t d
 
 module _ (division : Division) (weights : List ℕ) (made : IsMade division weights)
     (runs : EachRunIsActs) (again : BuildTextIsReadAgain) where
-  -- what a job signs stands in the list
+  -- what a job signs is in the list
   signed_there : (w : World) (local : AreLocal w) (acts : List (Act Value))
       → (w.division ≡ division) × (w.weights ≡ weights)
       → Matches w (after_all_acts division weights acts)
@@ -267,14 +267,14 @@ module _ (division : Division) (weights : List ℕ) (made : IsMade division weig
       ))
       (deps_of (member_at w k x) u) (builds_stand (member_at w k x) u)
 
-  -- the member that is left by the step is the one that answered so
+  -- the member after the step is the one that answered
   left_member : (w : World) (k : ℕ) (x : WorldNode) (t : Taken)
       → after (member_at w k x) t.answer ≡ member_at w k (up_node (steps.after (node_at w k x) t))
   left_member w k x t = ap (λ (fs : List (Facts Value)).
       record (member_at w k x) { facts = fs; claim = t.answer.claim })
       (sym (facts_more w k x (up_node (steps.after (node_at w k x) t)) t.answer.note refl))
 
-  -- a node of a later world of the run is the same member there
+  -- the node in a later world of the run is the same member
   same_division : (w v : World) (k : ℕ) (z : WorldNode) → v.division ≡ w.division
       → v.weights ≡ w.weights → member_at v k z ≡ member_at w k z
   same_division w v k z division weights =

@@ -1,4 +1,4 @@
--- Stops and restarts leave nodes as they have to be.
+-- Stops and restarts preserve the invariant of nodes.
 use Rattle.std.proofs.Common.{◌≡◌, ℕ, List, [], Some, None, slice_get, refl, sym, subst, arith, ⊎_elim, ◌∙◌}
 use Rattle.std.specs.Prelude.{All}
 use Rattle.std.proofs.lemmas.Bool.{true≢false}
@@ -19,7 +19,7 @@ use Rattle.world.specs.World.{World, WorldNode, down_node, restarted_node, with_
 use Rattle.world.specs.Local.{AreKept, AreLocal, IsLocal, IsOfUnit}
 
 module _ (w : World) (k : ℕ) (y : WorldNode) where
-  -- what holds of a note holds of it where another node is another
+  -- the invariant of a note doesn't depend on another node
   note_moves : (n : Note Value) → IsOfUnit w n → IsOfUnit (with_node w k y) n
   note_moves n o =
       record { note = o.note; unit = o.unit; of_unit = o.of_unit; claimers = o.claimers }
@@ -28,7 +28,7 @@ module _ (w : World) (k : ℕ) (y : WorldNode) where
       → All (IsOfUnit (with_node w k y)) notes
   notes_move notes are = All-weaker (IsOfUnit w) (IsOfUnit (with_node w k y)) note_moves notes are
 
-  -- and what holds of a node
+  -- the invariant of a node doesn't depend on another node
   node_moves : (j : ℕ) (z : WorldNode) → IsLocal w j z → IsLocal (with_node w k y) j z
   node_moves j z l = record {
     notes = notes_move z.notes l.notes;
@@ -38,7 +38,7 @@ module _ (w : World) (k : ℕ) (y : WorldNode) where
     up = l.up;
   }
 
-  -- so all nodes are as they have to be where the other one is
+  -- so all nodes satisfy the invariant if the replaced one does
   pub all_but_one : AreLocal w → IsLocal (with_node w k y) k y → AreLocal (with_node w k y)
   all_but_one local new = record {
     each = λ j z g. ⊎_elim
@@ -49,7 +49,7 @@ module _ (w : World) (k : ℕ) (y : WorldNode) where
     one_for_each = length-set w.nodes k y ∙ local.one_for_each;
   }
 
-  -- a node that keeps nothing but notes
+  -- a node that keeps only its notes
   pub no_pieces : AreKept (with_node w k y) []
   no_pieces = record {
     sent = All-nil (λ p. (m : Message Value) × WasSentOf w.sent m p);
@@ -81,8 +81,8 @@ restarted_stays w k x stands local = all_but_one w k (restarted_node x.notes) lo
   up = λ e. refl;
 })
 
--- Stops and restarts leave nodes as they have to be, and so do stops inside a step that leave
--- nothing of its note, or a part.
+-- Stops and restarts preserve the invariant, and so do stops inside a step that leave nothing or
+-- only a part of its note.
 pub stop_keeps : (w v : World) (n : ℕ) → AreLocal w → Stops w n v → AreLocal v
 stop_keeps w v n local s =
     subst AreLocal (sym s.leaves) (down_stays w n s.node [] s.is_up.stands local)

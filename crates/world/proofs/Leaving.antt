@@ -1,4 +1,4 @@
--- What a member's answer leaves: a member that is one, and notes that can be written down and name
+-- The effects of a member's answer: it leaves a valid member, and its notes can be encoded and name
 -- members.
 use Rattle.std.proofs.Common.{◌≡◌, ◌<◌, ℕ, [], length, Some, option_map, sym, ap, ◌∙◌}
 use Rattle.std.specs.Prelude.{All}
@@ -35,19 +35,19 @@ use Rattle.world.proofs.Inputs.{good_input}
 use Rattle.world.proofs.Naming.{AreNamed, IsNaming, Notes, body_comes, for_none, input_names, message_names}
 use Rattle.world.proofs.Ranging.{heard_names, own_stage}
 
--- a note that can be written down is of a unit, and names members
+-- the note can be encoded, is about a unit, and names members
 pub record IsSoundNote (s : State) (n : Note Value) : Type 0 where
   pub note : IsNote n
   pub of_unit : (u : ℕ) × (number_named s.division n.path ≡ Some u)
   pub claimers : All (λ k. k < length s.weights) (members_noted n.fact)
 
--- what is left
+-- the effects of an answer
 pub record LeavesSound (s : State) (a : Answer) : Type 0 where
   pub note : ForSome a.note (IsSoundNote s)
   pub member : IsMember (after s a)
   pub claim : IsClaimOf s a.claim
 
--- what a note names in the theory, its fact names
+-- the members named by a note in the theory are those of its fact
 fact_names : (n : ℕ) (f : Fact Value) → Notes n (note_of f) → All (λ k. k < n) (members_noted f)
 fact_names n (fact.Opened round) is = All-nil (λ k. k < n)
 fact_names n (fact.Promised c) is = All-cons (λ k. k < n) c.member [] is (All-nil (λ k. k < n))
@@ -57,7 +57,7 @@ fact_names n (fact.Held v) is = All-nil (λ k. k < n)
 module _ (s : State) (member : IsMember s) (range : IsInRange s)
     (known : (u : ℕ) → u < length s.division.units
     → AreNamed (length s.weights) (facts_of (view s u))) where
-  -- an answer by an outcome
+  -- an answer that is given by an outcome
   by_outcome : (a : Answer) (u : ℕ) (o : Outcome Value) → IsOutcome s u o a
       → IsNaming (length s.weights) s.me o → CanBeWritten s a → IsMember (after s a)
       → LeavesSound s a

@@ -1,5 +1,4 @@
--- What stands in the list: each package was built by an event, and fits the tree; and an audit says
--- yes.
+-- Each package of the list was built by an event and fits the tree, and an audit accepts the list.
 use Rattle.std.proofs.Common.{◌≡◌, ◌<◌, ◌&&◌, ℕ, suc, true, List, [], ◌∷◌, length, get_or, Option, None, Some, option_and_then, eqb, eq-eqb, refl, sym, ap, subst, ◌∙◌, arith, ⊎_elim}
 use Rattle.std.specs.Prelude.{All, Contains}
 use Rattle.std.specs.List.{list_all}
@@ -27,7 +26,7 @@ use Rattle.world.proofs.Recorded.{are_records, record_of}
 
 -- ---- entries
 
--- what stands in the list is of an entry
+-- the package is of an entry
 pub record IsOfEntry (list : List (Entry Value)) (r : Content) : Type 0 where
   pub unit : ℕ
   pub build : Value
@@ -57,7 +56,7 @@ of_entry division (n ∷ ns) allowed r h = ⊎_elim
     })
     (Contains-append_cases (packages_of ns) n.value r h)
 
--- what is said of a signature
+-- signatures that pass the test are equal
 pub signatures_same : (a b : Dep) → same_signature a b ≡ true → a ≡ b
 signatures_same a b e =
     let x = and_parts (bytes_eq a.path b.path && bytes_eq a.name b.name)
@@ -68,8 +67,8 @@ signatures_same a b e =
     let digest = same_bytes a.digest b.digest x.1 in
     λ i. record { path = path i; name = name i; digest = digest i }
 
--- what a record of a build that may be built on the list stands on is in the list, by that very
--- signature
+-- what a record depends on is in the list with exactly that signature, if its build is allowed on
+-- the list
 pub stands_listed : (division : Division) (list : List (Entry Value)) (u : ℕ) (build : Value)
     → may_build division (lookup list) u build ≡ true
     → (r : Content) → Contains build r → All (HasSignature (packages_of list)) r.built
@@ -102,10 +101,10 @@ stands_listed division list u build may r h k d lt =
         by_unit None e = absurd (true≢false (sym e))
         by_unit (Some q) e = of_build d q (lookup list q) refl e
 
--- ---- they fit
+-- ---- packages fit the tree
 
 module _ (division : Division) (is : IsDivision division) where
-  -- a record of a build that may be built for a unit fits the tree
+  -- a record of a build that is allowed for a unit fits the tree
   pub record_fits : (f : ℕ → Option Value) (u : ℕ) (build : Value) → u < length division.units
       → may_build division f u build ≡ true → (r : Content) → Contains build r
       → Fits division.tree r.path r.name r.built r.run
@@ -124,7 +123,7 @@ module _ (division : Division) (is : IsDivision division) where
         runs_on = (o.2).run;
       }
 
-  -- so all in the list do
+  -- so all packages in the list fit the tree
   pub list_fits : (list : List (Entry Value)) → IsAllowed (may_build division) list
       → All (λ n. n.path < length division.units) list
       → (r : Content) → Contains (packages_of list) r

@@ -1,4 +1,4 @@
--- What a node noted of a unit, as its member's log there.
+-- A node's notes about a unit are its member's log there.
 use Rattle.std.proofs.Common.{◌≡◌, ℕ, zero, suc, Bool, true, List, [], ◌∷◌, ◌++◌, map, filter, reverse, refl, sym, ap, subst, ◌∙◌, arith, inl, inr, ⊎_elim}
 use Rattle.std.specs.Prelude.{Contains}
 use Rattle.std.specs.Str.{bytes_eq}
@@ -13,7 +13,7 @@ use Rattle.engine.proofs.Places.{equal_bytes, same_bytes}
 use Rattle.world.specs.World.{World, WorldNode}
 use Rattle.world.specs.Matches.{log_of, name_of}
 
--- ---- what a list has
+-- ---- elements of a list
 
 pub has_contains : {X : Type 0} (xs : List X) (x : X) → Has xs x → Contains xs x
 has_contains [] x h = absurd h
@@ -76,7 +76,7 @@ filtered_has {X} t (y ∷ ys) x h =
 
 -- ---- the log of a unit
 
--- what is noted of the unit is on its log
+-- what is noted about the unit is on its log
 pub noted_is_on_log : (w : World) (u : ℕ) (x : WorldNode) (n : Note Value) → Contains x.notes n
     → n.path ≡ name_of w u
     → Has (log_of w u x) (note_of n.fact)
@@ -87,7 +87,7 @@ noted_is_on_log w u x n h e =
     (has_filtered (λ n. bytes_eq n.path (name_of w u)) x.notes n
     (equal_bytes n.path (name_of w u) e) (contains_has x.notes n h)))
 
--- and what is on its log was noted of it
+-- what is on its log was noted about the unit
 pub on_log_was_noted : (w : World) (u : ℕ) (x : WorldNode) (note : theory.Note Value)
     → Has (log_of w u x) note
     → (n : Note Value) × Contains x.notes n × (n.path ≡ name_of w u) × (note_of n.fact ≡ note)

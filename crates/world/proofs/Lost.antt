@@ -1,4 +1,4 @@
--- What nodes that are lost were left with matters to nobody.
+-- What remains on the logs of lost nodes affects no other node.
 use Rattle.std.proofs.Common.{◌≡◌, ◌⊎◌, ◌++◌, ◌∷◌, ℕ, zero, suc, true, false, List, [], None, Some, slice_get, refl, sym, ap, subst, ◌∙◌, arith, inl, inr, ⊎_elim}
 use Rattle.std.specs.Prelude.{All}
 use Rattle.std.proofs.lemmas.Bool.{true≢false}
@@ -10,9 +10,9 @@ use Rattle.world.specs.MatchingLaws.{EachRunHasOneList}
 use Rattle.world.specs.Lost.{AnythingMayBeLeft, AreLeftAs, CouldLeaveAll, IsLeftAs, StayDown}
 use Rattle.world.proofs.LostNodes.{AreAlike, GoesOnSo, event_so, left_so, one_less, other_left}
 
--- ---- events in turn
+-- ---- several events
 
--- an event of which a stop may have left something else
+-- an event that may be a stop that could have left something else
 either_so : (w : World) (ns : List WorldNode) (e f : Event) (es : List Event) (u : World)
     → AreAlike (e ∷ es) w.nodes ns → Happens w e u → StayDown (e ∷ es) → CouldLeaveAll w (e ∷ es)
     → IsLeftAs e f → GoesOnSo w ns f es u
@@ -27,7 +27,7 @@ either_so w ns e f es u like h stay could (inr (step, l, is, other)) =
     subst (λ g. GoesOnSo w ns g es u) (sym other)
     (record { nodes = r.nodes; happens = r.stops; alike = r.alike })
 
--- where events lead, so do those with other things left
+-- where events lead, they also lead if stops left something else
 record LeadsSo (w : World) (ns : List WorldNode) (fs : List Event) (u : World) : Type 0 where
   nodes : List WorldNode
   leads : Leads (record w { nodes = ns }) fs (record u { nodes = nodes })
@@ -58,7 +58,7 @@ all_so w ns u (e ∷ es) (f ∷ fs) like led stay could zip =
       alike = rest.alike;
     }
 
--- So anything may have been left.
+-- So stops may have left anything.
 pub anything_left : EachRunHasOneList → AnythingMayBeLeft
 anything_left one_list division weights events others w made led stay could zip =
     let first = start division weights in
@@ -82,9 +82,9 @@ anything_left one_list division weights events others w made led stay could zip 
         → slice_get xs k ≡ Some y → y ≡ x
     same_there xs k x y at there = let same : Some y ≡ Some x = sym there ∙ at in cc
 
--- ---- one event more
+-- ---- one more event
 
--- Where nothing starts a node again, all stay down.
+-- If no event is a restart, all nodes that stopped stay down.
 pub none_starts : (events : List Event) → All (λ e. is_restart e ≡ false) events → StayDown events
 none_starts events none before behind step is k d lt again = true≢false
     (sym (ap is_restart again)
@@ -102,7 +102,7 @@ first_same x y xs ys e = cc
 rest_same : (x y : Event) (xs ys : List Event) → x ∷ xs ≡ y ∷ ys → xs ≡ ys
 rest_same x y xs ys e = cc
 
--- Where the last event could have left all, if it is such a stop, each of them could.
+-- If the last event could have left the whole note, if it is such a stop, every such stop could.
 pub could_leave_more : (w : World) (es : List Event) (e : Event) → CouldLeaveAll w es
     → ((step : Event) (u : World) → e ≡ StopIn step left.None → Leads w es u
     → (v : World) × StopsIn u step left.Whole v)

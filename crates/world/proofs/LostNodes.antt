@@ -1,4 +1,4 @@
--- What a node that is lost was left with changes nothing of an event of others.
+-- What remains on the log of a lost node doesn't change the effect of events at other nodes.
 use Rattle.std.proofs.Common.{◌≡◌, ◌⊎◌, ◌∷◌, ℕ, zero, suc, true, false, List, [], length, Option, None, Some, slice_get, slice_set, refl, sym, ap, subst, ◌∙◌, arith, inl, inr, ⊎_elim}
 use Rattle.std.proofs.lemmas.Bool.{true≢false}
 use Rattle.std.proofs.lemmas.List.{length-set}
@@ -21,13 +21,13 @@ use Rattle.world.specs.Lost.{NeverStarts}
 
 -- ---- nodes
 
--- The nodes are the same, but for some that are down in both lists and that no event starts again.
+-- The nodes are equal, except for some that are down in both lists and that no event restarts.
 pub record AreAlike (events : List Event) (xs ys : List WorldNode) : Type 0 where
   pub count : length ys ≡ length xs
   pub each : (k : ℕ) (x y : WorldNode) → slice_get xs k ≡ Some x → slice_get ys k ≡ Some y
       → (y ≡ x) ⊎ ((x.up ≡ false) × (y.up ≡ false) × NeverStarts k events)
 
--- an event less is to come
+-- with one event less to come
 pub one_less : (e : Event) (es : List Event) (xs ys : List WorldNode) → AreAlike (e ∷ es) xs ys
     → AreAlike es xs ys
 one_less e es xs ys like = record {
@@ -37,7 +37,7 @@ one_less e es xs ys like = record {
       (like.each k x y at there);
 }
 
--- a node that is up stands in both
+-- a node that is up is in both lists
 stands_in_both : (es : List Event) (xs ys : List WorldNode) → AreAlike es xs ys → (k : ℕ)
     (x : WorldNode) → slice_get xs k ≡ Some x → x.up ≡ true → slice_get ys k ≡ Some x
 stands_in_both es xs ys like k x at up =
@@ -45,7 +45,7 @@ stands_in_both es xs ys like k x at up =
     ⊎_elim (λ same. y.1 ∙ ap (λ z. Some z) same) (λ d. absurd (true≢false (sym up ∙ d.0)))
     (like.each k x y.0 at y.1)
 
--- what is put at one place of both
+-- the same node put in both lists
 put_in_both : (es : List Event) (xs ys : List WorldNode) → AreAlike es xs ys → (k : ℕ)
     (a b : WorldNode) → (b ≡ a) ⊎ ((a.up ≡ false) × (b.up ≡ false) × NeverStarts k es)
     → AreAlike es (slice_set xs k a) (slice_set ys k b)
@@ -66,7 +66,7 @@ put_in_both es xs ys like k a b here = record {
       (get_set xs k j a x at);
 }
 
--- ---- worlds that differ in their nodes alone
+-- ---- worlds that differ only in their nodes
 
 module _ (w : World) (ns : List WorldNode) where
   abbrev v : World
@@ -126,14 +126,14 @@ module _ (w : World) (ns : List WorldNode) where
 
 -- ---- an event
 
--- The event happens with the other nodes, too, and leaves such worlds again.
+-- The event also happens with the other nodes, and leaves worlds that again differ only like that.
 pub record GoesOnSo (w : World) (ns : List WorldNode) (e : Event) (es : List Event) (u : World) : Type 0
   where
     pub nodes : List WorldNode
     pub happens : Happens (record w { nodes = ns }) e (record u { nodes = nodes })
     pub alike : AreAlike es u.nodes nodes
 
--- what a step leaves
+-- the effect of a step
 record StepsSo (w : World) (ns : List WorldNode) (e : Event) (es : List Event) (u : World) : Type 0
   where
     nodes : List WorldNode
@@ -161,7 +161,7 @@ step_so w ns e es u like s =
           (put_in_both es w.nodes ns like k z z (inl refl));
     }
 
--- A stop inside a step, of which one thing was left, and another might have been.
+-- A stop inside a step that left one thing, but might have left another.
 pub record StopsSo (w : World) (ns : List WorldNode) (e : Event) (l : Left) (es : List Event) (u : World)
     : Type 0 where
   pub nodes : List WorldNode
@@ -219,7 +219,7 @@ other_left w ns e l es u t like never s r =
           (inr (refl, left_down l r.node.notes r.taken.answer.note, never)));
     }
 
--- a stop that might leave all might leave anything
+-- a stop that could leave the whole note could leave anything
 pub left_so : (w : World) (e : Event) (u : World) → StopsIn w e left.None u
     → ((t : World) × StopsIn w e left.Whole t) → (l : Left) → (t : World) × StopsIn w e l t
 left_so w e u s all left.None = (u, s)
@@ -256,7 +256,7 @@ rests_so w ns n es u like s =
           (put_in_both es w.nodes ns like n z z (inl refl));
     }
 
--- a restart is not of a node that is lost
+-- a restart is not of a lost node
 restarts_so : (w : World) (ns : List WorldNode) (n : ℕ) (es : List Event) (u : World)
     → AreAlike (Restart n ∷ es) w.nodes ns → Restarts w n u → GoesOnSo w ns (Restart n) es u
 restarts_so w ns n es u like s =

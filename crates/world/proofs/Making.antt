@@ -42,7 +42,7 @@ waits y (stages.Gathering c S k) v o e = absurd (let no : None ≡ Some o = e in
 waits y (stages.Building c) v o e = (c, refl)
 waits y (stages.Voting b S) v o e = absurd (let no : None ≡ Some o = e in cc)
 
--- what waits there is the open claim
+-- the claim that waits there is the open claim
 pub record IsWaiting (s : State) (u : ℕ) (c : Claim) : Type 0 where
   pub host : ℕ
   pub is : s.claim ≡ Some (record { unit = u; host = host; progress = Building c })
@@ -91,7 +91,7 @@ build_taken : (k j : ℕ) (a b : Value) → takes k (theory.Built a) ≡ takes j
     → (k ≡ j) × (a ≡ b)
 build_taken k j a b e = (cc, cc)
 
--- what is asked, and of which unit
+-- what is asked, and for which unit
 asked_there : (o : Option ℕ) (f : ℕ → theory.Input Value) (u : ℕ) (input : theory.Input Value)
     → for_unit o f ≡ Some (u, input) → o ≡ Some u
 asked_there None f u input e = absurd (let no : None ≡ Some (u, input) = e in cc)
@@ -120,7 +120,7 @@ module _ (division : Division) (weights : List ℕ) (acts : List (Act Value)) (w
   abbrev u : ℕ
   u = i.answers.unit
 
-  -- what is built
+  -- the build
   abbrev built : Value
   built = built_at member u given (view member u).stage
 

@@ -1,4 +1,4 @@
--- The nodes of a world are members, and what a note makes of them.
+-- The nodes of a world are members, and the effect of a note on them.
 use Rattle.std.proofs.Common.{◌≡◌, ◌<◌, ℕ, zero, suc, Bool, true, false, cond, List, [], ◌∷◌, ◌++◌, length, map, filter, reverse, fold, Option, Some, None, option_map, slice_get, refl, sym, ap, subst, ◌∙◌, arith, append-nil}
 use Rattle.std.specs.Option.{ForSome}
 use Rattle.std.specs.List.{slice_index_or}
@@ -30,14 +30,14 @@ use Rattle.world.specs.Matches.{log_of, name_of}
 
 -- ---- nodes are members
 
--- what stands in a list has a place in it
+-- an element at an index is within the list
 pub get_within : {X : Type 0} (xs : List X) (k : ℕ) (x : X) → slice_get xs k ≡ Some x
     → k < length xs
 get_within [] k x e = absurd cc
 get_within (y ∷ ys) zero x e = omega arith
 get_within (y ∷ ys) (suc k) x e = let l = get_within ys k x e in omega (arith, l)
 
--- A node of which all holds that has to is a member, up or down.
+-- A node that satisfies the invariant is a valid member, up or down.
 pub node_is_member : (w : World) → IsMade w.division w.weights → AreLocal w
     → (k : ℕ) (x : WorldNode) → slice_get w.nodes k ≡ Some x
     → IsMember (member_at w k x)
@@ -65,7 +65,7 @@ fold_more : {A B : Type 0} (f : B → A → B) (b : B) (xs : List A) (x : A)
 fold_more f b [] x = refl
 fold_more f b (y ∷ ys) x = fold_more f (f b y) ys x
 
--- what is known with one more note, if there is one
+-- the facts after one more note, if there is one
 pub facts_more : (w : World) (k : ℕ) (x y : WorldNode) (note : Option (Note Value))
     → y.notes ≡ with_note x.notes note
     → (member_at w k y).facts ≡ facts_then w.division (member_at w k x).facts note
@@ -81,8 +81,8 @@ facts_more w k x y note e = ap all_of e ∙ by note
     by (Some n) = fold_more (λ facts n. facts_then w.division facts (Some n))
         (fresh w.division w.weights k).facts x.notes n
 
--- what a node knows after the answer is what the theory's member knows, for the answer's unit, and
--- else what it knew
+-- after the answer, a node knows for the answer's unit what the theory's member knows, and for
+-- other units what it knew before
 pub facts_then_are : (w : World) (k : ℕ) (x y : WorldNode) (u : ℕ) (o : Outcome Value) (a : Answer)
     → IsOutcome (member_at w k x) u o a → y.notes ≡ with_note x.notes a.note → (q : ℕ)
     → facts_at (member_at w k y) q ≡ put (facts_at (member_at w k x)) u (facts_of o.member) q
@@ -106,15 +106,16 @@ facts_there w k x y u o a is e q ne =
 -- ---- and the log of each unit
 
 module _ (w : World) (made : IsMade w.division w.weights) (q : ℕ) where
-  -- Whether a note is on the unit.
+  -- Whether a note is about the unit.
   abbrev is_on : Note Value → Bool
   is_on n = bytes_eq n.path (name_of w q)
 
-  -- what these note of the unit, the last note first
+  -- what these note about the unit, latest note first
   abbrev noted_in : List (Note Value) → List (theory.Note Value)
   noted_in notes = map (λ n. note_of n.fact) (reverse (filter is_on notes))
 
-  -- a note on the unit comes before those that were there, and one on another unit is none of it
+  -- a note about the unit is put in front of the earlier ones; a note about another unit is left
+  -- out
   on_it : (notes : List (Note Value)) (n : Note Value) → is_on n ≡ true
       → noted_in (notes ++ n ∷ []) ≡ note_of n.fact ∷ noted_in notes
   on_it notes n e =
@@ -142,7 +143,7 @@ module _ (w : World) (made : IsMade w.division w.weights) (q : ℕ) where
       ap (λ z. add_note z (log_of w q x)) (sym same)
       ∙ sym (on_it x.notes n (equal_bytes n.path (name_of w q) (on n refl))) ∙ sym (ap noted_in e)
 
-  -- and those of the others
+  -- the logs of the other units
   pub log_stays : (u : ℕ) (x y : WorldNode) (note : Option (Note Value))
       → y.notes ≡ with_note x.notes note
       → ForSome note (λ n. n.path ≡ name_of w u) → u < length w.division.units

@@ -1,4 +1,4 @@
--- Each event is an act, or none; and so each run is acts.
+-- Each event is one act or none, so each run is a list of acts.
 use Rattle.std.proofs.Common.{◌≡◌, ℕ, List, true, ap, ⊎_elim, ◌∙◌, sym, true≢false}
 use Rattle.agreement.specs.AgreedList.{Act}
 use Rattle.events.specs.Events as events
@@ -32,7 +32,7 @@ module _ (division : Division) (weights : List ℕ) (acts : List (Act Value)) (w
     (of : (w.division ≡ division) × (w.weights ≡ weights)) (local : AreLocal w)
     (m : Matches w (after_all_acts division weights acts))
     (again : BuildTextIsReadAgain) where
-  -- Each event is an act, or none.
+  -- Each event is one act or none.
   pub event_is_act : (e : Event) (v : World) → Happens w e v
       → IsOneActMore division weights acts w e v
   event_is_act (events.Claim n path host above) v s =
@@ -66,7 +66,7 @@ module _ (division : Division) (weights : List ℕ) (acts : List (Act Value)) (w
       stop_inside_is_act division weights acts w made of local m again e l v s
   event_is_act (events.Restart n) v s = restart_is_act division weights acts w m n v s
 
-  -- Only one list may stand after a step.
+  -- Only one list may follow after a step.
   abbrev HasOnlyList : (e : Event) (v : World) → Steps w e v → Type 0
   HasOnlyList e v s = (list : List Content)
       → IsListAfter w (with_sends w.sent s.taken.answer.sends) list → list ≡ v.agreed
@@ -105,7 +105,7 @@ module _ (division : Division) (weights : List ℕ) (acts : List (Act Value)) (w
   step_has_one_list (events.StopIn e l) v step s = absurd (true≢false (sym step))
   step_has_one_list (events.Restart n) v step s = absurd (true≢false (sym step))
 
-  -- And some list stands after each step that a node takes.
+  -- Some list follows after each step that a node takes.
   abbrev HasList : (e : Event) → Acted w e → Type 0
   HasList e s = (list : List Content) × IsListAfter w (with_sends w.sent s.taken.answer.sends) list
 

@@ -1,4 +1,4 @@
--- What may be built on some builds may be built on these and more.
+-- A build that is allowed on some builds is allowed on any larger set of them.
 use Rattle.std.proofs.Common.{◌≡◌, ℕ, Bool, true, false, List, [], ◌∷◌, Option, Some, None, refl, sym, subst, option_and_then}
 use Rattle.std.proofs.lemmas.Bool.{and_parts, and_from}
 use Rattle.std.specs.List.{list_all}
@@ -8,14 +8,14 @@ use Rattle.protocol.specs.State.{Value, unit_with}
 use Rattle.engine.specs.Division.{Division, unit_at}
 use Rattle.world.specs.Needs.{are_records_of, is_signed, may_build, stands_on}
 
--- what all have, all have that is weaker
+-- if all pass a test, all pass a weaker one
 all_weaker : {X : Type 0} (f g : X → Bool) → ((x : X) → f x ≡ true → g x ≡ true) → (xs : List X)
     → list_all f xs ≡ true → list_all g xs ≡ true
 all_weaker f g w [] h = refl
 all_weaker f g w (x ∷ xs) h = let p = and_parts (f x) (list_all f xs) h in and_from (g x)
     (list_all g xs) (w x p.0) (all_weaker f g w xs p.1)
 
--- what stands on some builds stands on more
+-- a dependency that is met by some builds is met by more
 signed_more : (f g : ℕ → Option Value) → ((p : ℕ) (v : Value) → f p ≡ Some v → g p ≡ Some v)
     → (u : Option ℕ) (d : Dep)
     → is_signed (option_and_then f u) d ≡ true → is_signed (option_and_then g u) d ≡ true

@@ -20,14 +20,14 @@ use Rattle.ballots.specs.declared.message.Body.TheVariants as bodies
 use Rattle.protocol.specs.State.{Value}
 use Rattle.protocol.specs.Step.{members_of}
 
--- what holds of the value holds if it is there
+-- what holds of a value holds of it as an option
 pub for_this : {X : Type 0} (P : X → Type 0) (x : X) → P x → ForSome (Some x) P
 for_this P x holds y e = subst P (let same : x ≡ y = cc in same) holds
 
 pub for_none : {X : Type 0} (P : X → Type 0) → ForSome None P
 for_none P y e = absurd (let no : None ≡ Some y = e in cc)
 
--- the claim is that of one of so many members
+-- the claim is that of one of n members
 abbrev pub IsNamed : ℕ → Claim → Type 0
 IsNamed n c = c.member < n
 
@@ -35,19 +35,19 @@ IsNamed n c = c.member < n
 abbrev pub IsNamedIn : ℕ → Ballot Value → Type 0
 IsNamedIn n b = b.claim.member < n
 
--- what is known names members
+-- the claims that are known are of members
 pub record AreNamed (n : ℕ) (f : Facts Value) : Type 0 where
   pub promised : ForSome f.promised (IsNamed n)
   pub voted : ForSome f.voted (IsNamedIn n)
 
--- and so does what is noted,
+-- the claim in a note is of a member
 abbrev pub Notes : ℕ → members.Note Value → Type 0
 Notes n (members.Opened round) = Unit {0}
 Notes n (members.Promised c) = IsNamed n c
 Notes n (members.Voted b) = IsNamedIn n b
 Notes n (members.Held v) = Unit {0}
 
--- what is said, where a proposal is of the claim of who says it,
+-- the claims in what is said are of members, and a proposal is under the speaker's own claim
 abbrev pub Tells : ℕ → ℕ → messages.Message Value → Type 0
 Tells n i (messages.Offer c) = IsNamed n c
 Tells n i (messages.Promise p) = IsNamed n p.claim × ForSome p.report (IsNamedIn n)
@@ -57,7 +57,7 @@ Tells n i (messages.Nay k c p) = IsNamed n c × ForSome p (IsNamed n)
 Tells n i (messages.Agreed v) = Unit {0}
 Tells n i messages.Ask = Unit {0}
 
--- what comes,
+-- the claims in what arrives are of members
 abbrev pub Comes : ℕ → messages.Message Value → Type 0
 Comes n (messages.Offer c) = IsNamed n c
 Comes n (messages.Propose b) = IsNamedIn n b
@@ -67,14 +67,14 @@ Comes n (messages.Nay k c p) = Unit {0}
 Comes n (messages.Agreed v) = Unit {0}
 Comes n messages.Ask = Unit {0}
 
--- and the open claim, which is the member's own
+-- the open claim is the member's own
 abbrev pub IsOwnStage : ℕ → Stage Value → Type 0
 IsOwnStage i members.Closed = Unit {0}
 IsOwnStage i (members.Gathering c S k) = c.member ≡ i
 IsOwnStage i (members.Building c) = c.member ≡ i
 IsOwnStage i (members.Voting b S) = b.claim.member ≡ i
 
--- an outcome of which this holds
+-- an outcome that satisfies this
 pub record IsNaming (n i : ℕ) (o : Outcome Value) : Type 0 where
   pub note : ForSome o.note (Notes n)
   pub send : ForSome o.send (Tells n i)
@@ -99,7 +99,7 @@ noted_named n f (members.Voted b) are is = record {
 }
 noted_named n f (members.Held v) are is = record { promised = are.promised; voted = are.voted }
 
--- what notes that name members restore names members
+-- notes that name members restore facts that name members
 pub restored_named : (n : ℕ) (notes : List (members.Note Value)) → All (Notes n) notes
     → AreNamed n (members.restored notes)
 restored_named n [] are = record { promised = for_none (IsNamed n); voted = for_none (IsNamedIn n) }
@@ -172,7 +172,7 @@ module _ (n i : ℕ) (x : Member Value) (known : AreNamed n (facts_of x))
   ask_names None = nothing x
   ask_names (Some v) = telling x (messages.Agreed v) tt
 
-  -- when a message comes that names members
+  -- when it receives a message that names members
   pub message_names : (enough : Quorums) (m : messages.Message Value) → Comes n m
       → IsNaming n i (on_message enough i x m)
   message_names enough (messages.Offer c) is = offer_names c is
@@ -245,7 +245,7 @@ module _ (n i : ℕ) (x : Member Value) (known : AreNamed n (facts_of x))
       outcome_same : (a b : Outcome Value) → Some a ≡ Some b → a ≡ b
       outcome_same a b e = cc
 
-  -- when it is asked for something that is no delivery
+  -- when it takes an input that is not a delivery
   pub input_names : i < n → (enough : Quorums) (input : theory.Input Value) (o : Outcome Value)
       → theory.answer enough i x [] input ≡ Some o → IsNaming n i o
   input_names lt enough (theory.Start above) o e = start_names lt x.held above o e
@@ -257,7 +257,7 @@ module _ (n i : ℕ) (x : Member Value) (known : AreNamed n (facts_of x))
 
 -- ---- as bodies
 
--- a body that is said so names members
+-- the body of a message that is said names members
 pub body_names : (n i : ℕ) → i < n → (body : Body Value) → Tells n i (said i body)
     → All (λ k. k < n) (members_of body)
 body_names n i lt (bodies.Offer c) is = All-cons (λ k. k < n) c.member [] is (All-nil (λ k. k < n))
@@ -275,7 +275,7 @@ body_names n i lt (bodies.Nay c p) is =
     All-cons (λ k. k < n) c.member (p.member ∷ []) is.0
     (All-cons (λ k. k < n) p.member [] (is.1 p refl) (All-nil (λ k. k < n)))
 
--- and a body that names members comes so
+-- a body that names members is a message that does
 pub body_comes : (n i : ℕ) (body : Body Value) → All (λ k. k < n) (members_of body)
     → Comes n (said i body)
 body_comes n i (bodies.Offer c) are = All-head (λ k. k < n) c.member [] are

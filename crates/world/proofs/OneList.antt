@@ -1,4 +1,4 @@
--- Each run has one list, and is safe; and it goes one way.
+-- Each run has one list and is safe, and its events have one outcome.
 use Rattle.std.proofs.Common.{◌≡◌, ◌<◌, ◌++◌, ◌∷◌, [], ◌∙◌, ℕ, List, length, refl, sym, subst}
 use Rattle.agreement.specs.AgreedList.{Act}
 use Rattle.auditing.specs.Allowed as audit
@@ -57,7 +57,7 @@ module _ (division : Division) (weights : List ℕ) (made : IsMade division weig
       (in_order division weights acts w made of m).allowed units _
       (All-contains_itself (packages_of (after_all_acts division weights acts).list) k d lt)))
 
-  -- An audit of it says yes, where it has one package a path.
+  -- An audit accepts it, if it has one package for each path.
   audited : AllPairs ◌≢◌ (paths_of w.agreed) → AuditSaysYes w
   audited one =
       subst (λ (d : Division). audit.IsAllowed d.tree (map entry_of w.agreed)) (sym of.0)
@@ -66,7 +66,7 @@ module _ (division : Division) (weights : List ℕ) (made : IsMade division weig
       (in_order division weights acts w made of m).allowed units
       (subst (λ l. AllPairs ◌≢◌ (paths_of l)) m.list one)))
 
--- ---- at each moment
+-- ---- at every point
 
 module _ (runs : EachRunIsActs) (again : BuildTextIsReadAgain) (division : Division)
     (weights : List ℕ) (made : IsMade division weights)
@@ -209,7 +209,7 @@ module _ (runs : EachRunIsActs) (again : BuildTextIsReadAgain) where
 
 -- ---- answers
 
--- One world follows an event, and an event has one answer.
+-- One world follows an event, and an event has one outcome.
 pub one_world : EachRunIsActs → BuildTextIsReadAgain → OneWorldFollows
 one_world runs again division weights events w a b e made led first second =
     let r = runs division weights events w made led in
@@ -233,7 +233,7 @@ pub one_world_at_end : OneWorldFollows → EventsLeadToOneWorld
 one_world_at_end one division weights events v w made first second =
     one_end one division weights made [] events (start division weights) v w refl first second
 
--- And some list stands after each step.
+-- Some list follows after each step.
 pub each_has_list : EachRunIsActs → BuildTextIsReadAgain → EachStepHasAList
 each_has_list runs again division weights events w e x t made led step acts =
     let r = runs division weights events w made led in
@@ -241,7 +241,7 @@ each_has_list runs again division weights events w e x t made led step acts =
     step_has_list division weights r.0 w made (later.division, later.weights) r.3 r.2 again e step
     (record { node = x; taken = t; acts = acts })
 
--- So each event happens, or is refused.
+-- So each event happens or is refused.
 pub each_happens_or_not : EachRunIsActs → BuildTextIsReadAgain → EachHappensOrIsRefused
 each_happens_or_not runs again division weights events w e made led can =
     let later = leads_later (start division weights) w events led in

@@ -1,4 +1,4 @@
--- What a step of a member leaves of its open claim.
+-- The effect of a member's step on its open claim.
 use Rattle.std.proofs.Common.{◌≡◌, ℕ, not, ◌&&◌, Option, Some, None, refl, sym, ap, ◌∙◌}
 use Rattle.std.proofs.lemmas.Bool.{cond_both}
 use Rattle.agreement.specs.Claims.{is_above, is_below, is_promised}
@@ -35,7 +35,7 @@ module _ (V : Type 0) (enough : Quorums) (i : ℕ) (x : Member V) (closed : x.st
       by None = closed
       by (Some u) = closed
 
-  -- nor has it after an input, unless that opens one
+  -- it has none after an input, either, unless the input opens one
   pub built_opens_none : (s : Stage V) → s ≡ Closed → (v : V) (o : Outcome V)
       → on_built x s v ≡ Some o → ⊥
   built_opens_none s e v o h = let wrong : None ≡ Some o = sym (ap (λ s. on_built x s v) e)

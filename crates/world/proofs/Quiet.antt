@@ -1,4 +1,4 @@
--- A delivery that leaves its message waiting is no act.
+-- A delivery after which its message still waits is no act.
 use Rattle.std.proofs.Common.{◌≡◌, ℕ, Bool, true, List, [], Option, Some, None, slice_get, sym, ap, ap₂, subst, ◌∙◌, ⊎_elim}
 use Rattle.agreement.specs.AgreedList.{Act, Cluster}
 use Rattle.agreement.specs.Member as theory_members
@@ -20,7 +20,7 @@ use Rattle.world.specs.Matches.{Matches, log_of, node_of}
 use Rattle.world.specs.Mirrored.{after_all_acts}
 use Rattle.world.proofs.Stepping.{only_the_node}
 
--- a node that noted the same, is up or down as before, and has the same claim, is the same member
+-- a node with equal notes and an equal claim, that is up or down as before, is the same member
 same_node_matches : (w : World) (c : Cluster Value) → Matches w c → (k : ℕ) (x y : WorldNode)
     → slice_get w.nodes k ≡ Some x
     → x.notes ≡ y.notes → x.up ≡ y.up → x.claim ≡ y.claim → Matches (with_node w k y) c
@@ -72,14 +72,14 @@ module _ (division : Division) (weights : List ℕ) (acts : List (Act Value)) (w
     (of : (w.division ≡ division) × (w.weights ≡ weights)) (local : AreLocal w)
     (m : Matches w (after_all_acts division weights acts))
     (again : BuildTextIsReadAgain) (d n : ℕ) (v : World) (s : Steps w (events.Deliver d n) v) where
-  -- what the acts leave
+  -- the cluster after the acts
   abbrev here : Cluster Value
   here = after_all_acts division weights acts
 
   abbrev then : WorldNode
   then = up_node (after (node_at w n s.node) s.taken)
 
-  -- A piece that leaves its message waiting, or is kept already, is no act.
+  -- A piece that is already kept, or after which its message still waits, is no act.
   pub waiting_is_none : s.taken.answer ≡ nothing (member_at w n s.node)
       → IsOneActMore division weights acts w (events.Deliver d n) v
   waiting_is_none none = (

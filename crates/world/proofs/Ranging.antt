@@ -1,4 +1,4 @@
--- What a node of a world knows can be written down, and names members of the world.
+-- What a node of a world knows can be encoded, and names members of the world.
 use Rattle.std.proofs.Common.{◌≡◌, ◌<◌, ◌==◌, ℕ, true, false, not, nat_lt, Bool, List, [], ◌∷◌, length, map, filter, reverse, Option, Some, None, Ok, option_map, slice_get, refl, sym, subst, inl, inr, ltb-true, if◌then◌else◌}
 use Rattle.std.specs.Prelude.{All}
 use Rattle.std.specs.Option.{ForSome}
@@ -37,14 +37,14 @@ use Rattle.world.proofs.Naming.{AreNamed, IsOwnStage, Notes, restored_named}
 
 -- ---- what is known
 
--- a fact that names members is such in the theory
+-- a fact that names members does so in the theory
 fact_named : (n : ℕ) (f : Fact Value) → All (λ k. k < n) (members_noted f) → Notes n (note_of f)
 fact_named n (fact.Opened round) are = tt
 fact_named n (fact.Promised c) are = All-head (λ k. k < n) c.member [] are
 fact_named n (fact.Voted c v) are = All-head (λ k. k < n) c.member [] are
 fact_named n (fact.Held v) are = tt
 
--- what holds of all that a list has
+-- what holds of each element of a list holds of all
 all_has : {X : Type 0} (P : X → Type 0) (xs : List X) → ((x : X) → Has xs x → P x) → All P xs
 all_has P [] each = All-nil P
 all_has P (x ∷ xs) each = All-cons P x xs (each x (inl refl)) (all_has P xs (λ y h. each y (inr h)))
@@ -62,7 +62,7 @@ module _ (w : World) (made : IsMade w.division w.weights) (local : AreLocal w) (
   on_units = All-weaker (IsOfUnit w) (λ (n : Note Value). (u : ℕ)
       × (number_named w.division n.path ≡ Some u)) (λ n o. (o.unit, o.of_unit)) x.notes here.notes
 
-  -- all that it knows can be written down
+  -- everything that it knows can be encoded
   pub in_range : IsInRange (member_at w k x)
   in_range =
       let r = restored_written w.division w.weights k x.notes made.divided made.weigh is_one
@@ -72,7 +72,7 @@ module _ (w : World) (made : IsMade w.division w.weights) (local : AreLocal w) (
         claim = λ o e. (here.claim o e).progress;
       }
 
-  -- and names members
+  -- everything that it knows names members
   pub known_named : (u : ℕ) → u < length w.division.units
       → AreNamed (length w.weights) (facts_of (nodes.view (node_of w k x) u))
   known_named u lt =
@@ -100,7 +100,7 @@ own_progress me (Gathering c joined k) e = e
 own_progress me (Building c) e = e
 own_progress me (Voting b joined) e = e
 
--- is the member's own
+-- the open claim is the member's own
 pub own_stage : (s : State) (u : ℕ) → IsMember s → IsOwnStage s.me (view s u).stage
 own_stage s u is = by s.claim is.claim
   where
@@ -110,7 +110,7 @@ own_stage s u is = by s.claim is.claim
     by (Some o) are = cond_both (u == o.unit) (stage_of o.progress) theory.Closed (IsOwnStage s.me)
         (λ t. own_progress s.me o.progress (are o refl).own) (λ f. tt)
 
--- ---- what comes
+-- ---- what arrives
 
 first_fails : (b : Bool) (f : Refusal) (rest : Option Refusal) → (if b then Some f else rest) ≡ None
     → (b ≡ false) × (rest ≡ None)

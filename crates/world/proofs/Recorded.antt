@@ -1,5 +1,4 @@
--- What a build that may be built for a unit has: the records of the unit's packages, and of no
--- other's.
+-- A build that is allowed for a unit has the records of that unit's packages, and of no other's.
 use Rattle.std.proofs.Common.{◌≡◌, ◌<◌, ◌&&◌, ℕ, zero, suc, true, List, [], ◌∷◌, length, map, Option, Some, refl, sym, ap, ap₂, subst, ◌∙◌, arith}
 use Rattle.std.specs.Prelude.{Contains}
 use Rattle.std.specs.List.{list_all}
@@ -36,7 +35,7 @@ same_texts_of s t e = subst (λ u. same_texts s u ≡ true) e (itself s)
 
 -- ---- records
 
--- what the test of a record tells
+-- what it means that a record passes the test
 pub record IsRecordOf (tree : Tree) (x : Unit) (p : ℕ) (r : Content) : Type 0 where
   pub path : r.path ≡ path_at tree p
   pub name : r.name ≡ name_at tree p
@@ -111,7 +110,7 @@ has_record tree x (q ∷ qs) (r ∷ rs) e p (suc k, within, at) =
 -- ---- builds of units
 
 module _ (d : Division) (is : IsDivision d) where
-  -- a build that may be built for a unit has its records
+  -- a build that is allowed for a unit has that unit's records
   pub are_records : (f : ℕ → Option Value) (u : ℕ) (build : Value) → may_build d f u build ≡ true
       → are_records_of d.tree (unit_at d u) (unit_at d u).packages build ≡ true
   are_records f u build e = (and_parts
@@ -121,7 +120,7 @@ module _ (d : Division) (is : IsDivision d) where
   some_number : (a b : ℕ) → Some a ≡ Some b → a ≡ b
   some_number a b e = cc
 
-  -- builds of two units have no path in common
+  -- builds of two different units have no path in common
   pub no_path_of_both : (f g : ℕ → Option Value) (u q : ℕ) (a b : Value) → u < length d.units
       → q < length d.units → may_build d f u a ≡ true → may_build d g q b ≡ true
       → (r s : Content) → Contains a r → Contains b s → r.path ≡ s.path → u ≡ q

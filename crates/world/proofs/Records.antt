@@ -15,7 +15,7 @@ use Rattle.world.specs.World.{World, start}
 use Rattle.world.proofs.Distinct.{proposed_is_build}
 use Rattle.world.proofs.Growing.{by_kind, each_moment, kept_on}
 
--- what is added is a build that was proposed
+-- what is added to the list is a build that was proposed
 list_of_records : (w : World) (after : List Text) (list : List Content) → IsListAfter w after list
     → AreRecords w → All IsRecord list
 list_of_records w after list (inr (none, e)) are = subst (All IsRecord) (sym e) are
@@ -39,7 +39,7 @@ records_there : (division : Division) (weights : List ℕ) (events : List Event)
 records_there division weights events w led =
     kept_on AreRecords records_kept (start division weights) w events led (All-nil IsRecord)
 
--- So it is at each moment.
+-- So it does at every point.
 pub always_records : (division : Division) (weights : List ℕ) (events : List Event) (last : World)
     → Leads (start division weights) events last
     → AtEachMoment division weights events last (λ early w. AreRecords w)

@@ -1,4 +1,5 @@
--- Worlds of three, computed: which fault is named first, and how datagrams and packages are added.
+-- Worlds of three nodes, computed: which fault is found first, and how datagrams and packages are
+-- added.
 use Rattle.std.proofs.Common.{◌≡◌, ◌==◌, true, false, [], ◌∷◌, Some, None, refl}
 use Rattle.faults.specs.Bytes.{Text}
 use Rattle.agreement.specs.Quorums.{is_majority}
@@ -11,21 +12,21 @@ use Rattle.world.specs.World.{World, down_node, start, with_node}
 use Rattle.world.specs.declared.fault.WorldFault.TheVariants as fault
 
 module _ (d : Division) (path : Text) where
-  -- three that are up, and three of which the first is down
+  -- three nodes that are up, and three of which the first is down
   abbrev all_up : World
   all_up = start d (1 ∷ 1 ∷ 1 ∷ [])
 
   abbrev first_down : World
   first_down = with_node all_up 0 (down_node [] [])
 
-  -- a node that is up is not started again
+  -- a node that is up can't be restarted
   restart_of_one_that_is_up : fault_before all_up (Restart 0) ≡ Some fault.NodeUp
   restart_of_one_that_is_up = refl
 
   restart_of_one_that_is_down : fault_before first_down (Restart 0) ≡ None
   restart_of_one_that_is_down = refl
 
-  -- there is no fourth, whatever it is asked
+  -- there is no fourth node, whatever is asked of it
   no_fourth : fault_before all_up (Deliver 7 3) ≡ Some fault.NoSuchNode
   no_fourth = refl
 
@@ -33,7 +34,7 @@ module _ (d : Division) (path : Text) where
   nothing_to_deliver : fault_before all_up (Deliver 0 1) ≡ Some fault.NoSuchDatagram
   nothing_to_deliver = refl
 
-  -- that a node is down comes before that nothing was sent
+  -- that the node is down is found before that nothing was sent
   down_first : fault_before first_down (Deliver 0 0) ≡ Some fault.NodeDown
   down_first = refl
 
@@ -44,7 +45,7 @@ module _ (d : Division) (path : Text) where
       fault.NodeDown
   no_stop_inside_either = refl
 
-  -- only a step may be cut short, and that comes before all else
+  -- only a step may be cut short; that is tested first
   no_stop_inside_a_restart : fault_before first_down (StopIn (Restart 7) left.None) ≡ Some
       (fault.BadTrace 0)
   no_stop_inside_a_restart = refl
@@ -53,11 +54,11 @@ module _ (d : Division) (path : Text) where
       (fault.BadTrace 0)
   no_stop_inside_a_stop = refl
 
-  -- what the host is, the world doesn't test
+  -- the world doesn't test the host
   any_host : fault_before all_up (Claim 2 path 70000 0) ≡ None
   any_host = refl
 
--- a datagram that was sent keeps its number, and a new one comes last
+-- a datagram that was sent before keeps its number, and a new one is appended
 sent_again : with_datagram ((1 ∷ []) ∷ (2 ∷ []) ∷ []) (1 ∷ []) ≡ (1 ∷ []) ∷ (2 ∷ []) ∷ []
 sent_again = refl
 
@@ -65,10 +66,10 @@ sent_first : with_datagram ((1 ∷ []) ∷ (2 ∷ []) ∷ []) (1 ∷ 2 ∷ []) �
     ∷ (1 ∷ 2 ∷ []) ∷ []
 sent_first = refl
 
--- where the third weighs more than the others together, its vote is enough
+-- if the third member weighs more than the others together, its vote is enough
 third_alone : is_majority (1 ∷ 1 ∷ 3 ∷ []) (λ k. k == 2) ≡ true
 third_alone = refl
 
--- and where all weigh the same it is not
+-- if all weigh the same, it is not
 third_of_equals : is_majority (1 ∷ 1 ∷ 1 ∷ []) (λ k. k == 2) ≡ false
 third_of_equals = refl

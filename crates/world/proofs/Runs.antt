@@ -1,4 +1,5 @@
--- Runs of a world: they begin as the agreements do, and what each event keeps holds at each moment.
+-- Runs of a world: they begin as the agreements do, and what each event preserves holds at every
+-- point.
 use Rattle.std.proofs.Common.{◌≡◌, ◌<◌, ℕ, zero, suc, true, List, [], ◌∷◌, ◌++◌, length, replicate, Some, None, slice_get, append_assoc, append-nil, refl, sym, subst, ◌∙◌, arith}
 use Rattle.std.proofs.lemmas.Bool.{true≢false}
 use Rattle.std.proofs.lemmas.List.{get_or-map, length-replicate}
@@ -42,7 +43,7 @@ all_fresh (suc n) zero x e = some_node fresh_node x e
     some_node a b e = cc
 all_fresh (suc n) (suc k) x e = all_fresh n k x e
 
--- which knows nothing
+-- a fresh node knows nothing
 nothing_known : (division : Division) (weights : List ℕ) (k u : ℕ) → u < length division.units
     → facts_at (member_at (start division weights) k fresh_node) u ≡ no_facts
 nothing_known division weights k u lt =
@@ -98,7 +99,7 @@ start_local division weights = record {
 
 -- ---- from event to event
 
--- what a run is so far
+-- the invariant of a run so far
 record IsSoFar (division : Division) (weights : List ℕ) (events : List Event) (w : World) : Type
     0 where
   acts : List (Act Value)
@@ -136,7 +137,7 @@ module _ (division : Division) (weights : List ℕ) (made : IsMade division weig
       subst (λ (all : List Event). IsSoFar division weights all v) (append_assoc before (e ∷ []) es)
       (all_on (before ++ e ∷ []) es l.0 v (one_on before w l.0 e f l.1) l.2)
 
--- So each run is acts, where each event is one and keeps what has to be kept.
+-- So each run is a list of acts, if each event is an act and preserves the invariant.
 pub runs_are_acts : EachEventIsAnAct → EachEventKeepsLocal → EachRunIsActs
 runs_are_acts step keeps division weights events w made led =
     let f = all_on division weights made step keeps [] events (start division weights) w (record {
@@ -148,12 +149,12 @@ runs_are_acts step keeps division weights events w made led =
     }) led in
     (f.acts, f.mirrors, f.is_match, f.is_local)
 
--- ---- at each moment, where each run is acts
+-- ---- at every point, if each run is a list of acts
 
 module _ (runs : EachRunIsActs) (again : BuildTextIsReadAgain) (division : Division)
     (weights : List ℕ) (made : IsMade division weights)
     (events : List Event) (last : World) (led : Leads (start division weights) events last) where
-  -- what holds of each world that matches what acts leave holds at each moment
+  -- what holds of each world that matches what acts leave holds at every point
   pub at_each : (P : World → Type 0)
       → ((acts : List (Act Value)) (w : World) → (w.division ≡ division) × (w.weights ≡ weights)
       → Matches w (after_all_acts division weights acts)
@@ -205,7 +206,7 @@ module _ (runs : EachRunIsActs) (again : BuildTextIsReadAgain) (division : Divis
       (one_there division weights events last led))
       led
 
--- Nothing that was sent is foreign, where each run is acts.
+-- Nothing that was sent is foreign, if each run is a list of acts.
 pub none_is_foreign : BuildTextIsReadAgain → EachRunIsActs → NothingSentIsForeign
 none_is_foreign again runs division weights events w e f made led refused =
     let r = runs division weights events w made led in

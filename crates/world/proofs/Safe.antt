@@ -1,4 +1,4 @@
--- What is lawful in the agreements holds of the world that matches them: proposals, promises, and
+-- What is lawful in the agreements holds of a world that matches them: proposals, promises, and
 -- later proposals.
 use Rattle.std.proofs.Common.{◌≡◌, ◌<◌, ◌≤◌, ◌+◌, ◌&&◌, ℕ, suc, Bool, true, false, List, [], ◌∷◌, length, Option, None, Some, refl, sym, ap, subst, ◌∙◌, arith, if◌then◌else◌, ltb-true, lt-ltb, nat_le, nat_lt, slice_get}
 use Rattle.std.specs.Prelude.{Contains}
@@ -38,9 +38,9 @@ use Rattle.world.specs.Mirrored.{after_all_acts}
 use Rattle.world.proofs.Headers.{divided, in_order, lawful_there, sent_was_said}
 use Rattle.world.proofs.Logs.{noted_is_on_log, on_log_was_noted}
 
--- ---- majorities by those that are members
+-- ---- majorities count only members
 
--- a set that has all members of another weighs no less
+-- a superset weighs no less
 weight_within : (ws : List ℕ) (S R : Members) → ((k : ℕ) → k < length ws → S k ≡ true → R k ≡ true)
     → weight ws S ≤ weight ws R
 weight_within [] S R h = omega arith
@@ -64,7 +64,7 @@ pub majority_within : (ws : List ℕ) (S R : Members)
 majority_within ws S R h s = let m =
     weight_within ws S R h in lt-ltb _ _ (omega (arith, ltb-true _ _ s))
 
--- there are nine members at most
+-- there are at most nine members
 pub few_members : (weights : List ℕ) → AreWeights weights → length weights ≤ most_members
 few_members weights are =
     let counted = and_parts (nat_le 1 (length weights) && nat_le (length weights) most_members)
@@ -72,7 +72,7 @@ few_members weights are =
     leb-true (length weights) most_members (and_parts (nat_le 1 (length weights))
     (nat_le (length weights) most_members) counted.0).1
 
--- a note of a vote is of that vote
+-- equal notes of votes are of equal votes
 pub ballot_noted : (a b : Ballot Value) → members.Voted a ≡ members.Voted b → a ≡ b
 ballot_noted a b e = cc
 
@@ -91,15 +91,15 @@ module _ (division : Division) (weights : List ℕ) (acts : List (Act Value)) (w
     (made : IsMade division weights)
     (of : (w.division ≡ division) × (w.weights ≡ weights))
     (m : Matches w (after_all_acts division weights acts)) (again : BuildTextIsReadAgain) where
-  -- what the acts leave
+  -- the cluster after the acts
   abbrev here : Cluster Value
   here = after_all_acts division weights acts
 
-  -- what was sent of a unit was said there
+  -- what was sent about a unit was said there
   said_at : (n : Message Value) → WasSent w.sent n → WasSaid w here n
   said_at = sent_was_said division weights acts w made of m again
 
-  -- one name is one unit
+  -- equal names are of one unit
   one_unit : (u v : ℕ) (name : Text) → u < length w.division.units → v < length w.division.units
       → name ≡ name_of w u → name ≡ name_of w v → u ≡ v
   one_unit u v name lu lv eu ev =
@@ -114,7 +114,7 @@ module _ (division : Division) (weights : List ℕ) (acts : List (Act Value)) (w
       (lawful_there division weights acts w made of m f.unit).one c a b f.said_there
       (subst (λ (u : ℕ). Has (here.at u).sent (messages.Propose (ballot c b))) e s.said_there)
 
-  -- a vote of a unit's member there was noted by its node
+  -- a vote of a unit's member was noted by its node
   vote_was_noted : (u k : ℕ) (x : WorldNode) (name : Text) (c : Claim) (v : Value)
       → u < length w.division.units → name ≡ name_of w u → slice_get w.nodes k ≡ Some x
       → WasVoted (here.at u) (record { member = k; ballot = ballot c v })
@@ -127,7 +127,7 @@ module _ (division : Division) (weights : List ℕ) (acts : List (Act Value)) (w
       let fact_is = vote_noted (n.0).fact c v n.3 in
       subst (Contains x.notes) (λ i. record { path = path_is i; fact = fact_is i }) n.1
 
-  -- A promise bounds every vote below it, and reports one at or above each.
+  -- A promise bounds every vote below it, and reports a vote at or above each of them.
   pub promises_bound : PromisesBound w
   promises_bound k x name c d report stands promised noted below =
       by report (l.bounds promise (ballot d noted.0) p.said_there voted below)
@@ -159,7 +159,7 @@ module _ (division : Division) (weights : List ℕ) (acts : List (Act Value)) (w
 
   -- ---- votes that were sent
 
-  -- who voted for the claim of a unit that was proposed, did so there
+  -- a member that voted for the proposed claim of a unit did so in the agreement
   pub voted_there : (u : ℕ) (name : Text) (c : Claim) (a : Value) → u < length w.division.units
       → name ≡ name_of w u
       → (k : ℕ) → k < length weights → (proposer : ℕ)
@@ -189,7 +189,7 @@ module _ (division : Division) (weights : List ℕ) (acts : List (Act Value)) (w
 
   -- ---- votes that were noted
 
-  -- a vote that a node noted is one of the unit's member there
+  -- a vote that a node noted is a vote of the unit's member
   noted_there : (u k : ℕ) (name : Text) (c : Claim) → u < length w.division.units
       → name ≡ name_of w u → HasNotedVote w k name c
       → (v : Value) × WasVoted (here.at u) (record { member = k; ballot = ballot c v })
@@ -200,7 +200,7 @@ module _ (division : Division) (weights : List ℕ) (acts : List (Act Value)) (w
         (noted_is_on_log w u x (record { path = name; fact = fact.Voted c build }) noted about),
   )
 
-  -- Where a majority noted votes under a claim, each proposal at or above it repeats its build.
+  -- If a majority noted votes under a claim, each proposal at or above it repeats its build.
   pub later_repeats : LaterRepeats w
   later_repeats name c d a b S enough noted first second le =
       repeats Value (is_majority weights) (majorities weights) (WasProposed (here.at f.unit))
@@ -216,7 +216,7 @@ module _ (division : Division) (weights : List ℕ) (acts : List (Act Value)) (w
       law : IsLawfulWorld (is_majority weights) (here.at f.unit)
       law = lawful_there division weights acts w made of m f.unit
 
-      -- those of them that are members
+      -- those in S that are members
       among : Members
       among k = nat_lt k (length w.weights) && S k
 
@@ -242,7 +242,7 @@ module _ (division : Division) (weights : List ℕ) (acts : List (Act Value)) (w
       proposed = subst (λ (u : ℕ). Has (here.at u).sent (messages.Propose (ballot d b)))
           (one_unit s.unit f.unit name s.listed f.listed s.about f.about) s.said_there
 
-  -- A vote that was sent, was noted by the node that sent it.
+  -- A vote that was sent was noted by the node that sent it.
   pub votes_noted : AreLocal w → SentVotesAreNoted w
   votes_noted local k name c is_sent = (
     x.0,

@@ -1,4 +1,5 @@
--- In a world that matches, each datagram that was sent is one of a message that was.
+-- In a world that matches, each datagram that was sent belongs to a message of which all datagrams
+-- were sent.
 use Rattle.std.proofs.Common.{◌≡◌, zero, suc, List, [], ◌∷◌, refl, sym, arith}
 use Rattle.std.specs.Prelude.{Contains, map}
 use Rattle.agreement.specs.AgreedList.{Cluster}
@@ -9,7 +10,7 @@ use Rattle.world.specs.Matches.{Matches}
 use Rattle.world.specs.Safety.{EachIsOfAMessage}
 use Rattle.world.specs.World.{World}
 
--- what is among the images of a list is that of one of its elements
+-- an element of the image of a list is the image of an element
 pub has_preimage : {X Y : Type 0} (f : X → Y) (xs : List X) (y : Y) → Contains (map f xs) y
     → (x : X) × Contains xs x × (y ≡ f x)
 has_preimage f [] y (k, within, here) = absurd (omega arith)
@@ -21,7 +22,7 @@ has_preimage f (x ∷ xs) y (suc k, within, here) =
       r.2,
     )
 
--- so each datagram is one of a message that was sent
+-- so each datagram belongs to a message that was sent
 pub each_is_of_a_message : (w : World) (c : Cluster Value) → Matches w c → EachIsOfAMessage w
 each_is_of_a_message w c m text h =
     let s = m.sent text h in

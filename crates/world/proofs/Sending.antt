@@ -13,7 +13,7 @@ use Rattle.node.specs.Parcels.{datagrams_to, each_to}
 use Rattle.protocol.specs.declared.sends.Send.{Send}
 use Rattle.world.specs.Sent.{with_datagram, with_sends}
 
--- a text that is found among these is one of them, and the other way round
+-- a text is found among these if and only if it is one of them
 pub among_is : (texts : List Text) (t : Text) → is_among texts t ≡ true → Contains texts t
 among_is texts t h =
     let a = Any-from_list_any (λ u. bytes_eq u t) texts h in
@@ -23,7 +23,7 @@ pub is_found : (texts : List Text) (t : Text) → Contains texts t → is_among 
 is_found texts t h =
     list_any_at (λ u. bytes_eq u t) texts h.0 t h.1 (equal_bytes (get_or texts h.0 t) t h.2)
 
--- a datagram that is sent comes behind those that were, or is one of them
+-- a datagram that is sent is appended, or is there already
 datagram_behind : (sent : List Text) (t : Text) → (more : List Text)
     × (with_datagram sent t ≡ sent ++ more)
 datagram_behind sent t = by_case (is_among sent t)
@@ -44,7 +44,7 @@ datagram_comes sent t u =
     (λ l. Contains l u → Contains sent u ⊎ (t ≡ u)) (λ e h. inl h)
     (λ e h. Contains-push_cases sent t u h)
 
--- what was sent stays where it stood, and these come behind it
+-- what was sent before keeps its place, and these are appended
 pub texts_behind : (sent texts : List Text) → (more : List Text)
     × (fold with_datagram sent texts ≡ sent ++ more)
 texts_behind sent [] = ([], sym (append-nil sent))
@@ -59,7 +59,7 @@ texts_stay sent texts t h =
     let g = texts_behind sent texts in subst (λ l. Contains l t) (sym g.1)
     (Contains-append_left sent g.0 t h)
 
--- each of them was sent then
+-- each of these was sent then
 pub texts_there : (sent texts : List Text) (t : Text) → Contains texts t
     → Contains (fold with_datagram sent texts) t
 texts_there sent [] t (k, within, e) = absurd (omega arith)
@@ -68,7 +68,7 @@ texts_there sent (x ∷ xs) t (zero, within, e) = subst (Contains (fold with_dat
 texts_there sent (x ∷ xs) t (suc k, within, e) =
     texts_there (with_datagram sent x) xs t (k, omega (arith, within), e)
 
--- and nothing else
+-- nothing else was sent
 pub texts_come : (sent texts : List Text) (t : Text) → Contains (fold with_datagram sent texts) t
     → Contains sent t ⊎ Contains texts t
 texts_come sent [] t h = inl h
@@ -78,7 +78,7 @@ texts_come sent (x ∷ xs) t h = ⊎_elim
     (λ late. inr (suc late.0, omega (arith, late.1), late.2))
     (texts_come (with_datagram sent x) xs t h)
 
--- no datagram is there twice
+-- no datagram is listed twice
 datagram_once : (sent : List Text) (t : Text) → AllPairs ◌≢◌ sent
     → AllPairs ◌≢◌ (with_datagram sent t)
 datagram_once sent t once =
@@ -102,9 +102,9 @@ pub texts_alone : (texts : List Text) (to : ℕ)
 texts_alone [] to = refl
 texts_alone (t ∷ ts) to = ap (λ l. t ∷ l) (texts_alone ts to)
 
--- ---- the same of sends
+-- ---- the same for sends
 
--- the datagrams that go out by these sends
+-- the datagrams of these sends
 abbrev pub texts_in : List Send → List Text
 texts_in sends = map (λ s. s.1) (datagrams_to sends)
 

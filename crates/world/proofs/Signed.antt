@@ -1,4 +1,4 @@
--- The dependencies of every build that was ever proposed stood in the list when its job was given.
+-- The dependencies of every build that was ever proposed were in the list when its job was given.
 use Rattle.std.proofs.Common.{◌≡◌, ℕ, List, ◌∷◌, refl, sym, ap, subst, ◌∙◌}
 use Rattle.std.specs.Prelude.{All}
 use Rattle.std.proofs.lemmas.List.Elements.{All-map}
@@ -41,13 +41,13 @@ module _ (division : Division) (weights : List ℕ) (made : IsMade division weig
     said = sent_was_said division weights acts w made of m again
         (message w name proposed.0 (Propose c build)) proposed.1
 
-    -- and its build was made
+    -- its build was made
     was : WasMade division weights events said.unit build
     was = built_was_made division weights events w acts mirrors said.unit build
         (((in_order division weights acts w made of m).sound said.unit).said
         (messages.Propose (ballot c build)) said.said_there).2.1
 
-    -- by the job of the claim that waited for it
+    -- the member whose claim waited for it made it by the claim's job
     abbrev maker : State
     maker = member_at was.world was.maker was.makes.node
 
@@ -77,6 +77,6 @@ module _ (division : Division) (weights : List ℕ) (made : IsMade division weig
     its_job : JobWasGiven division weights events name build
     its_job = record { job = job; was_given = given; for_unit = named; of_job = of_job }
 
-  -- So it is with each build that was proposed.
+  -- This holds for each build that was proposed.
   pub jobs_stood : JobsStood division weights events w
   jobs_stood name c build proposed = its_job name c build proposed

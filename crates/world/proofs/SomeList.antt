@@ -1,4 +1,4 @@
--- After each step some list stands: who is decided for was proposed.
+-- After each step some list follows: if a claim is decided, a build was proposed under it.
 use Rattle.std.proofs.Common.{◌≡◌, ◌<◌, ℕ, Bool, true, false, List, length, Option, None, Some, refl, sym, ap, subst, ◌∙◌, ⊎_elim, inl, inr}
 use Rattle.std.proofs.lemmas.Bool.{and_parts, cases_eq, true≢false}
 use Rattle.faults.specs.Bytes.{Text, is_among}
@@ -31,7 +31,7 @@ use Rattle.world.proofs.Said.{has_preimage}
 use Rattle.world.proofs.Speaking.{added_has}
 use Rattle.world.proofs.VoteTexts.{is_that_vote}
 
--- where the same was sent, the list stays
+-- if nothing new was sent, the list stays the same
 pub nothing_new : (w : World) (after : List Text) → after ≡ w.sent → (list : List Content)
     × IsListAfter w after list
 nothing_new w after same = (
@@ -64,7 +64,7 @@ module _ (division : Division) (weights : List ℕ) (acts more : List (Act Value
     (send : Option (messages.Message Value))
     (here : ((after_all_acts division weights more).at u).sent ≡
     add_sent send ((after_all_acts division weights acts).at u).sent) where
-  -- what the acts leave, before and after
+  -- the clusters after the acts, before and after the step
   abbrev old : Cluster Value
   old = after_all_acts division weights acts
 
@@ -128,7 +128,7 @@ module _ (division : Division) (weights : List ℕ) (acts more : List (Act Value
       × IsListAfter w sent list
   stays none = (w.agreed, inr (none, refl))
 
-  -- and the claim of a vote that is said has a proposal
+  -- the claim of a vote that is said has a proposal
   module _ (j : ℕ) (c : Claim) (is : send ≡ Some (messages.Vote j c)) where
     vote_is_there : Has (new.at u).sent (messages.Vote j c)
     vote_is_there = subst (λ l. Has l (messages.Vote j c)) (sym here)
@@ -180,7 +180,7 @@ module _ (division : Division) (weights : List ℕ) (acts more : List (Act Value
         (sym (one_vote j k c d (sym is ∙ e)))
         ∙ now)) decided)
 
-  -- Some list stands.
+  -- Some list follows.
   pub some_list : (list : List Content) × IsListAfter w sent list
   some_list = by send refl
     where

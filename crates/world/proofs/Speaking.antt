@@ -1,4 +1,4 @@
--- What a step says goes out, and what was sent then was said: the match of a step that sends.
+-- What a step says is sent, and what was sent after it was said: the match of a step that sends.
 use Rattle.std.proofs.Common.{◌≡◌, ◌<◌, ◌⊎◌, ℕ, zero, suc, true, List, [], ◌∷◌, ◌++◌, length, map, Bool, Option, None, Some, slice_get, slice_set, refl, sym, ap, subst, ◌∙◌, ⊎_elim, inl, inr, arith}
 use Rattle.std.specs.Prelude.{All, Contains}
 use Rattle.std.specs.List.{list_all}
@@ -32,7 +32,7 @@ use Rattle.world.proofs.Sending.{among_is, is_found, sends_come, sends_stay, sen
 use Rattle.world.specs.Matches.{IsSaid, Matches, name_of, packages_of}
 use Rattle.world.proofs.Standing.{IsLeftAs, logs_then, members_then, sent_here, sent_there}
 
--- ---- what sends are, datagram by datagram
+-- ---- sends as datagrams
 
 texts_first : (z : Send) (zs : List Send) → texts_in (z ∷ zs) ≡ datagrams_of z.message
     ++ texts_in zs
@@ -40,7 +40,7 @@ texts_first z zs =
     map-append (λ (s : ℕ × Text). s.1) (each_to (datagrams_of z.message) z.to) (datagrams_to zs)
     ∙ ap (λ l. l ++ texts_in zs) (texts_alone (datagrams_of z.message) z.to)
 
--- what goes out is a datagram of a message that is sent
+-- what is sent is a datagram of a message in the sends
 pub text_comes : (sends : List Send) (t : Text) → Contains (texts_in sends) t → (z : Send)
     × Contains sends z × Contains (datagrams_of z.message) t
 text_comes [] t (k, within, e) = absurd (omega arith)
@@ -51,7 +51,7 @@ text_comes (z ∷ zs) t h = ⊎_elim
     (Contains-append_cases (datagrams_of z.message) (texts_in zs) t
     (subst (λ l. Contains l t) (texts_first z zs) h))
 
--- and all datagrams of such a message do
+-- all datagrams of such a message are sent
 pub text_goes : (sends : List Send) (z : Send) (t : Text) → Contains sends z
     → Contains (datagrams_of z.message) t → Contains (texts_in sends) t
 text_goes [] z t (k, within, e) h = absurd (omega arith)
@@ -66,7 +66,7 @@ text_goes (y ∷ ys) z t (suc k, within, e) h =
 
 -- ---- what was sent
 
--- a test that passes for all that a list has
+-- a test passes for a list if it passes for each element
 pub passes : {X : Type 0} (p : X → Bool) (xs : List X) → ((x : X) → Contains xs x → p x ≡ true)
     → list_all p xs ≡ true
 passes p [] each = refl
@@ -85,7 +85,7 @@ sent_more sent sends n s = record {
       (AllPass-from_list_all (is_among sent) (datagrams_of n) s.went_out) h))));
 }
 
--- and what is sent now is
+-- what is sent now was sent
 pub sent_now : (sent : List Text) (sends : List Send) (z : Send) → Contains sends z
     → IsMessage z.message → WasSent (with_sends sent sends) z.message
 sent_now sent sends z there is = record {
@@ -102,21 +102,21 @@ pub has_added : (s : Option (theory_says.Message Value)) (l : List (theory_says.
 has_added None l z h = h
 has_added (Some y) l z h = inr h
 
--- and what is there was said, or is said now
+-- everything said was said before, or is said now
 pub added_has : (s : Option (theory_says.Message Value)) (l : List (theory_says.Message Value))
     (z : theory_says.Message Value) → Has (add_sent s l) z
     → Has l z ⊎ (s ≡ Some z)
 added_has None l z h = inl h
 added_has (Some y) l z h = ⊎_elim (λ e. inr (ap (λ x. Some x) e)) (λ old. inl old) h
 
--- votes that are one are of one member for one claim
+-- equal votes are of the same member and claim
 abbrev vote_of : ℕ → Claim → theory_says.Message Value
 vote_of i c = theory_says.Vote i c
 
 votes_same : (a c : Claim) (i j : ℕ) → vote_of i a ≡ vote_of j c → (a ≡ c) × (i ≡ j)
 votes_same a c i j e = (cc, cc)
 
--- a vote that is said is the vote of who says it, and a proposal is one
+-- a vote that is said is the speaker's own vote; likewise a proposal
 vote_body : (k n : ℕ) (b : Claim) (body : Body Value) → says k body ≡ theory_says.Vote n b
     → (body ≡ bodies.Vote b) × (k ≡ n)
 vote_body k n b (bodies.Offer c) e = absurd cc
@@ -158,14 +158,14 @@ module _ (w : World) (enough : Quorums) (c : Cluster Value) (m : Matches w c) (u
     (is_member : member_of e < length w.weights)
     (own : (b : Ballot Value) → o.send ≡ Some (theory_says.Propose b)
     → b.claim.member ≡ member_of e) where
-  -- the agreements then, and what was sent
+  -- the agreements after the step, and what was sent
   abbrev then : Cluster Value
   then = cluster_after enough c u e
 
   abbrev sent : List Text
   sent = with_sends w.sent a.sends
 
-  -- the world then, where its list is that of the agreements
+  -- the world after the step, if its list is that of the agreements
   abbrev world : World
   world = record w {
     nodes = slice_set w.nodes (member_of e) y;
@@ -184,7 +184,7 @@ module _ (w : World) (enough : Quorums) (c : Cluster Value) (m : Matches w c) (u
       (sent_there w enough c m u within e o answered x y stands left q ne)) h)
       (cases_eq q u)
 
-  -- what is said there now was said before, or is said by this step, at its unit
+  -- what is said there now was said before, or is said by this step at its unit
   comes : (q : ℕ) (z : theory_says.Message Value) → Has (then.at q).sent z → Has (c.at q).sent z
       ⊎ ((q ≡ u) × (o.send ≡ Some z))
   comes q z h = ⊎_elim
@@ -198,7 +198,7 @@ module _ (w : World) (enough : Quorums) (c : Cluster Value) (m : Matches w c) (u
       (sent_there w enough c m u within e o answered x y stands left q ne) h))
       (cases_eq q u)
 
-  -- each datagram that was sent is one of a message that was said
+  -- each datagram that was sent belongs to a message that was said
   said_then : (text : Text) → Contains sent text → IsSaid world then text
   said_then text h = ⊎_elim
       (λ old. let s = m.sent text old in record {
@@ -240,7 +240,7 @@ module _ (w : World) (enough : Quorums) (c : Cluster Value) (m : Matches w c) (u
                 (sym s.body) (inl refl)));
           }
 
-  -- what has to go out is a message that is sent
+  -- what must be sent is a message that is sent
   gone : (z : theory_says.Message Value) (body : Body Value) (k : ℕ) → o.send ≡ Some z
       → must_go_out z ≡ true → k ≡ member_of e
       → ((b : Body Value) → says (member_of e) b ≡ z → b ≡ body)
@@ -265,7 +265,7 @@ module _ (w : World) (enough : Quorums) (c : Cluster Value) (m : Matches w c) (u
       subst (WasSent sent) same (sent_now w.sent a.sends one.1 there
       (All-contains (λ z. IsMessage z.message) a.sends one.1 written there))
 
-  -- the votes that were said were sent
+  -- votes that were said were sent
   votes_then : (q n : ℕ) (b : Claim) → q < length w.division.units
       → Has (then.at q).sent (theory_says.Vote n b)
       → WasSent sent (message w (name_of w q) n (bodies.Vote b))
@@ -283,7 +283,7 @@ module _ (w : World) (enough : Quorums) (c : Cluster Value) (m : Matches w c) (u
           (gone (theory_says.Vote n b) (bodies.Vote b) n send refl (sym who.1)
           (λ body is. (vote_body (member_of e) n b body is).0))
 
-  -- and so were the proposals
+  -- proposals that were said were sent
   proposals_then : (q : ℕ) (b : Claim) (v : Value) → q < length w.division.units
       → Has (then.at q).sent (theory_says.Propose (ballot b v))
       → WasSent sent (message w (name_of w q) b.member (bodies.Propose b v))
@@ -296,7 +296,7 @@ module _ (w : World) (enough : Quorums) (c : Cluster Value) (m : Matches w c) (u
       (λ body is. proposal_body (member_of e) b v body is)))
       (comes q (theory_says.Propose (ballot b v)) h)
 
-  -- the list has entries for units
+  -- the entries of the list are for units
   units_with : (p : ℕ) (list : List (Entry Value)) (o d : Option Value)
       → p < length w.division.units
       → All (λ n. n.path < length w.division.units) list
@@ -307,7 +307,7 @@ module _ (w : World) (enough : Quorums) (c : Cluster Value) (m : Matches w c) (u
       (λ (n : Entry Value). n.path < length w.division.units) (record { path = p; value = v }) list
       lt are
 
-  -- So the world then matches the agreements, if its list is theirs.
+  -- So the world after the step matches the agreements, if its list is theirs.
   pub world_matches : Matches world then
   world_matches = record {
     members =

@@ -1,4 +1,4 @@
--- What an event leaves of the match, where one node changed as its member did.
+-- An event preserves the match, if one node changed as its member did.
 use Rattle.std.proofs.Common.{◌≡◌, ◌<◌, ℕ, length, Some, None, slice_get, slice_set, sym, ap, ap₂, subst, ◌∙◌, ⊎_elim}
 use Rattle.std.specs.Prelude.{All}
 use Rattle.std.proofs.lemmas.Bool.{cases_eq}
@@ -21,8 +21,8 @@ use Rattle.world.specs.World.{World, WorldNode, with_node}
 use Rattle.world.specs.Matches.{IsSaid, Matches, log_of, node_of, packages_of}
 use Rattle.world.proofs.Acting.{at_here, at_there, elsewhere_logs, list_stays}
 
--- Node k, which was x, is y, as its member is after an event for unit u that has this outcome; and
--- it noted what the member noted.
+-- Node k was x and is now y, as its member is after an event for unit u with this outcome; and the
+-- node noted what the member noted.
 pub record IsLeftAs (w : World) (enough : Quorums) (c : Cluster Value) (u : ℕ) (e : Event Value)
     (o : Outcome Value) (x y : WorldNode) : Type 0 where
   pub here : o.member ≡ nodes.view (node_of w (member_of e) y) u
@@ -37,11 +37,11 @@ module _ (w : World) (enough : Quorums) (c : Cluster Value) (m : Matches w c) (u
     (e : Event Value) (o : Outcome Value) (answered : outcome enough (c.at u) e ≡ Some o)
     (x y : WorldNode)
     (stands : slice_get w.nodes (member_of e) ≡ Some x) (left : IsLeftAs w enough c u e o x y) where
-  -- the agreements then
+  -- the agreements after the event
   abbrev then : Cluster Value
   then = cluster_after enough c u e
 
-  -- node j, at the unit of the event
+  -- node j, for the unit of the event
   member_here : (j : ℕ) (z : WorldNode) → slice_get (slice_set w.nodes (member_of e) y) j ≡ Some z
       → (then.at u).members j ≡ nodes.view (node_of w j z) u
   member_here j z g = ap (λ t. t.members j) (at_here Value enough c u e o answered) ∙ ⊎_elim
@@ -51,7 +51,7 @@ module _ (w : World) (enough : Quorums) (c : Cluster Value) (m : Matches w c) (u
       (λ h. put_other (c.at u).members (member_of e) j o.member h.0 ∙ m.members j u z h.1 within)
       (get_set w.nodes (member_of e) j y z g)
 
-  -- and at the others
+  -- node j, for the other units
   member_there : (j q : ℕ) (z : WorldNode)
       → slice_get (slice_set w.nodes (member_of e) y) j ≡ Some z → (q ≡ u → ⊥)
       → q < length w.division.units → (then.at q).members j ≡ nodes.view (node_of w j z) q
@@ -71,7 +71,7 @@ module _ (w : World) (enough : Quorums) (c : Cluster Value) (m : Matches w c) (u
       (λ ne. member_there j q z g ne lt)
       (cases_eq q u)
 
-  -- the log of node j, at the unit of the event
+  -- the log of node j, for the unit of the event
   log_here : (j : ℕ) (z : WorldNode) → slice_get (slice_set w.nodes (member_of e) y) j ≡ Some z
       → (then.at u).logs j ≡ log_of w u z
   log_here j z g = ap (λ t. t.logs j) (at_here Value enough c u e o answered) ∙ ⊎_elim
@@ -83,7 +83,7 @@ module _ (w : World) (enough : Quorums) (c : Cluster Value) (m : Matches w c) (u
       (λ h. put_other (c.at u).logs (member_of e) j _ h.0 ∙ m.logs j u z h.1 within)
       (get_set w.nodes (member_of e) j y z g)
 
-  -- and at the others
+  -- the log of node j, for the other units
   log_there : (j q : ℕ) (z : WorldNode) → slice_get (slice_set w.nodes (member_of e) y) j ≡ Some z
       → (q ≡ u → ⊥)
       → q < length w.division.units → (then.at q).logs j ≡ log_of w q z
@@ -94,7 +94,7 @@ module _ (w : World) (enough : Quorums) (c : Cluster Value) (m : Matches w c) (u
       (λ h. m.logs j q z h.1 lt)
       (get_set w.nodes (member_of e) j y z g)
 
-  -- each node noted what the member there did
+  -- each node noted what the member there noted
   pub logs_then : (j q : ℕ) (z : WorldNode)
       → slice_get (slice_set w.nodes (member_of e) y) j ≡ Some z
       → q < length w.division.units → (then.at q).logs j ≡ log_of w q z
@@ -103,8 +103,8 @@ module _ (w : World) (enough : Quorums) (c : Cluster Value) (m : Matches w c) (u
       (λ ne. log_there j q z g ne lt)
       (cases_eq q u)
 
-  -- what is said at the unit of the event comes before what was, and at the others the same was
-  -- said
+  -- at the unit of the event, what is said is put in front of what was said; at other units nothing
+  -- changes
   pub sent_here : (then.at u).sent ≡ add_sent o.send (c.at u).sent
   sent_here = ap (λ t. t.sent) (at_here Value enough c u e o answered)
 
@@ -112,7 +112,7 @@ module _ (w : World) (enough : Quorums) (c : Cluster Value) (m : Matches w c) (u
   sent_there q ne = ap (λ t. t.sent) (at_there Value enough c u q e ne)
       ∙ elsewhere_sent Value enough (c.at q) e
 
-  -- where nothing is said, the same was sent
+  -- if nothing is said, what was sent is the same
   pub sent_same : o.send ≡ None → (q : ℕ) → (then.at q).sent ≡ (c.at q).sent
   sent_same none q = ⊎_elim
       (λ same. subst (λ p. (then.at p).sent ≡ (c.at p).sent) (sym same)
@@ -120,7 +120,7 @@ module _ (w : World) (enough : Quorums) (c : Cluster Value) (m : Matches w c) (u
       (sent_there q)
       (cases_eq q u)
 
-  -- so an event that says nothing leaves a match where the node changed and nothing else did
+  -- so an event that says nothing preserves the match, if only that node changed
   pub quiet_matches : AreQuorums enough → IsValue enough (c.at u) (lookup c.list u) → o.send ≡ None
       → Matches (with_node w (member_of e) y) then
   quiet_matches quorums value none = record {

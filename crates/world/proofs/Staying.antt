@@ -1,4 +1,4 @@
--- Each event leaves nodes as they have to be.
+-- Each event preserves the invariant of nodes.
 use Rattle.std.proofs.Common.{◌≡◌, ◌<◌, ℕ, true, false, List, [], ◌∷◌, length, Option, None, Some, Result, Ok, Err, slice_get, slice_set, refl, sym, ap, subst, ◌∙◌, ⊎_elim}
 use Rattle.std.specs.Prelude.{All, AllPairs, Contains}
 use Rattle.std.proofs.lemmas.Bool.{cond_both, true≢false}
@@ -57,15 +57,16 @@ use Rattle.world.proofs.Members.{facts_more, node_is_member}
 use Rattle.world.proofs.Ranging.{in_range, known_named}
 use Rattle.world.proofs.Speaking.{sent_more}
 
--- ---- what is kept of pieces
+-- ---- the pieces that a node keeps
 
--- The pieces are kept as they have to be, where these datagrams were sent.
+-- The pieces satisfy their invariant, if these datagrams were sent.
 abbrev IsKeptBy : List Text → List Piece → Type 0
 IsKeptBy sent pieces =
     All (λ p. (m : Message Value) × WasSentOf sent m p) pieces
     × AllPairs (λ p q. is_numbered q.header q.number p ≡ false) pieces
 
--- What arrives: pieces that are kept so, and of a message that it is good.
+-- What arrives: pieces that satisfy their invariant, and a message of which all datagrams were
+-- sent.
 abbrev IsGoodArrival : List Text → Arrival → Type 0
 IsGoodArrival sent (Strange f pieces) = Unit {0}
 IsGoodArrival sent (Waits pieces) = IsKeptBy sent pieces
@@ -120,7 +121,7 @@ module _ (sent : List Text) (pieces : List Piece) (kept : IsKeptBy sent pieces) 
   datagram_arrives s (datagrams.Piece p) m was there =
       piece_arrives p m (record { is_sent = was; piece = there }) (refusal_of s p.header)
 
--- what was sent arrives so
+-- what was sent arrives like that
 text_arrives : (w : World) (s : State) (pieces : List Piece) → AreKept w pieces → EachIsOfAMessage w
     → (text : Text) → Contains w.sent text
     → IsGoodArrival w.sent (arrival_of s pieces (datagram_of text))
@@ -135,9 +136,9 @@ text_arrives w s pieces kept each text h =
     subst (λ r. IsGoodArrival w.sent (arrival_of s pieces r)) (sym again)
     (datagram_arrives w.sent pieces (kept.sent, kept.once) s d o.0 o.1 there)
 
--- ---- what a step leaves
+-- ---- the effect of a step on its node
 
--- What a step leaves of its node.
+-- The effect of a step on its node.
 record IsSoundStep (w : World) (k : ℕ) (x : WorldNode) (t : Taken) : Type 0 where
   answer : LeavesSound (member_at w k x) t.answer
   pieces : IsKeptBy w.sent t.pieces
@@ -226,9 +227,9 @@ module _ (w : World) (made : IsMade w.division w.weights) (local : AreLocal w)
   act_sound (events.StopIn e l) x t step acts = absurd (true≢false (sym step))
   act_sound (events.Restart n) x t step acts = absurd (true≢false (sym step))
 
-  -- ---- what is left in the world
+  -- ---- the effect on the world
 
-  -- a node with one more note, if there is one, has notes as they have to be
+  -- the notes of a node satisfy the invariant after one more note, if there is one
   notes_so : (k : ℕ) (x : WorldNode) (a : Answer) (v : World) → v.division ≡ w.division
       → v.weights ≡ w.weights → slice_get w.nodes k ≡ Some x
       → LeavesSound (member_at w k x) a → All (IsOfUnit v) (with_note x.notes a.note)
@@ -270,7 +271,7 @@ module _ (w : World) (made : IsMade w.division w.weights) (local : AreLocal w)
       (λ p o. (o.0, record { is_sent = sent_more w.sent sends o.0 o.1.is_sent; piece = o.1.piece }))
       pieces are
 
-  -- a node with another in the world, and more that was sent, stays as it has to be
+  -- a node stays valid if another node is replaced and more is sent
   others_so : (nodes : List WorldNode) (sends : List Send) (agreed : List Content) (j : ℕ)
       (z : WorldNode) → IsLocal w j z
       → IsLocal (record w { nodes = nodes; sent = with_sends w.sent sends; agreed = agreed }) j z
@@ -356,7 +357,7 @@ module _ (w : World) (made : IsMade w.division w.weights) (local : AreLocal w)
         up = λ e. absurd (true≢false (sym e));
       }))
 
-  -- Whatever happens, each node stays so.
+  -- Whatever happens, each node satisfies the invariant.
   pub event_keeps : (e : Event) (v : World) → Happens w e v → AreLocal v
   event_keeps (events.Claim n path host above) v h =
       step_keeps (events.Claim n path host above) v refl h

@@ -1,4 +1,4 @@
--- A step of a node is its member's: the node and its log are what the member's are then.
+-- A step of a node is its member's: afterwards the node and its log are the member's.
 use Rattle.std.proofs.Common.{◌≡◌, ◌<◌, ℕ, true, List, [], length, Some, option_map, slice_get, refl, sym, ap, ap₂, ◌∙◌, inl, inr, true≢false}
 use Rattle.agreement.specs.AgreedList.{Cluster, elsewhere}
 use Rattle.agreement.specs.Member.{Closed, Member, facts_of}
@@ -29,7 +29,7 @@ module _ (enough : Quorums) (w : World) (made : IsMade w.division w.weights) (c 
     (t : Taken)
     (answered : theory.answer enough k (nodes.view (node_of w k x) u) (c.at u).sent input ≡ Some o)
     (is : IsOutcome (member_at w k x) u o t.answer) where
-  -- the node then
+  -- the node after the step
   abbrev then : WorldNode
   then = up_node (after (node_at w k x) t)
 
@@ -42,7 +42,7 @@ module _ (enough : Quorums) (w : World) (made : IsMade w.division w.weights) (c 
       up
       ∙ answered
 
-  -- its open claim then, and that it is up
+  -- its open claim after the step, and that it is up
   pub claims : option_map claim_of t.answer.claim ≡ nodes.claim_then (option_map claim_of x.claim) u
       o.member.stage
   claims = ap (λ (n : nodes.Node Value). n.claim) is.node
@@ -50,7 +50,7 @@ module _ (enough : Quorums) (w : World) (made : IsMade w.division w.weights) (c 
   is_up : o.member.up ≡ true
   is_up = sym (ap (λ (n : nodes.Node Value). n.up) is.node)
 
-  -- the node is the member, at the unit of the step
+  -- the node is the member, for the unit of the step
   pub is_member : o.member ≡ nodes.view (node_of w k then) u
   is_member =
       let g : facts_of o.member ≡ facts_at (member_at w k then) u =
@@ -68,7 +68,7 @@ module _ (enough : Quorums) (w : World) (made : IsMade w.division w.weights) (c 
         stage = n i;
       }
 
-  -- and as it was at the others, unless the step opens a claim
+  -- for the other units it is as before, unless the step opens a claim
   pub is_as_before : ((nodes.view (node_of w k x) u).stage ≡ Closed → o.member.stage ≡ Closed)
       → (q : ℕ) → (q ≡ u → ⊥)
       → nodes.view (node_of w k x) q ≡ nodes.view (node_of w k then) q
@@ -89,7 +89,7 @@ module _ (enough : Quorums) (w : World) (made : IsMade w.division w.weights) (c 
         stage = n i;
       }
 
-  -- so node and log are left as the member's are
+  -- so node and log are those of the member
   pub left_so : ((q : ℕ) → (q ≡ u → ⊥) → q < length w.division.units
       → (run enough (elsewhere (Take k input)) (c.at q)).members k ≡ nodes.view (node_of w k then)
       q)
@@ -103,7 +103,7 @@ module _ (enough : Quorums) (w : World) (made : IsMade w.division w.weights) (c 
 
 -- ---- the world after a step that sends nothing
 
--- where the same was sent, nothing is decided
+-- if nothing new was sent, nothing is decided
 pub list_same : (w : World) (after : List Text) (list : _) → after ≡ w.sent
     → IsListAfter w after list → list ≡ w.agreed
 list_same w after list same (inl (build, d, e)) =
@@ -112,7 +112,7 @@ list_same w after list same (inl (build, d, e)) =
     ∙ d.decided.not_before))
 list_same w after list same (inr (none, e)) = e
 
--- so only the node is another
+-- so only the node changes
 pub only_the_node : (w v : World) (e : Event) (s : Steps w e v) → s.taken.answer.sends ≡ []
     → v ≡ with_node w (whose e) (up_node (after (node_at w (whose e) s.node) s.taken))
 only_the_node w v e s none =

@@ -26,7 +26,7 @@ use Rattle.world.proofs.Acting.{act_is, restart_here, stop_here}
 use Rattle.world.proofs.Monotone.{needs_are_monotone}
 use Rattle.world.proofs.Standing.{IsLeftAs, quiet_matches}
 
--- where there are no units, nodes may do what they like
+-- if there are no units, any change of a node preserves the match
 no_units : (w : World) (c : Cluster Value) (k : ℕ) (y : WorldNode) → length w.division.units ≡ 0
     → Matches w c → Matches (with_node w k y) c
 no_units w c k y none m = record {
@@ -107,11 +107,11 @@ module _ (enough : Quorums) (quorums : AreQuorums enough) (may : Needs Value) (w
         kept = λ q ne lt. refl;
       }
 
--- ---- so they are one act more, or none
+-- ---- so they are one act or none
 
 module _ (division : Division) (weights : List ℕ) (acts : List (Act Value)) (w : World)
     (m : Matches w (after_all_acts division weights acts)) where
-  -- what the acts leave
+  -- the cluster after the acts
   abbrev reached : Cluster Value
   reached = after_all_acts division weights acts
 
@@ -119,13 +119,13 @@ module _ (division : Division) (weights : List ℕ) (acts : List (Act Value)) (w
   values_there = (ordered Value (is_majority weights) (majorities weights) (may_build division)
       (needs_are_monotone division) acts).values
 
-  -- one act more
+  -- one more act
   pub one_more : (a : Act Value)
       → after_all_acts division weights (with_act acts (Some a)) ≡ after_act (is_majority weights)
       (may_build division) reached a
   one_more a = after_acts-append (is_majority weights) (may_build division) acts (a ∷ []) beginning
 
-  -- a stop is one for all units, or none where there are no units
+  -- a stop is one act for all units, or none if there are no units
   some_or_none : (n : ℕ) → (0 < n) ⊎ (n ≡ 0)
   some_or_none n = ⊎_elim (λ l. inl l) (λ l. inr (omega (arith, l))) (cases_lt 0 n)
 

@@ -1,4 +1,4 @@
--- A stop inside a step that leaves its whole note is such a stop of the member.
+-- A stop inside a step that leaves its whole note is the same stop of the member.
 use Rattle.std.proofs.Common.{◌≡◌, ◌<◌, ℕ, true, false, [], length, Some, option_map, slice_get, refl, sym, ap, subst, ◌∙◌}
 use Rattle.agreement.specs.Agreed.{IsValue}
 use Rattle.agreement.specs.AgreedList.{Cluster, Needs, after_act, lookup}
@@ -27,7 +27,7 @@ module _ (enough : Quorums) (quorums : AreQuorums enough) (may : Needs Value) (w
     (a : Answer)
     (answered : theory.answer enough k (nodes.view (node_of w k x) u) (c.at u).sent input ≡ Some o)
     (is : IsOutcome (member_at w k x) u o a) where
-  -- the node then
+  -- the node after the stop
   abbrev y : WorldNode
   y = down_node (with_note x.notes a.note) []
 

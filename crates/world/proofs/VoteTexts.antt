@@ -1,4 +1,4 @@
--- The text of a vote is that of no other message.
+-- The text of a vote differs from that of every other message.
 use Rattle.std.proofs.Common.{◌≡◌, ◌+◌, ℕ, zero, suc, List, [], ◌∷◌, ◌++◌, length, drop, Option, None, Some, slice_get, refl, sym, ap, subst, ◌∙◌, arith}
 use Rattle.std.specs.Int.{bytes_high_first}
 use Rattle.std.specs.Prelude.{Contains}
@@ -29,7 +29,7 @@ use Rattle.world.proofs.Equal.{only_one, some_same}
 cons_same : {X : Type 0} (x y : X) (xs ys : List X) → x ∷ xs ≡ y ∷ ys → (x ≡ y) × (xs ≡ ys)
 cons_same x y xs ys e = (cc, cc)
 
--- lists are one, part by part, where the first parts are as long
+-- concatenations are equal part by part, if the first parts have equal lengths
 both_parts : {X : Type 0} (a b c d : List X) → length a ≡ length c → a ++ b ≡ c ++ d
     → (a ≡ c) × (b ≡ d)
 both_parts [] b [] d same e = (refl, e)
@@ -40,7 +40,7 @@ both_parts (x ∷ a) b (y ∷ c) d same e =
     let rest = both_parts a b c d (omega (arith, same)) parts.1 in
     (ap (λ z. z ∷ a) parts.0 ∙ ap (λ l. y ∷ l) rest.0, rest.1)
 
--- and where the last ones are
+-- the same if the last parts have equal lengths
 last_parts : {X : Type 0} (a b c d : List X) → length b ≡ length d → a ++ b ≡ c ++ d
     → (a ≡ c) × (b ≡ d)
 last_parts a b c d same e =
@@ -50,7 +50,7 @@ last_parts a b c d same e =
 
 -- ---- fields
 
--- a claim is read off its text
+-- a claim is determined by its text
 claims_same : (a b : Claim) → IsClaim a → IsClaim b → claim_text a ≡ claim_text b → a ≡ b
 claims_same a b first second e =
     let same = ok_is (a, []) (b, [])
@@ -62,12 +62,12 @@ claim_length : (c : Claim) → length (claim_text c) ≡ 9
 claim_length c = length-append (bytes_high_first 8 c.round) (c.member ∷ [])
     ∙ ap (λ n. n + 1) (length-big_bytes 8 c.round)
 
--- paths are one whose texts are
+-- paths are equal if their texts are
 paths_same : (a b : Text) → path_text a ≡ path_text b → a ≡ b
 paths_same a b e = (both_parts (bytes_high_first 2 (length a)) a (bytes_high_first 2 (length b)) b
     (length-big_bytes 2 (length a) ∙ sym (length-big_bytes 2 (length b))) e).1
 
--- only a vote has the number of a vote
+-- only a vote has the kind number of a vote
 is_vote : (b : Body Value) → 4 ≡ kind_of b → (c : Claim) × (b ≡ bodies.Vote c)
 is_vote (bodies.Offer c) e = absurd (omega (arith, e))
 is_vote (bodies.Promise c r) e = absurd (omega (arith, e))
@@ -83,7 +83,7 @@ is_vote (bodies.Nay c p) e = absurd (omega (arith, e))
 abbrev pub vote : ℕ → Text → Text → Claim → Message Value
 vote k tree name c = record { sender = k; tree = tree; path = name; body = bodies.Vote c }
 
--- a message that goes out in whole, with the text of a vote, is that vote
+-- a message in one datagram, with the text of a vote, is that vote
 same_vote : (n : Message Value) (k : ℕ) (tree name : Text) (c : Claim) → IsMessage n → IsClaim c
     → n.tree ≡ tree → message_text (vote k tree name c) ≡ message_text n → n ≡ vote k tree name c
 same_vote n k tree name c is claim_is tree_is e = by b.0 b.1

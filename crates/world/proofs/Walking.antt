@@ -18,7 +18,7 @@ use Rattle.world.specs.Needs.{may_build}
 
 -- ---- acts
 
--- what is built in acts and one more is built in those, or by that one
+-- what is built by some acts and one more is built by the former or by the latter
 built_more : (enough : Quorums) (may : Needs Value) (acts : List (Act Value)) (a : Act Value)
     (c : Cluster Value) (p : ℕ) (v : Value)
     → WasBuilt enough may (acts ++ a ∷ []) c p v → WasBuilt enough may acts c p v
@@ -30,7 +30,7 @@ built_more enough may (x ∷ xs) a c p v h = ⊎_elim
     (built_more enough may xs a (after_act enough may c x) p v later))
     h
 
--- an event that builds is that its member took this build
+-- an event that builds is a Built of this value at its member
 builds_event : (w : theory_world.World Value) (e : theory_world.Event Value) (v : Value)
     → Builds w e v → (i : ℕ) × (e ≡ Take i (theory.Built v))
 builds_event w (Take i (theory.Built u)) v b = (i, ap (λ x. Take i (theory.Built x)) b.0)
@@ -45,7 +45,8 @@ builds_event w (Restart i) v b = absurd b
 
 -- ---- events
 
--- An event of the run made the build for the unit, when all that it stands on was in the list.
+-- An event of the run made the build for the unit, when everything that it depends on was in the
+-- list.
 pub record WasMade (division : Division) (weights : List ℕ) (events : List Event) (u : ℕ)
     (build : Value) : Type 0 where
   pub before : List Event
@@ -72,7 +73,7 @@ module _ (division : Division) (weights : List ℕ) where
       leads_together (start division weights) w v before (e ∷ [])
       (mirrors_lead before w others mirrors) (v, h, refl)
 
-  -- what was made so far was made
+  -- what was made in a run so far was made in the longer run
   one_later : (events : List Event) (e : Event) (u : ℕ) (build : Value)
       → WasMade division weights events u build
       → WasMade division weights (events ++ e ∷ []) u build
@@ -116,7 +117,7 @@ module _ (division : Division) (weights : List ℕ) where
         listed = now.listed;
       }
 
-  -- What the acts of a run built was made by an event of it.
+  -- What the acts of a run built was made by one of its events.
   pub built_was_made : (events : List Event) (w : World) (acts : List (Act Value))
       → Mirrors division weights events w acts → (u : ℕ) (build : Value)
       → WasBuilt (is_majority weights) (may_build division) acts beginning u build
