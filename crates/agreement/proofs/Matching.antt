@@ -1,4 +1,5 @@
--- What happens to nodes for all paths is what happens to the instances for each path: the laws of the cluster are those of the net.
+-- What happens to nodes for all paths is what happens to the agreement of each path: the laws of
+-- the cluster hold for the net.
 use Rattle.std.proofs.Common.{◌≡◌, ℕ, suc, zero, max, true, false, not, ◌&&◌, List, [], ◌∷◌, ◌++◌, Option, Some, None, is_some, refl, inl, inr, subst, sym, ap, ap₂, ◌∙◌, slice_get, slice_set, option_map, replicate, append_assoc, IfSome}
 use Rattle.std.proofs.lemmas.Bool.{cond-true, cond-false, cases_Bool, and_from, false≢true}
 use Rattle.agreement.specs.Claims.{Claim}
@@ -14,13 +15,13 @@ use Rattle.agreement.proofs.Agreed.{found}
 use Rattle.agreement.proofs.AgreedList.{ordered, held_listed, after_acts-append, after_acts_longer}
 use Rattle.agreement.proofs.Nodes.{IsTame, comes, dropped_here, matched, net_with, on_built_tame, on_failed_tame, on_inquire_tame, on_message_tame, on_nudge_tame, restart_here, stop_here, view_halted_here, view_halted_there, view_here, view_opened, view_there}
 
--- what `option_map` gave has its source
+-- a result of `option_map` has a source
 map_some : {X Y : Type 0} (f : X → Y) (o : Option X) (r : Y) → option_map f o ≡ Some r
     → (x : X) × (o ≡ Some x) × (f x ≡ r)
 map_some f None r e = absurd cc
 map_some f (Some x) r e = (x, refl, cc)
 
--- a step of node i, told as a step for the path alone
+-- a step of node i, as a step for only that path
 record Replied (V : Type 0) (enough : Quorums) (may : Needs V) (c : Cluster V) (i : ℕ) (x : Node V) (r : Reply V) : Type 0 where
   input : Input V
   answered : answer enough i (view x r.path) (c.at r.path).sent input ≡ Some r.outcome
@@ -29,7 +30,7 @@ record Replied (V : Type 0) (enough : Quorums) (may : Needs V) (c : Cluster V) (
       → (run enough (elsewhere (Take i input)) (c.at q)).members i ≡ view (node_with x r.path r.outcome.member) q
 
 module _ (V : Type 0) (enough : Quorums) (may : Needs V) (w : Net V) (c : Cluster V) (m : Matches V w c) (i : ℕ) (x : Node V) (is : slice_get w.nodes i ≡ Some x) (up : x.up ≡ true) where
-  -- a tame step leaves the other paths as they were
+  -- a tame step leaves the other paths unchanged
   tame_there : (p : ℕ) (o : Outcome V) → IsTame V enough (view x p) o → (q : ℕ) → (q ≡ p → ⊥)
       → (c.at q).members i ≡ view (node_with x p o.member) q
   tame_there p o t q ne = m.members q i x is ∙ sym (view_there V enough x p q o.member ne t.0 t.1)
@@ -46,7 +47,7 @@ module _ (V : Type 0) (enough : Quorums) (may : Needs V) (w : Net V) (c : Cluste
       ∙ (ap (λ (y : Member V). record y { up = true; stage = Closed }) (m.members q i x is)
       ∙ sym (view_opened V enough x p q o.member k nobody None ne (sym (ap (λ o. o.member.up) o') ∙ up) (sym (ap (λ o. o.member.stage) o'))))
 
-  -- what a node is asked for a path is an event for it
+  -- an input to a node for a path is an event for that path
   local_replied : (p : ℕ) (input : Input V) (o : Outcome V) → may_do may x p input ≡ true
       → answer enough i (view x p) [] input ≡ Some o → Replied V enough may c i x (record { path = p; outcome = o })
   local_replied p (Start above) o a e = record { input = Start above; answered = e; allowed = refl; there = opened_there p above (x.facts p).held o e }
@@ -61,7 +62,7 @@ module _ (V : Type 0) (enough : Quorums) (may : Needs V) (w : Net V) (c : Cluste
   local_replied p (Deliver k) o a e = absurd (false≢true a)
   local_replied p Inquire o a e = record { input = Inquire; answered = e; allowed = refl; there = let P : Option (Outcome V) → Type 0 = λ o. IfSome o (IsTame V enough (view x p)) in tame_there p o (subst P e (on_inquire_tame V enough (view x p) (view x p).held)) }
 
-  -- and so is what comes as a datagram
+  -- a datagram to a node is an event for its path
   replied : (a : Asked V) (r : Reply V) → reply enough may w.sent i x a ≡ Some r → Replied V enough may c i x r
   replied (Local p input) r e =
       elim (cases_Bool (may_do may x p input)) [
@@ -81,12 +82,12 @@ module _ (V : Type 0) (enough : Quorums) (may : Needs V) (w : Net V) (c : Cluste
         there = tame_there d.path (on_message enough i (view x d.path) d.message) (on_message_tame V enough i (view x d.path) d.message);
       })
 
-  -- an act that may happen is its event
+  -- an act that may happen has the effect of its event
   act_is : (p : ℕ) (e : Event V) (o : Outcome V) → may_happen may c p e ≡ true → outcome enough (c.at p) e ≡ Some o
       → cluster_after enough c p e ≡ after_act enough may c (record { path = p; event = e })
   act_is p e o a s = sym (cond-true (may_happen may c p e && is_some (outcome enough (c.at p) e)) (cluster_after enough c p e) c (and_from _ _ a (ap is_some s)))
 
-  -- each happening is an act or none
+  -- each happening is one act or none
   does_sim : (a : Asked V) (r : Option (Reply V)) → reply enough may w.sent i x a ≡ r
       → (rest : List (Act V)) × Matches V (net_after enough w i x r) (after_acts enough may rest c)
   does_sim a None e = ([], m)
@@ -99,7 +100,7 @@ module _ (V : Type 0) (enough : Quorums) (may : Needs V) (w : Net V) (c : Cluste
             (matched V enough w c m r.path (Take i s.input) r.outcome (node_with x r.path r.outcome.member) o (view_here V enough x r.path r.outcome.member) s.there),
       )
 
--- what is in the list settles its path
+-- a path with an entry in the list has that entry's value
 settled : (V : Type 0) (enough : Quorums) → AreQuorums enough
     → (u : World V) (p : ℕ) (list : List (Entry V)) (a d : Option V) → IsValue enough u a
     → decided_value enough u.sent u.sent ≡ d → list_with p list a d ≡ list
@@ -108,7 +109,7 @@ settled V enough quorums u p list None None h e = refl
 settled V enough quorums u p list None (Some v) h e = let f = found V enough quorums (λ v. Unit {0}) u.sent u.sent v e in absurd (h f.0 f.1)
 
 module _ (V : Type 0) (enough : Quorums) (quorums : AreQuorums enough) (may : Needs V) (more : IsMonotone may) (w : Net V) (c : Cluster V) (m : Matches V w c) (values : (p : ℕ) → IsValue enough (c.at p) (lookup c.list p)) (i : ℕ) (x : Node V) (is : slice_get w.nodes i ≡ Some x) where
-  -- a step that sends nothing leaves the list
+  -- a step that sends nothing leaves the list unchanged
   quiet_matched : (p : ℕ) (y : Node V) (d : Cluster V) → Matches V (net_with V enough w i p y None) d
       → Matches V (record { nodes = slice_set w.nodes i y; sent = w.sent; list = w.list }) d
   quiet_matched p y d n = record { members = n.members; sent = n.sent; list = n.list ∙ same }
@@ -196,7 +197,7 @@ module _ (V : Type 0) (enough : Quorums) (quorums : AreQuorums enough) (may : Ne
         | inr f ↦ let P : Net V → Type 0 = λ n. (rest : List (Act V)) × Matches V n (after_acts enough may rest c) in subst P (sym (cond-false x.up w _ f)) (wakes_sim V enough quorums may more w c m values i x e f)
       ]
 
-  -- the acts of a run so far, and those of what comes
+  -- the acts of a run so far, and those of the happenings that follow
   run_sim : (w : Net V) (before : List (Act V)) → Matches V w (after_acts enough may before beginning)
       → (events : List (Happening V))
       → (rest : List (Act V)) × Matches V (net_run enough may events w) (after_acts enough may (before ++ rest) beginning)
@@ -207,7 +208,7 @@ module _ (V : Type 0) (enough : Quorums) (quorums : AreQuorums enough) (may : Ne
       let r = run_sim (net_then enough may w e) (before ++ s.0) (subst P (sym (after_acts-append enough may before s.0 beginning)) s.1) es in
       (s.0 ++ r.0, let Q : List (Act V) → Type 0 = λ rest. Matches V (net_run enough may (e ∷ es) w) (after_acts enough may rest beginning) in subst Q (append_assoc before s.0 r.0) r.1)
 
-  -- the first net is the first cluster
+  -- the initial net corresponds to the initial cluster
   start_matches : (n : ℕ) → Matches V (net_start n) beginning
   start_matches n = record { members = λ q i x e. all_fresh n i x e q; sent = λ q. refl; list = refl }
     where
@@ -217,12 +218,12 @@ module _ (V : Type 0) (enough : Quorums) (quorums : AreQuorums enough) (may : Ne
       all_fresh (suc n) zero x e q = let f : fresh_node ≡ x = cc in ap (λ y. view y q) f
       all_fresh (suc n) (suc i) x e q = all_fresh n i x e q
 
-  -- after all happenings net and cluster are alike
+  -- after all happenings the net corresponds to a cluster
   pub net_sim : (n : ℕ) (events : List (Happening V))
       → (rest : List (Act V)) × Matches V (net_run enough may events (net_start n)) (after_acts enough may rest beginning)
   net_sim n events = run_sim (net_start n) [] (start_matches n) events
 
-  -- so the laws of the cluster are those of the net
+  -- so the laws of the cluster hold for the net
   pub net_allowed : (n : ℕ) (events : List (Happening V))
       → IsAllowed may (net_run enough may events (net_start n)).list
   net_allowed n events = let s = net_sim n events in subst (IsAllowed may) (s.1).list (ordered V enough quorums may more s.0).allowed
