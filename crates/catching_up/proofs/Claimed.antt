@@ -1,4 +1,4 @@
--- What a node has a claim open for is queued there, in each world that is reached.
+-- In each reachable world, a unit for which a node has an open claim is queued there.
 use Rattle.std.proofs.Common.{◌≡◌, ℕ, true, List, [], ◌∷◌, ◌++◌, length, Option, Some, None, Ok, append_assoc, append-nil, slice_get, refl, sym, ap, subst, ◌∙◌, ⊎_elim}
 use Rattle.std.specs.Prelude.{is_some}
 use Rattle.std.proofs.lemmas.List.Elements.{All-weaker}
@@ -37,7 +37,7 @@ use Rattle.catching_up.specs.Missing.{ClaimedIsQueued}
 use Rattle.catching_up.proofs.Claiming.{claim_that_is_left}
 use Rattle.catching_up.proofs.Showing.{IsReady, held_by, held_from, held_parts, queued_by_need, ready_by_letter, stays_installable}
 
--- All that the claims of nodes need is installable at them.
+-- Everything that nodes' claims need is installable at these nodes.
 abbrev pub AreReady : World → Type 0
 AreReady w =
     (k : ℕ) (x : WorldNode) (o : OpenClaim) → slice_get w.nodes k ≡ Some x → x.claim ≡ Some o
@@ -50,7 +50,7 @@ module _ (w : World) (k : ℕ) (x : WorldNode) (is : IsMember (member_at w k x))
   abbrev s : State
   s = member_at w k x
 
-  -- what the claim needs that a step leaves open was installable before it
+  -- what the claim needs that a step leaves open was installable before the step
   step_leaves : (asked : Asked) (t : Taken) → Takes (node_at w k x) asked (Ok t)
       → (p : OpenClaim) → t.answer.claim ≡ Some p → IsReady s p.unit
   step_leaves (Does input) t takes =
@@ -80,7 +80,7 @@ module _ (w : World) (k : ℕ) (x : WorldNode) (is : IsMember (member_at w k x))
       record (member_at w k x) { facts = fs; claim = t.answer.claim })
       (sym (facts_more w k x (then t) t.answer.note refl))
 
-  -- what was held is held
+  -- what was held is still held
   held_on : (t : Taken) (q : ℕ) → held_by s q ≡ true → held_by (member_at w k (then t)) q ≡ true
   held_on t q held =
       let parts = held_parts s q held in
@@ -88,7 +88,7 @@ module _ (w : World) (k : ℕ) (x : WorldNode) (is : IsMember (member_at w k x))
       (subst (λ z. holds_package z q ≡ true) (left_member t)
       (package_stays_held s t.answer q parts.1))
 
-  -- and so it is installable after it
+  -- so it is installable after the step
   ready_then : (asked : Asked) (t : Taken) → Takes (node_at w k x) asked (Ok t)
       → (p : OpenClaim) → (then t).claim ≡ Some p → IsReady (member_at w k (then t)) p.unit
   ready_then asked t takes p left =
@@ -100,7 +100,7 @@ module _ (w : World) (k : ℕ) (x : WorldNode) (is : IsMember (member_at w k x))
 
 -- ---- an event
 
--- where one node is another, whose claim is ready
+-- one node is replaced by another whose claim is ready
 one_other : (w : World) (k : ℕ) (y : WorldNode) (sent : List Text) (list : List Content)
     → AreReady w
     → ((o : OpenClaim) → y.claim ≡ Some o → IsReady (member_at w k y) o.unit)
@@ -112,7 +112,7 @@ one_other w k y sent list ready mine j z o stands claimed = ⊎_elim
     (λ h. ready j z o h.1 claimed)
     (get_set w.nodes k j y z stands)
 
--- where one node is another that has no claim
+-- one node is replaced by another that has no claim
 one_without : (w v : World) (k : ℕ) (y : WorldNode) → y.claim ≡ None → v ≡ with_node w k y
     → AreReady w → AreReady v
 one_without w v k y none leaves ready = subst AreReady (sym leaves)
@@ -125,7 +125,7 @@ no_claim_left left.None notes noted = refl
 no_claim_left (left.Torn bytes) notes noted = refl
 no_claim_left left.Whole notes noted = refl
 
--- what each event leaves
+-- the effect of each event
 abbrev Leaves : World → World → Type 0
 Leaves w v = IsMade w.division w.weights → AreLocal w → AreReady w → AreReady v
 
@@ -148,8 +148,7 @@ event_leaves = by_kind Leaves
 
 -- ---- along a run
 
--- What holds at the start, and of the world that an event leaves where it holds of the one before,
--- holds of each world that is reached.
+-- What holds at the start, and is preserved by each event, holds of each reachable world.
 module _ (division : Division) (weights : List ℕ) (P : List Event → World → Type 0)
     (step : (events : List Event) (w v : World) (e : Event)
     → Leads (start division weights) events w → Happens w e v
@@ -171,7 +170,7 @@ module _ (division : Division) (weights : List ℕ) (P : List Event → World �
 
 module _ (runs : EachRunIsActs) (division : Division) (weights : List ℕ)
     (made : IsMade division weights) where
-  -- what is fixed is so of each world that is reached
+  -- what is fixed stays the same in each reachable world
   pub made_there : (events : List Event) (w : World) → Leads (start division weights) events w
       → IsMade w.division w.weights
   made_there events w led =

@@ -1,4 +1,5 @@
--- What a member's step leaves a claim open for had one before, or was queued when it was claimed.
+-- If a member's step leaves a claim open for a unit, the claim was open before, or the unit was
+-- queued when it was claimed.
 use Rattle.std.proofs.Common.{◌≡◌, ◌==◌, ◌<◌, ℕ, Bool, true, false, List, [], ◌∷◌, Option, Some, None, Ok, Err, length, option_map, eqb-true, refl, sym, ap, subst, ◌∙◌, if◌then◌else◌}
 use Rattle.std.specs.Prelude.{cond, unwrap_or}
 use Rattle.std.proofs.lemmas.Bool.{cond_both}
@@ -29,7 +30,7 @@ use Rattle.protocol.proofs.GoodClaims.{IsGoodStage, built_good, failed_good, inq
 use Rattle.protocol.proofs.StayingMembers.{nobody_is_short}
 use Rattle.std.specs.Prelude.{IfSome}
 
--- what is left of a claim that is dropped was there
+-- a claim that remains after one is dropped was there before
 dropped_was : (claim : Option OpenClaim) (u : ℕ) (p : OpenClaim) → dropped claim u ≡ Some p
     → claim ≡ Some p
 dropped_was None u p e = e
@@ -45,8 +46,8 @@ first_is_not : (b : Bool) (f : Refusal) (rest : Option Refusal) → cond b (Some
 first_is_not true f rest e = absurd (let no : Some f ≡ None = e in cc)
 first_is_not false f rest e = (refl, e)
 
--- P holds of each unit that is claimed while it neither is held nor waits, and of the unit of the
--- claim that is open.
+-- P holds of each unit that is claimed when it is not held and does not wait, and of the unit of
+-- the open claim.
 module _ (s : State) (is : IsMember s) (P : ℕ → Type 0)
     (opens : (u : ℕ) (letter : Letter) → u < length s.division.units → HasLetter s u letter
     → is_held s u ≡ false → is_waiting letter ≡ false → P u)
@@ -73,7 +74,7 @@ module _ (s : State) (is : IsMember s) (P : ℕ → Type 0)
   view_good : (u : ℕ) → Good u (view s u).stage
   view_good u = by_claim u s.claim refl
 
-  -- so P holds of the unit of the claim that is left
+  -- so P holds of the unit of the remaining claim
   left_by : (u host : ℕ) (stage : members.Stage Value) → Good u stage → (p : OpenClaim)
       → claim_then s.claim u host (progress_of (length s.weights) stage) ≡ Some p → P p.unit
   left_by u host members.Closed good p e = stood p (dropped_was s.claim u p e)
@@ -185,7 +186,7 @@ module _ (s : State) (is : IsMember s) (P : ℕ → Type 0)
       (view_good u) s.me (said m.sender m.body)) p
       (ap (λ (a : Answer). a.claim) same ∙ left)
 
-  -- So it is whatever the member is asked.
+  -- This holds whatever the member is asked.
   pub claim_that_is_left : (letter : Letter) (input : Input) (a : Answer)
       → IsLetterOf s (unit_claimed s input) letter → answer s letter input ≡ Ok a
       → (p : OpenClaim) → a.claim ≡ Some p → P p.unit

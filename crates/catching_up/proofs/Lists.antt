@@ -10,13 +10,13 @@ same_head x y xs ys e = cc
 same_tail : {X : Type 0} (x y : X) (xs ys : List X) → x ∷ xs ≡ y ∷ ys → xs ≡ ys
 same_tail x y xs ys e = cc
 
--- nothing stands in no list
+-- an empty list has no element
 pub none_before : {X : Type 0} (before behind : List X) (x : X) → [] ≡ before ++ x ∷ behind → ⊥
 none_before [] behind x e = cc
 none_before (y ∷ ys) behind x e = cc
 
--- An element of two lists one after the other stands in the first, or what stands before it begins
--- with all of the first.
+-- An element of a concatenation is in the first list, or the first list is a prefix of what comes
+-- before it.
 pub in_parts : {X : Type 0} (xs more before behind : List X) (x : X)
     → xs ++ more ≡ before ++ x ∷ behind
     → ((rest : List X) × (xs ≡ before ++ x ∷ rest)) ⊎ ((mid : List X) × (before ≡ xs ++ mid))
@@ -32,7 +32,7 @@ in_parts {X} (y ∷ ys) more (z ∷ zs) behind x e =
     head : y ≡ z
     head = same_head y z (ys ++ more) (zs ++ x ∷ behind) e
 
--- What stands before an element of a list and one more is a beginning of the list.
+-- What comes before an element of a list with one more element is a prefix of the list.
 pub begins_before : {X : Type 0} (xs before behind : List X) (y x : X)
     → xs ++ y ∷ [] ≡ before ++ x ∷ behind → (rest : List X) × (xs ≡ before ++ rest)
 begins_before xs [] behind y x e = (xs, refl)
@@ -46,7 +46,7 @@ begins_before (c ∷ cs) (z ∷ zs) behind y x e =
           ∙ ap (λ z. z ∷ (zs ++ rest.0)) (same_head c z (cs ++ y ∷ []) (zs ++ x ∷ behind) e),
     )
 
--- the first element that fails the test, with those before it, which pass
+-- the first element that fails the test, and the elements before it, which pass
 pub record IsFirstWithout {X : Type 0} (t : X → Bool) (xs : List X) : Type 0 where
   pub before : List X
   pub first : X
@@ -55,7 +55,7 @@ pub record IsFirstWithout {X : Type 0} (t : X → Bool) (xs : List X) : Type 0 w
   pub pass : All (λ x. t x ≡ true) before
   pub fails : t first ≡ false
 
--- Where one fails there is a first one.
+-- If an element fails, there is a first one.
 pub first_without : {X : Type 0} (t : X → Bool) (xs : List X) (x : X) → Contains xs x
     → t x ≡ false → IsFirstWithout t xs
 first_without t [] x (k, within, e) off = absurd (omega arith)

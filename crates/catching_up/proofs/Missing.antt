@@ -64,7 +64,7 @@ module _ (division : Division) (weights : List ℕ) (acts : List (Act Value)) (w
   abbrev has : Content → Bool
   has r = is_some (holds w k x r.path)
 
-  -- where it does, it holds the package, if that is in the list
+  -- if it does, and the package is in the list, it holds that package
   holds_it : (r : Content) → Contains w.agreed r → has r ≡ true → Holds w k x r
   holds_it r there some = by (holds w k x r.path) refl some
     where
@@ -74,7 +74,7 @@ module _ (division : Division) (weights : List ℕ) (acts : List (Act Value)) (w
           let p = listed.paths k x r.path q stands e in
           e ∙ ap (λ (c : Content). Some c) (only_one_with w.agreed one q r p.1 there p.0)
 
-  -- the package at the position of what is held is held
+  -- the package at the position of a held package is held
   held_at : (r : Content) → Holds w k x r → (p : ℕ) → p < length tree → path_at tree p ≡ r.path
       → held_by s p ≡ true
   held_at r held p lt same = held_from s p lt (by (number_of w.division p)
@@ -95,7 +95,7 @@ module _ (division : Division) (weights : List ℕ) (acts : List (Act Value)) (w
           (ap (option_and_then (λ u. option_and_then (record_in r.path) (facts_at s u).held)) e
           ∙ is)
 
-  -- so what stands in a list of which all is held is held
+  -- so everything in a list of held packages is held
   held_of : (list : List Content) → All (Holds w k x) list → (p : ℕ) → p < length tree
       → stands_in tree list p ≡ true → held_by s p ≡ true
   held_of list all p lt e =
@@ -103,7 +103,7 @@ module _ (division : Division) (weights : List ℕ) (acts : List (Act Value)) (w
       held_at a.1 (subst (Holds w k x) a.3 (all a.0 a.1 a.2)) p lt
       (sym (same_bytes (a.1).path (path_at tree p) a.4))
 
-  -- and what is installable on that is installable at the node
+  -- what is installable on such a list is installable at the node
   installable_there : (list : List Content) → All (Holds w k x) list → (p : ℕ) → p < length tree
       → IsInstallable tree (stands_in tree list) p → IsInstallable tree (held_by s) p
   installable_there list all p lt i = record {
@@ -116,7 +116,7 @@ module _ (division : Division) (weights : List ℕ) (acts : List (Act Value)) (w
         (lt-ltb d (length tree) (run_listed tree divided.tree q d needs).1);
   }
 
-  -- ---- the first that is missing
+  -- ---- the first package that is missing
 
   module _ (before : List Content) (r : Content) (behind : List Content)
       (parts : w.agreed ≡ before ++ r ∷ behind) (all : All (Holds w k x) before)
@@ -150,7 +150,7 @@ module _ (division : Division) (weights : List ℕ) (acts : List (Act Value)) (w
         no_unit unit_is.1 in
         (p.0, in_contains (unit_at w.division u).packages ready.position p.1)
 
-    -- nothing of it is held
+    -- nothing of the unit is held
     none_held : (o : Option Value) → (facts_at s u).held ≡ o → (facts_at s u).held ≡ None
     none_held None e = e
     none_held (Some v) e =
@@ -164,7 +164,7 @@ module _ (division : Division) (weights : List ℕ) (acts : List (Act Value)) (w
     not_held : (facts_at s u).held ≡ None
     not_held = none_held (facts_at s u).held refl
 
-    -- all that its build needs is installable
+    -- everything that the unit's build needs is installable
     needs : All (IsInstallable tree (held_by s)) (unit_at w.division u).build
     needs =
         let well = well_made tree ready.position (unit_at w.division u) divided.tree unit_is.2 in
@@ -201,7 +201,7 @@ module _ (division : Division) (weights : List ℕ) (acts : List (Act Value)) (w
           (Contains-get_or (unit_at w.division u).packages i d lt);
     }
 
-  -- ---- any that is missing
+  -- ---- any package that is missing
 
   some_is_queued : (r : Content) → Contains w.agreed r → ¬ Holds w k x r
       → (q : Content) × IsMissingAndQueued w k x q

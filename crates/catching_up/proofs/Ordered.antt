@@ -1,4 +1,4 @@
--- Each package of the list stands behind all that its unit's build needs.
+-- Each package of the list comes after everything that its unit's build needs.
 use Rattle.std.proofs.Common.{◌≡◌, ℕ, true, List, [], ◌∷◌, ◌++◌, slice_get, refl, sym, subst, ◌∙◌, arith, ⊎_elim}
 use Rattle.std.specs.Prelude.{Some, All, Contains}
 use Rattle.std.specs.Str.{bytes_eq}
@@ -32,7 +32,7 @@ use Rattle.catching_up.proofs.Claimed.{all_ready, made_there, wherever_reached}
 use Rattle.catching_up.proofs.Lists.{begins_before, in_parts, none_before}
 use Rattle.catching_up.proofs.Showing.{held_by, held_parts, stays_installable}
 
--- ---- what a list has
+-- ---- elements of a list
 
 -- the list has the path of each of its packages
 pub path_stands : (list : List Content) (r : Content) (path : Text) → Contains list r
@@ -58,7 +58,7 @@ ready_on_more tree list longer r more ready = record {
   };
 }
 
--- ---- in a world that is reached
+-- ---- in a reachable world
 
 module _ (runs : EachRunIsActs) (again : BuildTextIsReadAgain) (division : Division)
     (weights : List ℕ) (made : IsMade division weights) where
@@ -68,7 +68,7 @@ module _ (runs : EachRunIsActs) (again : BuildTextIsReadAgain) (division : Divis
       let later = leads_later (start division weights) w events led in
       (later.division, later.weights)
 
-  -- what a node holds stands in the list
+  -- what a node holds is in the list
   held_stands : (events : List Event) (w : World) (led : Leads (start division weights) events w)
       (k : ℕ) (x : WorldNode) → slice_get w.nodes k ≡ Some x
       → (q : ℕ) → held_by (member_at w k x) q ≡ true
@@ -83,7 +83,7 @@ module _ (runs : EachRunIsActs) (again : BuildTextIsReadAgain) (division : Divis
       (path_at w.division.tree q) its.0 stands its.1 in
       path_stands w.agreed its.0 (path_at w.division.tree q) there.1 there.0
 
-  -- What an event built could be built on what stood in the list then.
+  -- What an event built could be built on what was in the list then.
   built_ready : (events : List Event) (w : World) (e : Event) (r : Content)
       → Leads (start division weights) events w → Builds w e r
       → IsReadyOn w.division.tree w.agreed r
@@ -112,7 +112,7 @@ module _ (runs : EachRunIsActs) (again : BuildTextIsReadAgain) (division : Divis
         };
       }
 
-  -- What stands in a beginning of the list stands in the list.
+  -- What is in a prefix of the list is in the list.
   stands_later : (tree : Tree) (list longer : List Content) → IsBeginningOf list longer → (q : ℕ)
       → stands_in tree list q ≡ true → stands_in tree longer q ≡ true
   stands_later tree list longer grew q e =
@@ -127,7 +127,7 @@ module _ (runs : EachRunIsActs) (again : BuildTextIsReadAgain) (division : Divis
     led_on : Leads (start division weights) (events ++ e ∷ []) v
     led_on = leads_together (start division weights) w v events (e ∷ []) led (v, h, refl)
 
-    -- each package of the list could be built on the list before the event that brought it
+    -- each package of the list could be built on the list before the event that added it
     new_ready : (r : Content) → WasBuilt division weights (events ++ e ∷ []) r
         → IsReadyOn division.tree w.agreed r
     new_ready r b =
@@ -151,7 +151,7 @@ module _ (runs : EachRunIsActs) (again : BuildTextIsReadAgain) (division : Divis
         let r = runs division weights (events ++ e ∷ []) v made led_on in
         list_was_built division weights made (events ++ e ∷ []) v r.0 r.1 r.2
 
-  -- ---- so it is in each
+  -- ---- so it holds in each world
 
   abbrev InOrder : List Event → World → Type 0
   InOrder events w =

@@ -1,4 +1,4 @@
--- Which packages a member's engine has as held, and what a unit's letter says of them.
+-- Which packages a member's engine has as held, and what follows from a unit's letter.
 use Rattle.std.proofs.Common.{◌≡◌, ◌<◌, ◌&&◌, ℕ, Bool, true, false, length, sym, ap, subst, ◌∙◌, true≢false}
 use Rattle.std.specs.Prelude.{Some, All, filter}
 use Rattle.std.specs.FinSet.{contains-from_list_nat}
@@ -49,7 +49,7 @@ pub not_held_from : (s : State) (p : ℕ) → holds_package s p ≡ false → he
 not_held_from s p free =
     not_true (held_by s p) (λ e. true≢false (sym (held_parts s p e).1 ∙ free))
 
--- What is installable stays so where more is held.
+-- A package that is installable stays so if more is held.
 pub stays_installable : (tree : Tree) (held more : ℕ → Bool)
     → ((q : ℕ) → held q ≡ true → more q ≡ true)
     → (p : ℕ) → IsInstallable tree held p → IsInstallable tree more p
@@ -60,7 +60,7 @@ stays_installable tree held more grows p i = record {
   closed = i.closed;
 }
 
--- what the build of the unit needs is installable
+-- everything that the build of the unit needs is installable
 abbrev pub IsReady : State → ℕ → Type 0
 IsReady s u = All (IsInstallable s.division.tree (held_by s)) (unit_at s.division u).build
 
@@ -81,7 +81,7 @@ module _ (s : State) (u : ℕ) (is : IsMember s) (lt : u < length s.division.uni
   not_held_first free held =
       true≢false (sym (held_parts s first held).1 ∙ held_first ∙ free)
 
-  -- Where the unit is not held, and does not wait, its build is ready.
+  -- If the unit is not held and does not wait, its build is ready.
   pub ready_by_letter : (letter : Letter) → HasLetter s u letter → is_held s u ≡ false
       → is_waiting letter ≡ false → IsReady s u
   ready_by_letter letters.T shown free waits = absurd (true≢false waits)
@@ -96,7 +96,7 @@ module _ (s : State) (u : ℕ) (is : IsMember s) (lt : u < length s.division.uni
   ready_by_letter letters.Ignored shown free waits =
       absurd (not_ignored s.division.tree first (unit_at s.division u) first_is_of_it.1 shown.1)
 
-  -- And where its build is ready it is queued.
+  -- If its build is ready, it is queued.
   pub queued_by_need : is_held s u ≡ false → IsReady s u → HasLetter s u letters.Q
   queued_by_need free ready = (
     not_held_from s first (held_first ∙ free),

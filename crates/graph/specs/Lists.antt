@@ -13,8 +13,8 @@ times p ps = count_by (λ q. nat_eq q p) ps
 abbrev pub list_at : List (List ℕ) → ℕ → List ℕ
 list_at lists p = slice_index_or lists p []
 
--- These lists, one for each of n positions, are the reverse of the lists of the positions below m:
--- a position is in the list of another as many times as that one is in its own list.
+-- These n lists are the reverse of the lists of the positions below m: x is in list d as many times
+-- as d is in the list of x.
 pub record AreReversed (n m : ℕ) (next : ℕ → List ℕ) (lists : List (List ℕ)) : Type 0 where
   pub each : length lists ≡ n
   pub named : (d x : ℕ) → d < n → x < m → times x (list_at lists d) ≡ times d (next x)

@@ -1,4 +1,4 @@
-//! Builds the lists of who names whom, to reverse lists.
+//! Builds, for each position, the list of the positions that name it. This reverses lists.
 ghost use Rattle.std.specs.Prelude.{◌≡◌, ◌<◌, ◌≤◌, ◌+◌, ◌++◌, ℕ, All, IfOk, OnErr, OnOk, cond, length, nat_eq, replicate, []};
 ghost use Rattle.graph.specs.Lists.{list_at, times};
 ghost use Rattle.graph.specs.inside.Links.{IsLinked, linked_list};
@@ -86,7 +86,7 @@ impl Naming {
     }
 }
 
-/// Appends those named by the links from the latest one backwards.
+/// Appends the names in the links from the latest one backwards.
 fn append_linked(names: &mut Vec<u32>, links: &[Link], latest: u32) -> Result<(), Memory>
     requires linked { IsLinked links.now }
     requires latest { latest ≤ length links.now }

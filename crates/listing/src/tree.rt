@@ -19,8 +19,8 @@ use std::alloc::Global;
 use std::marker::Model;
 
 /// The packages of a listing, by position: at most 16,384, numbered from 0 in the order of their
-/// paths' first lines. Packages whose paths are equal without their subpackages are in one group;
-/// or else each is a group of its own.
+/// paths' first lines. Either packages whose paths are equal without their subpackages are in one
+/// group, or each is a group of its own.
 #[derive(Drop)]
 pub struct Tree {
     paths: IndexSet<PkgPath>,

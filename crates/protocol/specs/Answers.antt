@@ -28,7 +28,7 @@ pub record Answer : Type 0 where
   pub job : Option Task
   pub claim : Option OpenClaim
 
--- ---- who gets a message
+-- ---- the receivers of a message
 
 -- all members
 abbrev pub everyone : State → List ℕ

@@ -43,7 +43,7 @@ pub record IsMember (s : State) : Type 0 where
   pub weights : AreWeights s.weights
   pub one_of_them : s.me < length s.weights
   pub each : length s.facts ≡ length s.division.units
-  -- a member that voted for a claim has promised it
+  -- a member that has promised nothing has voted for nothing
   pub pledged : All (λ f. HasPromised f.promised f.voted) s.facts
   pub claim : ForSome s.claim (IsOpen s)
 

@@ -191,8 +191,8 @@ header_refusal s tree named_members path = first_that_applies (
     ∷ (is_none (number_named s.division path), refusals.Unlisted)
     ∷ [])
 
--- Who receives the answer to the message: the claim's member gets a promise or a vote, all get a
--- proposal, and all others, or the member that asked, get the agreed build.
+-- The receivers of the answer to the message: the claim's member gets a promise or a vote, all get
+-- a proposal, and all others, or the member that asked, get the agreed build.
 abbrev pub receivers : State → ℕ → Body Value → List ℕ
 receivers s from (Offer c) = c.member ∷ []
 receivers s from (Promise c report) = everyone s

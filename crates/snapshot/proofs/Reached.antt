@@ -1,4 +1,4 @@
--- What is reached from packages that are not held is not installable, and all else is.
+-- What is reached from packages that are not held is not installable, and everything else is.
 use Rattle.std.proofs.Common.{◌≡◌, ◌+◌, ◌++◌, ◌∷◌, ◌<◌, ◌&&◌, ℕ, zero, suc, Bool, true, false, not, cond, nat_lt, List, [], All, Contains, length, refl, sym, ap, ◌∙◌, subst, inl, inr, arith}
 use Rattle.std.proofs.lemmas.Bool.{and_from, and_parts, both_ways, cases_Bool, cases_lt, false_from_ne_true, lt-ltb}
 use Rattle.std.proofs.lemmas.Bool.Decides.{Decides-ltb}
@@ -14,7 +14,7 @@ use Rattle.engine.proofs.Dependents.{run_listed}
 use Rattle.engine.specs.Letters.{IsInstallable}
 use Rattle.snapshot.specs.inside.Lacking.{AreLacking, AreUnmarked, held_runs}
 
--- what a held package needs, it needs
+-- the run dependencies of a held package are run dependencies
 held_needs : (tree : Tree) (held : ℕ → Bool) (p d : ℕ) → Contains (held_runs tree held p) d → Contains (run_at tree p) d
 held_needs tree held p d needed = go (held p) needed
   where
@@ -25,7 +25,7 @@ held_needs tree held p d needed = go (held p) needed
 needs_held : (tree : Tree) (held : ℕ → Bool) (p d : ℕ) → held p ≡ true → Contains (run_at tree p) d → Contains (held_runs tree held p) d
 needs_held tree held p d is needed = subst (λ (b : Bool). Contains (cond b (run_at tree p) []) d) (sym is) needed
 
--- ---- what leads to what, and where to begin
+-- ---- the lists to follow, and where to begin
 
 pub runs_if_held : (tree : Tree) (held : ℕ → Bool) (p : ℕ) → held p ≡ true → held_runs tree held p ≡ run_at tree p
 runs_if_held tree held p is = ap (λ b. cond b (run_at tree p) []) is
@@ -33,7 +33,7 @@ runs_if_held tree held p is = ap (λ b. cond b (run_at tree p) []) is
 pub runs_unless_held : (tree : Tree) (held : ℕ → Bool) (p : ℕ) → held p ≡ false → held_runs tree held p ≡ []
 runs_unless_held tree held p is_not = ap (λ b. cond b (run_at tree p) []) is_not
 
--- nothing is added by an empty list
+-- an empty list adds nothing
 pub none_more : (b : Bool) (before d : ℕ) (ps : List ℕ) → ps ≡ [] → before ≡ before + cond b (times d ps) 0
 none_more true before d ps empty = let none : times d ps ≡ 0 = ap (times d) empty in omega (arith, none)
 none_more false before d ps empty = omega arith
@@ -42,7 +42,7 @@ in_single : (n p : ℕ) → Contains (n ∷ []) p → n ≡ p
 in_single n p (zero, within, is) = is
 in_single n p (suc k, within, is) = absurd (omega (arith, within))
 
--- one position more, without a mark
+-- one more position, without a mark
 pub unmarked_more : (marks : List Bool) (n : ℕ) (ps : List ℕ) → AreUnmarked marks n ps → has_mark marks n ≡ false → AreUnmarked marks (n + 1) (ps ++ n ∷ [])
 unmarked_more marks n ps are unmarked p = (
   λ member. elim (Contains-append_cases ps (n ∷ []) p member) [
@@ -55,7 +55,7 @@ unmarked_more marks n ps are unmarked p = (
   ],
 )
 
--- and with one
+-- one more position, with a mark
 pub unmarked_same : (marks : List Bool) (n : ℕ) (ps : List ℕ) → AreUnmarked marks n ps → has_mark marks n ≡ true → AreUnmarked marks (n + 1) ps
 unmarked_same marks n ps are marked p = (
   λ member. let at = (are p).0 member in (omega (arith, at.0), at.1),
@@ -107,7 +107,7 @@ module _ (tree : Tree) (is_tree : IsTree tree) (marks : List Bool) (runs : List 
       stays x d x_out named = ap not (false_from_ne_true (i.among d) (λ d_in.
           both_ways (i.among x) (not_true (i.among x) x_out) (i.closed d x d_in (held_needs tree (has_mark marks) d x (turned_back are x d named)))))
 
-  -- what is not reached is held, and so is all that it needs
+  -- what is not reached is held, and so are all its run dependencies
   module _ (lacking : List Bool) (marked : AreMarksOf (length tree) found lacking) where
     not_found : (q : ℕ) → has_mark lacking q ≡ false → Contains found q → ⊥
     not_found q lacks_not member = both_ways (has_mark lacking q) lacks_not ((marked.are q).1 member)

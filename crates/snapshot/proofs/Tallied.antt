@@ -13,7 +13,7 @@ pub counts-none : record { i = 0; b = 0; q = 0; t = 0; ignored = 0 } ≡ counts_
 counts-none = refl
 
 module _ (letters : List Letter) (i : ℕ) (within : i < length letters) where
-  -- one letter more
+  -- one more letter
   pub counts-more : (letter : Letter) (before after : Counts) → letter ≡ get_or letters i Ignored → before ≡ counts_of (take i letters)
       → ((l : Letter) → tally after l ≡ tally before l + same_letter letter l) → after ≡ counts_of (take (i + 1) letters)
   counts-more letter before after here are added =
@@ -24,14 +24,14 @@ module _ (letters : List Letter) (i : ℕ) (within : i < length letters) where
           let more = sum_by_more (λ x. cond (index_of x == index_of l) 1 0) letters i Ignored within in
           omega (arith, more, added l, ap (λ c. tally c l) are, tally-counts (take i letters) l, ap (λ x. same_letter x l) here)
 
-  -- the next count fits
+  -- the next count doesn't overflow
   pub counts-few : (letter : Letter) (before : Counts) → before ≡ counts_of (take i letters) → tally before letter ≤ length letters
   counts-few letter before are =
       let part = sum_by_more_le (λ x. cond (index_of x == index_of letter) 1 0) letters i Ignored within in
       let all = count_by-le-length (λ x. index_of x == index_of letter) letters in
       omega (arith, part, all, ap (λ c. tally c letter) are, tally-counts (take i letters) letter)
 
--- letters by position, as a list beside that of all positions
+-- letters by position, paired with all positions
 pub zip_from : (R : ℕ → Letter → Type 0) (a : ℕ) (ls : List Letter) → ((k : ℕ) → k < length ls → R (a + k) (get_or ls k Ignored))
     → AllZip R (range_with_len a (length ls)) ls
 zip_from R a [] each = tt

@@ -1,4 +1,4 @@
--- Letters by what is held and what lacks something.
+-- Letters, by what is held and what is not installable.
 use Rattle.std.proofs.Common.{◌≡◌, ◌+◌, ◌<◌, ◌++◌, ◌∷◌, [], ℕ, Bool, true, false, None, Some, List, All, Contains, get_or, length, refl, sym, ap, ◌∙◌, subst, inl, inr, arith}
 use Rattle.std.proofs.lemmas.Bool.{both_ways, cases_lt}
 use Rattle.std.proofs.lemmas.List.{get_or_append_left, get_or_past, get_or_push}
@@ -62,7 +62,7 @@ module _ (d : Division) (is : IsDivision d) (held lacking : List Bool) (are : Ar
 
 -- ---- all letters
 
--- one letter more
+-- one more letter
 pub letters_more : (tree : Tree) (held : ℕ → Bool) (letters : List Letter) (p : ℕ) (letter : Letter) → length letters ≡ p
     → ((q : ℕ) → q < p → IsLetter tree held q (letter_at letters q)) → IsLetter tree held p letter
     → (q : ℕ) → q < p + 1 → IsLetter tree held q (letter_at (letters ++ letter ∷ []) q)
@@ -73,7 +73,7 @@ letters_more tree held letters p letter each are here q below = elim (cases_lt q
       subst (IsLetter tree held q) (sym (get_or_push letters letter Ignored q (omega (arith, same, each)))) (subst (λ (x : ℕ). IsLetter tree held x letter) (sym same) here)
 ]
 
--- a letter tells whether the package is held
+-- the letter determines whether the package is held
 letter_held : (tree : Tree) (held : ℕ → Bool) (p : ℕ) (l : Letter) → IsLetter tree held p l → held p ≡ is_held l
 letter_held tree held p T is = is.0
 letter_held tree held p Q is = is.0
@@ -83,7 +83,7 @@ letter_held tree held p Ignored is = is.0
 
 module _ (tree : Tree) (is_tree : IsTree tree) (marks : List Bool) (letters : List Letter) (each_mark : length marks ≡ length tree) (each : length letters ≡ length tree)
     (are : AreLettersOf tree (has_mark marks) letters) where
-  -- held are those that have marks
+  -- the held packages are those with marks
   pub held_marked : (p : ℕ) → holds letters p ≡ has_mark marks p
   held_marked p = elim (cases_lt p (length tree)) [
     | inl within ↦ sym (letter_held tree (has_mark marks) p (letter_at letters p) (are p within))
@@ -101,7 +101,7 @@ module _ (tree : Tree) (is_tree : IsTree tree) (marks : List Bool) (letters : Li
 
 -- ---- what contracts see
 
--- agreed are those that have letters of held ones
+-- the agreed packages are those with a letter of held ones
 pub shown_agreed : (tree : Tree) (letters : List Letter) (p : ℕ) → has_agreed (state_of tree letters) p ≡ holds letters p
 shown_agreed tree letters p = contains-marked_set (held_marks letters) p ∙ held_mark letters p
 

@@ -17,9 +17,9 @@ shortest i = 2 + length (header i)
 abbrev pub IsAsOwner : Identity → List ℕ → Type 0
 IsAsOwner i file = take (length (header i)) (drop 1 file) ≡ header i
 
--- A log must be created in this file. The file has at most one byte; or it is no longer than a log
--- without notes, and its first byte is 0; or it is exactly that long, its first byte isn't 1, and
--- the right magic comes after that byte.
+-- A log must be created in this file, in three cases. The file has at most one byte. Or it is no
+-- longer than a log without notes, and its first byte is 0. Or it is exactly that long, its first
+-- byte isn't 1, and the right magic comes after that byte.
 pub data IsBlank (i : Identity) (file : List ℕ) : Type 0 where
   no_more_than_a_gate : length file ≤ 1 → IsBlank i file
   begun : length file ≤ shortest i → slice_get file 0 ≡ Some closed_gate → IsBlank i file

@@ -1,4 +1,4 @@
--- What a node is asked by an event of its own, and takes, happens.
+-- An event of a node's own that the node takes happens.
 use Rattle.std.proofs.Common.{◌≡◌, ◌<◌, ℕ, true, false, List, [], ◌∷◌, length, Some, slice_get, slice_set, refl, sym, ap, subst, ◌∙◌, inl, inr, ⊎_elim}
 use Rattle.std.specs.Prelude.{All}
 use Rattle.agreement.specs.Nodes as nodes
@@ -39,7 +39,7 @@ use Rattle.world.proofs.Members.{facts_there, node_is_member}
 use Rattle.world.proofs.Ranging.{in_range}
 use Rattle.world.proofs.Stepping as stepping
 
--- The event asks its node for this, and is a step like any other.
+-- The event asks its node for this, and is an ordinary step.
 pub record IsPlain (w : World) (e : Event) (input : Input) : Type 0 where
   pub asks : Asks w e (Does input)
   pub step : is_step e ≡ true
@@ -53,7 +53,7 @@ module _ (division : Division) (weights : List ℕ) (made : IsMade division weig
     (r : IsReached division weights made w) (e : Event) (x : WorldNode)
     (stands : slice_get w.nodes (events.node_of e) ≡ Some x) (up : x.up ≡ true)
     (u : ℕ) (within : u < length w.division.units) where
-  -- the node, and the member that it is
+  -- the node, and its member
   abbrev pub k : ℕ
   k = events.node_of e
 
@@ -139,7 +139,7 @@ module _ (division : Division) (weights : List ℕ) (made : IsMade division weig
       there = λ q ne. facts_there w k x (up_node (after (node_at w k x) t)) u o a is refl q ne;
     }
 
-    -- So it happens, unless the log has no room.
+    -- So the event happens, unless the log is full.
     pub does : LeadsTo (DidSo o a) w (e ∷ [])
     does = (
       ap up_of stands ∙ up,

@@ -1,4 +1,4 @@
--- What a step adds to the datagrams that were sent, where it says something new.
+-- What a step adds to the datagrams that were sent, if it says something new.
 use Rattle.std.proofs.Common.{◌≡◌, ◌≢◌, ℕ, zero, suc, List, [], ◌∷◌, ◌++◌, refl, sym, ap, subst, ◌∙◌, arith, append_assoc, ⊎_elim}
 use Rattle.std.specs.Prelude.{AllPairs, Contains, fold}
 use Rattle.std.proofs.lemmas.Bool.{cond-false, cond-true, false_from_ne_true}
@@ -13,11 +13,11 @@ use Rattle.world.specs.Sent.{with_datagram, with_sends}
 use Rattle.world.proofs.Sending.{among_is, is_found, texts_alone, texts_in}
 use Rattle.world.proofs.Speaking.{text_comes}
 
--- what is in the rest is in the whole
+-- an element of the rest is an element of the whole
 pub later : {X : Type 0} (y : X) (xs : List X) (x : X) → Contains xs x → Contains (y ∷ xs) x
 later y xs x h = (suc h.0, omega (arith, h.1), h.2)
 
--- texts that were not sent, none of them twice, come behind those that were
+-- distinct texts that were not sent are appended to those that were sent
 pub all_new : (sent texts : List Text) → AllPairs ◌≢◌ texts
     → ((t : Text) → Contains texts t → Contains sent t → ⊥)
     → fold with_datagram sent texts ≡ sent ++ texts
@@ -33,7 +33,7 @@ all_new sent (t ∷ ts) once new =
     (Contains-push_cases sent t u there))
     ∙ append_assoc sent (t ∷ []) ts
 
--- and texts that all were sent add nothing
+-- texts that were all sent before add nothing
 pub none_new : (sent texts : List Text) → ((t : Text) → Contains texts t → Contains sent t)
     → fold with_datagram sent texts ≡ sent
 none_new sent [] all = refl
@@ -55,7 +55,8 @@ texts_first z zs =
     map-append (λ (s : ℕ × Text). s.1) (each_to (datagrams_of z.message) z.to) (datagrams_to zs)
     ∙ ap (λ l. l ++ texts_in zs) (texts_alone (datagrams_of z.message) z.to)
 
--- A message that goes to somebody, and none of whose datagrams was sent, adds just its datagrams.
+-- A message with at least one receiver, none of whose datagrams was sent, appends exactly its
+-- datagrams.
 pub sends_add : (sent : List Text) (m : Message Value) (z : Send) (zs : List Send)
     → ((y : Send) → Contains (z ∷ zs) y → y.message ≡ m)
     → AllPairs ◌≢◌ (datagrams_of m)

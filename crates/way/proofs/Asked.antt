@@ -1,4 +1,4 @@
--- Who was asked to promise a claim and who promised it, and that both stay so.
+-- Which nodes were asked to promise a claim, and which promised it; both stay true.
 use Rattle.std.proofs.Common.{◌≡◌, ℕ, zero, suc, true, List, [], Option, Some, option_map, slice_get, slice_set, refl, sym, ap, ap₂, subst, ◌∙◌}
 use Rattle.agreement.specs.Claims.{is_above}
 use Rattle.agreement.specs.Member.{Facts}
@@ -18,7 +18,7 @@ use Rattle.world.specs.World.{World, WorldNode, member_at}
 use Rattle.world.specs.Matches.{name_of}
 use Rattle.world.proofs.Speaking.{sent_more}
 
--- what a node knows of a unit is what its notes say of it
+-- what a node knows of a unit depends only on its notes
 pub facts_stay : (w y : World) → y.division ≡ w.division → y.weights ≡ w.weights → (j : ℕ)
     (x : WorldNode) (q : ℕ) → facts_at (member_at y j x) q ≡ facts_at (member_at w j x) q
 facts_stay w y d l j x q = ap₂ (λ (a : Division) (b : List ℕ).
@@ -38,7 +38,7 @@ module _ (u : ℕ) (c : Claim) where
   }) e
 
   module _ (told : ℕ → Option (Ballot Value)) where
-    -- what node j promises
+    -- node j's promise
     abbrev pub promise_in : World → ℕ → Message Value
     promise_in w j = message w (name_of w u) j (bodies.Promise c (option_map pair_of (told j)))
 
@@ -50,7 +50,7 @@ module _ (u : ℕ) (c : Claim) where
       pub above : is_above c (facts_at (member_at w j node) u).promised ≡ true
       pub voted : (facts_at (member_at w j node) u).voted ≡ told j
 
-    -- Node j promised the claim, and told so, and its last vote is this one still.
+    -- Node j promised the claim, its promise was sent, and its last vote is still this one.
     pub record IsAsked (w : World) (j : ℕ) : Type 0 where
       pub node : WorldNode
       pub stands : slice_get w.nodes j ≡ Some node
@@ -80,7 +80,7 @@ module _ (u : ℕ) (c : Claim) where
       body = bodies.Promise c (option_map pair_of (told j));
     }) e
 
-    -- what was told stays told
+    -- what was sent stays sent
     pub said_stays : (w y : World) → y.division ≡ w.division → (sends : List Send)
         → y.sent ≡ with_sends w.sent sends → (j : ℕ) → WasSent w.sent (promise_in w j)
         → WasSent y.sent (promise_in y j)

@@ -1,5 +1,5 @@
--- A whole turn of a node that is asked to promise: the offer comes to it, and its promise to the
--- node whose claim it is.
+-- A complete turn of a node that is asked to promise: it receives the offer, and the claim's node
+-- receives its promise.
 use Rattle.std.proofs.Common.{◌≡◌, ◌<◌, ℕ, zero, suc, true, List, [], ◌∷◌, ◌++◌, length, Option, None, Some, option_map, slice_get, slice_set, refl, sym, ap, ap₂, subst, ◌∙◌, arith, append-nil, ⊎_elim}
 use Rattle.std.specs.Prelude.{Contains}
 use Rattle.std.proofs.lemmas.Bool.{cases_eq}
@@ -46,7 +46,7 @@ use Rattle.world.proofs.Speaking.{passes, sent_more}
 use Rattle.way.proofs.Polling.{get_left}
 use Rattle.way.proofs.Asked.{IsAsked, IsUnasked, asked_stays, facts_stay, offer_in, offer_stays, said_stays, unasked_stays}
 
--- a vote that is told and read is that vote
+-- a vote is restored from its encoding as a pair
 told_again : (r : Option (Ballot Value)) → report_of (option_map pair_of r) ≡ r
 told_again None = refl
 told_again (Some b) = refl
@@ -54,8 +54,8 @@ told_again (Some b) = refl
 module _ (division : Division) (weights : List ℕ) (made : IsMade division weights)
     (u : ℕ) (c : Claim) (me : ℕ) (at0 : ℕ) (told : ℕ → Option (Ballot Value)) (host : ℕ)
     (had : ℕ → Option Value) where
-  -- The node's claim, on this host, is this far, and the node holds what it held; some were asked, and
-  -- these are still to be asked.
+  -- The node's claim, on this host, is at this stage, and the node holds what it held. These nodes
+  -- were asked, and those are still to be asked.
   pub record Asks (stage : Stage Value) (done ks : List ℕ) (w : World) : Type 0 where
     pub reached : IsReached division weights made w
     pub within : u < length w.division.units
@@ -81,11 +81,11 @@ module _ (division : Division) (weights : List ℕ) (made : IsMade division weig
     abbrev pub Promised : World → Type 0
     Promised = HasPromised division weights made w s.reached k p.node p.stands p.on u s.within c
 
-    -- what it promises
+    -- the node's promise
     abbrev pub theirs : Message Value
     theirs = promise division weights made w s.reached k p.node p.stands p.on u s.within c
 
-    -- once it promised
+    -- after the node promised
     module _ (then : World) (h : Promised then) where
       abbrev pub its : Message Value
       its = message then (name_of then u) k
@@ -99,7 +99,7 @@ module _ (division : Division) (weights : List ℕ) (made : IsMade division weig
         body = bodies.Promise c (option_map pair_of (facts_at (member_at w k p.node) u).voted);
       }) h.heard.division_is)
 
-      -- the claim's node is as far as it was, with the pieces that it kept
+      -- the claim's node is at the same stage, with the same pieces
       pub record Stands : Type 0 where
         pub node : WorldNode
         pub there : slice_get then.nodes me ≡ Some node
@@ -109,7 +109,7 @@ module _ (division : Division) (weights : List ℕ) (made : IsMade division weig
         pub holds : (q : ℕ) → (facts_at (member_at then me node) q).held ≡ had q
         pub kept : AreKept w node.pieces
 
-      -- what the offer leaves of the node to which it comes
+      -- the effect of the offer on the node that receives it
       held_there : (q : ℕ) → (facts_at (member_at w k h.heard.node) q).held
           ≡ (facts_at (member_at w k p.node) q).held
       held_there = held_stays division weights made w s.reached k p.node p.stands p.on u s.within
@@ -190,7 +190,7 @@ module _ (division : Division) (weights : List ℕ) (made : IsMade division weig
       abbrev pub member_then : Member Value
       member_then = view (member_at then me stands_so.node) u
 
-      -- and its promise was heard, so that its claim is this far
+      -- after its promise was received, so the claim is at this stage
       module _ (y : World) (b : HeardBy division weights made then h.heard.reached me
           stands_so.node stands_so.there stands_so.on its stands_so.node.pieces y)
           (new : Stage Value) (is_open_new : IsOpenStage new)
@@ -200,7 +200,7 @@ module _ (division : Division) (weights : List ℕ) (made : IsMade division weig
         stands_then = ap (λ l. slice_get l me) b.nodes_are
             ∙ put_there then.nodes me stands_so.node b.node stands_so.there
 
-        -- what the claim's node knows of promises and votes stays
+        -- the promises and votes that the claim's node knows stay the same
         promised_stays : (facts_at (member_at y me b.node) u).promised
             ≡ (facts_at (member_at then me stands_so.node) u).promised
         promised_stays = ap (λ (f : Facts Value). f.promised)
@@ -256,7 +256,7 @@ module _ (division : Division) (weights : List ℕ) (made : IsMade division weig
             other q)
             (cases_eq j me)
 
-        -- the node that was asked now
+        -- the node that was just asked
         asked_now : IsAsked u c told then k
         asked_now = record {
           node = h.heard.node;
@@ -301,7 +301,7 @@ module _ (division : Division) (weights : List ℕ) (made : IsMade division weig
             y b (ap (λ (m : Member Value). m.held) member_is) q
             ∙ stands_so.holds q
 
-        -- where nothing went out
+        -- if nothing was sent
         asks : y.sent ≡ then.sent → Asks new (k ∷ done) ks y
         asks nothing_sent = record {
           reached = b.reached;
@@ -326,7 +326,7 @@ module _ (division : Division) (weights : List ℕ) (made : IsMade division weig
               (s.each j (suc at.0, omega (arith, at.1), at.2)));
         }
 
-      -- what the claim's node does on the promise, by its stage
+      -- what the claim's node does with the promise, by its stage
       pub outcome_is : (o : Outcome Value)
           → on_promise (is_majority weights) member_then stage
           (record { member = k; claim = c; report = told k }) ≡ o
@@ -340,7 +340,7 @@ module _ (division : Division) (weights : List ℕ) (made : IsMade division weig
           (record { member = k; claim = c; report = told k })) stands_so.as_far
           ∙ e
 
-    -- The offer comes to the node, and its promise to the claim's node.
+    -- The node receives the offer, and the claim's node its promise.
     pub hears_promise : (R : World → Type 0)
         → ((then : World) (h : Promised then) (y : World)
         → HeardBy division weights made then h.heard.reached me (stands_so then h).node
@@ -364,7 +364,7 @@ module _ (division : Division) (weights : List ℕ) (made : IsMade division weig
         (its then h) (was_sent then h) (none_kept then h) w.sent [] (sent_then then h))
         (leaves then h)))
 
-    -- A turn in which the claim's node only counts the promise, or comes to wait for a build.
+    -- A turn in which the claim's node only counts the promise, or begins to wait for a build.
     pub one_ask : (new : Stage Value) → IsOpenStage new
         → ((m : Member Value) → on_promise (is_majority weights) m stage
         (record { member = k; claim = c; report = told k }) ≡ still (record m { stage = new }))

@@ -1,4 +1,4 @@
--- The build of the way: where the claim waits for one, it is made of the files, and proposed to all.
+-- The build of the way: if the claim waits for one, it is made of the files and proposed to all.
 use Rattle.std.proofs.Common.{◌≡◌, ℕ, List, [], ◌∷◌, length, map, filter_map, option_map, Option, None, Some, slice_get, refl, sym, ap, ap₂, subst, ◌∙◌}
 use Rattle.std.specs.Prelude.{Contains, option_and_then}
 use Rattle.agreement.specs.Member.{Building, Facts, Member, Voting}
@@ -37,7 +37,7 @@ use Rattle.std.proofs.Common.{⊎_elim}
 use Rattle.world.specs.World.{IsMade, World, WorldNode, member_at}
 use Rattle.world.proofs.Asking.{answers_with}
 
--- what is made of the files under the claim, on this host, where this is held of the units
+-- the build that the files make under the claim, on this host, given what is held of the units
 abbrev pub build_on : Division → ℕ → Claim → Given → ℕ → (ℕ → Option Value) → Value
 build_on d u c given host held =
     map (record_by d.tree
@@ -53,13 +53,13 @@ build_on d u c given host held =
     })
     given) (unit_at d u).packages
 
--- so a member makes it
+-- a member makes this build
 pub makes : (s : State) (u host : ℕ) (c : Claim) (given : Given)
     → build_by s u (job_of s u host c) given
     ≡ build_on s.division u c given host (λ q. (facts_at s q).held)
 makes s u host c given = refl
 
--- of all that is held alike the build is one
+-- the build depends only on what is held
 one_build : (d : Division) (u : ℕ) (c : Claim) (given : Given) (h host : ℕ)
     (held had : ℕ → Option Value) → h ≡ host → ((q : ℕ) → held q ≡ had q)
     → build_on d u c given h held ≡ build_on d u c given host had
@@ -82,7 +82,7 @@ module _ (division : Division) (weights : List ℕ) (made : IsMade division weig
   abbrev pub e : events.Event
   e = events.Built me path given
 
-  -- what is built
+  -- the build
   abbrev pub build : Value
   build = build_on w.division u c given host had
 
@@ -184,7 +184,7 @@ module _ (division : Division) (weights : List ℕ) (made : IsMade division weig
           d.node d.nodes_are d.is_on d.pieces (ap (λ (m : Member Value). m.stage) d.here) all at0
           told host had asked_then news
 
-    -- The build is told, and votes come in.
+    -- The Built event happens, and votes can be collected.
     pub is_proposed : LeadsTo (IsPolled division weights made u c me all told build (length w.sent)) w
         (e ∷ [])
     is_proposed = leads_also Did

@@ -90,12 +90,12 @@ module _ (s : State) (u : ℕ) (is : IsMember s) (lt : u < length s.division.uni
           (unit_listed s.division u first is.division lt first_there))
           (first_held e)) ∙ shown.0))
 
--- what is not there is nothing
+-- an option that isn't some is None
 none_there : {X : Type 0} (o : Option X) → is_some o ≡ false → o ≡ None
 none_there None e = refl
 none_there (Some x) e = absurd (true≢false e)
 
--- where no test of three holds, none applies
+-- if all of three tests fail, none applies
 none_of_three : {F : Type 0} (a b c : Bool) (x y z : F) → a ≡ false → b ≡ false → c ≡ false
     → first_that_applies ((a, x) ∷ (b, y) ∷ (c, z) ∷ []) ≡ None
 none_of_three a b c x y z ea eb ec =
@@ -138,7 +138,7 @@ module _ (division : Division) (weights : List ℕ) (made : IsMade division weig
   greatest : max above (facts_at s u).opened ≡ above
   greatest = max_is above (facts_at s u).opened not_above
 
-  -- a claim that is opened in the round above this one
+  -- the outcome of opening a claim in the round above this one
   abbrev opens : ℕ → Outcome Value
   opens n = notes_and_says
       (record (view s u) {
@@ -189,13 +189,13 @@ module _ (division : Division) (weights : List ℕ) (made : IsMade division weig
   abbrev pub Did : World → Type 0
   Did = DidSo division weights made w r e x stands up u within outcome answer
 
-  -- It is opened, unless the log has no room.
+  -- The claim is opened, unless the log is full.
   pub is_opened : LeadsTo Did w (e ∷ [])
   is_opened = does division weights made w r e x stands up u within
       (inputs.Claim path host above) plain few tt Q shown (theory.Start above) tt host (everyone s)
       outcome started given
 
-  -- ---- and offered
+  -- ---- the claim is offered
 
   abbrev offer : Message Value
   offer = message w (name_of w u) me (bodies.Offer c)
@@ -235,7 +235,7 @@ module _ (division : Division) (weights : List ℕ) (made : IsMade division weig
         ∙ length-append w.sent (datagram_text (datagrams.Whole offer) ∷ [])
         ∙ (let z : length w.sent + 1 ≡ suc (length w.sent) = omega arith in z)
 
-    -- All that are up are to be asked.
+    -- All nodes that are up are to be asked.
     module _ (asked : List ℕ)
         (are_up : (j : ℕ) → Contains asked j
         → (z : WorldNode) × (slice_get w.nodes j ≡ Some z) × (z.up ≡ true))
@@ -299,7 +299,7 @@ module _ (division : Division) (weights : List ℕ) (made : IsMade division weig
           (λ other. ap (λ (f : Facts Value). f.held) (d.there q other))
           (cases_eq q u)
 
-      -- So promises come in.
+      -- So promises can be collected.
       pub asks : Asks division weights made u c me at0 told host had (Gathering c nobody None) []
           asked y
       asks = record {

@@ -1,5 +1,5 @@
--- A message that was sent, of which the node keeps no piece, is heard once all its datagrams came, in
--- order of number.
+-- A message that was sent, and of which the node keeps no piece, is received once all its datagrams
+-- arrived, in order of number.
 use Rattle.std.proofs.Common.{◌≡◌, ◌<◌, ◌+◌, ℕ, zero, suc, true, List, [], ◌∷◌, ◌++◌, length, map, Option, None, Some, slice_get, refl, sym, ap, subst, ◌∙◌, arith}
 use Rattle.std.specs.Prelude.{Contains}
 use Rattle.std.specs.List.{range_with_len}
@@ -25,7 +25,7 @@ use Rattle.wire.proofs.PieceNumbers.{all_numbers}
 use Rattle.world.specs.Sent.{WasSent}
 use Rattle.world.specs.World.{IsMade, World, WorldNode}
 
--- what stands behind a list
+-- an element after a list
 pub get_behind : {X : Type 0} (xs ys : List X) (i : ℕ) → slice_get (xs ++ ys) (length xs + i)
     ≡ slice_get ys i
 get_behind [] ys i = ap (slice_get ys) (let e : 0 + i ≡ i = omega arith in e)
@@ -34,7 +34,7 @@ get_behind (x ∷ xs) ys i =
     (let e : suc (length xs) + i ≡ suc (length xs + i) = omega arith in e)
     ∙ get_behind xs ys i
 
--- what is made of each number, before more
+-- an element of a mapped range that is followed by more
 pub get_made : {X : Type 0} (g : ℕ → X) (ys : List X) (a m i : ℕ) → i < m
     → slice_get (map g (range_with_len a m) ++ ys) i ≡ Some (g (a + i))
 get_made g ys a zero i lt = absurd (omega (arith, lt))
@@ -58,7 +58,7 @@ module _ (division : Division) (weights : List ℕ) (made : IsMade division weig
     (stands : slice_get w.nodes k ≡ Some x) (up : x.up ≡ true) (n : Message Value)
     (is_sent : WasSent w.sent n) (none : HasNone n x.pieces) (early late : List Text)
     (sent : w.sent ≡ early ++ (datagrams_of n ++ late)) where
-  -- whatever it carries
+  -- whatever the message carries
   pub comes_whole : LeadsTo (HeardBy division weights made w r k x stands up n x.pieces) w
       (deliveries (length early) (length (split_of n)) k)
   comes_whole = by (carried_in n.body) refl

@@ -1,4 +1,4 @@
--- Members that are taken one after the other, until with the last they are a majority.
+-- Members are added one after another, until they are a majority with the last one.
 use Rattle.std.proofs.Common.{◌≡◌, ◌<◌, ◌⊎◌, ℕ, zero, suc, Bool, true, false, ◌==◌, ◌+◌, ◌-◌, ◌*◌, List, [], ◌∷◌, ◌++◌, filter, length, refl, inl, inr, ⊎_elim, sym, ap, ◌∙◌, eqb-true, eq-eqb, arith, sum}
 use Rattle.std.specs.List.{range_with_len}
 use Rattle.std.proofs.lemmas.List.Elements.{filter-append}
@@ -12,13 +12,14 @@ use Rattle.way.proofs.Seen.{up_joined}
 use Rattle.world.specs.Happening.{is_up}
 use Rattle.world.specs.World.{World}
 
--- who was there is there still
+-- members that were in the set stay in it
 pub stays_joined : (S : Members) (xs : List ℕ) (j : ℕ) → S j ≡ true → joined_by S xs j ≡ true
 stays_joined S [] j there = there
 stays_joined S (x ∷ xs) j there =
     stays_joined (with_member S x) xs j (or_right (j == x) (S j) there)
 
--- Where the first of them are no majority, and with the next one they are, this one is the last.
+-- If the first of them are not a majority, but are one with the next member, that member is the
+-- last.
 pub until_stops : (weights : List ℕ) (S : Members) (xs : List ℕ) (k : ℕ) (ys : List ℕ)
     → is_majority weights (joined_by S xs) ≡ false
     → is_majority weights (with_member (joined_by S xs) k) ≡ true
@@ -35,7 +36,7 @@ until_stops weights S (x ∷ xs) k ys none all =
     (until_majority weights (with_member S x) (xs ++ k ∷ ys)) less
     ∙ until_stops weights (with_member S x) xs k ys none all)
 
--- those that are joined to nobody are those that are named
+-- joining members to the empty set gives the members that are named
 same_test : (a b : Bool) → (a ≡ true → b ≡ true) → (b ≡ true → a ≡ true) → a ≡ b
 same_test true b to from = sym (to refl)
 same_test false true to from = from refl
@@ -68,7 +69,7 @@ joined_are_named xs = λ i j. same_test (joined_by nobody xs j) (named_in xs j)
     (named_or nobody xs j there))
     (joined_named nobody xs j) i
 
--- nobody is no majority
+-- the empty set is not a majority
 weighs_nothing : (weights : List ℕ) → weight weights nobody ≡ 0
 weighs_nothing [] = refl
 weighs_nothing (w ∷ ws) = omega (arith, weighs_nothing ws)
@@ -80,13 +81,13 @@ nobody_is_none weights =
 
 -- ---- in a world
 
--- one more is joined
+-- one more member is joined
 joined_push : (S : Members) (xs : List ℕ) (k : ℕ)
     → joined_by S (xs ++ k ∷ []) ≡ with_member (joined_by S xs) k
 joined_push S [] k = refl
 joined_push S (x ∷ xs) k = joined_push (with_member S x) xs k
 
--- numbers in turn, in two parts
+-- a range, in two parts
 range_parts : (a n m : ℕ)
     → range_with_len a (n + m) ≡ range_with_len a n ++ range_with_len (a + n) m
 range_parts a zero m =
@@ -98,7 +99,7 @@ range_parts a (suc n) m =
     ∙ ap (λ i. range_with_len (a + 1) n ++ range_with_len i m)
     (let e : a + 1 + n ≡ a + suc n = omega arith in e))
 
--- of those that pass, what comes behind one that does
+-- in a filtered range, the part after an element that passes
 kept_behind : (P : ℕ → Bool) (n k : ℕ) → k < n → P k ≡ true
     → (ys : List ℕ) × (filter P (range_with_len 0 n)
     ≡ filter P (range_with_len 0 k) ++ k ∷ ys)
@@ -116,7 +117,7 @@ kept_behind P n k lt passes =
           (cond-true (P k) (k ∷ rest) rest passes),
     )
 
--- those that are named among those that pass, do
+-- elements of a filtered list pass the test
 named_pass : (P : ℕ → Bool) (xs : List ℕ) (j : ℕ) → named_in (filter P xs) j ≡ true
     → P j ≡ true
 named_pass P [] j there = absurd (true≢false (sym there))
@@ -137,7 +138,8 @@ named_last P (x ∷ xs) k j those on there = ⊎_elim
     (or_cases (x == j) (named_in (xs ++ k ∷ []) j) there)
 
 module _ (w : World) where
-  -- The nodes that are up, up to where with the last they are a majority, are those that are asked.
+  -- The nodes that are up, in order, up to the one that completes a majority, are those that are
+  -- asked.
   pub asked_stops : (k : ℕ) (xs : List ℕ) → k < length w.nodes → is_up w k ≡ true
       → xs ≡ filter (is_up w) (range_with_len 0 k)
       → is_majority w.weights (named_in xs) ≡ false
@@ -157,7 +159,7 @@ module _ (w : World) where
             ∙ joined_are_named (xs ++ k ∷ [])) ∙ all)),
       )
 
-  -- Where all that are up are no majority, no majority is up.
+  -- If the nodes that are up are not a majority, no majority is up.
   pub none_up : (xs : List ℕ) → xs ≡ filter (is_up w) (range_with_len 0 (length w.nodes))
       → is_majority w.weights (named_in xs) ≡ false → is_majority_up w ≡ false
   none_up xs are none = false_from_ne_true (is_majority w.weights (is_up w))

@@ -1,4 +1,4 @@
--- The walk over those that are asked to promise.
+-- All nodes in the list are asked to promise, one after another.
 use Rattle.std.proofs.Common.{◌≡◌, ◌+◌, ◌⊎◌, ℕ, zero, suc, true, List, [], ◌∷◌, ◌++◌, length, Option, None, option_map, refl, sym, ap, ap₂, subst, ◌∙◌, arith, append-nil, inl, inr, ⊎_elim}
 use Rattle.std.specs.Prelude.{Contains}
 use Rattle.std.proofs.lemmas.List.{length-append, length-map}
@@ -32,7 +32,7 @@ use Rattle.world.specs.World.{IsMade, World}
 module _ (division : Division) (weights : List ℕ) (made : IsMade division weights)
     (u : ℕ) (c : Claim) (me : ℕ) (at0 : ℕ) (told : ℕ → Option (Ballot Value)) (host : ℕ)
     (had : ℕ → Option Value) where
-  -- what node k promises, and in how many datagrams
+  -- node k's promise, and its number of datagrams
   abbrev pub promised_by : ℕ → Message Value
   promised_by k = record {
     sender = k;
@@ -44,7 +44,7 @@ module _ (division : Division) (weights : List ℕ) (made : IsMade division weig
   abbrev pub count_of : ℕ → ℕ
   count_of k = length (split_of (promised_by k))
 
-  -- the offer comes to each, and what it promises to the claim's node
+  -- the offer is delivered to each node, and its promise to the claim's node
   abbrev pub asks_by : ℕ → List ℕ → List Event
   asks_by next [] = []
   asks_by next (k ∷ ks) =
@@ -56,12 +56,12 @@ module _ (division : Division) (weights : List ℕ) (made : IsMade division weig
   AreNew done (k ∷ ks) = ((j : ℕ) → Contains ks j → j ≡ k → ⊥)
       × ((j : ℕ) → Contains done j → j ≡ k → ⊥) × AreNew (k ∷ done) ks
 
-  -- the number of the first datagram behind what these promise
+  -- the number of the first datagram after these nodes' promises
   abbrev pub behind_by : ℕ → List ℕ → ℕ
   behind_by next [] = next
   behind_by next (k ∷ ks) = behind_by (next + count_of k) ks
 
-  -- of what these report that under the greatest claim
+  -- the report with the greatest claim among these nodes' votes
   abbrev pub report_by : Option (Ballot Value) → List ℕ → Option (Ballot Value)
   report_by kept [] = kept
   report_by kept (k ∷ ks) = report_by (kept_report kept (told k)) ks
@@ -72,7 +72,7 @@ module _ (division : Division) (weights : List ℕ) (made : IsMade division weig
   abbrev pub Gathers : Members → Option (Ballot Value) → List ℕ → List ℕ → World → Type 0
   Gathers S report done ks w = AreAsked (Gathering c S report) done ks w
 
-  -- the promise is that of the list
+  -- the promise is the one in the list
   pub same_promise : (w : World) (k : ℕ) (stage : Stage Value) (is_open : IsOpenStage stage)
       (done ks : List ℕ) (s : AreAsked stage done (k ∷ ks) w)
       (fresh : (j : ℕ) → Contains ks j → j ≡ k → ⊥) (old : (j : ℕ) → Contains done j → j ≡ k → ⊥)
@@ -86,7 +86,7 @@ module _ (division : Division) (weights : List ℕ) (made : IsMade division weig
         body = bodies.Promise c (option_map pair_of r);
       }) (its_own division weights made w s.reached).0 (s.each k (zero, omega arith, refl)).voted
 
-  -- One turn, in the words of the list.
+  -- One turn, in terms of the list.
   one_turn : (w : World) (k : ℕ) (stage new : Stage Value) → IsOpenStage stage → IsOpenStage new
       → (done ks : List ℕ) → AreAsked stage done (k ∷ ks) w
       → ((j : ℕ) → Contains ks j → j ≡ k → ⊥) → ((j : ℕ) → Contains done j → j ≡ k → ⊥)
@@ -112,8 +112,8 @@ module _ (division : Division) (weights : List ℕ) (made : IsMade division weig
             ∙ ap (λ n. length w.sent + n) (length-map (split_of promise) datagram_text),
       )))
 
-  -- Those that make no majority yet are asked, and then the last: from there on it goes as `last`
-  -- says.
+  -- The nodes that don't yet complete a majority are asked, and then the last one; `last` says what
+  -- follows.
   pub all_asks : (Q : World → Type 0) (all : List ℕ) (total : Option (Ballot Value)) (behind : ℕ)
       → ((S : Members) (report : Option (Ballot Value)) (done : List ℕ) (k : ℕ) (w : World)
       → Gathers S report done (k ∷ []) w → ((j : ℕ) → Contains done j → j ≡ k → ⊥)
@@ -156,7 +156,7 @@ module _ (division : Division) (weights : List ℕ) (made : IsMade division weig
       moved k done ks j (zero, lt, e) = inl (zero, omega arith, e)
       moved k done ks j (suc i, lt, e) = inr (i, omega (arith, lt), e)
 
-  -- Where none reported a vote the claim waits for a build once the last was asked.
+  -- If no node reported a vote, the claim waits for a build after the last node was asked.
   pub last_waits : (S : Members) (report : Option (Ballot Value)) (done : List ℕ) (k : ℕ)
       (w : World) → Gathers S report done (k ∷ []) w
       → ((j : ℕ) → Contains done j → j ≡ k → ⊥)

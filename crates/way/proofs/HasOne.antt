@@ -1,4 +1,4 @@
--- Where nothing is refused, the list that is told is a short way.
+-- If nothing is refused, the list that is returned is a short way.
 use Rattle.std.proofs.Common.{◌≡◌, ◌≤◌, ℕ, List, Option, None, Some, refl, sym, ap, subst, ◌∙◌}
 use Rattle.std.specs.Prelude.{Contains}
 use Rattle.agreement.specs.declared.claim.Claim.{Claim}
@@ -29,7 +29,7 @@ use Rattle.world.specs.Happening.{up_of}
 use Rattle.world.specs.Sent.{WasSent, message}
 use Rattle.world.specs.World.{IsMade, World, WorldNode, member_at}
 
--- a path of which nothing is refused names a unit
+-- if nothing is refused, the path names a unit
 pub granted_unit : (w : World) (k : ℕ) (path : Text) (host : ℕ) (given : Given)
     → IsGranted w k path host given → (u : ℕ) × (number_found w.division path ≡ Some u)
 granted_unit w k path host given g = by (number_found w.division path) refl
@@ -55,7 +55,7 @@ module _ (division : Division) (weights : List ℕ) (made : IsMade division weig
   abbrev list : List Event
   list = way_of w member u path host given
 
-  -- What holds where nobody was refused.
+  -- What holds if no event was refused.
   abbrev Done : World → Type 0
   Done y = HoldsUnit y me u
       × (((j : ℕ) → Contains (asked_of w) j → WasSent y.sent (promise_of w u claim j))
@@ -83,7 +83,7 @@ module _ (division : Division) (weights : List ℕ) (made : IsMade division weig
         record { promises = d.1.0; proposed = d.1.1 });
   }
 
--- So there is a short way wherever nothing is refused.
+-- So there is a short way unless one is refused.
 pub each_has_one : EachHasAWay
 each_has_one division weights before w k path host given made led few g =
     let r : IsReached division weights made w = record { before = before; led = led } in
@@ -93,7 +93,7 @@ each_has_one division weights before w k path host given made led few g =
           (list_leads division weights made w r k path host given g n.0 n.1 few),
     )
 
--- So the list that is told of what is shown is a short way.
+-- So the list that is computed from what the nodes show is a short way.
 pub way_told : (h : History) (is : IsHistory h) (me : ℕ) (path : Text) (host : ℕ) (given : Given)
     → host ≤ 65535 → IsGranted h.world me path host given → (s : IsShown h.world me path)
     → HasWay h.world me path host given

@@ -1,4 +1,4 @@
--- What was sent comes to a node that is up, and is heard.
+-- A node that is up receives what was sent.
 use Rattle.std.proofs.Common.{◌≡◌, ℕ, true, false, List, [], ◌∷◌, length, Option, None, Some, Result, Ok, Err, slice_get, slice_set, refl, sym, ap, ◌∙◌, inl, inr, ⊎_elim}
 use Rattle.std.specs.Prelude.{All}
 use Rattle.std.proofs.lemmas.Bool.{lt-leb}
@@ -53,14 +53,14 @@ use Rattle.world.proofs.Stepping.{is_member}
 abbrev refuses_with : Refusal → Result Answer Refusal
 refuses_with f = Err f
 
--- a message that is answered leaves the pieces as they were
+-- a message that is answered leaves the pieces unchanged
 pub pieces_stay : (pieces : List Piece) (r : Result Answer Refusal) (t : Taken)
     → heard pieces r ≡ Ok t → t.pieces ≡ pieces
 pieces_stay pieces (Ok a) t e =
     sym (ap (λ (z : Taken). z.pieces) (ok_same (record { answer = a; pieces = pieces }) t e))
 pieces_stay pieces (Err r) t e = absurd (never_ok t _ (sym e))
 
--- what a member answers to a message is what it hears
+-- a member's answer to a message is its answer for the message's unit
 just_heard : (s : State) (n : Message Value) (u : ℕ) (a : Answer)
     → number_named s.division n.path ≡ Some u → members.heard s n ≡ answers_with a
     → a ≡ hears s u n.sender n.body
@@ -84,39 +84,40 @@ just_heard s n u a named e =
 module _ (division : Division) (weights : List ℕ) (made : IsMade division weights) (w : World)
     (r : IsReached division weights made w) (k : ℕ) (x : WorldNode)
     (stands : slice_get w.nodes k ≡ Some x) (up : x.up ≡ true) where
-  -- Node k, which was x, heard the message, and nothing else happened.
+  -- Node k, which was x, received the message, and nothing else happened.
   pub record HeardBy (n : Message Value) (kept : List Piece) (v : World) : Type 0 where
     pub reached : IsReached division weights made v
     pub division_is : v.division ≡ w.division
     pub weights_are : v.weights ≡ w.weights
-    -- the node then
+    -- the node afterwards
     pub node : WorldNode
     pub nodes_are : v.nodes ≡ slice_set w.nodes k node
     pub is_on : node.up ≡ true
     pub pieces : node.pieces ≡ kept
-    -- what it answered
+    -- its answer
     pub answer : Answer
     pub claim_is : node.claim ≡ answer.claim
     pub answers : AnswersMessage (member_at w k x) n answer
     pub answer_is : answer ≡ hears (member_at w k x) answers.unit n.sender n.body
     pub written : All (λ (z : Send). IsMessage z.message) answer.sends
     pub sent : v.sent ≡ with_sends w.sent answer.sends
-    -- it is what the member is, for the message's unit, and knows of others what it knew
+    -- for the message's unit, the node is the member of the outcome; of other units it knows what
+    -- it knew
     pub here : nodes.view (node_of w k node) answers.unit
         ≡ (outcome_of (member_at w k x) answers.unit n.sender n.body).member
     pub there : (q : ℕ) → (q ≡ answers.unit → ⊥)
         → facts_at (member_at w k node) q ≡ facts_at (member_at w k x) q
 
-  -- the datagram with this number comes
+  -- the delivery of the datagram with this number
   abbrev comes : ℕ → Event
   comes d = events.Deliver d k
 
-  -- what comes was sent
+  -- a datagram that is delivered was sent
   is_there : (d : ℕ) (text : Text) → slice_get w.sent d ≡ Some text
       → lacks_datagram w (comes d) ≡ false
   is_there d text e = lt-leb (length w.sent) d (get_within w.sent d text e)
 
-  -- A step on what comes happens, unless the log has no room for its note.
+  -- A step on a delivery happens, unless the log has no room for its note.
   pub comes_on : (P : World → Type 0) (d : ℕ) (text : Text) → slice_get w.sent d ≡ Some text
       → (t : Taken) → step_on (member_at w k x)
       (arrival_of (member_at w k x) x.pieces (datagram_of text)) ≡ Ok t
@@ -146,7 +147,7 @@ module _ (division : Division) (weights : List ℕ) (made : IsMade division weig
         takes = record { letter = Q; shown = tt; right_is = sym is };
       }
 
-  -- a message that was sent, once it is whole
+  -- a message that was sent, after it is complete
   module _ (n : Message Value) (is_sent : WasSent w.sent n) (pieces : List Piece) where
     abbrev pub their : (t : Taken) × (heard pieces (members.heard (member_at w k x) n) ≡ Ok t)
     their = answered division weights (its_acts division weights made w r) w made
@@ -173,7 +174,7 @@ module _ (division : Division) (weights : List ℕ) (made : IsMade division weig
         (in_range w made_there (its_local division weights made w r) k x stands)
         (message_good n.path n.body is_sent.is_message.body) answer_is
 
-    -- where it stands among what was said
+    -- its index among what was said
     abbrev at : (i : ℕ) × (slice_get
         ((after_all_acts division weights (its_acts division weights made w r)).at
         answers_it.unit).sent i ≡ Some (said n.sender n.body))
@@ -182,7 +183,7 @@ module _ (division : Division) (weights : List ℕ) (made : IsMade division weig
         (its_match division weights made w r) build_is_read k x stands up their.0 n is_sent
         answer_is
 
-    -- it is heard
+    -- it is received
     pub heard_then : (kept : List Piece) → (their.0).pieces ≡ kept → (list : List Content)
         → IsReached division weights made (stepped w k x their.0 list)
         → HeardBy n kept (stepped w k x their.0 list)
@@ -220,7 +221,7 @@ module _ (division : Division) (weights : List ℕ) (made : IsMade division weig
             (its_match division weights made w r) build_is_read k x stands up their.0 n is_sent
             answer_is
 
-  -- A message that goes out in one datagram is heard when that comes, unless the log has no room.
+  -- A message in one datagram is received when that arrives, unless the log is full.
   pub whole_heard : (n : Message Value) → WasSent w.sent n → IsDatagram (datagrams.Whole n)
       → (d : ℕ) → slice_get w.sent d ≡ Some (datagram_text (datagrams.Whole n))
       → LeadsTo (HeardBy n x.pieces) w (comes d ∷ [])

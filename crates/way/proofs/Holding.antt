@@ -44,7 +44,7 @@ module _ (division : Division) (weights : List ℕ) (made : IsMade division weig
           ap is_some (has_its_record division weights acts w made own local m k h.node h.stands p
           (unit_listed w.division u p here.divided lt within) packed).1
 
--- In a world that is reached there is a node for each member.
+-- In a reachable world there is a node for each member.
 pub one_for_each : (h : History) → IsHistory h → length h.world.nodes ≡ length h.world.weights
 one_for_each h is =
     let later = leads_later (start h.world.division h.world.weights) h.world (taken h) is.led in

@@ -1,4 +1,4 @@
--- The list that is told leads to where the node holds the unit.
+-- The list that is returned leads to a world in which the node holds the unit.
 use Rattle.std.proofs.Common.{◌≡◌, ◌<◌, ◌≤◌, ◌+◌, ℕ, zero, suc, List, [], ◌∷◌, ◌++◌, length, Option, None, Some, refl, sym, ap, subst, ◌∙◌, append_assoc}
 use Rattle.std.specs.Prelude.{Contains}
 use Rattle.agreement.specs.Member.{Gathering}
@@ -30,13 +30,13 @@ use Rattle.way.proofs.Telling.{IsFree, by_build, by_report, granted_free, same_a
 
 -- ---- the whole
 
--- so many events, and then the build unless it is needless, and the votes
+-- these events, then the Built unless it is unnecessary, then the votes
 abbrev list_of : ℕ → Text → Given → List ℕ → List Event → ℕ → ℕ → Option (Ballot Value)
     → List Event
 list_of me path given asked es first count report =
     es ++ told_of report (Built me path given) ++ votes_from first count (first + count) me asked
 
--- with the build, and without
+-- with the Built, and without it
 list_with : (me : ℕ) (path : Text) (given : Given) (asked : List ℕ) (es : List Event)
     (first count : ℕ)
     → es ++ (Built me path given ∷ votes_from first count (first + count) me asked)
@@ -156,7 +156,7 @@ module _ (division : Division) (weights : List ℕ) (made : IsMade division weig
     same_list o e = λ i. list_of me path given theirs (same_events i) (same_first i)
         (same_size o e i) (sym e i)
 
-    -- what is said where this was reported
+    -- what holds if this was reported
     abbrev HoldsBy : Option (Ballot Value) → World → Type 0
     HoldsBy o y = HoldsUnit y me u
         × (((j : ℕ) → Contains (asked_of w) j → WasSent y.sent (promise_of w u claim j))
@@ -181,8 +181,8 @@ module _ (division : Division) (weights : List ℕ) (made : IsMade division weig
         (by_report division weights made w r me node g.stands g.up u is_unit host are_enough path
         named given is_free.right y gathers b (kept ∙ e))
 
-  -- From a world that is reached, where nothing is refused of the unit, the list leads to where the
-  -- node holds the unit.
+  -- From a reachable world, if nothing is refused for the unit, the list leads to a world in which
+  -- the node holds the unit.
   pub list_leads : LeadsTo HoldsIt w (way_of w member u path host given)
   list_leads = leads_on Opened HoldsIt w (claims me path host (last_round w u me) ∷ []) rest
       (is_opened division weights made w r me node g.stands g.up u is_unit path named

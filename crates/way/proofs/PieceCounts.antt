@@ -1,10 +1,10 @@
--- In how many datagrams a text goes out.
+-- The number of datagrams of a text.
 use Rattle.std.proofs.Common.{◌≡◌, ◌<◌, ◌≤◌, ◌+◌, ◌*◌, ℕ, zero, suc, length, ap, ◌∙◌, arith}
 use Rattle.std.proofs.lemmas.List.FromFn.{length-range_with_len}
 use Rattle.wire.specs.Pieces.{numbers_of}
 use Rattle.wire.proofs.PieceNumbers.{AreAll, all_numbers}
 
--- how many datagrams a build of so many bytes takes
+-- the number of datagrams of a build of this size in bytes
 pub same_count : (size q : ℕ) → size ≤ 4194304 → size ≤ q * 32768 → q * 32768 < size + 32768
     → length (numbers_of size) ≡ q
 same_count size q few enough close = by (all_numbers size).0 (all_numbers size).1

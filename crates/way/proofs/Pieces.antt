@@ -1,4 +1,4 @@
--- A message that was sent is heard once all its datagrams came, unless the log has no room.
+-- A message that was sent is received once all its datagrams arrived, unless the log is full.
 use Rattle.std.proofs.Common.{◌≡◌, ◌<◌, ◌≤◌, ◌+◌, ◌&&◌, ℕ, zero, suc, true, false, cond, List, [], ◌∷◌, ◌++◌, length, map, Some, Ok, slice_get, slice_set, refl, sym, ap, ap₂, subst, ◌∙◌, arith, append_assoc}
 use Rattle.std.specs.Prelude.{All, Contains}
 use Rattle.std.specs.List.{list_all, range_with_len}
@@ -40,14 +40,14 @@ use Rattle.protocol.specs.Step as members
 use Rattle.world.proofs.Arriving.{read_as}
 use Rattle.world.proofs.Foreign.{get_contains, piece_welcome}
 
--- the place of a list where something was put twice
+-- replacing an element twice
 put_again : {X : Type 0} (xs : List X) (k : ℕ) (x y : X)
     → slice_set (slice_set xs k x) k y ≡ slice_set xs k y
 put_again [] k x y = refl
 put_again (z ∷ zs) zero x y = refl
 put_again (z ∷ zs) (suc k) x y = ap (λ l. z ∷ l) (put_again zs k x y)
 
--- and what stands there
+-- the replaced element
 pub put_there : {X : Type 0} (xs : List X) (k : ℕ) (x y : X) → slice_get xs k ≡ Some x
     → slice_get (slice_set xs k y) k ≡ Some y
 put_there [] k x y e = absurd cc
@@ -65,18 +65,18 @@ module _ (division : Division) (weights : List ℕ) (made : IsMade division weig
   abbrev text : Text
   text = build_text v
 
-  -- the pieces so far
+  -- the first i pieces
   abbrev now : ℕ → List Piece
   now i = with_first h text old none i
 
-  -- one more
+  -- one more piece
   one_more : (i : ℕ) → with_piece (now i) (piece_at h text i) ≡ now (suc i)
   one_more i =
       append_assoc old (map (piece_at h text) (range_with_len 0 i)) (piece_at h text i ∷ [])
       ∙ ap (λ l. old ++ l) (sym (map-range_with_len_more (piece_at h text) 0 i i (omega arith)))
       ∙ ap (λ j. now j) (let e : i + 1 ≡ suc i = omega arith in e)
 
-  -- they are all there once so many came, and not before
+  -- all pieces are there after `count` of them, and not before
   not_all : (i : ℕ) → suc i < count → are_all h (now (suc i)) ≡ false
   not_all i lt =
       ap (list_all (has_number h (now (suc i)))) numbers
@@ -97,7 +97,7 @@ module _ (division : Division) (weights : List ℕ) (made : IsMade division weig
           ∙ each (a + 1) m (omega (arith, le))
 
   module _ (good : IsMessage n) where
-    -- and join to the message
+    -- they join to the message
     once_each : AreAllThere h text (now count)
     once_each = subst (All (λ j. StandsOnce (now count) (piece_at h text j))) (sym numbers)
         (all_first (λ j. StandsOnce (now count) (piece_at h text j)) count
@@ -106,7 +106,7 @@ module _ (division : Division) (weights : List ℕ) (made : IsMade division weig
     join : joined h (bytes_of h (now count)) ≡ Ok n
     join = pieces_join_in_any_order build_is_read n c v (now count) good carried once_each
 
-    -- a piece that is not the last leaves its message waiting
+    -- after a piece that is not the last, its message still waits
     waits : (i : ℕ) → suc i < count
         → arrival_of_new (now i) (piece_at h text i) ≡ Waits (now (suc i))
     waits i lt =
@@ -116,7 +116,7 @@ module _ (division : Division) (weights : List ℕ) (made : IsMade division weig
         (arrival_of_all (without h (now i)) (joined h (bytes_of h (now (suc i)))))
         (Waits (now (suc i))) (not_all i lt)
 
-    -- and the last makes it whole
+    -- the last piece completes the message
     is_whole : (i : ℕ) → suc i ≡ count
         → arrival_of_new (now i) (piece_at h text i) ≡ Whole n old
     is_whole i e =
@@ -128,7 +128,7 @@ module _ (division : Division) (weights : List ℕ) (made : IsMade division weig
         (Waits (now count)) all_there
         ∙ ap₂ arrival_of_all (left h text old none i) join
 
-    -- its pieces, by number
+    -- the message's pieces, by number
     pieces_are : split_of n
         ≡ map (λ j. datagrams.Piece (piece_at h text j)) (range_with_len 0 count)
     pieces_are = ap (split_by n) carried
@@ -147,7 +147,7 @@ module _ (division : Division) (weights : List ℕ) (made : IsMade division weig
               (λ j. datagrams.Piece (piece_at h text j)) 0 count,
         )))
 
-    -- what comes to a node that keeps the pieces before
+    -- what arrives at a node that keeps the earlier pieces
     module _ (w : World) (r : IsReached division weights made w) (x : WorldNode) where
       arrives : (i : ℕ) → i < count → Contains w.sent (datagram_text
           (datagrams.Piece (piece_at h text i)))
@@ -169,7 +169,7 @@ module _ (division : Division) (weights : List ℕ) (made : IsMade division weig
           (arrival_of_new (now i) (piece_at h text i))
           (lacks h text old none i i (omega arith))
 
-    -- From the piece with this number on the message is heard, once the last came.
+    -- From the piece with this number on, the message is received when the last piece arrives.
     parts_heard : (first m i : ℕ) → i + suc m ≡ count → (w : World)
         (r : IsReached division weights made w) (x : WorldNode)
         (stands : slice_get w.nodes k ≡ Some x) (up : x.up ≡ true) → WasSent w.sent n
@@ -234,7 +234,7 @@ module _ (division : Division) (weights : List ℕ) (made : IsMade division weig
           there = b.there;
         })))
 
-    -- So a message in pieces, none of which is kept, is heard once all came.
+    -- So a message in pieces, none of which is kept before, is received once all arrived.
     pub pieces_heard : (first : ℕ) → 0 < count → (w : World)
         (r : IsReached division weights made w) (x : WorldNode)
         (stands : slice_get w.nodes k ≡ Some x) (up : x.up ≡ true) → WasSent w.sent n

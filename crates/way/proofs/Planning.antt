@@ -1,4 +1,4 @@
--- Which test fails, if one does, and what a way is made of where none does.
+-- Which test fails, if one does, and the parts of a way if none does.
 use Rattle.std.proofs.Common.{◌≡◌, ◌<◌, ℕ, suc, Bool, true, false, not, nat_lt, [], ◌∷◌, Option, None, Some, option_map, Result, Ok, Err, refl, sym, ap, subst, ◌∙◌, lt-ltb, ltb-true}
 use Rattle.std.proofs.lemmas.Bool.{cond-false, cond-true}
 use Rattle.claims.specs.Claim.{greatest_round}
@@ -23,7 +23,7 @@ use Rattle.way.specs.inside.Listed.{asked_of}
 use Rattle.way.specs.inside.Planned.{IsPlan, IsShown, as_way, made_under, next_or_fault}
 use Rattle.world.specs.World.{World, member_at}
 
--- where the unit is shown, its letter is Q, and the other tests are left
+-- if the unit is shown, its letter is Q, and only the other tests remain
 pub tested_shown : (w : World) (k : ℕ) (path : Text) (host : ℕ) (given : Given)
     (s : IsShown w k path) → IsTested w k path host given
     (refusal_for w (member_at w k s.node) letters.Q host given s.unit)
@@ -36,12 +36,12 @@ tested_shown w k path host given s = record {
   tested_is = ap (refusal_at w (member_at w k s.node) letters.Q path host given) (sym s.named);
 }
 
--- The answer is the build, where nothing is refused, and else the reason.
+-- The result is the build if nothing is refused, and otherwise the reason.
 abbrev pub Fits : Option WayFault → Value → Result Value WayFault → Type 0
 Fits reason v (Ok build) = (reason ≡ None) × (build ≡ v)
 Fits reason v (Err f) = reason ≡ Some f
 
--- what is tested of the files
+-- the tests of the files
 abbrev files_tested : Bool → Option RecordFault → Option Refusal
 files_tested given fault = option_or
     (first_that_applies ((not given, refusals.OtherPackages) ∷ []))
@@ -55,15 +55,15 @@ files_fit true (Some f) v = refl
 files_fit false f v = refl
 
 module _ (w : World) (s : State) (host : ℕ) (given : Given) (u : ℕ) where
-  -- what is made of the files
+  -- the build that the files make
   abbrev build : Value
   build = next_build w s u host given
 
-  -- why no way is told, if there is a reason
+  -- why there is no way, if there is a reason
   abbrev reason : Option WayFault
   reason = refusal_for w s letters.Q host given u
 
-  -- the tests, where a majority is up or not, and a round is left or not
+  -- the tests, given whether a majority is up and whether a round is left
   abbrev tests : Bool → Bool → Option WayFault
   tests enough left = option_or
       (first_that_applies (
@@ -94,7 +94,7 @@ module _ (w : World) (s : State) (host : ℕ) (given : Given) (u : ℕ) where
           given)) (Err (fault.Refused refusals.RoundsSpent)) spent))
           (ap (λ b. tests b (is_round_left w u s.me)) enough ∙ ap (tests true) spent)
 
--- Where a round is left, the answer is what is made under the claim in the next one,
+-- If a round is left, the result is what is made under the claim in the next round.
 pub next_left : (s : State) (u host last : ℕ) (given : Given) → last < greatest_round
     → (round : ℕ) → round ≡ suc last
     → next_or_fault s u host last given
@@ -106,7 +106,7 @@ next_left s u host last given left round above =
     ∙ ap (λ r. as_way (made_under s u host (record { round = r; member = s.me }) given))
     (sym above)
 
--- and where a build is answered, a round is left.
+-- If the result is a build, a round is left.
 pub is_left : (s : State) (u host last : ℕ) (given : Given) (build : Value)
     → next_or_fault s u host last given ≡ Ok build → last < greatest_round
 is_left s u host last given build e = by (nat_lt last greatest_round) refl
@@ -120,7 +120,7 @@ is_left s u host last given build e = by (nat_lt last greatest_round) refl
         (Err (fault.Refused refusals.RoundsSpent)) spent) ∙ e in
         absurd (let no : Err (fault.Refused refusals.RoundsSpent) ≡ Ok build = none in cc)
 
--- a letter that is not Q can't be built now
+-- a unit with another letter than Q can't be built now
 pub not_queued : (letter : Letter) → (letter ≡ letters.Q → ⊥) → is_queued letter ≡ false
 not_queued letters.T other = refl
 not_queued letters.Q other = absurd (other refl)
@@ -138,7 +138,7 @@ refused_letter w s letter host given u e = ap (λ b. option_or
     ∷ []))
     (option_map fault.Refused (files_refusal s u given (next_build w s u host given)))) e
 
--- ---- where the unit is shown
+-- ---- if the unit is shown
 
 module _ (w : World) (k : ℕ) (path : Text) (host : ℕ) (given : Given) (s : IsShown w k path) where
   abbrev member : State

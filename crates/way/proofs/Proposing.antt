@@ -1,4 +1,4 @@
--- A proposal that goes to all: it comes behind all that was sent, and votes for it come in.
+-- A proposal to all is appended to what was sent, and votes for it can be collected.
 use Rattle.std.proofs.Common.{◌≡◌, ◌≢◌, ◌<◌, ◌+◌, ℕ, true, List, [], ◌∷◌, ◌++◌, length, map, Option, Some, option_map, slice_get, slice_set, refl, sym, ap, ap₂, subst, ◌∙◌, arith, append-nil, ⊎_elim}
 use Rattle.std.specs.Prelude.{All, AllPairs, Contains}
 use Rattle.std.specs.List.{range_with_len}
@@ -49,7 +49,8 @@ use Rattle.world.proofs.Members.{get_within}
 use Rattle.world.proofs.Said.{has_preimage}
 use Rattle.world.proofs.Speaking.{passes}
 
--- A message to some, none of whose datagrams was sent, adds just its datagrams.
+-- A message with at least one receiver, none of whose datagrams was sent, appends exactly its
+-- datagrams.
 pub spread : (sent : List Text) (m : Message Value) (to : List ℕ) → 0 < length to
     → AllPairs ◌≢◌ (datagrams_of m)
     → ((t : Text) → Contains (datagrams_of m) t → Contains sent t → ⊥)
@@ -64,13 +65,13 @@ spread sent m (k ∷ ks) some once new =
     goes_to : ℕ → Send
     goes_to j = record { to = j; message = m }
 
--- what goes to somebody can be written down
+-- what has a receiver can be encoded
 pub of_first : (m : Message Value) (to : List ℕ) → 0 < length to
     → All (λ (z : Send). IsMessage z.message) (sent_to (Some m) to) → IsMessage m
 of_first m [] some all = absurd (omega (arith, some))
 of_first m (k ∷ ks) some all = all 0 (record { to = k; message = m }) (omega arith)
 
--- in how many datagrams a build goes out
+-- the number of datagrams of a build
 abbrev pub count_in : Value → ℕ
 count_in v = (all_numbers (length (build_text v))).0
 
@@ -78,7 +79,7 @@ pub numbers_in : (v : Value)
     → numbers_of (length (build_text v)) ≡ range_with_len 0 (count_in v)
 numbers_in v = ((all_numbers (length (build_text v))).1).same
 
--- so a proposal goes out
+-- the datagrams of a proposal
 pub proposal_texts : (m : Message Value) (c : Claim) (v : Value) → m.body ≡ bodies.Propose c v
     → datagrams_of m
     ≡ map (λ j. datagram_text (datagrams.Piece
@@ -94,8 +95,8 @@ proposal_texts m c v is =
 
 module _ (division : Division) (weights : List ℕ) (made : IsMade division weights)
     (u : ℕ) (c : Claim) (me : ℕ) (all : List ℕ) (told : ℕ → Option (Ballot Value)) where
-  -- The proposal of this build was sent, from this datagram on, and nobody voted yet; all that were
-  -- asked, and promised, are to vote.
+  -- The proposal of this build was sent, from this datagram on, and no node has voted yet. All
+  -- nodes that were asked and promised are to vote.
   pub record IsPolled (v : Value) (first : ℕ) (y : World) : Type 0 where
     pub some : 0 < count_in v
     pub polls : Polls division weights made u c v (count_in v) (numbers_in v) some first me nobody
@@ -115,7 +116,7 @@ module _ (division : Division) (weights : List ℕ) (made : IsMade division weig
     (range_with_len 0 (length w.weights)))
     (written : All (λ (z : Send). IsMessage z.message) sends)
     (y : World) (sent : y.sent ≡ with_sends w.sent sends) where
-  -- what is proposed
+  -- the proposal
   abbrev pub proposal : Message Value
   proposal = message w (name_of w u) me (bodies.Propose c v)
 
@@ -136,7 +137,7 @@ module _ (division : Division) (weights : List ℕ) (made : IsMade division weig
       (its_own division weights made w r) (its_match division weights made w r) u within me x
       stands c v fresh
 
-  -- It comes behind all that was sent,
+  -- It is appended to what was sent.
   pub proposal_sent : y.sent ≡ w.sent ++ datagrams_of proposal
   proposal_sent =
       sent ∙ ap (with_sends w.sent) sends_are
@@ -154,7 +155,7 @@ module _ (division : Division) (weights : List ℕ) (made : IsMade division weig
         (Contains-append_right w.sent (datagrams_of proposal) t at)));
   }
 
-  -- and no node kept a piece of it.
+  -- No node kept a piece of it.
   none_kept : (k : ℕ) (z : WorldNode) → slice_get w.nodes k ≡ Some z → (p : Piece)
       → Contains z.pieces p → p.header ≡ header_with proposal (carriers.Propose c) v → ⊥
   none_kept k z at p there e =
@@ -239,7 +240,7 @@ module _ (division : Division) (weights : List ℕ) (made : IsMade division weig
               (e ∙ ap (λ m. header_with m (carriers.Propose c) v) same);
         }
 
-    -- So votes come in.
+    -- So votes can be collected.
     pub is_polled : IsPolled division weights made u c me all told v (length w.sent) y
     is_polled = record {
       some = goes_out;

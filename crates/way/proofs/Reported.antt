@@ -1,4 +1,4 @@
--- The last promise of a majority, where a vote was reported: its build is proposed to all.
+-- The last promise of a majority, if a vote was reported: its build is proposed to all.
 use Rattle.std.proofs.Common.{◌≡◌, ◌<◌, ◌+◌, ℕ, true, List, [], ◌∷◌, length, Option, Some, sym, ap, subst, ◌∙◌, arith, append-nil}
 use Rattle.std.specs.Prelude.{Contains}
 use Rattle.std.proofs.lemmas.List.{length-append, length-map}
@@ -54,7 +54,7 @@ module _ (division : Division) (weights : List ℕ) (made : IsMade division weig
     promise = theirs division weights made u c me at0 told host had w k (Gathering c S report) tt
         done [] s alone old
 
-    -- once the promise came
+    -- after the promise arrived
     module _ (then : World) (h : Promises then) where
       abbrev z : Stands division weights made u c me at0 told host had w k (Gathering c S report) tt
           done [] s alone old then h
@@ -127,7 +127,7 @@ module _ (division : Division) (weights : List ℕ) (made : IsMade division weig
       sent_then = ap length h.sent ∙ length-append w.sent (datagrams_of promise)
           ∙ ap (λ n. length w.sent + n) (length-map (split_of promise) datagram_text)
 
-    -- The last is asked, and votes come in.
+    -- The last node is asked, and votes can be collected.
     pub last_proposes : LeadsTo
         (IsPolled division weights made u c me all told b.value
         (length w.sent + count_of division weights made u c me at0 told host had k)) w

@@ -34,7 +34,7 @@ use Rattle.world.proofs.Members.{get_within}
 
 -- ---- what is seen
 
--- what a node that is up shows is what it knows
+-- a node that is up shows what it knows
 pub seen_is : (w : World) (u j : ℕ) (x : WorldNode) → slice_get w.nodes j ≡ Some x → x.up ≡ true
     → seen_at w u j ≡ facts_at (member_at w j x) u
 seen_is w u j x stands up =
@@ -65,7 +65,7 @@ in_first a (suc n) j le lt = ⊎_elim
     first : (a j : ℕ) → a ≤ j → (a ≡ j) ⊎ (a + 1 ≤ j)
     first a j le = search arith
 
--- neither what the node opened, nor what is promised, is above the last round
+-- neither the round that the node opened nor one that is promised is above the last round
 pub opened_within : (w : World) (u k : ℕ) → (seen_at w u k).opened ≤ last_round w u k
 opened_within w u k = fold_from (rounds_promised w u) (seen_at w u k).opened
 
@@ -79,12 +79,12 @@ promised_within w u k j x stands up =
     (in_first 0 (length w.nodes) j (omega arith)
     (let lt = get_within w.nodes j x stands in omega (arith, lt))))
 
--- a claim in a round above what is promised
+-- a claim in a round above what is promised is above it
 above_round : (p : Option Claim) (c : Claim) → round_in p < c.round → is_above c p ≡ true
 above_round None c lt = refl
 above_round (Some p) c lt = below_test p c (omega (arith, lt), λ e. omega (arith, lt, e))
 
--- So the next claim is above all that is promised,
+-- So the next claim is above everything that is promised.
 pub next_above : (w : World) (u k j : ℕ) (x : WorldNode) → slice_get w.nodes j ≡ Some x
     → x.up ≡ true
     → is_above (next_claim w u k) (facts_at (member_at w j x) u).promised ≡ true
@@ -92,7 +92,7 @@ next_above w u k j x stands up =
     let le = promised_within w u k j x stands up in
     above_round (facts_at (member_at w j x) u).promised (next_claim w u k) (omega (arith, le))
 
--- what was voted is below what was promised
+-- a vote is for a claim at or below the promised one
 old_vote : (log : List (Note Value)) (voted : Option (Ballot Value)) (promised : Option Claim)
     (c : Claim) → IsVoted log voted promised → round_in promised < c.round → Reaches voted c → ⊥
 old_vote log None promised c is lt h = h
@@ -100,7 +100,7 @@ old_vote log (Some b) None c is lt h = is.1
 old_vote log (Some b) (Some p) c is lt h =
     let bound = is.1 in omega (arith, lt, h.0, bound.0)
 
--- and no vote reaches it.
+-- No vote is at or above the next claim.
 pub next_unvoted : (division : Division) (weights : List ℕ) (made : IsMade division weights)
     (w : World) (r : IsReached division weights made w) (u k j : ℕ) (x : WorldNode)
     → u < length w.division.units → slice_get w.nodes j ≡ Some x → x.up ≡ true
@@ -121,7 +121,7 @@ next_unvoted division weights made w r u k j x within stands up h =
     (omega (arith, le))
     (subst (λ (f : Facts Value). Reaches f.voted (next_claim w u k)) (seen_is w u j x stands up) h)
 
--- a node that is up stands
+-- a number that is up is that of a node
 pub node_up : (w : World) (j : ℕ) → is_up w j ≡ true
     → (x : WorldNode) × (slice_get w.nodes j ≡ Some x) × (x.up ≡ true)
 node_up w j on = by (slice_get w.nodes j) refl on
@@ -131,7 +131,7 @@ node_up w j on = by (slice_get w.nodes j) refl on
     by None e up = absurd (true≢false (sym up))
     by (Some x) e up = (x, e, up)
 
--- and what it tells of the path that names the unit
+-- what the node reports for the path that names the unit
 pub told_is : (w : World) (path : Text) (u j : ℕ) (n : NodeState)
     → number_found w.division path ≡ Some u → is_up w j ≡ true
     → ((x : WorldNode) → slice_get w.nodes j ≡ Some x → n ≡ node_at w j x)
@@ -142,9 +142,9 @@ told_is w path u j n named on is =
     ∙ ap (facts_of_unit (member_at w j x.0)) named
     ∙ sym (seen_is w u j x.0 x.1 x.2)
 
--- ---- who is asked
+-- ---- the nodes that are asked
 
--- each once
+-- the list is without duplicates
 abbrev pub Apart : List ℕ → Type 0
 Apart [] = Prim.Unit {0}
 Apart (k ∷ ks) = ((j : ℕ) → Contains ks j → j ≡ k → ⊥) × Apart ks
@@ -185,7 +185,7 @@ range_apart p a (suc n) =
     ))
     (λ off. range_apart p (a + 1) n)
 
--- those that are asked are among those that are up
+-- the nodes that are asked are among those that are up
 until_within : (weights : List ℕ) (S : Members) (ks : List ℕ) (j : ℕ)
     → Contains (until_majority weights S ks) j → Contains ks j
 until_within weights S [] j h = h
@@ -224,7 +224,7 @@ pub asked_up : (w : World) (j : ℕ) → Contains (asked_of w) j
 asked_up w j h = node_up w j (kept_pass (is_up w) (range_with_len 0 (length w.nodes)) j
     (until_within w.weights nobody (nodes_up w) j h))
 
--- ---- and that they make a majority
+-- ---- they are a majority
 
 nobody_weighs : (ws : List ℕ) → weight ws nobody ≡ 0
 nobody_weighs [] = refl
@@ -248,7 +248,7 @@ joined_has S (k ∷ ks) j (zero, lt, e) =
 joined_has S (k ∷ ks) j (suc i, lt, e) =
     joined_has (with_member S k) ks j (i, omega (arith, lt), e)
 
--- what passes is kept
+-- an element that passes is in the filtered list
 kept_in : (p : ℕ → Bool) (xs : List ℕ) (j : ℕ) → Contains xs j → p j ≡ true
     → Contains (filter p xs) j
 kept_in p [] j (i, lt, e) on = absurd (omega (arith, lt))

@@ -1,4 +1,4 @@
--- How long the way is.
+-- The length of a way.
 use Rattle.std.proofs.Common.{◌≡◌, ◌<◌, ◌≤◌, ◌+◌, ◌*◌, ◌⊎◌, ℕ, zero, suc, true, List, [], ◌∷◌, ◌++◌, length, Option, None, Some, option_map, slice_get, refl, sym, ap, subst, ◌∙◌, arith, inl, inr, ⊎_elim}
 use Rattle.std.specs.Prelude.{Contains}
 use Rattle.std.specs.List.{range_with_len}
@@ -43,7 +43,7 @@ use Rattle.world.specs.Mirrored.{after_all_acts}
 use Rattle.world.specs.Needs.{may_build}
 use Rattle.world.proofs.Headers.{in_order}
 
--- ---- how many are asked
+-- ---- the number of nodes that are asked
 
 until_few : (weights : List ℕ) (S : Members) (ks : List ℕ)
     → length (until_majority weights S ks) ≤ length ks
@@ -64,7 +64,7 @@ asked_few w =
 
 -- ---- the longest message
 
--- The greatest of f's values and one more number, and whose it is.
+-- The greatest of f's values and one more number, with the element that attains it.
 pub record IsGreatest (f : ℕ → ℕ) (ks : List ℕ) (base m : ℕ) : Type 0 where
   pub above : base ≤ m
   pub each : (k : ℕ) → Contains ks k → f k ≤ m
@@ -167,7 +167,7 @@ reported_by w u kept (k ∷ ks) b e =
 
 -- ---- the whole
 
--- in how many datagrams a build is proposed
+-- the number of datagrams of a proposal is that of its build
 proposed_is : (w : World) (u : ℕ) (c : Claim) (v : Value) → proposed_in w u c v ≡ pieces_in v
 proposed_is w u c v =
     length-map (numbers_of (length (build_text v))) (λ k. datagrams.Piece (piece_at (header_with
@@ -175,7 +175,7 @@ proposed_is w u c v =
     (build_text v) k))
 
 module _ (w : World) (s : State) (u host : ℕ) (given : Given) (c : Claim) where
-  -- a promise takes one, or as many as the vote that it reports
+  -- a promise has one datagram, or as many as the vote that it reports
   promise_takes : (k : ℕ) → MayTake w s u host given (promised_in w u c k)
   promise_takes k = by (seen_at w u k).voted refl
     where
@@ -195,7 +195,7 @@ module _ (w : World) (s : State) (u host : ℕ) (given : Given) (c : Claim) wher
             (build_text b.value) j)),
       )
 
-  -- and the proposal as many as the build that is made, or that was reported
+  -- the proposal has as many datagrams as the build that is made, or that was reported
   proposal_takes : (report : Option (Ballot Value)) (ks : List ℕ)
       → report_of_all w u None ks ≡ report
       → MayTake w s u host given
@@ -269,7 +269,7 @@ module _ (division : Division) (weights : List ℕ) (made : IsMade division weig
     abbrev build : Value
     build = proposed_by report (next_build w s u host given)
 
-    -- All that is said on the way was sent.
+    -- Everything that is said on the way was sent.
     pub record WereSent (y : World) : Type 0 where
       pub promises : (k : ℕ) → Contains (asked_of w) k → WasSent y.sent (promise_of w u c k)
       pub proposed : WasSent y.sent (proposal build)

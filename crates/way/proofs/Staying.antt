@@ -1,4 +1,5 @@
--- What stays of a node when a message comes to it: the host of its open claim, and what it holds.
+-- What a message doesn't change at the node that receives it: the host of its open claim, and what
+-- it holds.
 use Rattle.std.proofs.Common.{◌≡◌, ◌<◌, ℕ, true, List, length, Option, Some, slice_get, refl, sym, ap, subst, ◌∙◌, ⊎_elim}
 use Rattle.std.proofs.lemmas.Bool.{cases_eq}
 use Rattle.agreement.specs.Member.{Building, Closed, Facts, Gathering, Member, Stage, Voting}
@@ -24,7 +25,7 @@ IsOpenStage (Gathering c S k) = Prim.Unit {0}
 IsOpenStage (Building c) = Prim.Unit {0}
 IsOpenStage (Voting b S) = Prim.Unit {0}
 
--- a claim that is open then is on the host
+-- if a claim is open at that stage, it is for this host
 pub host_of : (old : Option OpenClaim) (u host n : ℕ) (stage : Stage Value) → IsOpenStage stage
     → host_in (claim_then old u host (progress_of n stage)) ≡ host
 host_of old u host n Closed is = absurd is
@@ -42,7 +43,7 @@ module _ (division : Division) (weights : List ℕ) (made : IsMade division weig
   unit_is : b.answers.unit ≡ u
   unit_is = its_unit division weights made w r k x stands up u within from body kept then b
 
-  -- the host of a claim for the unit that is open then
+  -- the host of an open claim for the unit stays the same
   pub host_stays : IsOpenStage (stage_here b.node u) → host_in b.node.claim ≡ host_in x.claim
   host_stays is_open =
       ap host_in (b.claim_is ∙ ap (λ a. a.claim) b.answer_is)
@@ -50,7 +51,7 @@ module _ (division : Division) (weights : List ℕ) (made : IsMade division weig
       (subst IsOpenStage (ap (λ (m : Member Value). m.stage) b.here)
       (subst (λ q. IsOpenStage (stage_here b.node q)) (sym unit_is) is_open))
 
-  -- what it holds, where it holds the same of the unit
+  -- what it holds stays the same, if that is so for the unit
   pub held_stays : (facts_at (member_at w k b.node) u).held ≡ (facts_at (member_at w k x) u).held
       → (q : ℕ)
       → (facts_at (member_at w k b.node) q).held ≡ (facts_at (member_at w k x) q).held

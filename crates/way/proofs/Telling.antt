@@ -1,4 +1,4 @@
--- The list of events that is told, in the words of the proof.
+-- The list of events that is returned, in terms of the proof.
 use Rattle.std.proofs.Common.{◌≡◌, ◌<◌, ◌+◌, ℕ, zero, suc, Bool, true, false, not, List, [], ◌∷◌, ◌++◌, length, Option, None, Some, option_map, slice_get, refl, sym, ap, subst, ◌∙◌, arith, inr, ltb-true, if◌then◌else◌}
 use Rattle.std.specs.Prelude.{Contains}
 use Rattle.std.proofs.lemmas.List.{length-map}
@@ -51,9 +51,9 @@ use Rattle.world.specs.Happening.{Happens}
 use Rattle.world.specs.Sent.{WasSent, message}
 use Rattle.world.specs.World.{IsMade, World, WorldNode, member_at}
 
--- ---- what nothing refused means
+-- ---- if nothing is refused
 
--- Nothing is refused of the unit.
+-- Nothing is refused for the unit.
 pub record IsFree (w : World) (s : State) (u host : ℕ) (given : Given) : Type 0 where
   pub queued : HasLetter s u letters.Q
   pub enough : is_majority_up w ≡ true
@@ -63,7 +63,7 @@ pub record IsFree (w : World) (s : State) (u host : ℕ) (given : Given) : Type 
 no_fault : {X : Type 0} (f : X) → Some f ≡ None → ⊥
 no_fault f e = cc
 
--- a test that is no reason did not fail
+-- a test that gives no reason passed
 passed : (b : Bool) (f : WayFault) (rest : Option WayFault)
     → (if not b then Some f else rest) ≡ None → (b ≡ true) × (rest ≡ None)
 passed true f rest e = (refl, e)
@@ -114,7 +114,7 @@ granted_free w k path host given g u named =
     (sym (g.tested_is
     ∙ ap (refusal_at w (member_at w k g.node) g.letter path host given) named))
 
--- ---- the list in the words of the proof
+-- ---- the list in terms of the proof
 
 module _ (division : Division) (weights : List ℕ) (made : IsMade division weights) (w : World)
     (r : IsReached division weights made w) (me : ℕ) (x : WorldNode)
@@ -135,7 +135,7 @@ module _ (division : Division) (weights : List ℕ) (made : IsMade division weig
   abbrev pub at0 : ℕ
   at0 = length w.sent
 
-  -- so many datagrams each promises
+  -- the number of datagrams of each promise
   same_count : (k : ℕ) → count_of division weights made u c me at0 told host had k
       ≡ promised_in w u c k
   same_count k = ap (λ (d : Division). length (split_of (record {
@@ -173,7 +173,7 @@ module _ (division : Division) (weights : List ℕ) (made : IsMade division weig
   same_report kept [] = refl
   same_report kept (k ∷ ks) = same_report (kept_report kept (told k)) ks
 
-  -- so many datagrams a proposal takes
+  -- the number of datagrams of a proposal
   pub same_proposed : (v : Value) → proposed_in w u c v ≡ count_in v
   same_proposed v =
       let n = message w (unit_at w.division u).name me (bodies.Propose c v) in
@@ -199,7 +199,7 @@ module _ (division : Division) (weights : List ℕ) (made : IsMade division weig
       fresh j at (suc i, lt, e) = none j
           (later k ks j at) (i, omega (arith, lt), e)
 
-  -- ---- each part of it
+  -- ---- the parts of the list
 
   abbrev pub asked : List ℕ
   asked = asked_of w
@@ -208,7 +208,7 @@ module _ (division : Division) (weights : List ℕ) (made : IsMade division weig
   news j at = let n = asked_up w j at in
       next_unvoted division weights made w r u me j n.0 within n.1 n.2
 
-  -- what was sent on the way, where this build was proposed
+  -- what was sent on the way, if this build was proposed
   abbrev pub Said : Value → World → Type 0
   Said v y = ((j : ℕ) → Contains asked j → WasSent y.sent (promise_of w u c j))
       × WasSent y.sent (message w (unit_at w.division u).name c.member (bodies.Propose c v))
@@ -240,12 +240,12 @@ module _ (division : Division) (weights : List ℕ) (made : IsMade division weig
         body = body;
       }
 
-  -- the node holds the unit, and this was said
+  -- the node holds the unit, and all this was sent
   abbrev pub Holds : Value → World → Type 0
   Holds v y = HoldsUnit y me u × Said v y
 
   module _ (enough : MakeMajority weights nobody asked) where
-    -- from where votes come in
+    -- from the point where votes are collected
     votes_lead : (v : Value) (first : ℕ) (y : World)
         → IsPolled division weights made u c me asked told v first y
         → LeadsTo (Holds v) y (votes_from first (count_in v) (first + count_in v) me asked)
@@ -278,7 +278,7 @@ module _ (division : Division) (weights : List ℕ) (made : IsMade division weig
       abbrev pub asks_them : List Event
       asks_them = asks_by division weights made u c me at0 told host had (length y.sent) asked
 
-      -- who is asked, when all were
+      -- the nodes that were asked, when all were
       abbrev pub Waits : World → Type 0
       Waits z = (done : List ℕ)
           × Asks division weights made u c me at0 told host had (Building c) done [] z
@@ -299,7 +299,7 @@ module _ (division : Division) (weights : List ℕ) (made : IsMade division weig
           (are_new [] asked (asked_apart w) (λ j at old. absurd (omega (arith, old.1)))) enough t is
           refl (λ j at. inr at)
 
-      -- where none reported a vote, the build is told,
+      -- If no node reported a vote, the Built event follows.
       build_leads : (z : World) → Waits z
           → LeadsTo (Holds build) z (Built me path given
           ∷ votes_from behind (count_in build) (behind + count_in build) me asked)
@@ -338,7 +338,7 @@ module _ (division : Division) (weights : List ℕ) (made : IsMade division weig
           (λ q h. (k ∷ done, h.0, each, h.1 ∙ end))) none)
           build_leads
 
-      -- and else what was reported is proposed.
+      -- Otherwise the reported build is proposed.
       pub by_report : (b : Ballot Value) → report ≡ Some b
           → LeadsTo (Holds b.value) y (asks_them
           ++ votes_from behind (count_in b.value) (behind + count_in b.value) me asked)

@@ -1,5 +1,5 @@
--- Each event of the way is the node's own claim, its build, or a datagram that comes, at a node
--- that is up.
+-- Each event of the way is the node's own claim, its Built, or the delivery of a datagram, at a
+-- node that is up.
 use Rattle.std.proofs.Common.{◌≡◌, ℕ, suc, ◌+◌, true, List, [], ◌∷◌, ◌++◌, Option, None, Some, length, map, refl, sym, ap, subst, ◌∙◌}
 use Rattle.std.specs.Prelude.{All, Contains}
 use Rattle.std.specs.List.{range_with_len}
@@ -56,7 +56,7 @@ module _ (w : World) (me : ℕ) (path : Text) (host : ℕ) (given : Given)
   is_told None = All-cons Goes (Built me path given) [] ((refl, refl, refl), on) (All-nil Goes)
   is_told (Some b) = All-nil Goes
 
-  -- those that are asked are up
+  -- the nodes that are asked are up
   pub all_up : All (λ k. is_up w k ≡ true) (asked_of w)
   all_up = All-weaker (Contains (asked_of w)) (λ k. is_up w k ≡ true)
       (λ k at. let n = asked_up w k at in ap up_of n.1 ∙ n.2) (asked_of w)

@@ -1,4 +1,4 @@
--- The events of a way as they are pushed, one node that is asked after the other.
+-- The events of a way as they are appended, one asked node after another.
 use Rattle.std.proofs.Common.{◌≡◌, ◌+◌, ℕ, suc, List, [], ◌∷◌, ◌++◌, Option, length, refl, sym, ap, ◌∙◌, arith, append_assoc}
 use Rattle.std.proofs.lemmas.List.{append-nil}
 use Rattle.agreement.specs.Votes.{Ballot, kept_report}
@@ -9,7 +9,7 @@ use Rattle.way.specs.Rounds.{seen_at}
 use Rattle.way.specs.inside.Listed.{asks_from, behind_promises, deliveries, promised_in, report_of_all, votes_from}
 use Rattle.world.specs.World.{World}
 
--- one more is asked
+-- one more node is asked
 pub one_more_asked : (w : World) (u : ℕ) (c : Claim) (offer next : ℕ) (ks : List ℕ) (k : ℕ)
     → asks_from w u c offer next (ks ++ k ∷ [])
     ≡ asks_from w u c offer next ks ++ (Deliver offer k
@@ -26,14 +26,14 @@ one_more_asked w u c offer next (x ∷ xs) k =
     (Deliver offer k ∷ deliveries (behind_promises w u c (next + n) xs) (promised_in w u c k)
     c.member)))
 
--- and so many datagrams more are sent
+-- more datagrams are sent
 pub one_more_behind : (w : World) (u : ℕ) (c : Claim) (next : ℕ) (ks : List ℕ) (k : ℕ)
     → behind_promises w u c next (ks ++ k ∷ [])
     ≡ behind_promises w u c next ks + promised_in w u c k
 one_more_behind w u c next [] k = refl
 one_more_behind w u c next (x ∷ xs) k = one_more_behind w u c (next + promised_in w u c x) xs k
 
--- one more votes
+-- one more node votes
 pub one_more_votes : (first count next me : ℕ) (ks : List ℕ) (k : ℕ)
     → votes_from first count next me (ks ++ k ∷ [])
     ≡ votes_from first count next me ks
@@ -51,7 +51,7 @@ one_more_votes first count next me (x ∷ xs) k =
     (Deliver next me ∷ votes_from first count (suc next) me xs)
     (deliveries first count k ++ Deliver (next + suc (length xs)) me ∷ []))
 
--- one more reports
+-- one more node reports
 pub one_more_reports : (w : World) (u : ℕ) (kept : Option (Ballot Value)) (ks : List ℕ) (k : ℕ)
     → report_of_all w u kept (ks ++ k ∷ [])
     ≡ kept_report (report_of_all w u kept ks) (seen_at w u k).voted

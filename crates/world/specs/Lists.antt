@@ -11,7 +11,7 @@ use Rattle.protocol.specs.State.{Value}
 use Rattle.world.specs.Sent.{WasProposed, voters}
 use Rattle.world.specs.World.{World}
 
--- Votes for the unit's claim were sent by a majority after the event, but not before it.
+-- After the event a majority has sent votes for the unit's claim; before it, none had.
 pub record IsDecided (w : World) (after : List Text) (name : Text) (c : Claim) : Type 0 where
   pub claim_is : IsClaim c
   pub now : is_majority w.weights (voters w after name c) ≡ true

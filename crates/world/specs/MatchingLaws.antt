@@ -82,7 +82,7 @@ MatchedIsNotForeign =
     → Matches w (after_all_acts division weights acts)
     → IsRefused w e (worlds.Node (faults.Foreign f)) → ⊥
 
--- In such a world a claim has at most one proposal, a promise bounds the votes of its member, and a
+-- In such a world a claim has at most one proposal, and a promise bounds the votes of its member. A
 -- proposal at or above a claim for which a majority noted votes repeats its build.
 abbrev pub MatchedVotesAreLawful : Type 0
 MatchedVotesAreLawful =

@@ -7,8 +7,7 @@ use Rattle.graph.specs.declared.naming.Link.{Link}
 abbrev pub link_behind : List Link → ℕ → Link
 link_behind links k = slice_index_or links k (record { who = 0; earlier = 0 })
 
--- those named by the links from h backwards, latest first, as far as they are among the first n
--- links
+-- the names in the links from h backwards, latest first, as far as they are among the first n links
 abbrev pub linked_below : List Link → ℕ → ℕ → List ℕ
 linked_below links zero h = []
 linked_below links (suc n) h =
@@ -16,7 +15,7 @@ linked_below links (suc n) h =
     ((link_behind links n).who ∷ linked_below links n (link_behind links n).earlier)
     (linked_below links n h)
 
--- those named by the links from h backwards, latest first
+-- the names in the links from h backwards, latest first
 abbrev pub linked_list : List Link → ℕ → List ℕ
 linked_list links h = linked_below links h h
 
