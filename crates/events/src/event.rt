@@ -49,7 +49,7 @@ impl Torn {
 /// What a stop inside a step leaves of its note.
 #[derive(Drop)]
 pub enum Left {
-    /// Nothing new.
+    /// Nothing of the note.
     None,
     /// These bytes after the closed gate. A restart cuts them off.
     Torn(Torn),

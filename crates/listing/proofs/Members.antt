@@ -157,7 +157,7 @@ positions_of-within listed qs = positions_below 0 (length listed) listed qs (ome
 
 -- ---- the positions of dependencies, one by one
 
--- the position is p
+-- Whether the position is p.
 abbrev pub is_at : ℕ → Option ℕ → Bool
 is_at p None = false
 is_at p (Some q) = q == p

@@ -42,7 +42,8 @@ impl Model for Groups {
 }
 
 impl Groups {
-    /// The groups of the packages with these paths.
+    /// The groups of packages with these paths. The flag says whether each path is a group of its
+    /// own.
     pub fn of(alloc: Global, paths: &[PkgPath], is_single: bool) -> Result<Groups, Memory>
         requires { length paths.now ≤ most_paths }
         ensures { IfOk result (λ groups. groups ≡ map (group_by is_single) paths.now) }
@@ -89,7 +90,7 @@ impl Groups {
     }
 }
 
-/// The path that names the group of a path.
+/// The path that names the group of a path. The flag says whether each path is a group of its own.
 fn group_of(path: &PkgPath, is_single: bool) -> Result<PkgPath, Memory>
     ensures { IfOk result (λ group. group ≡ group_by is_single path.now) }
 {

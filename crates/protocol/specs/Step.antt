@@ -70,8 +70,7 @@ abbrev pub stranger : State → Text → Refusal
 stranger s path = if is_some (position_of s.division.tree path) then refusals.Ignored else
     refusals.Unlisted
 
--- ---- Claim: note a round above the one given and above all that the member opened, and offer the
--- claim to all
+-- ---- Claim: open a claim in a new round, and offer it to all
 
 -- Whether the letter means that the unit waits for what its build needs.
 abbrev pub is_waiting : Letter → Bool
@@ -114,7 +113,7 @@ proposes s u host given build =
     (answered_or refusals.NoClaim s u host (everyone s)
     (on_built (view s u) (view s u).stage build))
 
--- proposes what the claim's host made of the job: these files
+-- proposes what the claim's job makes of these files; refused unless the claim waits for a build
 abbrev pub builds_under : State → ℕ → ℕ → Given → members.Stage Value → Result Answer Refusal
 builds_under s u host given (members.Building c) =
     proposes s u host given (build_by s u (job_of s u host c) given)

@@ -88,10 +88,11 @@ IsClosed held S = (path : Text) (r : Content) → S path ≡ true → held path 
 abbrev pub IsInRunClosure : (Text → Option Content) → Text → Text → Type 0
 IsInRunClosure held p q = (S : Text → Bool) → S p ≡ true → IsClosed held S → S q ≡ true
 
--- ---- at each moment
+-- ---- at every point of a run
 
--- P holds at every point of the run: after every prefix of the events, of the world reached then.
--- Such a world exists, and by law events_have_one_answer it is the only one.
+-- P holds at every point of the run. For each prefix of the events, the prefix leads to some world,
+-- the rest of the events leads from there to the last world, and P holds of that world. By law
+-- events_have_one_answer there is only one such world.
 abbrev pub AtEachMoment : Division → List ℕ → List Event → World → (List Event → World → Type 0)
     → Type 0
 AtEachMoment division weights events last P =
@@ -160,9 +161,9 @@ AuditSaysYes w = IsAllowed w.division.tree (map entry_of w.agreed)
 -- The headline theorem. At every point of the run there is one list of packages. It only grows, and
 -- it has at most one package for each path. Each package was built by a host under a claim for its
 -- unit, after every dependency in its signature was in the list with exactly that signature. Every
--- package that a node holds is in the list, so no node then holds another package for a path than
--- any node does at the end. If a node shows a path as installable, it holds the path's run closure.
--- Besides, each package is a record and fits the tree, and an audit accepts the list.
+-- package that a node holds is in the list, so at no point does a node hold another package for a
+-- path than a node holds at the end. If a node shows a path as installable, it holds the path's run
+-- closure. Besides, each package is a record and fits the tree, and an audit accepts the list.
 pub record HasOneList (division : Division) (weights : List ℕ) (events : List Event) (last : World)
     : Type 0 where
   pub grows : AtEachMoment division weights events last

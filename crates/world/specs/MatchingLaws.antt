@@ -29,14 +29,14 @@ EachEventKeepsLocal =
     (w v : World) (e : Event) → IsMade w.division w.weights → AreLocal w → EachIsOfAMessage w
     → Happens w e v → AreLocal v
 
--- The event is at most one more act: the world after it matches what the acts leave with that act
--- appended.
+-- The event is one more act or none: the world after it matches the cluster after the acts with
+-- that act appended.
 abbrev pub IsOneActMore : Division → List ℕ → List (Act Value) → World → Event → World → Type 0
 IsOneActMore division weights acts w e v =
     (o : Option (Act Value)) × IsActOf w e o
     × Matches v (after_all_acts division weights (with_act acts o))
 
--- In a world that matches what some acts leave, an event is at most one more act.
+-- In a world that matches the cluster after some acts, an event is one more act or none.
 abbrev pub EachEventIsAnAct : Type 0
 EachEventIsAnAct =
     (division : Division) (weights : List ℕ) (acts : List (Act Value)) (w v : World) (e : Event)
@@ -54,8 +54,8 @@ EachRunIsActs =
     → (acts : List (Act Value)) × Mirrors division weights events w acts
     × Matches w (after_all_acts division weights acts) × AreLocal w
 
--- In a world that matches what acts leave, two messages of which all datagrams were sent are equal
--- if a piece of one and a piece of the other have equal headers.
+-- In a world that matches the cluster after some acts, two messages of which all datagrams were
+-- sent are equal if a piece of one and a piece of the other have equal headers.
 abbrev pub MatchedHeadersAreEqual : Type 0
 MatchedHeadersAreEqual =
     (division : Division) (weights : List ℕ) (acts : List (Act Value)) (w : World)
@@ -115,11 +115,11 @@ pub record IsSafe (division : Division) (weights : List ℕ) (events : List Even
     Type 0 where
   -- A claim has at most one proposal.
   pub one_proposal : AtEachMoment division weights events last (λ early w. OneProposal w)
-  -- A promise bounds every earlier vote of its member.
+  -- A promise bounds every vote of its member below it.
   pub promises_bound : AtEachMoment division weights events last (λ early w. PromisesBound w)
   -- A vote that was sent was noted first.
   pub votes_noted : AtEachMoment division weights events last (λ early w. SentVotesAreNoted w)
-  -- A proposal above a claim for which a majority noted votes repeats its build.
+  -- A proposal at or above a claim for which a majority noted votes repeats its build.
   pub later_repeats : AtEachMoment division weights events last (λ early w. LaterRepeats w)
   -- The dependencies of every build ever proposed were in the list when its job was given.
   pub jobs_stood : AtEachMoment division weights events last

@@ -52,7 +52,7 @@ IsActOf w e (Some a) =
     (k : ℕ) (v : Value) → a.event ≡ theory_of_one.Take k (theory.Built v)
     → MakesBuild w e k a.path v
 
--- The world matches what the acts leave at every point: each event was one act or none.
+-- The world matches the cluster after the acts, at every point: each event was one act or none.
 pub data Mirrors (division : Division) (weights : List ℕ) : List Event → World → List (Act Value)
     → Type 0 where
   at_start : Mirrors division weights [] (start division weights) []

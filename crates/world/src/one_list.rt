@@ -1,5 +1,5 @@
 //! How events of a world correspond to acts of the agreement theory, and what follows for a world
-//! that matches what its acts leave.
+//! that matches its acts.
 ghost use Rattle.std.specs.Prelude.{All};
 ghost use Rattle.world.specs.MatchingLaws.{
   EachEventIsAnAct,
