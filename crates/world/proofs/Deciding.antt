@@ -40,7 +40,7 @@ use Rattle.world.proofs.Safe.{majority_within, voted_there}
 
 -- ---- lists of entries
 
--- if a unit has no entry, a package of the entries is of a build that was allowed for another unit
+-- the package is of a build that was allowed for another unit
 record IsOfAnother (division : Division) (u : ℕ) (r : Content) : Type 0 where
   unit : ℕ
   listed : unit < length division.units

@@ -154,7 +154,7 @@ event_later = by_kind IsLater step_later
     (λ w v n s. one_other w v n s.node (restarted_node s.node.notes) s.stands
     ([], sym (append-nil s.node.notes)) s.leaves)
 
--- the same for several events
+-- the same for several events, beginning with none
 pub same_later : (w v : World) → v ≡ w → IsLater w v
 same_later w v e = record {
   division = ap (λ u. u.division) e;
