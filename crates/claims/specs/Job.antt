@@ -4,8 +4,8 @@ use Rattle.faults.specs.Bytes.{Text}
 use Rattle.agreement.specs.declared.claim.Claim.{Claim}
 use Rattle.claims.specs.declared.deps.Dep.{Dep}
 
--- the name of the unit, the paths of its packages, the claim that they are built under, the host,
--- and the signatures that the build stands on
+-- the name of the unit, the paths of its packages, the claim and the host that they are built under
+-- and by, and the signatures of the packages that it is built on
 pub record Task : Type 0 where
   pub path : Text
   pub packages : List Text
