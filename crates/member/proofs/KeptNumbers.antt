@@ -18,14 +18,14 @@ module _ (P : ℕ → Bool) (n : ℕ) (xs : List ℕ) (are : xs ≡ filter P (ra
       let all = length-range_with_len 0 n in
       omega (arith, same, kept, few, all)
 
-  -- the next one, where it passes
+  -- the next number, if it passes
   pub one_more_kept : P n ≡ true → xs ++ n ∷ [] ≡ filter P (range_with_len 0 (n + 1))
   one_more_kept passes =
       ap (λ ys. ys ++ n ∷ []) are
       ∙ sym (filter_next P n
       ∙ ap (λ b. filter P (range_with_len 0 n) ++ cond b (n ∷ []) []) passes)
 
-  -- and where it does not
+  -- the next number, if it doesn't pass
   pub none_more_kept : P n ≡ false → xs ≡ filter P (range_with_len 0 (n + 1))
   none_more_kept fails =
       are
