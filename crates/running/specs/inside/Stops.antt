@@ -51,7 +51,7 @@ pub record HasReadied (sent : List Text) (e : Event) (n m : LoggedNode MemDisk)
   pub ready : IfOk result (IsReadyFor m.node)
   pub log : m.log ≡ n.log
 
--- The same of a slot; its node is up.
+-- As `HasReadied`, for a slot whose node is up and stays up.
 abbrev pub ReadiesStep : List Text → Event → Slot → Slot → Result ReadyStep NodeFault → Type 0
 ReadiesStep sent e (Up n) (Up m) result = HasReadied sent e n m result
 ReadiesStep sent e (Up n) (Down r) result = ⊥
@@ -119,7 +119,8 @@ IsStoppedWith left.None old new place r = IsStopped old new place
 IsStoppedWith (left.Torn torn) old new place r = IsStoppedTorn old new place torn
 IsStoppedWith left.Whole old new place r = IsStoppedBehind old new place r
 
--- The node was not stopped. If less than the whole note is left, only memory can have run out.
+-- The node was not stopped. That can't happen if nothing is left of the note. If a torn note is
+-- left, memory ran out; if the whole note is, memory ran out or the log is full.
 abbrev pub IsNotStoppedWith : Left → List Slot → List Slot → ℕ → ReadyStep → NodeFault → Type 0
 IsNotStoppedWith left.None old new place r f = ⊥
 IsNotStoppedWith (left.Torn torn) old new place r f = (new ≡ old) × (f ≡ node_fault.Memory)
