@@ -61,7 +61,7 @@ one_more_file fs i f lt here =
     (take_more fs i f lt ∙ ap (λ (g : NamedFile). take i fs ++ g ∷ []) (sym here))
     ∙ files_push (take i fs) f
 
--- the same, with a view of the items as files
+-- likewise, with a view of the items as files
 pub some_within : {X : Type 0} (v : X → NamedFile) (xs : List X) (n : ℕ)
     → length (flat_map (λ (g : NamedFile). g.bytes) (map v (take n xs)))
     ≤ length (flat_map (λ (g : NamedFile). g.bytes) (map v xs))
