@@ -212,7 +212,7 @@ fn records_with_texts<T: Texts>(records: Vec<Record>, texts: &T) -> Result<Vec<R
     Ok(same)
 }
 
-/// The name of the unit of these records.
+/// The name of the unit that these records are of.
 fn unit_of(records: &[Record]) -> Result<PkgPath, Memory>
     requires { 1 ≤ length records.now }
     ensures { IfOk result (λ path. path ≡ unit_path records.now) }
