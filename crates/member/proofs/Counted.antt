@@ -64,7 +64,7 @@ count_weighed weights o (change.Proposes v t) same within =
     record { same = same; within = within }
 count_weighed weights o change.Ends same within = tt
 
------- what follows from the step
+-- ---- what follows from the step
 
 -- the note that follows
 next_notes : (s : State) (o : code.OpenClaim) (n : Next Value) (c : ClaimerChange Value)
@@ -178,7 +178,7 @@ counter_makes s o to w step at weighed is within reach = record {
         ∙ moved_is s (open_of o) (length s.weights) w.member.stage
         (counted step.change (progress_of_claimer o.claimer)) at far)
 
------- receivers
+-- ---- receivers
 
 -- a promise notes nothing
 quorum_notes : (x : members.Member Value) (c : Claim) (k : Option (Ballot Value))

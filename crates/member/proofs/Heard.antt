@@ -125,7 +125,7 @@ pub refusal_passes : (s : State) (u from : ℕ) (c promised : Claim) (p : Prepar
 refusal_passes s u from c promised p is says sends =
     nothing_makes s u [] (still (view s u)) p is refl says sends
 
------- the agreed build
+-- ---- the agreed build
 
 -- nothing is held if the test finds nothing
 pub none_held : (h : Option Value) → is_some h ≡ false → h ≡ None

@@ -9,7 +9,7 @@ use Rattle.std.proofs.lemmas.List.Sums.{count_by-le-length, length-filter}
 use Rattle.engine.proofs.Lists.{filter_next}
 
 module _ (P : ℕ → Bool) (n : ℕ) (xs : List ℕ) (are : xs ≡ filter P (range_with_len 0 n)) where
-  -- they are no more than there are numbers
+  -- there are at most n of them
   pub no_more : length xs ≤ n
   no_more =
       let same = ap length are in

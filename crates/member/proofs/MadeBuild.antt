@@ -78,7 +78,7 @@ waiting_is_claimed s path u job is e = by_unit (unit_in s path) e
     by_unit None e = absurd (let no : None ≡ Some (u, job) = e in cc)
     by_unit (Some v) e = by_job v (job_at s v) refl e
 
------- packages that were made so
+-- ---- packages that were made so
 
 module _ (tree : Tree) (files : FilesByPath) where
   -- they are as many as their positions
@@ -134,7 +134,7 @@ module _ (tree : Tree) (files : FilesByPath) where
 
 -- ---- the records
 
--- the record of what was made, by the job
+-- the record of a package, made by the job
 abbrev record_of : Task → Made → Content
 record_of job m = record {
   path = m.path;

@@ -1,4 +1,4 @@
--- The packages that are made so far, one after the other.
+-- Making packages, one after the other.
 use Rattle.std.proofs.Common.{◌≡◌, ◌+◌, ◌<◌, ◌++◌, ℕ, suc, Bool, true, false, List, []}
 use Rattle.std.proofs.Common.{◌∷◌, length, map, take, Option, None, Less, Equal, Greater, zero}
 use Rattle.std.proofs.Common.{refl, sym, ap, ◌∙◌, arith}

@@ -42,7 +42,7 @@ use Rattle.member.specs.Prepared.{counted, moved}
 use Rattle.member.specs.inside.Counting.{on_unit, voter_prepared}
 use Rattle.member.specs.inside.Steps.{Makes}
 
------- facts and bodies
+-- ---- facts and bodies
 
 fact_again : (f : Fact Value) → fact_in (note_of f) ≡ f
 fact_again (facts.Opened round) = refl

@@ -1,4 +1,4 @@
--- What a contract sees of an open claim.
+-- How contracts see an open claim.
 use Rattle.std.specs.Prelude.{◌≡◌, ◌<◌, ℕ, true, List, length}
 use Rattle.agreement.specs.Quorums.{Members, nobody}
 use Rattle.agreement.specs.Votes.{ballot, report_of}

@@ -1,4 +1,4 @@
--- What a contract sees of a prepared step, and when it may be taken.
+-- How contracts see a prepared step, and when it may be taken.
 use Rattle.std.specs.Prelude.{ℕ, List, Option, None, Some, option_and_then, option_map, Ok}
 use Rattle.agreement.specs.Votes.{ballot, report_of}
 use Rattle.claims.specs.Job.{Task}

@@ -15,7 +15,7 @@ use std::marker::Model;
 const MOST_SIGNED: usize = 64;
 
 /// A build that is held, with a cache of its records' digests. They are cached because a record is
-/// signed in each build that is made on it.
+/// signed again for each build that is made on it.
 #[derive(Drop)]
 pub(crate) struct Held {
     build: Build,

@@ -1,4 +1,4 @@
--- What a contract sees of a prepared step's fields, and of the functions that prepare it.
+-- How contracts see a prepared step's fields, and the functions that prepare it.
 use Rattle.std.specs.Prelude.{◌≡◌, ℕ, None, Result, IfOk, option_map}
 use Rattle.faults.specs.Answers.{IsRightUnless, map_ok}
 use Rattle.agreement.specs.Member as members

@@ -16,7 +16,7 @@ abbrev pub waiting_for : State → Text → Option (ℕ × Task)
 waiting_for s path =
     option_and_then (λ u. option_map (λ job. (u, job)) (job_at s u)) (unit_in s path)
 
------- whether a claim is open that waits for a build, and for which unit
+-- ---- whether a claim is open that waits for a build, and for which unit
 
 -- Whether the claim waits for a build.
 abbrev pub is_building_at : Progress → Bool

@@ -1,4 +1,4 @@
--- What a contract sees of a member's fields.
+-- How contracts see a member's fields.
 use Rattle.std.specs.Prelude.{◌≡◌, List, [], Option, None, map, option_and_then, option_map}
 use Rattle.std.specs.Option.{ForSome}
 use Rattle.agreement.specs.Member.{Facts}
