@@ -25,7 +25,7 @@ left_is_bytes (cut_to len file ∷ h) c (d, left, cut) = ⊎_elim
     cut
 left_is_bytes (synced ∷ h) c is = is.1
 
--- so it opens as what could be left
+-- so it opens as something that a crash could leave
 pub not_begun : (i : Identity) (h : History) → AllAlong (OpensAsLeft i h) h h
 not_begun i h = at_first (λ c left. record {
   left = c;

@@ -29,7 +29,7 @@ use Rattle.node.specs.declared.ready.Change.{Change}
 use Rattle.node.specs.declared.ready.Change.TheVariants as change
 use Rattle.node.specs.inside.Stepping.{AreKept, ComesAs, MakesReady, dropped_by, foreign_by, left_at, strange_by}
 
------- refusals
+-- ---- refusals
 
 -- a step on received bytes is only refused as foreign
 refused_as_foreign : (s : State) (a : Arrival) (f : NodeFault) → step_on s a ≡ Err f → (x : Foreign) × (f ≡ fault.Foreign x)

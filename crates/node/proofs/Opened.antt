@@ -62,7 +62,7 @@ pub owner_of_new : (s : State) (tree : Tree) (weights : List ℕ) (me : ℕ) →
 owner_of_new s tree weights me new of_tree =
     λ j. identity (of_tree j) (ap (λ (t : State). t.weights) new j) (ap (λ (t : State). t.me) new j)
 
------- what holds for both results of a call
+-- ---- what holds for both results of a call
 
 pub both_ok : {T E : Type 0} (r : Result T E) (P Q R : T → Type 0) → ((x : T) → P x → Q x → R x) → IfOk r P → IfOk r Q → IfOk r R
 both_ok (Ok x) P Q R f p q = f x p q
@@ -74,7 +74,7 @@ both_err (Err e) P Q R f p q = f e p q
 
 -- ---- the file's notes
 
--- what the file opens as are the node's notes
+-- the file opens with the node's notes
 pub opens_as : (s : State) (tree : Tree) (weights : List ℕ) (me : ℕ) → s ≡ fresh s.division weights me → s.division.tree ≡ tree → (texts : List Text) (n : NodeState) → IsOver s texts n
     → (i : Identity) → i ≡ identity tree weights me → (file : List ℕ) → Opens i file (Ok texts) → Opens (identity_of n.member) file (Ok (texts_of n.notes))
 opens_as s tree weights me new of_tree texts n over i owner file opens =

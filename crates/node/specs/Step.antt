@@ -95,7 +95,7 @@ pieces_after_refusal n (Comes text) =
     if n.stopped then n.pieces
     else pieces_left n.pieces (arrival_of n.member n.pieces (datagram_of text))
 
--- the node after it refused what it was asked
+-- the node after a refusal
 abbrev pub after_refusal : NodeState → Asked → NodeState
 after_refusal n asked = record n { pieces = pieces_after_refusal n asked }
 

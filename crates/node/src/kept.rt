@@ -63,8 +63,9 @@ fn has_with(pieces: &[Piece], piece: &Piece, number: u16) -> bool
 }
 
 /// A known build that may equal the one in a message with this header. The received build then
-/// shares its texts. A vote may have been read from the log, with texts of its own, so its build is
-/// only given if the vote stays. A build that is held is always given.
+/// shares its texts. A build that is held, or that the open claim proposes, is always given. A vote
+/// may have been read from the log, with texts of its own, so its build is only given if the vote
+/// stays.
 pub(crate) fn known_build<'m>(member: &'m Member<'_>, header: &Header) -> Option<&'m Build> {
     match member.known_build(&header.path) {
         Some(build) => Some(build),
