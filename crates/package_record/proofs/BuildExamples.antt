@@ -61,7 +61,7 @@ example_other_claim = refl
 example_other_built : next_fault (x ∷ []) (record y { built = record { path = codes "e/f"; name = codes "f-1"; digest = [] } ∷ [] }) ≡ Some (BadLine 6)
 example_other_built = refl
 
------- lengths: of the second record, of the first, and of both with the two lines before them
+-- ---- lengths: of the second record, of the first, and of both with the two lines before them
 
 lines_of_y : header_lines y ≡ codes "@dpb 1" ∷ codes "@name y-1" ∷ codes "@comment pkgpath=a/b,-y" ∷ codes "@host 3" ∷ codes "@claim 1.0" ∷ codes "@run a/b,-x" ∷ []
 unfolding digits

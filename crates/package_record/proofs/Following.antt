@@ -22,7 +22,7 @@ use Rattle.package_record.specs.Reading.{is_above, last_of}
 use Rattle.package_record.proofs.Lists.{drop_one}
 use Rattle.package_record.proofs.Ascending.{ascending_above, ascending_more, last_mapped}
 
------- equal fields
+-- ---- equal fields
 
 same_dep : (d e : Dep) → is_same_dep d e ≡ true → d ≡ e
 same_dep d e same =
@@ -58,7 +58,7 @@ same_claim c d same =
 claim_itself : (c : Claim) → claim_same c c ≡ true
 claim_itself c = and_from _ _ (eq-eqb c.round c.round refl) (eq-eqb c.member c.member refl)
 
------- one record after others
+-- ---- one record after others
 
 -- there is no fault if all tests hold
 pub no_fault : (front : List Content) (first c : Content) → is_above (option_map (λ before. before.path) (last_of front)) c.path ≡ true → IsAlike first c → unlike_fault front first c ≡ None

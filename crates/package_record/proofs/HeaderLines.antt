@@ -150,7 +150,7 @@ front_taken p x e =
     front : Text → Text → ℕ → Claim → Front
     front name path host claim = record { name = name; path = path; host = host; claim = claim }
 
------- repeated lines
+-- ---- repeated lines
 
 one_all : {X : Type 0} (P : X → Type 0) (x : X) → P x → All P (x ∷ [])
 one_all P x h zero d lt = h

@@ -21,7 +21,7 @@ passed_on memory e r s on (inr h) = inr (on h)
 pub passed_as : {A B F : Type 0} (memory e f : F) → f ≡ e → (r : Result A F) (s : Result B F) → (r ≡ Err e → s ≡ Err e) → (e ≡ memory) ⊎ (r ≡ Err e) → (f ≡ memory) ⊎ (s ≡ Err f)
 passed_as memory e f same r s on h = rw same (passed_on memory e r s on h)
 
------- this number of records
+-- ---- this number of records
 
 pub records_more : (n k : ℕ) (front : List Content) (text : Text) (total : Result (List Content × Text) RecordFault) (x : Content × Text) → 0 < k → records_in n k front text ≡ total
     → next_of n front text ≡ Ok x → records_in n (k - 1) (front ++ x.0 ∷ []) x.1 ≡ total
@@ -43,7 +43,7 @@ unfolding records_in
 records_fail n zero front text total f some e next = absurd (omega arith)
 records_fail n (suc k) front text total f some e next = sym e ∙ rw next refl
 
------- the first value given
+-- ---- the first value given
 
 pub given_next : {X F : Type 0} (f : X → Option F) (xs : List X) (i : ℕ) (x : X) → i < length xs → x ≡ get_or xs i x → first_given f (drop i xs) ≡ option_or (f x) (first_given f (drop (i + 1) xs))
 given_next f xs i x lt here = rw (drop_one xs i x lt here) refl

@@ -69,7 +69,7 @@ front_read c ls name path host claim more =
       claim_line_read 4 c.claim ls claim more,
     )
 
------- repeated lines
+-- ---- repeated lines
 
 module _ {X : Type 0} (one : List X → Place → Result (Option X × Place) RecordFault) (lines : X → List Text) (Fits : ℕ → List X → X → Type 0)
     (read : (front : List X) (n : ℕ) (x : X) (ls : List Text) → Fits n front x → 0 < length ls → one front (at n (lines x ++ ls)) ≡ Ok (Some x, at (n + length (lines x)) ls)) where
@@ -152,7 +152,7 @@ all_built_read n ds ls deps order next =
           ∙ many_read built_at line BuiltFits built_read (length (flat_map line ds ++ ls)) [] ds n ls (at m ls) enough (built_fits n [] ds deps order) some stops,
     )
 
------- paths to run
+-- ---- paths to run
 
 record RunFits (n : ℕ) (front : List Text) (path : Text) : Type 0 where
   canonical : IsPath path

@@ -260,7 +260,7 @@ entry_taken names total p h q e =
           )
     ]
 
------- the end of repeated lines
+-- ---- the end of repeated lines
 
 pub built_stops : (deps : List Dep) (p q : Place) → built_at deps p ≡ Ok (None, q) → p.lines ≡ q.lines
 unfolding built_at

@@ -51,7 +51,7 @@ field_at word p = do
       then Ok (drop (length word) line.0, line.1)
       else Err (BadLine line.1.passed)
 
------- fields of line n
+-- ---- fields of line n
 
 -- the text before the first such byte, and the text after it
 unfoldable pub cut_in : ℕ → ℕ → Text → Result (Text × Text) RecordFault
@@ -159,7 +159,7 @@ front_at p = do
   claim ← claim_at host.1
   Ok (record { name = name.0; path = path.0; host = host.0; claim = claim.0 }, claim.1)
 
------- repeated lines
+-- ---- repeated lines
 
 -- goes on after one more element; ends if there was none
 abbrev pub go_on :
