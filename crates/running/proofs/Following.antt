@@ -31,7 +31,7 @@ hold_alike h is =
     always_alike each_run_is_acts build_is_read h.world.division h.world.weights is.made (taken h)
     h.world is.led
 
------- extending a history
+-- ---- extending a history
 
 -- At the start no events were taken.
 pub at_start : (h : History) → IsMade h.world.division h.world.weights

@@ -45,7 +45,7 @@ use Rattle.running.specs.inside.Deciding.{claim_voted, voted_in}
 use Rattle.running.proofs.Casting.{vote_of, votes_same}
 use Rattle.running.proofs.VoteSent.{whole_text}
 
------- votes, as they are sent and noted
+-- ---- votes, as they are sent and noted
 
 pub said_same : (a b : messages.Message Value) → Some a ≡ Some b → a ≡ b
 said_same a b e = cc

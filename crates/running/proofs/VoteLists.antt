@@ -260,7 +260,7 @@ module _ (w : World) (made : IsMade w.division w.weights) (acts : List (Act Valu
     proposed = subst (λ (c : Claim). WasProposed w sent name c b.value) noted.claim
         (⊎_elim by_note (λ last. by_last last.1) noted.noted)
 
-    ------ so the list is extended by that build if the vote makes a majority
+    -- ---- so the list is extended by that build if the vote makes a majority
 
     abbrev IsListWith : Option Value → Type 0
     IsListWith o = IsListAfter w sent (with_decision w.agreed o)

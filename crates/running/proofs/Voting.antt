@@ -58,7 +58,7 @@ none_makes_none ws S k out = by (is_majority ws (with_member S k)) (is_majority 
     by true false h = absurd (true≢false (sym (h refl)))
     by false b h = refl
 
------- the members that sent a vote
+-- ---- the members that sent a vote
 
 -- the members below this number that sent the vote
 abbrev pub voters_below : ℕ → List Text → Text → Members
@@ -112,7 +112,7 @@ voters_same n sent vote none = λ i k. at k i
         a : ℕ → Bool
         a j = is_among sent (slice_set vote sender_place j)
 
------- one more iteration
+-- ---- one more iteration
 
 -- After the iteration of a member, the tally has the voters below the next number; it joined if it
 -- sent the vote.

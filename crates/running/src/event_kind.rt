@@ -27,7 +27,7 @@ pub(crate) fn node_of(event: &Event) -> u8
     }
 }
 
-/// Whether the event is a step that a stop may cut short.
+/// Whether the event is a step that a stop may interrupt.
 pub(crate) fn is_step(event: &Event) -> bool
     ensures { result ≡ events.is_step (event_view event.now) }
 {
