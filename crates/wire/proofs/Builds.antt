@@ -16,7 +16,7 @@ fact_has_good_build name (Promised c) good = tt
 fact_has_good_build name (Voted c v) good = good.1.build_is
 fact_has_good_build name (Held v) good = good.build_is
 
--- the length of a build's text takes four bytes
+-- the length of a build's text fits in four bytes
 pub build_length_fits : (v : Value) → IsBuild v → length (build_text v) < 4294967296
 build_length_fits v good =
     let few : length (build_text v) ≤ most_bytes = good.fits in

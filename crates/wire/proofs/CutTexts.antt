@@ -124,7 +124,7 @@ pub are_cuts_last : (xs : List Text) (last : Text) → AreFull xs → 1 ≤ leng
     → AreCuts (xs ++ last ∷ [])
 are_cuts_last xs last full some less few = cuts_last xs last full some less few ∙ ap cuts_of (sym (joined_more xs last))
 
------- from the pieces back to the text
+-- ---- from the pieces back to the text
 
 -- the numbers are those of the pieces
 numbers_again : (pieces : List Text) → AreCuts pieces → (numbers_of (length (joined pieces)) ≡ range_with_len 0 (length pieces)) × (length pieces ≤ most_pieces)

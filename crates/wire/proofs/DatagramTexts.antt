@@ -27,7 +27,7 @@ use Rattle.wire.proofs.Readers.{begins_none, read_again, whole_took}
 use Rattle.wire.proofs.Steps.{bind_ok, refusal_ok, test_ok, ways, where_false}
 use Rattle.wire.proofs.WholeTexts.{TookWhole, whole_read, whole_tail, whole_taken}
 
------- with a rest
+-- ---- with a rest
 
 pub datagram_read : (d : Datagram) (rest : Text) → IsDatagram d → datagram_at (datagram_text d ++ rest) ≡ gives d rest
 unfolding datagram_at

@@ -153,7 +153,7 @@ claim_taken text y bytes e =
 
 -- ---- paths
 
--- a path has some bytes, and not too many
+-- a path is not empty, and not too long
 pub record HasPathLength (path : Text) : Type 0 where
   pub some : 1 ≤ length path
   pub few : length path ≤ 255

@@ -17,7 +17,7 @@ use Rattle.wire.proofs.FieldTexts.{Took, build_read, build_taken, claim_read, cl
 use Rattle.wire.proofs.Readers.{begins_none, one_of, read_again, whole_took}
 use Rattle.wire.proofs.Steps.{bind_ok, ok_is}
 
------- from the note to its text and back
+-- ---- from the note to its text and back
 
 voted_read : BuildTextIsReadAgain → (name : Text) (c : Claim) (v : Value) (rest : Text) → IsFact name (Voted c v) → voted_at name (fact_text (Voted c v) ++ rest) ≡ gives (Voted c v) rest
 unfolding voted_at
@@ -55,7 +55,7 @@ note_read again n rest good =
     (path_read n.path (fact_text n.fact ++ rest) good.path)
     ∙ ap (λ (r : Result (Fact Value × Text) WireFault). r >>= λ fact. gives (note_from n.path fact.0) fact.1) (fact_read again n.path n.fact rest good.fact)
 
------- from the text to the note and back
+-- ---- from the text to the note and back
 
 -- the result of parsing the fact of a note of this kind
 record TookFact (name : Text) (kind : ℕ) (text : Text) (y : Fact Value × Text) : Type 0 where

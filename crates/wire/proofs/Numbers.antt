@@ -25,7 +25,7 @@ are_bytes-big_bytes zero x k = omega arith
 are_bytes-big_bytes (suc n) x zero = byte_at_small n x
 are_bytes-big_bytes (suc n) x (suc k) = are_bytes-big_bytes n x k
 
------- numbers of equal length differ in some byte
+-- ---- numbers of equal length differ in some byte
 
 digit_below : (p x y a b : ℕ) → a < p → x < y → x * p + a ≡ y * p + b → ⊥
 digit_below p x y a b small less same =

@@ -164,7 +164,7 @@ map_within f n size before after so_far within more =
     ∙ sym (map-append f (numbers_below n size) (n ∷ []))
     ∙ ap (map f) (sym (number_within n size within))
 
------- the rest of a text
+-- ---- the rest of a text
 
 pub left_more : (text rest behind : Text) (n m : ℕ) → rest ≡ drop (piece_size * n) text → m ≡ min (length rest) piece_size → behind ≡ drop m rest
     → behind ≡ drop (piece_size * (n + 1)) text

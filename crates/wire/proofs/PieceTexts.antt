@@ -24,7 +24,7 @@ use Rattle.wire.proofs.Fronts.{IsFront, fields_text, front_of, front_read, front
 use Rattle.wire.proofs.Readers.{one_of}
 use Rattle.wire.proofs.Steps.{bind_ok, ok_is, test_ok, where_true}
 
------- carriers
+-- ---- carriers
 
 report_read : (c d : Claim) (rest : Text) → IsClaim c → IsClaim d → report_at ((claim_text c ++ (1 ∷ claim_text d)) ++ rest) ≡ gives (Promise c d) rest
 unfolding report_at

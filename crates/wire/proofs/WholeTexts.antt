@@ -21,7 +21,7 @@ use Rattle.wire.proofs.Fronts.{IsFront, fields_text, front_of, front_read, front
 use Rattle.wire.proofs.Readers.{one_of}
 use Rattle.wire.proofs.Steps.{bind_ok, ok_is}
 
------- from the message to its text and back
+-- ---- from the message to its text and back
 
 promise_read : (c : Claim) (rest : Text) → IsClaim c → promise_at ((claim_text c ++ 0 ∷ []) ++ rest) ≡ gives (Promise c None) rest
 unfolding promise_at
@@ -70,7 +70,7 @@ whole_read m rest good none =
     (front_read whole_kinds (front_in m) (body_text m.body ++ rest) front)
     ∙ ap (λ (r : Result (Body Value × Text) WireFault). r >>= λ body. gives (Whole (whole (front_in m) body.0)) body.1) (body_read m.path m.body rest good.body none)
 
------- from the text to the message and back
+-- ---- from the text to the message and back
 
 -- the result of parsing the body of a message of this kind
 record TookBody (name : Text) (kind : ℕ) (text : Text) (y : Body Value × Text) : Type 0 where

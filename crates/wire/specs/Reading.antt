@@ -35,7 +35,7 @@ abbrev pub ◌>>=◌ :
 (Ok x) >>= f = f x
 (Err e) >>= f = Err e
 
------- fields: each takes its bytes from the front of the text, and leaves the rest
+-- ---- fields: each takes its bytes from the front of the text, and leaves the rest
 
 -- this number of bytes
 abbrev pub bytes_at : ℕ → Text → Result (Text × Text) WireFault
