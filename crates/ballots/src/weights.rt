@@ -94,7 +94,7 @@ impl Weights {
     }
 }
 
-/// Whether these are the weights of one to nine members.
+/// Whether these are valid weights of one to nine members.
 fn are_weights(weights: &[u8]) -> bool
     ensures { result ≡ are_weights weights.now }
 {
