@@ -58,7 +58,7 @@ trace_by t false is = rw is (rw (no_float_among event_data event_no_float t.even
 pub trace_no_float : (t : Trace) → has_float (trace_data t) ≡ false
 trace_no_float t = trace_by t (are_ones t.weights) refl
 
------- nesting
+-- ---- nesting
 
 deep_among : {X : Type 0} (write : X → Data) (P : X → Type 0) (n : ℕ) → ((x : X) → P x → depth (write x) ≤ n) → (xs : List X) → All P xs → items_depth (items_of (map write xs)) ≤ n
 deep_among write P n each [] are = omega arith

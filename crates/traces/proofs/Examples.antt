@@ -25,7 +25,7 @@ weighted_again : trace_from (outer_in (trace_data weighted)) ≡ Ok weighted
 unfolding weighted_in number_of node_alone_in deliver_in clean_stop_in
 weighted_again = refl
 
--- ten members are invalid, and so is an unknown member of the outer object
+-- ten members are invalid, and so is an extra member of the outer object
 ten_members : trace_from (outer_in (fields ((codes "events", list_data [])
     ∷ (codes "members", natural 10) ∷ []))) ≡ Err 0
 unfolding equals_in number_of

@@ -23,7 +23,7 @@ use Rattle.traces.specs.Trace.{outer_in, trace_from, trace_of, value_of}
 abbrev fed : List ℕ → List ℕ
 fed t = t ++ 10 ∷ []
 
------- parts of a number: each takes the same number of bytes
+-- ---- parts of a number: each takes the same number of bytes
 
 -- if both branches leave the same, so does the choice
 either : (b : Bool) (s t u v : Option (List ℕ)) → s ≡ option_map fed t → u ≡ option_map fed v → cond b s u ≡ option_map fed (cond b t v)
@@ -148,7 +148,7 @@ word_fed x xs =
     (ap₂ (λ a b. cond (x == 102) a b) (literal_fed ascii.false_text (boolean false) t (refl, (refl, (refl, (refl, (refl, tt))))))
     (ap₂ (λ a b. cond (x == 110) a b) (literal_fed ascii.null_text null t (refl, (refl, (refl, (refl, tt))))) (number_fed t)))
 
------- what is between quotes
+-- ---- what is between quotes
 
 -- continuations that agree
 alike : {A B : Type 0} (f g : A → Option B) → ((a : A) → f a ≡ g a) → (o : Option A) → option_and_then f o ≡ option_and_then g o

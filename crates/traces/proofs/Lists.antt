@@ -55,7 +55,7 @@ module _ {A B W : Type 0} (view : A → W) (write : B → W) where
       let taken : take (i + 1) xs ≡ take i xs ++ x ∷ [] = take_more xs i x lt ∙ ap (λ y. take i xs ++ y ∷ []) (sym is) in
       rw (map-append view done (v ∷ []), taken, map-append see (take i xs) (x ∷ []), map-append write (map see (take i xs)) (see x ∷ []), e, writes) refl
 
-  -- all of it is written once the place is its end
+  -- the whole list is written when the place is its end
   pub written_all : (done : List A) (xs : List B) (i : ℕ) → length xs ≤ i → map view done ≡ map write (take i xs) → map view done ≡ map write xs
   written_all done xs i le e = e ∙ ap (map write) (take_all i xs le)
 

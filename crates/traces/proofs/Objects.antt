@@ -44,7 +44,7 @@ passes_null ts = record { datum = null; reads = ap (converted of_json) (value_is
 pub none_first : (t : Token) (ts : List Token) → ((a : Parse json.Items) (o : Parse json.Members) → value_with a o (t ∷ ts) ≡ None) → value_read 126 (t ∷ ts) ≡ None
 none_first t ts none = ap (converted of_json) (value_is 126 (t ∷ ts) ∙ none _ _)
 
------- all of the tokens
+-- ---- all of the tokens
 
 abbrev whole : Option (json.Json × List Token) → Option Data
 whole o = option_and_then of_json (option_and_then (λ p. if_last p.0 p.1) o)
@@ -75,7 +75,7 @@ object_and_more ts r s ms t is reads = ap whole_read is ∙ more_read (value max
 pub object_refused : (ts r : List Token) → ts ≡ token.begin_object ∷ r → members_read 126 r ≡ None → whole_read ts ≡ None
 object_refused ts r is reads = ap whole_read is ∙ none_read (value max_depth (token.begin_object ∷ r)) (begins r ∙ ap (parse_map object) reads)
 
------- tokens that don't begin an object
+-- ---- tokens that don't begin an object
 
 array_alone : (o : Option Items) → option_and_then as_object (option_map array o) ≡ None
 array_alone None = refl

@@ -23,7 +23,7 @@ weighted_by items members weights count =
 abbrev outer_by : Option Items → Option Data → Option Data → ℕ → Option (List ℕ × Items)
 outer_by items members weights count = if is_some weights then weighted_by items members weights count else equals_by items members count
 
------- what is kept has everything but the items
+-- ---- what is kept has everything but the items
 
 hollow_items : (a : Option Items) → as_array (hollow_of a) ≡ option_map (λ _. no_items) a
 hollow_items None = refl
@@ -53,7 +53,7 @@ weights_kept ms = get_kept (codes "weights") ms ∙ same _
 outer_kept : (ms : Members) → outer_in (object (kept ms)) ≡ outer_by (option_map (λ _. no_items) (items_of ms)) (get_member (codes "members") ms) (get_member (codes "weights") ms) (members_len ms)
 outer_kept ms = outer_is (kept ms) ∙ (λ i. outer_by (items_kept ms i) (members_kept ms i) (weights_kept ms i) (kept_len ms i))
 
------- the items don't affect the weights
+-- ---- the items don't affect the weights
 
 abbrev refilled : Items → Option (List ℕ × Items) → Option (List ℕ × Items)
 refilled ds o = option_map (λ p. (p.0, ds)) o

@@ -151,7 +151,7 @@ claim_tree k l m o q above event host node path a h n p first second third fourt
   rw goes.2 (rw of.2 (rw by.2 (rw over.2 refl))),
 )
 
------- members in order
+-- ---- members in order
 
 pub in_three : (xs : List Entry) (a b c : Entry) → 3 ≤ length xs → length xs < 4 → a ≡ get_or xs 0 a → b ≡ get_or xs 1 b → c ≡ get_or xs 2 c → xs ≡ a ∷ b ∷ c ∷ []
 in_three [] a b c most least first second third = absurd (omega arith)

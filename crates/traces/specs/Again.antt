@@ -28,8 +28,8 @@ AreLeft left.None = Prim.Unit {0}
 AreLeft (left.Torn bytes) = IsBytes bytes
 AreLeft left.Whole = Prim.Unit {0}
 
--- Numbers are in range, paths are canonical, names of files are UTF-8, and the event of a stop
--- inside a step is such a step.
+-- Numbers are in range, paths are canonical, names of files are UTF-8, and a stop inside an event
+-- is one inside a step.
 abbrev pub IsTextEvent : Event → Type 0
 IsTextEvent (Claim n path host above) =
     (n ≤ 255) × IsPath path × (host ≤ 65535) × (above ≤ most)

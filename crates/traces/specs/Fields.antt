@@ -32,7 +32,7 @@ number_of most d = do
   n ← as_number d >>= as_u64
   if nat_le n most then Some n else None
 
------- members: the value at the key, if it has this type
+-- ---- members: the value at the key, if it has this type
 
 -- the text at the key
 abbrev pub text_at : Text → Data → Option Text

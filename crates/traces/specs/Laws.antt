@@ -6,7 +6,7 @@ use Rattle.traces.specs.Builds.{builds_of}
 use Rattle.traces.specs.Trace.{Trace, trace_of}
 use Rattle.traces.specs.Written.{trace_text}
 
------- what is written is parsed again
+-- ---- what is written is parsed again
 
 -- the text of each such trace is parsed as that trace
 abbrev pub TraceTextIsReadAgain : Type 0

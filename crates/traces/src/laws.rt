@@ -13,8 +13,8 @@ pub fn texts_are_read_again()
     ensures line { TraceLineIsReadAgain }
 {}
 
-/// A line feed after a text changes neither which trace it is, or where it is bad, nor its contents
-/// as BUILDS.
+/// A line feed after a text doesn't change which trace it is, where it is bad, or its contents as
+/// BUILDS.
 pub fn line_feeds_change_nothing()
     ensures trace { LineFeedBehindATraceChangesNothing }
     ensures builds { LineFeedBehindBuildsChangesNothing }

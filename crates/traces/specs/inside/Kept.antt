@@ -49,7 +49,7 @@ outer_of read = read >>= outer_in
 abbrev pub weights_in : Option (List ℕ × Items) → Option (List ℕ)
 weights_in outer = option_map (λ o. o.0) outer
 
------- the values at the front of a text's tokens
+-- ---- the values at the front of a text's tokens
 
 -- a value whose arrays and objects nest at most this deep
 abbrev pub value_read : ℕ → List Token → Option (Data × List Token)
@@ -64,7 +64,7 @@ abbrev pub members_read : ℕ → List Token → Option (Members × List Token)
 members_read depth ts =
     converted (λ ms. of_members ms no_members) (json.members (json.value depth) (length ts) ts)
 
--- the whole of the tokens, as one value
+-- all of the tokens, as one value
 abbrev pub whole_read : List Token → Option Data
 whole_read ts =
     option_and_then of_json

@@ -20,7 +20,7 @@ Reads read j x = (d : Data) × (of_json j ≡ Some d) × (read d ≡ Some x)
 abbrev pub path_in : Data → Option Text
 path_in d = as_str d >>= (λ text. answer_in (path_of text))
 
------- objects of a given number of members, each a key and a value
+-- ---- objects of a given number of members, each a key and a value
 
 -- a key and its value
 abbrev pub Entry : Type 0
