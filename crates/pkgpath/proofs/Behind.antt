@@ -17,7 +17,7 @@ or_false : (b : Bool) → (b || false) ≡ b
 or_false true = refl
 or_false false = refl
 
------- what is written after the directory
+-- ---- what is written after the directory
 
 -- the mark, the flavors and the subpackage
 abbrev pub behind : Bool → List Text → Option Text → List Text
@@ -27,7 +27,7 @@ pub behind-all : (p : Text → Bool) (mark : Bool) (flavors : List Text) (subpac
 behind-all p true flavors subpackage none all one = and_from _ _ none (list_all-append p flavors (option_to_list subpackage) ∙ and_from _ _ all one)
 behind-all p false flavors subpackage none all one = list_all-append p flavors (option_to_list subpackage) ∙ and_from _ _ all one
 
------- what is parsed from that
+-- ---- what is parsed from that
 
 find-last : (subpackage : Option Text) → list_all is_subpackage (option_to_list subpackage) ≡ true → find is_subpackage (option_to_list subpackage) ≡ subpackage
 find-last None one = refl
@@ -92,7 +92,7 @@ module _ (flavors : List Text) (subpackage : Option Text) (all : list_all is_fla
   behind-mark true none = rw (tail-flavor, none refl)
   behind-mark false none = rw tail-empty
 
------- what is written is not longer than what was parsed
+-- ---- what is written is not longer than what was parsed
 
 empties-weigh : (ps : List Text) → list_any is_empty ps ≡ true → 1 ≤ sum_by weight_of (filter is_empty ps)
 empties-weigh [] any = cc

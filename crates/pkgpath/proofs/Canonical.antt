@@ -20,7 +20,7 @@ filled_from_slash : (text : Text) → has_byte slash (directory_of text) ≡ tru
 filled_from_slash [] has = cc
 filled_from_slash (b ∷ bs) has = refl
 
------- the parts of a path, and their text
+-- ---- the parts of a path, and their text
 
 -- valid parts of a path
 pub record IsWellFormed (v : Parts) : Type 0 where
@@ -65,7 +65,7 @@ module _ (v : Parts) (good : IsWellFormed v) where
       let subpackage : find is_subpackage (parts_of (canonical_text v)) ≡ v.subpackage = rw canonical-parts (behind-subpackage v.flavors v.subpackage good.flavors good.one v.is_explicitly_empty) in
       λ i. record { directory = canonical-directory i; flavors = flavors i; is_explicitly_empty = mark i; subpackage = subpackage i }
 
------- what a text spells is valid
+-- ---- what a text spells is valid
 
 module _ (text : Text) (none : fault_of text ≡ None) where
   spelled-mark : (value_of text).is_explicitly_empty ≡ true → (value_of text).flavors ≡ []

@@ -9,7 +9,7 @@ use Rattle.pkgpath.specs.PkgPath.{canonical_text, directory_of, fault_of, is_dir
 use Rattle.pkgpath.specs.declared.PathFault.{PathFault}
 use Rattle.pkgpath.specs.declared.PathFault.TheVariants.{Empty, TooLong, NoSlash, BadByte, TwoSubpackages, TwoEmptyParts}
 
------- a text without a fault
+-- ---- a text without a fault
 
 some_is_not_none : {X : Type 0} (x : X) → Some x ≡ None → ⊥
 some_is_not_none x e = cc
@@ -53,7 +53,7 @@ pub no_fault : (text : Text) → IsFaultless text → fault_of text ≡ None
 no_fault text good =
     rw (good.filled, le-ltb most_bytes (length text) good.short, good.has_slash, good.directory, good.parts, le-ltb 1 (count_by is_subpackage (parts_of text)) good.one_subpackage, le-ltb 1 (count_by is_empty (parts_of text)) good.one_empty)
 
------- results of path_of
+-- ---- results of path_of
 
 faulty : (text : Text) (e : PathFault) → fault_of text ≡ Some e → path_of text ≡ Err e
 faulty text e is = ap (λ fault. unless_fault fault (canonical_text (value_of text))) is

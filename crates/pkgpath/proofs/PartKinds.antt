@@ -8,7 +8,7 @@ use Rattle.pkgpath.specs.Kind.{IsOfKind}
 use Rattle.pkgpath.specs.PkgPath.{is_flavor, is_path_byte, is_subpackage}
 use Rattle.pkgpath.specs.declared.parts.Kind.TheVariants.{Subpackage, Flavor}
 
------- a part has at most one kind
+-- ---- a part has at most one kind
 
 pub flavor-is_empty : (p : Text) → is_flavor p ≡ true → is_empty p ≡ false
 flavor-is_empty [] flavor = cc
@@ -29,7 +29,7 @@ subpackage-is_flavor p sub = by (is_flavor p) refl
     by true flavor = let none = flavor-is_subpackage p flavor in cc
     by false other = other
 
------- all pass one test, and those that pass it fail the other
+-- ---- all pass one test, and those that pass it fail the other
 
 module _ {X : Type 0} (p q : X → Bool) (apart : (x : X) → p x ≡ true → q x ≡ false) where
   pub list_any-apart : (xs : List X) → list_all p xs ≡ true → list_any q xs ≡ false
@@ -112,7 +112,7 @@ module _ {X : Type 0} (p q : X → Bool) where
       by true first rest = and_from _ _ first refl
       by false first rest = rest
 
------- the sums of the kinds of a list together are not greater than that of the list
+-- ---- the sums of the kinds of a list together are not greater than that of the list
 
 at_most_one : (n : ℕ) (e f s : Bool) → (f ≡ true → e ≡ false) → (f ≡ true → s ≡ false) → (s ≡ true → e ≡ false) → cond e n 0 + cond f n 0 + cond s n 0 ≤ n
 at_most_one n true true s fe fs se = absurd (true≢false (fe refl))
@@ -136,7 +136,7 @@ sum_by-kinds f (x ∷ xs) =
     let here = at_most_one (f x) (is_empty x) (is_flavor x) (is_subpackage x) (flavor-is_empty x) (flavor-is_subpackage x) (subpackage-is_empty x) in
     omega (arith, here, sum_by-kinds f xs, sum_by-cons f x xs, sum_by-filter_cons is_empty f x xs, sum_by-filter_cons is_flavor f x xs, sum_by-filter_cons is_subpackage f x xs)
 
------- how the kind of a part is determined
+-- ---- how the kind of a part is determined
 
 is_empty-length : (p : Text) → eqb (length p) 0 ≡ false → is_empty p ≡ false
 is_empty-length [] filled = cc

@@ -14,7 +14,7 @@ use Rattle.pkgpath.specs.PkgPath.{directory_of, parts_of}
 abbrev pub lacks : ℕ → Text → Bool
 lacks c text = not (has_byte c text)
 
------- no piece has the byte at which the text was split
+-- ---- no piece has the byte at which the text was split
 
 onto_first-lacks : (c b : ℕ) (ps : List Text) → eqb b c ≡ false → list_all (lacks c) ps ≡ true → list_all (lacks c) (onto_first b ps) ≡ true
 onto_first-lacks c b [] other all = rw other refl
@@ -28,7 +28,7 @@ pieces-lack c (b ∷ bs) = by (eqb b c) refl (pieces-lack c bs)
     by true same rest = rest
     by false other rest = onto_first-lacks c b (pieces_at c bs) other rest
 
------- pieces without it are the pieces of their join
+-- ---- pieces without it are the pieces of their join
 
 none_passes : (p : ℕ → Bool) (xs : Text) → list_any p xs ≡ false → All (λ x. p x ≡ false) xs
 none_passes p [] none = All-nil (λ x. p x ≡ false)

@@ -135,7 +135,7 @@ no-byte c (x ∷ xs) none =
     let here : (x == c) ≡ false = none zero (omega arith) in
     rw here (no-byte c xs (λ k within. none (suc k) (omega (arith, within))))
 
------- where a path is split
+-- ---- where a path is split
 
 abbrev is_dashed : Text → Bool
 is_dashed part = begins_with (codes "-") part
