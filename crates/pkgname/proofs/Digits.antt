@@ -19,7 +19,7 @@ digit_is x h = grind arith
 digit_below_ten : (x : ℕ) → is_ascii_digit x ≡ true → digit_value x < 10
 digit_below_ten x h = grind arith
 
------- several digits
+-- ---- several digits
 
 -- the first one is a digit
 first_digit : (x : ℕ) (xs : List ℕ) → list_all is_ascii_digit (x ∷ xs) ≡ true → is_ascii_digit x ≡ true

@@ -11,8 +11,8 @@ use Rattle.pkgname.specs.Version.{Component, Parts, parts_of}
 abbrev pub component_cmp : Component → Component → Ordering
 component_cmp = then_cmp (on (λ c. c.number) nat_cmp) (on (λ c. rest_of c.rest) rest_cmp)
 
--- by the components from the left, where a proper prefix is less; then by the marker p, where
--- having none is less
+-- by the components from the left, where the body that ends first is less; then by the marker p,
+-- where having none is less
 abbrev pub body_cmp : Parts → Parts → Ordering
 body_cmp = then_cmp
     (on (λ x. x.components) (slice_cmp component_cmp))

@@ -48,7 +48,7 @@ abbrev pub without_marker : ℕ → Text → Text
 without_marker letter text =
     if has_marker letter text then take (length (before_digits_at_end text) - 1) text else text
 
------- the components of the body
+-- ---- the components of the body
 
 -- a piece between dots in the body of a version
 pub record Component : Type 0 where

@@ -97,7 +97,7 @@ fn compare_markers(own: &Option<Number<'_>>, other: &Option<Number<'_>>) -> Orde
     }
 }
 
-/// Compares the components from the left; a proper prefix is less.
+/// Compares the components from the left; the body that ends first is less.
 fn compare_bodies(own: &[u8], other: &[u8]) -> Ordering
     ensures { result
         ≡ slice_cmp component_cmp (components_of own.entry.now) (components_of other.entry.now) }

@@ -48,9 +48,9 @@ impl<'a> Version<'a> {
     /// project's own, a total preorder (`version_order_is_total_preorder`):
     ///
     /// - by the number of `v`, where having none is less than `v0`;
-    /// - then by the components between the body's dots, from the left, where a proper prefix is
-    ///   less; a component by the number of its leading digits, 0 without any, and then by its
-    ///   rest;
+    /// - then by the components between the body's dots, from the left, where the body that ends
+    ///   first is less; a component by the number of its leading digits, 0 without any, and then by
+    ///   its rest;
     /// - then by the number of `p`, where having none is less than `p0`.
     ///
     /// Rests are, from the lowest: `alpha`, `beta`, `pre`, `rc`, the empty rest, `pl`, and any
