@@ -19,7 +19,7 @@ use Rattle.faults.specs.Pieces.{by_order, set_of, text_cmp, with_member}
 use Rattle.faults.proofs.Ascending.{Rising, same_members}
 use Rattle.faults.proofs.Members.{contains_first, contains_later, member_cases, no_members}
 
------- elements
+-- ---- elements
 
 -- texts that compare as equal are equal
 pub same_texts : (t u : Text) → text_cmp t u ≡ Equal → t ≡ u
