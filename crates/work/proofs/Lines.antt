@@ -53,7 +53,7 @@ same_lines (l ∷ ls) (m ∷ ms) some other is =
     (sym (first_line l ls) ∙ is ∙ first_line m ms) in
     ap (λ x. x ∷ ls) halves.0 ∙ ap (λ xs. m ∷ xs) (same_lines ls ms one.1 two.1 halves.1)
 
------- the end of the lines of one kind
+-- ---- the end of the lines of one kind
 
 -- the next line is not of this kind
 abbrev pub Stops : {X : Type 0} → (X → Text) → List Text → Type 0

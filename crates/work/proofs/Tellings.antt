@@ -28,7 +28,7 @@ use Rattle.work.specs.Laws.{IsJob, IsTask, NameTellsTheTask, TaskTextIsFirst, Te
 use Rattle.work.specs.Tasks.{Task, host_line, package_line, task_lines, task_of, task_text, tree_line}
 use Rattle.work.proofs.Lines.{Stops, are_lines, heads_are, same_first, same_front, same_lines, same_things}
 
------- the first word of a line
+-- ---- the first word of a line
 
 built_spelled : (d : Dep) → built_line d ≡ codes "@built " ++ (d.path ++ 32 ∷ (d.name ++ 32 ∷ encode_lower d.digest))
 built_spelled d =
@@ -91,7 +91,7 @@ last_are_lines job good =
     and_from _ _ (line_lacks (host_line job.host) (number_lacks job.host (omega (arith, good.host))))
     (and_from _ _ (line_lacks (claim_line job.claim) (claim_lacks job.claim good.claim)) refl)
 
------- what each line determines
+-- ---- what each line determines
 
 same_digits : (xs ys : Text) → IsBytes xs → IsBytes ys → encode_lower xs ≡ encode_lower ys → xs ≡ ys
 same_digits xs ys bytes_x bytes_y is =
@@ -120,7 +120,7 @@ host_tells : (g h : ℕ) → g < 2 ^ 64 → h < 2 ^ 64 → host_line g ≡ host_
 host_tells g h small other is =
     sym (decimal_value g small) ∙ ap (λ (line : Text). digits_value 10 (drop 6 line)) is ∙ decimal_value h other
 
------- the lines of a task, and others after them
+-- ---- the lines of a task, and others after them
 
 abbrev with_last : Text → Task → List Text → List Text
 with_last tree t last = tree_line tree ∷ ((codes "@unit " ++ t.unit) ∷ (map package_line t.packages ++ (map built_line t.built ++ last)))
