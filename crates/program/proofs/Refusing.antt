@@ -10,7 +10,7 @@ use Rattle.program.specs.Listings.{IsDescribed, IsDescribedAt, RefusesListingAt,
 use Rattle.program.specs.Refusals.{memory_refusal}
 use Rattle.program.specs.declared.refusal.Refusal.{Refusal}
 
------- of two texts; the second one is about the tree that the first one describes
+-- ---- of two texts; the second one is about the tree that the first one describes
 
 module _ (Asked : Text → Tree → Refusal → Type 0) (rules : Rules) (listing second : Text) where
   -- out of memory, or the refusal of the first
@@ -25,7 +25,7 @@ module _ (Asked : Text → Tree → Refusal → Type 0) (rules : Rules) (listing
   second_refused tree r described (inl memory) = inl memory
   second_refused tree r described (inr refused) = inr (inr (tree, described, refused))
 
------- of texts that were read by their names
+-- ---- of texts that were read by their names
 
 module _ (Gave : Text → Text → Type 0) (name : Text) where
   -- the refusal of the listing that was read
