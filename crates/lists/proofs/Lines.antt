@@ -49,7 +49,7 @@ by_length : (t : Text) → (length t == 0) ≡ is_empty t
 by_length [] = refl
 by_length (b ∷ t) = ne_eqb (length (b ∷ t)) 0 (λ none. omega arith)
 
------- a text that is parsed
+-- ---- a text that is parsed
 
 -- the lines before the rest of the text were parsed
 pub record ReadSoFar (text left : Text) (number : ℕ) (packages : Option Packages) : Type 0 where

@@ -73,7 +73,7 @@ entries_once (x ∷ es) (y ∷ fs) e =
 pub one_list : (lines : List Text) (es fs : List Entry) → AllZip Says lines (flat_map said_of es) → AllZip Says lines (flat_map said_of fs) → es ≡ fs
 one_list lines es fs all also = entries_once es fs (said_once lines (flat_map said_of es) (flat_map said_of fs) all also)
 
------- prefixes
+-- ---- prefixes
 
 taken_said : (n : ℕ) (lines : List Text) (said : List ListLine) → AllZip Says lines said → AllZip Says (take n lines) (take n said)
 taken_said zero lines said all = tt

@@ -12,7 +12,7 @@ use Rattle.faults.specs.Pieces.{pieces_at}
 use Rattle.lists.specs.inside.Signatures.{Entry, HasThreeFields, IsReadEntry, IsSignature, texts_of_entries}
 use Rattle.lists.proofs.Fields.{some_pieces}
 
------- a text that was parsed before
+-- ---- a text that was parsed before
 
 entry_there : (es : List Entry) (text : Text) (d : Dep) → Some d ≡ lookup (bytes_eq text) es → Contains es (text, d)
 entry_there es text d found =
