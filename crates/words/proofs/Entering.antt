@@ -15,7 +15,7 @@ use Rattle.clap.specs.Walk.{after_flag, after_step, answers_to, arg_by_index, fi
 use Rattle.clap.specs.Walk.{to_positional, walk, walk_from, walked, walked_from, word_met}
 use Rattle.clap.specs.declared.error.kind.ErrorKind.{ErrorKind}
 
------- no fault is found
+-- ---- no fault is found
 
 -- neither of two checks fails
 pub neither : (a b : Kinds) → or_else a b ≡ [] → (a ≡ []) × (b ≡ [])
@@ -34,7 +34,7 @@ checks_pass false true c none = absurd cc
 checks_pass false false true none = absurd cc
 checks_pass false false false none = (refl, refl)
 
------- the subcommands that a walk without a fault reaches
+-- ---- the subcommands that a walk without a fault reaches
 
 module _ (s : Shape) (names : Names) where
   -- the name of the subcommand is not that of `help`

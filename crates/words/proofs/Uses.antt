@@ -22,7 +22,7 @@ use Rattle.clap.specs.Walk.{walk, walk_from, walked, walked_from, word_met}
 use Rattle.words.proofs.Entering.{neither}
 use Rattle.words.proofs.Rows.{AllFit, AreKnown, AreValues, fit_bundle, fit_defaults, fit_flag, fit_long, fit_plain, fit_positional, fit_settled, found_known, has_values}
 
------- arguments with different names
+-- ---- arguments with different names
 
 -- the names of these arguments differ from each other and from those before them, and each use of
 -- them has a value

@@ -7,7 +7,7 @@ use Rattle.clap.specs.declared.builder.value_parser.ValueParser.TheVariants.{Sig
 use Rattle.words.specs.declared.Call.{Call}
 use Rattle.words.specs.declared.Call.TheVariants.{Audit, Run, Status, Wayon}
 
------- what clap is given
+-- ---- what clap is given
 
 -- a required word
 abbrev pub word : Text → Rule
@@ -17,7 +17,7 @@ word id = record (new_rule id) { required = true }
 abbrev pub number : Text → ℕ → Rule
 number id most = record (word id) { parser = Some (Signed (pos 0) (pos most)) }
 
--- an optional flag, after two dashes
+-- a flag, after two dashes
 abbrev pub flag : Text → Rule
 flag id = record (new_rule id) { long = Some id; action = Some SetTrue }
 
@@ -79,7 +79,7 @@ AreTaken words = faults_of words ≡ []
 unfoldable pub matched : List Text → Option (Text × List Row)
 matched words = subcommand_of dpbr_app words
 
------- calls
+-- ---- calls
 
 -- the first word that was matched for an argument
 abbrev pub IsWord : List Row → Text → Text → Type 0
