@@ -102,7 +102,7 @@ site_there more rows fit none =
       members.1,
     )
 
------- the subcommands as clap builds them: the program's four, and its own
+-- ---- the subcommands as clap builds them: the program's four, and its own
 
 abbrev subcommand_at : ℕ → Shape
 subcommand_at k = slice_index_or (built dpbn_app).subs k cluster_command

@@ -15,17 +15,17 @@ use Rattle.dpbn_words.specs.declared.Run.{Run}
 use Rattle.dpbn_words.specs.declared.Site.{Site}
 use Rattle.words.specs.Calls.{IsFlag, IsNumber, command, flag, single, word}
 
------- what clap is given
+-- ---- what clap is given
 
--- an optional option with a value
+-- an option with a value, not required
 abbrev pub option : Text → Rule
 option id = record (new_rule id) { long = Some id; value_names = 1 }
 
--- an optional option whose value is a number in this range
+-- an option with a number in this range, not required
 abbrev pub number : Text → ℕ → ℕ → Rule
 number id least most = record (option id) { parser = Some (Signed (pos least) (pos most)) }
 
--- the option, required
+-- the same option, but required
 abbrev pub needed : Rule → Rule
 needed rule = record rule { required = true }
 
@@ -108,7 +108,7 @@ dpbn_app = with_subcommand nodes_app key_command
 unfoldable pub matched : List Text → Option (Text × List Row)
 matched words = subcommand_of dpbn_app words
 
------- refused words
+-- ---- refused words
 
 -- whether a value was matched for an argument
 abbrev pub is_given : List Row → Text → Bool
@@ -155,7 +155,7 @@ faults_of words = or_else (fault_of dpbn_app words) (call_fault (matched words))
 abbrev pub AreTaken : List Text → Type 0
 AreTaken words = faults_of words ≡ []
 
------- calls
+-- ---- calls
 
 -- the text that was matched for an argument
 abbrev pub IsText : List Row → Text → Text → Type 0
