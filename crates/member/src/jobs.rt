@@ -98,7 +98,7 @@ impl<'a> Member<'a> {
     }
 }
 
-/// Whether the claimer starts a build once this member promises the claim and reports no vote.
+/// Whether the claimer starts a build once member `from` promises the claim and reports no vote.
 fn is_built_after(claimer: &Claimer, from: u8, claim: Claim) -> bool
     requires { IsMember from }
 {
