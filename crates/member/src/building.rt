@@ -51,7 +51,7 @@ impl<'a> Member<'a> {
     }
 
     /// The claim's host has built the unit. The build is sent to all as the claim's proposal. It
-    /// shares the tree's texts, because the member may come to hold it unchanged.
+    /// shares the tree's texts, because the member may later hold it unchanged.
     pub(crate) fn built(&self, path: &PkgPath, packages: Packages) -> Result<Step, Refusal>
         ensures { IsPrepared self.now (Input.Built path.now packages) result }
     {

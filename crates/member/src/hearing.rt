@@ -76,9 +76,9 @@ impl<'a> Member<'a> {
         self.answered(unit, sender, body)
     }
 
-    /// Whether the body carries a build that may be kept: an agreed one if the unit isn't held yet;
-    /// a proposed one unless the last vote was under its claim; a reported one if its vote is under
-    /// a greater claim than the one reported so far.
+    /// Whether the body carries a build that may be kept. An agreed build may if the unit isn't
+    /// held yet. A proposed one may unless the last vote was under its claim. A reported one may if
+    /// its vote is under a greater claim than the one reported so far.
     fn may_keep(&self, unit: u32, body: &Body) -> bool
         requires { unit < length self.now.division.units }
     {

@@ -1,4 +1,4 @@
-//! Who gets a message.
+//! The receivers of messages.
 ghost use Rattle.std.specs.Prelude.{◌≡◌, ◌==◌, ◌∷◌, [], filter, length, not};
 ghost use Rattle.std.specs.List.{range_with_len};
 ghost use Rattle.ballots.specs.Support.{set_of};
