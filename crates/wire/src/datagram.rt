@@ -18,9 +18,9 @@ pub const MOST_PIECES: u16 = 128;
 pub const SENDER_PLACE: usize = 5;
 
 /// The maximum length of a piece in bytes: one of a promise that reports a vote, of a unit whose
-/// name has 255 bytes. That is 38 bytes and the name, preceded by its length in 2, two claims and a
-/// byte between them in 19, the length of the build in 4, the piece's number in 2, and `PIECE_SIZE`
-/// bytes of the build.
+/// name has 255 bytes. It has 38 bytes before the name; 2 for the name's length, and the name; 19
+/// for two claims and a byte between them; 4 for the length of the build; 2 for the piece's number;
+/// and `PIECE_SIZE` bytes of the build.
 pub const LONGEST_PIECE: usize = 33_088;
 
 /// Bytes. Contracts see them as a list.
