@@ -116,10 +116,12 @@ pub enum Call<'a> {
 
 /// The call of these words, of which the first is the program's name.
 ///
-/// Words that are not a call, or that ask for help, are refused with clap's text. So are the words
-/// of `node` and `build` that give neither the first port nor the hosts of its peers, or both of
-/// these; or that give the hosts, and neither a key nor the flag that there is none; or that give
-/// both a key and that flag.
+/// Words that are not a call, or that ask for help, are refused with clap's text. So are words of
+/// `node` and `build` with one of these faults:
+///
+/// - neither the first port nor the hosts of the peers, or both of these;
+/// - hosts, and neither a key nor the flag that there is none;
+/// - both a key and that flag.
 pub fn dpbn_words<'a, S: AsStr>(alloc: Global, words: &'a [S]) -> Result<Call<'a>, Error>
     ensures call { IfOk result (IsCallOf (matched (map S.text words.entry.now))) }
     // If there is a call, there is no fault in the words. A refusal is either out of memory or of
