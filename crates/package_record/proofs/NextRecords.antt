@@ -17,7 +17,7 @@ pub passed_on : {A B F : Type 0} (memory e : F) (r : Result A F) (s : Result B F
 passed_on memory e r s on (inl m) = inl m
 passed_on memory e r s on (inr h) = inr (on h)
 
--- the same, if the refusal that is passed on is only known to be equal
+-- likewise, if the refusal that is passed on is only known to be equal
 pub passed_as : {A B F : Type 0} (memory e f : F) → f ≡ e → (r : Result A F) (s : Result B F) → (r ≡ Err e → s ≡ Err e) → (e ≡ memory) ⊎ (r ≡ Err e) → (f ≡ memory) ⊎ (s ≡ Err f)
 passed_as memory e f same r s on h = rw same (passed_on memory e r s on h)
 
