@@ -1,5 +1,5 @@
-//! Claims, how they compare, the rounds that are left for them, and the jobs that they lead to,
-//! with the dependencies that a build stands on.
+//! Claims, their order, the rounds that are left for them, and the jobs that they lead to, with the
+//! dependencies of a build.
 #![tactic(auto)]
 
 ghost use Rattle.std.specs.Prelude.{◌≡◌, ◌+◌, ◌≤◌, ◌↔◌, None, Option, Some, IfOk, IsErr};
@@ -20,10 +20,10 @@ use thiserror::Error;
 /// The greatest round of a claim. The least is 1.
 pub const GREATEST_ROUND: u64 = 9_223_372_036_854_775_807;
 
-/// Members are numbered from 0, below this.
+/// The maximum number of members. They are numbered from 0.
 pub const MEMBERS: u8 = 9;
 
-/// No round is left above the one that was named.
+/// No round is left above the given one.
 #[derive(Clone, Copy, Debug, PartialEq, Eq, Error)]
 #[error("no round is left")]
 pub struct RoundsSpent;
@@ -42,7 +42,7 @@ impl Fault for RoundsSpent {
     }
 }
 
-/// The round above, which is one greater. The greatest round, and any number above it, has none.
+/// The next round, which is one greater. Fails for the greatest round, and for any number above it.
 pub fn next_round(round: u64) -> Result<u64, RoundsSpent>
     ensures above { IfOk result (λ next. next ≡ round + 1) }
     ensures spent { IsErr result ↔ (greatest_round ≤ round) }
@@ -53,8 +53,8 @@ pub fn next_round(round: u64) -> Result<u64, RoundsSpent>
     Ok(round + 1)
 }
 
-/// Claims compare by round, and then by member; the order is total, and it is the one by which
-/// promises and reports are judged. No claim at all is below every claim.
+/// Claims compare by round, and then by member. The order is total, and promises and reports are
+/// compared by it. Having promised nothing is below every claim.
 pub fn claims_compare()
     ensures same { (a b : _) → ⟦<Claim as Ord>⟧.cmp a b ≡ claim_cmp a b }
     ensures same_claim { (a b : _) → ⟦<Claim as PartialEq>⟧.eq a b ≡ claim_same a b }

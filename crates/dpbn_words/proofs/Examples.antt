@@ -1,4 +1,4 @@
--- The calls of `dpbn` at words that are known.
+-- The calls of `dpbn` for known words.
 use Rattle.std.proofs.Common.{◌≡◌, ◌++◌, codes, refl, Option, Some, None, List, [], ◌∷◌, option_map, option_and_then}
 use Rattle.clap.specs.Words.{Row, Text, first_of}
 use Rattle.clap.proofs.OnLiterals.{clap_on_literals}
@@ -11,7 +11,7 @@ name_at words = option_map (λ (p : Text × List Row). p.0) (matched words)
 abbrev value_at : Text → List Text → Option Text
 value_at id words = option_and_then (λ (p : Text × List Row). first_of id p.1) (matched words)
 
--- what has to be told of nodes whose turns are counted
+-- the required words of the subcommands whose nodes take a given number of turns
 abbrev shared_words : List Text
 shared_words =
     codes "--listing" ∷ codes "F" ∷ codes "--builds" ∷ codes "B" ∷ codes "--members" ∷ codes "3"
@@ -36,7 +36,7 @@ example_cluster_trace : value_at (codes "trace") cluster_words ≡ Some (codes "
 unfolding matched dpbn_app clap_on_literals
 example_cluster_trace = refl
 
--- what is not given has no value, but for the flag
+-- an option that is not given has no value, but the flag has one
 example_no_weights : value_at (codes "weights") cluster_words ≡ None
 unfolding matched dpbn_app clap_on_literals
 example_no_weights = refl
@@ -72,7 +72,8 @@ example_key_file : value_at (codes "key") (node_words (codes "--hosts=h:1,i:2,j:
 unfolding matched dpbn_app clap_on_literals
 example_key_file = refl
 
--- a key, or that there is none: one of the two with hosts, and either or none with a first port
+-- with hosts either a key or the flag that there is none is required; with a first port both are
+-- optional
 example_unsealed : AreTaken (node_words (codes "--hosts=h:1" ∷ codes "--unsealed" ∷ codes "--continue" ∷ []))
 unfolding faults_of matched dpbn_app clap_on_literals
 example_unsealed = refl
@@ -111,7 +112,7 @@ example_times : AreTaken (build_words (codes "--hosts=h:1" ∷ codes "--key=K" �
 unfolding faults_of matched dpbn_app clap_on_literals
 example_times = refl
 
--- it has to be told what a node has to be told, and has no turns
+-- it requires what a node requires, and has no turns
 example_build_no_peers : faults_of (build_words []) ≡ kind.MissingRequiredArgument ∷ []
 unfolding faults_of matched dpbn_app clap_on_literals
 example_build_no_peers = refl
@@ -144,7 +145,7 @@ example_no_file : faults_of (codes "dpbn" ∷ codes "key" ∷ []) ≡ kind.Missi
 unfolding faults_of matched dpbn_app clap_on_literals
 example_no_file = refl
 
--- one of the two has to be given, and not both
+-- exactly one of the two is required
 example_neither : faults_of (node_words []) ≡ kind.MissingRequiredArgument ∷ []
 unfolding faults_of matched dpbn_app clap_on_literals
 example_neither = refl
@@ -153,7 +154,8 @@ example_both : faults_of (node_words (codes "--base" ∷ codes "5000" ∷ codes 
 unfolding faults_of matched dpbn_app clap_on_literals
 example_both = refl
 
--- numbers out of their ranges, an option of the other subcommand, one that lacks, one that is given twice, no value, help
+-- numbers out of range, an option of the other subcommand, a missing one, a repeated one, no value,
+-- help
 example_port : faults_of (node_words (codes "--base" ∷ codes "1023" ∷ [])) ≡ kind.ValueValidation ∷ []
 unfolding faults_of matched dpbn_app clap_on_literals
 example_port = refl

@@ -1,4 +1,4 @@
--- Which faults words have that are refused.
+-- The faults of refused words.
 use Rattle.std.proofs.Common.{◌≡◌, ◌∙◌, List, [], Option, subst, sym, inr}
 use Rattle.clap.specs.Kinds.{HasKind}
 use Rattle.clap.specs.Words.{IsAmong, Row, Text, fault_of, kind_of}
@@ -14,7 +14,7 @@ pub by_clap : (words : List Text) (e : Error) → HasKind (fault_of dpbn_app wor
 unfolding faults_of
 by_clap words e has = first_fails (fault_of dpbn_app words) (call_fault (matched words)) (kind_of e) has
 
--- what clap takes has the fault of its call alone
+-- words that clap accepts only have the fault of their call
 faults_left : (words : List Text) → fault_of dpbn_app words ≡ [] → faults_of words ≡ call_fault (matched words)
 unfolding faults_of
 faults_left words none = past (fault_of dpbn_app words) (call_fault (matched words)) none

@@ -1,4 +1,4 @@
--- Words that clap takes name a call.
+-- Words that clap accepts are a call.
 use Rattle.std.proofs.Common.{◌≡◌, ◌⊎◌, ◌++◌, ◌&&◌, ◌||◌, inl, inr, ℕ, Bool, true, false, cond, drop, List, [], ◌∷◌, None, Some, refl, sym, subst, not, true≢false, codes}
 use Rattle.std.specs.Prelude.{find, if◌then◌else◌, pos}
 use Rattle.std.specs.List.{list_any, slice_index_or}
@@ -21,17 +21,17 @@ use Rattle.dpbn_words.specs.inside.Naming.{HasFiles, HasNumber, HasOneNode, HasS
 
 -- ---- values that were matched
 
--- no fault of a value: it passes
+-- a value without a fault is accepted
 passed : (b : Bool) (k : ErrorKind) → (if b then [] else k ∷ []) ≡ [] → b ≡ true
 passed true k e = refl
 passed false k e = absurd (let no : k ∷ [] ≡ [] = e in cc)
 
--- what does not lack is given
+-- an argument that is not missing is given
 is_there : (a b : Bool) → (not a || b) ≡ false → (a ≡ true) × (b ≡ false)
 is_there true b e = (refl, e)
 is_there false b e = absurd (true≢false e)
 
--- a text, or a number, under the name of an option that takes one
+-- a text or a number for an option that takes one
 module _ (c : List Rule) (rows : List Row) (fit : AllFit c rows) where
   text_there : (id : Text) → arg_by_id c id ≡ Some (filled (needed (option id))) → is_given id rows ≡ true → HasText rows id
   text_there id own given =
@@ -50,7 +50,7 @@ module _ (c : List Rule) (rows : List Row) (fit : AllFit c rows) where
     | inr there ↦ inr (there.text, accepts-Accepts false (Signed (pos least) (pos most)) there.text (passed _ _ there.passes), there.one)
   ]
 
-  -- what both subcommands on one node take
+  -- the arguments of both subcommands for one node
   node_there : arg_by_id c (codes "me") ≡ Some (filled (needed (number (codes "me") 0 255)))
       → arg_by_id c (codes "base") ≡ Some (filled (number (codes "base") 1024 65526))
       → arg_by_id c (codes "patience") ≡ Some (filled (number (codes "patience") 0 60000))
@@ -61,11 +61,11 @@ module _ (c : List Rule) (rows : List Row) (fit : AllFit c rows) where
     patience = number_if_there (codes "patience") 0 60000 patience;
   }
 
--- one that has to be given lacks
+-- a required one is missing
 abbrev lacks : List Row → Rule → Bool
 lacks rows a = a.required && not (is_given a.id rows)
 
--- the values on nodes whose turns are counted, where others follow
+-- the values for the subcommands whose nodes take a given number of turns, followed by others
 files_there : (more : List Rule) (rows : List Row) → AllFit (filled_from 1 shared ++ more) rows → list_any (lacks rows) (filled_from 1 shared ++ more) ≡ false
     → HasFiles rows × (list_any (lacks rows) more ≡ false)
 files_there more rows fit none =
@@ -84,7 +84,7 @@ files_there more rows fit none =
       turns.1,
     )
 
--- the values on a site, where others follow
+-- the values about a site, followed by others
 site_there : (more : List Rule) (rows : List Row) → AllFit (filled_from 1 site ++ more) rows → list_any (lacks rows) (filled_from 1 site ++ more) ≡ false
     → HasSite rows × (list_any (lacks rows) more ≡ false)
 site_there more rows fit none =
@@ -102,7 +102,7 @@ site_there more rows fit none =
       members.1,
     )
 
--- ---- the subcommands as they are built: the program's four, and clap's own
+-- ---- the subcommands as clap builds them: the program's four, and its own
 
 abbrev subcommand_at : ℕ → Shape
 subcommand_at k = slice_index_or (built dpbn_app).subs k cluster_command
@@ -125,7 +125,7 @@ rows_at_sub k rest = rows_after (subcommand_at k).rules [] rest
 abbrev NamedBy : Shape → List Text → Type 0
 NamedBy shape rest = NamesCall (Some (rows_at shape rest))
 
--- faultless words of the subcommand have all values of its call
+-- words of the subcommand without a fault have all values of its call
 abbrev HasValues : ℕ → Type 0
 HasValues k = (rest : List Text) → level_fault (subcommand_at k) [] nothing_held rest false [] ≡ [] → NamedBy (subcommand_at k) rest
 
@@ -167,7 +167,7 @@ key_values rest none =
 
 -- ---- which subcommand is entered
 
--- which one of five is found: the last passes the test
+-- which of five is found: the last one passes the test
 abbrev IsOneOf : {X : Type 0} → (X → Bool) → X → X → X → X → X → X → Type 0
 IsOneOf p a b c d f x = (a ≡ x) ⊎ ((b ≡ x) ⊎ ((c ≡ x) ⊎ ((d ≡ x) ⊎ ((f ≡ x) × (p f ≡ true)))))
 

@@ -15,21 +15,21 @@ use Rattle.dpbn_words.specs.declared.Run.{Run}
 use Rattle.dpbn_words.specs.declared.Site.{Site}
 use Rattle.words.specs.Calls.{IsFlag, IsNumber, command, flag, single, word}
 
--- ---- what clap is told
+-- ---- what clap is given
 
--- an option that may be given, with a value behind it
+-- an option with a value, not required
 abbrev pub option : Text → Rule
 option id = record (new_rule id) { long = Some id; value_names = 1 }
 
--- the same, where the value is a number from this one to that
+-- an option with a number in this range, not required
 abbrev pub number : Text → ℕ → ℕ → Rule
 number id least most = record (option id) { parser = Some (Signed (pos least) (pos most)) }
 
--- the same, where it has to be given
+-- the same option, but required
 abbrev pub needed : Rule → Rule
 needed rule = record rule { required = true }
 
--- what the subcommands take on nodes whose turns are counted
+-- the arguments of the subcommands whose nodes take a given number of turns
 abbrev pub shared : List Rule
 shared =
     needed (option (codes "listing"))
@@ -42,7 +42,7 @@ shared =
     ∷ single
     ∷ []
 
--- what the subcommands take on the node of one member
+-- the arguments of the subcommands for the node of one member
 abbrev pub one_node : List Rule
 one_node =
     needed (number (codes "me") 0 255)
@@ -54,7 +54,7 @@ one_node =
     ∷ flag (codes "continue")
     ∷ []
 
--- what a node that has its claims built takes of where it runs
+-- the arguments about the site of a node whose claims are built
 abbrev pub site : List Rule
 site =
     needed (option (codes "listing"))
@@ -85,18 +85,18 @@ build_command = command (codes "build") (site ++ one_node)
 abbrev pub key_command : Shape
 key_command = command (codes "key") (word (codes "FILE") ∷ [])
 
--- the program with its subcommand on all nodes alone; it has to be given a subcommand
+-- the program with only its subcommand for all nodes; a subcommand is required
 abbrev pub cluster_app : App
 cluster_app =
     let program = new_app (codes "dpbn") in
     with_subcommand
     (record program { top = record program.top { subcommand_required = true } }) cluster_command
 
--- the program with its subcommands on nodes whose turns are counted alone
+-- the program with only its subcommands whose nodes take a given number of turns
 abbrev pub counted_app : App
 counted_app = with_subcommand cluster_app node_command
 
--- the program with its subcommands on nodes alone
+-- the program with only its subcommands for nodes
 abbrev pub nodes_app : App
 nodes_app = with_subcommand counted_app build_command
 
@@ -104,75 +104,77 @@ nodes_app = with_subcommand counted_app build_command
 unfoldable pub dpbn_app : App
 dpbn_app = with_subcommand nodes_app key_command
 
--- the subcommand that clap matches of the words, and what it matches under the names of that
+-- the subcommand that clap matches in the words, and its matches for that subcommand's arguments
 unfoldable pub matched : List Text → Option (Text × List Row)
 matched words = subcommand_of dpbn_app words
 
--- ---- which words are refused
+-- ---- refused words
 
--- something was matched under a name
+-- whether a value was matched for an argument
 abbrev pub is_given : List Row → Text → Bool
 is_given rows id = is_some (first_of id rows)
 
--- the flag of this name was given
+-- whether the flag of this name was given
 abbrev pub is_set : List Row → Text → Bool
 is_set rows id = option_map_or (λ text. bytes_eq text (codes "true")) (first_of id rows) false
 
--- of two options of which one has to be given, both were, or none
+-- of two options exactly one is required: the fault if both were given, or neither
 abbrev pub choice_fault : Bool → Bool → Kinds
 choice_fault true true = ArgumentConflict ∷ []
 choice_fault false false = MissingRequiredArgument ∷ []
 choice_fault _ _ = []
 
--- A node with hosts has to be told its key's file or that it has none, and no node both.
+-- A node with hosts needs the file of its key, or the flag that it has no key. No node may have
+-- both.
 abbrev pub sealing_fault : Bool → Bool → Bool → Kinds
 sealing_fault has_hosts true true = ArgumentConflict ∷ []
 sealing_fault true false false = MissingRequiredArgument ∷ []
 sealing_fault _ _ _ = []
 
--- The node of one member has to be told either the first port of all members or their hosts, and
--- then of its key.
+-- The node of one member needs either the first port of all members or their hosts, and then its
+-- key.
 abbrev pub one_node_fault : List Row → Kinds
 one_node_fault rows =
     or_else (choice_fault (is_given rows (codes "base")) (is_given rows (codes "hosts")))
     (sealing_fault (is_given rows (codes "hosts")) (is_given rows (codes "key"))
     (is_set rows (codes "unsealed")))
 
--- that is what `node` and `build` have to be told
+-- the fault of a call; the previous rules apply to `node` and `build`
 abbrev pub call_fault : Option (Text × List Row) → Kinds
 call_fault None = []
 call_fault (Some (name, rows)) =
     if bytes_eq name (codes "node") || bytes_eq name (codes "build") then one_node_fault rows
     else []
 
--- the kinds of fault that clap finds in the words, of which it names one, or else that of the call
+-- the kinds of the faults that clap finds in the words, one of which it reports, or else the fault
+-- of the call
 unfoldable pub faults_of : List Text → Kinds
 faults_of words = or_else (fault_of dpbn_app words) (call_fault (matched words))
 
--- the words are taken: no fault is found in them
+-- the words are accepted: there is no fault in them
 abbrev pub AreTaken : List Text → Type 0
 AreTaken words = faults_of words ≡ []
 
--- ---- what a call is
+-- ---- calls
 
--- the text that was matched under a name
+-- the text that was matched for an argument
 abbrev pub IsText : List Row → Text → Text → Type 0
 IsText rows id value = first_of id rows ≡ Some value
 
--- the text that was matched, or none
+-- the text that was matched for an argument, if any
 abbrev pub IsTextIf : List Row → Text → Option Text → Type 0
 IsTextIf rows id value = first_of id rows ≡ value
 
--- the number that was matched under a name, which lies between these
+-- the number in this range that was matched for an argument
 abbrev pub IsNumberIn : List Row → Text → ℕ → ℕ → ℕ → Type 0
 IsNumberIn rows id least most n = IsNumber rows id n × (least ≤ n) × (n ≤ most)
 
--- the number that was matched, or none
+-- the number in this range that was matched for an argument, if any
 abbrev pub IsNumberIf : List Row → Text → ℕ → ℕ → Option ℕ → Type 0
 IsNumberIf rows id least most None = first_of id rows ≡ None
 IsNumberIf rows id least most (Some n) = IsNumberIn rows id least most n
 
--- what the subcommands take on nodes whose turns are counted
+-- the values for the subcommands whose nodes take a given number of turns
 pub record AreFiles (rows : List Row) (f : Files) : Type 0 where
   pub listing : IsText rows (codes "listing") f.listing.now
   pub builds : IsText rows (codes "builds") f.builds.now
@@ -183,7 +185,7 @@ pub record AreFiles (rows : List Row) (f : Files) : Type 0 where
   pub progress : IsNumberIf rows (codes "progress") 1 1000000 f.progress
   pub single : IsFlag rows (codes "single") f.is_single
 
--- what a node that has its claims built takes of where it runs
+-- the values about the site of a node whose claims are built
 pub record IsSite (rows : List Row) (s : Site) : Type 0 where
   pub listing : IsText rows (codes "listing") s.listing.now
   pub work : IsText rows (codes "work") s.work.now
@@ -196,25 +198,24 @@ pub record IsSite (rows : List Row) (s : Site) : Type 0 where
   pub progress : IsNumberIf rows (codes "progress") 1 1000000 s.progress
   pub single : IsFlag rows (codes "single") s.is_single
 
--- where the members listen: what was given, and the other was not
+-- where the members listen: only one of the two options was given
 abbrev pub ArePeers : List Row → Peers → Type 0
 ArePeers rows (Base port) =
     IsNumberIn rows (codes "base") 1024 65526 port × IsTextIf rows (codes "hosts") None
 ArePeers rows (Hosts text) =
     IsText rows (codes "hosts") text.now × IsTextIf rows (codes "base") None
 
--- the key's file, if one was given, and whether the run is to be continued
+-- the file of the key, if one was given, and whether the run is continued
 pub record IsRun (rows : List Row) (run : Run) : Type 0 where
   pub key : IsTextIf rows (codes "key") (option_map (λ t. t.now) run.key)
   pub continues : run.is_continued ≡ is_set rows (codes "continue")
 
--- what the subcommands take on the node of one member: its number, its peers, how long a turn of it
--- waits, and of which run it is
+-- the values for the node of one member: its number, its peers, how long a turn waits, and its run
 abbrev pub IsOneNode : List Row → ℕ → Peers → Option ℕ → Run → Type 0
 IsOneNode rows me peers patience run = IsNumberIn rows (codes "me") 0 255 me × ArePeers rows peers
     × IsNumberIf rows (codes "patience") 0 60000 patience × IsRun rows run
 
--- clap matched the call's subcommand, and the call's values are those of its matches
+-- clap matched the call's subcommand, and the call has the values of its matches
 abbrev pub IsCallOf : Option (Text × List Row) → Call → Type 0
 IsCallOf None call = ⊥
 IsCallOf (Some (name, rows)) (Cluster files trace) = (name ≡ codes "cluster") × AreFiles rows files

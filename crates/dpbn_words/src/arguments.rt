@@ -1,4 +1,4 @@
-//! Arguments of calls: what clap is told of them, and what is read of their values.
+//! Arguments of calls: how clap is given them, and how their values are read.
 ghost use Rattle.std.specs.Prelude.{◌≡◌, ◌∷◌, [], IfNone, IfOk, IfSome, false};
 ghost use Rattle.clap.specs.Words.{app_of, found_of, rows_of, rule_of};
 ghost use Rattle.clap.specs.declared.builder.command.Command.TheViews.{out-Command as fields_of};
@@ -19,7 +19,7 @@ pub fn option<'a>(alloc: Global, id: &'a str, value: &'a str, help: &'a str) -> 
     Arg::new(alloc, id).long(id).value_name(value).help(help)
 }
 
-/// One that has to be given.
+/// A required option with a value.
 pub fn needed<'a>(alloc: Global, id: &'a str, value: &'a str, help: &'a str) -> Arg<'a>
     ensures rule { rule_of result ≡ needed_rule (option_rule id.entry.now) }
     ensures local { result.global ≡ false }
@@ -38,7 +38,7 @@ pub fn flag<'a>(alloc: Global, id: &'a str, help: &'a str) -> Arg<'a>
         .action(ArgAction::SetTrue)
 }
 
-/// A word that has to stand.
+/// A required word.
 pub fn word<'a>(alloc: Global, id: &'a str, help: &'a str) -> Arg<'a>
     ensures rule { rule_of result ≡ word_rule id.entry.now }
     ensures local { result.global ≡ false }
@@ -46,7 +46,7 @@ pub fn word<'a>(alloc: Global, id: &'a str, help: &'a str) -> Arg<'a>
     Arg::new(alloc, id).help(help).required(true)
 }
 
-/// The command with these three options behind those that it takes.
+/// The command with these three options after its other arguments.
 pub fn with_options<'a>(
     command: Command<'a>,
     first: Arg<'a>,
@@ -64,7 +64,7 @@ pub fn with_options<'a>(
     command.arg(first)?.arg(second)?.arg(third)
 }
 
-/// The texts that were matched under three names.
+/// The texts that were matched for three arguments.
 pub fn texts_of<'a>(
     found: &ArgMatches<'a>,
     first: &str,
@@ -82,7 +82,7 @@ pub fn texts_of<'a>(
     Some((first, second, third))
 }
 
-/// The number between these that was matched under a name.
+/// The number in this range that was matched for an argument.
 pub fn number_of(found: &ArgMatches<'_>, id: &str, least: u32, most: u32) -> Option<u32>
     ensures some { IfSome result (IsNumberIn (rows_of (found_of found.now)) id.now least most) }
     ensures none { IfNone result
@@ -96,7 +96,7 @@ pub fn number_of(found: &ArgMatches<'_>, id: &str, least: u32, most: u32) -> Opt
     }
 }
 
-/// The same, or none where nothing was matched.
+/// As `number_of`, or the inner None if nothing was matched.
 pub fn number_if(found: &ArgMatches<'_>, id: &str, least: u32, most: u32) -> Option<Option<u32>>
     ensures some { IfSome result (IsNumberIf (rows_of (found_of found.now)) id.now least most) }
     ensures none { IfNone result

@@ -15,7 +15,7 @@ use clap::{Arg, ArgMatches, Command, value_parser};
 use std::alloc::{AllocError, Global};
 use words::{is_single, single, text_of};
 
-/// What clap is told of the subcommand.
+/// clap's command for the subcommand.
 pub fn command<'a>(alloc: Global) -> Result<Command<'a>, AllocError>
     ensures shape { IfOk result (λ command. shape_of command ≡ build_command) }
     ensures local { IfOk result (λ command. (fields_of command).has_globals ≡ false) }
@@ -23,7 +23,7 @@ pub fn command<'a>(alloc: Global) -> Result<Command<'a>, AllocError>
     with_node(alloc, with_site(alloc)?)
 }
 
-/// The same without what is told of the node.
+/// The command without the options about the node.
 fn with_site<'a>(alloc: Global) -> Result<Command<'a>, AllocError>
     ensures app { IfOk result (λ command. app_of command ≡ site_app) }
     ensures local { IfOk result (λ command. (fields_of command).has_globals ≡ false) }
@@ -35,7 +35,7 @@ fn with_site<'a>(alloc: Global) -> Result<Command<'a>, AllocError>
     with_times(alloc, with_counts(alloc, command)?)?.arg(single(alloc))
 }
 
-/// The command with the options on members and how much is built here at a time.
+/// The command with the options about members and the number of builds at a time.
 fn with_counts<'a>(alloc: Global, command: Command<'a>) -> Result<Command<'a>, AllocError>
     requires local { (fields_of command).has_globals ≡ false }
     ensures app { IfOk result
@@ -45,7 +45,7 @@ fn with_counts<'a>(alloc: Global, command: Command<'a>) -> Result<Command<'a>, A
     with_options(command, members(alloc), weights(alloc), jobs(alloc))
 }
 
-/// The command with the options on times.
+/// The command with the options about times.
 fn with_times<'a>(alloc: Global, command: Command<'a>) -> Result<Command<'a>, AllocError>
     requires local { (fields_of command).has_globals ≡ false }
     ensures app { IfOk result (λ more. app_of more ≡ with_rules (app_of command.entry) site_times) }
@@ -60,7 +60,7 @@ fn with_times<'a>(alloc: Global, command: Command<'a>) -> Result<Command<'a>, Al
     with_options(command, takeover, rest, progress)
 }
 
-/// How many units are built here at a time.
+/// The option with the number of builds at a time.
 fn jobs<'a>(alloc: Global) -> Arg<'a>
     ensures rule { rule_of result ≡ number (codes "jobs") 1 64 }
     ensures local { result.global ≡ false }
@@ -70,7 +70,7 @@ fn jobs<'a>(alloc: Global) -> Arg<'a>
     option(alloc, "jobs", "J", help).value_parser(range)
 }
 
-/// A number of seconds.
+/// An option with a number of seconds.
 fn seconds<'a>(alloc: Global, id: &'a str, help: &'a str) -> Arg<'a>
     ensures rule { rule_of result ≡ number id.entry.now 1 1000000 }
     ensures local { result.global ≡ false }
@@ -79,7 +79,7 @@ fn seconds<'a>(alloc: Global, id: &'a str, help: &'a str) -> Arg<'a>
     option(alloc, id, "S", help).value_parser(range)
 }
 
-/// The call with the values that were found, or the kind of fault in them.
+/// The call with the matched values, or the kind of their fault.
 pub fn call_of<'a>(found: &ArgMatches<'a>) -> Result<Call<'a>, ErrorKind>
     ensures call { IfOk result (IsCallOf (Some (codes "build", rows_of (found_of found.now)))) }
     ensures sound { IfOk result
@@ -91,7 +91,7 @@ pub fn call_of<'a>(found: &ArgMatches<'a>) -> Result<Call<'a>, ErrorKind>
     at_site(found, node).ok_or(ErrorKind::MissingRequiredArgument)
 }
 
-/// The call on this node with what was found of its site.
+/// The call with this node and the matched values of its site.
 fn at_site<'a>(found: &ArgMatches<'a>, node: OneNode<'a>) -> Option<Call<'a>>
     requires { IsOneNode (rows_of (found_of found.now)) node.me node.peers node.patience node.run }
     ensures some { IfSome result (IsCallOf (Some (codes "build", rows_of (found_of found.now)))) }
@@ -107,7 +107,7 @@ fn at_site<'a>(found: &ArgMatches<'a>, node: OneNode<'a>) -> Option<Call<'a>>
     })
 }
 
-/// What was found of the site.
+/// The matched values of the site.
 fn site_of<'a>(found: &ArgMatches<'a>) -> Option<Site<'a>>
     ensures some { IfSome result (IsSite (rows_of (found_of found.now))) }
     ensures none { IfNone result (¬ HasSite (rows_of (found_of found.now))) }
@@ -130,7 +130,7 @@ fn site_of<'a>(found: &ArgMatches<'a>) -> Option<Site<'a>>
     })
 }
 
-/// How many units are built here at a time, if that was given.
+/// The number of builds at a time, if it was given.
 fn jobs_of(found: &ArgMatches<'_>) -> Option<Option<u8>>
     ensures some { IfSome result (IsNumberIf (rows_of (found_of found.now)) (codes "jobs") 1 64) }
     ensures none { IfNone result
@@ -142,8 +142,8 @@ fn jobs_of(found: &ArgMatches<'_>) -> Option<Option<u8>>
     }
 }
 
-/// The seconds before another's unit is taken over, those of rest, and those between lines, each if
-/// it was given.
+/// The number of seconds before a unit is taken over from another member, that of rest, and that
+/// between lines, each if it was given.
 fn times_of(found: &ArgMatches<'_>) -> Option<(Option<u32>, Option<u32>, Option<u32>)>
     ensures some { IfSome result (AreTimes (rows_of (found_of found.now))) }
     ensures none { IfNone result (¬ HaveTimes (rows_of (found_of found.now))) }

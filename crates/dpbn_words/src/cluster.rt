@@ -12,7 +12,7 @@ use clap::{ArgMatches, Command};
 use std::alloc::{AllocError, Global};
 use words::text_of;
 
-/// What clap is told of the subcommand.
+/// clap's command for the subcommand.
 pub fn command<'a>(alloc: Global) -> Result<Command<'a>, AllocError>
     ensures shape { IfOk result (λ command. shape_of command ≡ cluster_command) }
     ensures local { IfOk result (λ command. (fields_of command).has_globals ≡ false) }
@@ -22,7 +22,7 @@ pub fn command<'a>(alloc: Global) -> Result<Command<'a>, AllocError>
     shared::command(alloc, "cluster", about)?.arg(trace)
 }
 
-/// The call with the values that were found.
+/// The call with the matched values.
 pub fn call_of<'a>(found: &ArgMatches<'a>) -> Option<Call<'a>>
     ensures some { IfSome result (IsCallOf (Some (codes "cluster", rows_of (found_of found.now)))) }
     ensures none { IfNone result (¬ HasFiles (rows_of (found_of found.now))) }

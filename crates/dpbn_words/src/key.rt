@@ -11,7 +11,7 @@ use clap::{ArgMatches, Command};
 use std::alloc::{AllocError, Global};
 use words::text_of;
 
-/// What clap is told of the subcommand.
+/// clap's command for the subcommand.
 pub fn command<'a>(alloc: Global) -> Result<Command<'a>, AllocError>
     ensures shape { IfOk result (λ command. shape_of command ≡ key_command) }
     ensures local { IfOk result (λ command. (fields_of command).has_globals ≡ false) }
@@ -21,7 +21,7 @@ pub fn command<'a>(alloc: Global) -> Result<Command<'a>, AllocError>
     Command::new(alloc, "key").about(about).arg(file)
 }
 
-/// The call with the file that was found.
+/// The call with the matched file.
 pub fn call_of<'a>(found: &ArgMatches<'a>) -> Option<Call<'a>>
     ensures some { IfSome result (IsCallOf (Some (codes "key", rows_of (found_of found.now)))) }
     ensures none { IfNone result (¬ HasText (rows_of (found_of found.now)) (codes "FILE")) }

@@ -1,4 +1,4 @@
-//! The words of `dpbn`: which call of the program they make, as clap matches them.
+//! The command line of `dpbn`: which call of the program it is, as clap parses it.
 #![tactic(auto)]
 
 ghost use Rattle.std.specs.Prelude.{◌≡◌, IfErr, IfOk, [], map};
@@ -19,46 +19,46 @@ use clap::{ArgMatches, Command, Error};
 use std::alloc::{AllocError, Global};
 use std::convert::AsStr;
 
-/// What the subcommands take on nodes whose turns are counted.
+/// The values for the subcommands whose nodes take a given number of turns.
 #[derive(Debug, Drop)]
 pub struct Files<'a> {
     pub listing: &'a str,
     pub builds: &'a str,
     /// The folder of the logs.
     pub dir: &'a str,
-    /// How many members there are: 1 to 9.
+    /// The number of members: 1 to 9.
     pub members: u8,
-    /// How many turns are taken: at most 1,000,000.
+    /// The number of turns: at most 1,000,000.
     pub turns: u32,
-    /// What the members weigh, as it was written.
+    /// The members' weights, as written.
     pub weights: Option<&'a str>,
-    /// After each how many turns the nodes' lines are told: 1 to 1,000,000.
+    /// The number of turns after which the nodes' lines are printed: 1 to 1,000,000.
     pub progress: Option<u32>,
     /// Whether each path of the listing is a group of its own.
     pub is_single: bool,
 }
 
-/// What a node that has its claims built takes of where it runs.
+/// The values about the site of a node whose claims are built.
 #[derive(Debug, Drop)]
 pub struct Site<'a> {
     pub listing: &'a str,
-    /// The folder by which jobs go out and builds come in.
+    /// The folder through which jobs are given and builds returned.
     pub work: &'a str,
     /// The folder of the logs.
     pub dir: &'a str,
-    /// How many members there are: 1 to 9.
+    /// The number of members: 1 to 9.
     pub members: u8,
-    /// What the members weigh, as it was written.
+    /// The members' weights, as written.
     pub weights: Option<&'a str>,
-    /// How many units are built here at a time: 1 to 64.
+    /// The number of units that are built here at a time: 1 to 64.
     pub jobs: Option<u8>,
-    /// For how many seconds a unit that was promised to another member is left to that one: 1 to
-    /// 1,000,000.
+    /// The number of seconds for which a unit that was promised to another member is left to that
+    /// member: 1 to 1,000,000.
     pub takeover: Option<u32>,
-    /// After how many seconds without anything to do the node ends: 1 to 1,000,000; none, where
-    /// only a signal ends it.
+    /// The number of seconds without anything to do after which the node ends: 1 to 1,000,000. If
+    /// None, only a signal ends it.
     pub rest: Option<u32>,
-    /// After each how many seconds the node's line is told: 1 to 1,000,000.
+    /// The number of seconds after which the node's line is printed: 1 to 1,000,000.
     pub progress: Option<u32>,
     /// Whether each path of the listing is a group of its own.
     pub is_single: bool,
@@ -69,29 +69,30 @@ pub struct Site<'a> {
 pub enum Peers<'a> {
     /// On 127.0.0.1, each at this port plus its own number: 1,024 to 65,526.
     Base(u16),
-    /// At the addresses and ports of this text, as it was written.
+    /// At the addresses and ports of this text, as written.
     Hosts(&'a str),
 }
 
-/// Of which run a node is.
+/// The run of a node.
 #[derive(Debug, Drop)]
 pub struct Run<'a> {
-    /// The file of the key under which it seals what it sends; none, where it believes what comes.
+    /// The file of the key that the node seals its messages with. If None, it trusts what it
+    /// receives.
     pub key: Option<&'a str>,
-    /// Whether a log of the run has to be there.
+    /// Whether a log of the run has to exist.
     pub is_continued: bool,
 }
 
 /// A call of the program.
 #[derive(Debug, Drop)]
 pub enum Call<'a> {
-    /// All members' nodes, in this process, and the file for the trace of the run.
+    /// The nodes of all members, in this process, and the file for the trace of the run.
     Cluster {
         files: Files<'a>,
         trace: Option<&'a str>,
     },
-    /// The node of member `me`, and for how many milliseconds a turn of it waits for a datagram:
-    /// at most 60,000.
+    /// The node of member `me`, and the number of milliseconds that a turn waits for a datagram: at
+    /// most 60,000.
     Node {
         files: Files<'a>,
         me: u8,
@@ -99,7 +100,7 @@ pub enum Call<'a> {
         patience: Option<u16>,
         run: Run<'a>,
     },
-    /// The same node, which has built here what it claims.
+    /// The same node, whose claims are built here.
     Build {
         site: Site<'a>,
         me: u8,
@@ -107,21 +108,24 @@ pub enum Call<'a> {
         patience: Option<u16>,
         run: Run<'a>,
     },
-    /// A file with a new key.
+    /// Creates a file with a new key.
     Key {
         file: &'a str,
     },
 }
 
-/// The call that the words make, the first of which is the program's name.
+/// The call of these words, of which the first is the program's name.
 ///
-/// Words that make no call, and those that ask for help, are refused with clap's text; so are those
-/// of one node, to run or to build with, that name neither the first port nor the hosts of its
-/// peers, or both; or its hosts, and neither a key nor that there is none; or both of these.
+/// Words that are not a call, or that ask for help, are refused with clap's text. So are words of
+/// `node` and `build` with one of these faults:
+///
+/// - neither the first port nor the hosts of the peers, or both of these;
+/// - hosts, and neither a key nor the flag that there is none;
+/// - both a key and that flag.
 pub fn dpbn_words<'a, S: AsStr>(alloc: Global, words: &'a [S]) -> Result<Call<'a>, Error>
     ensures call { IfOk result (IsCallOf (matched (map S.text words.entry.now))) }
-    // Where there is a call no fault is found in the words, and a refusal is for want of memory
-    // or of a kind of their faults.
+    // If there is a call, there is no fault in the words. A refusal is either out of memory or of
+    // the kind of one of their faults.
     ensures faults { FailsBy (faults_of (map S.text words.entry.now)) result }
 {
     let matches = matches_of(alloc, words)?;
@@ -131,7 +135,7 @@ pub fn dpbn_words<'a, S: AsStr>(alloc: Global, words: &'a [S]) -> Result<Call<'a
     }
 }
 
-/// What clap matches of the words.
+/// clap's matches of the words.
 fn matches_of<'a, S: AsStr>(alloc: Global, words: &'a [S]) -> Result<ArgMatches<'a>, Error>
     ensures matched { IfOk result
         (λ m. subcommand_rows_of m ≡ matched (map S.text words.entry.now)) }
@@ -141,7 +145,7 @@ fn matches_of<'a, S: AsStr>(alloc: Global, words: &'a [S]) -> Result<ArgMatches<
     command.try_get_matches_from(words)
 }
 
-/// The call with the values that were found, or the kind of fault in them.
+/// The call with the matched values, or the kind of their fault.
 fn call_of<'a>(matches: &ArgMatches<'a>) -> Result<Call<'a>, ErrorKind>
     ensures call { IfOk result (IsCallOf (subcommand_rows_of matches.now)) }
     ensures sound { IfOk result (λ call. call_fault (subcommand_rows_of matches.now) ≡ []) }
@@ -173,7 +177,7 @@ fn refusal(alloc: Global, kind: ErrorKind) -> Result<Error, AllocError>
     dpbn_command(alloc)?.error(kind, message)
 }
 
-/// What clap is told of the program.
+/// clap's command for the program.
 #[tactic(auto, unfolding(crate::specs::Calls::dpbn_app))]
 fn dpbn_command<'a>(alloc: Global) -> Result<Command<'a>, AllocError>
     ensures { IfOk result (λ command. app_of command ≡ dpbn_app) }
@@ -181,21 +185,21 @@ fn dpbn_command<'a>(alloc: Global) -> Result<Command<'a>, AllocError>
     with_nodes(alloc)?.subcommand(key::command(alloc)?)
 }
 
-/// The same of its subcommands on nodes alone.
+/// The command with only its subcommands for nodes.
 fn with_nodes<'a>(alloc: Global) -> Result<Command<'a>, AllocError>
     ensures { IfOk result (λ command. app_of command ≡ nodes_app) }
 {
     with_counted(alloc)?.subcommand(build::command(alloc)?)
 }
 
-/// The same of its subcommands on nodes whose turns are counted alone.
+/// The command with only its subcommands whose nodes take a given number of turns.
 fn with_counted<'a>(alloc: Global) -> Result<Command<'a>, AllocError>
     ensures { IfOk result (λ command. app_of command ≡ counted_app) }
 {
     with_cluster(alloc)?.subcommand(node::command(alloc)?)
 }
 
-/// The same of its subcommand on all nodes alone.
+/// The command with only its subcommand for all nodes.
 fn with_cluster<'a>(alloc: Global) -> Result<Command<'a>, AllocError>
     ensures { IfOk result (λ command. app_of command ≡ cluster_app) }
 {

@@ -12,7 +12,7 @@ use clap::error::ErrorKind;
 use clap::{ArgMatches, Command};
 use std::alloc::{AllocError, Global};
 
-/// What clap is told of the subcommand.
+/// clap's command for the subcommand.
 pub fn command<'a>(alloc: Global) -> Result<Command<'a>, AllocError>
     ensures shape { IfOk result (λ command. shape_of command ≡ node_command) }
     ensures local { IfOk result (λ command. (fields_of command).has_globals ≡ false) }
@@ -21,7 +21,7 @@ pub fn command<'a>(alloc: Global) -> Result<Command<'a>, AllocError>
     with_node(alloc, shared::command(alloc, "node", about)?)
 }
 
-/// The call with the values that were found, or the kind of fault in them.
+/// The call with the matched values, or the kind of their fault.
 pub fn call_of<'a>(found: &ArgMatches<'a>) -> Result<Call<'a>, ErrorKind>
     ensures call { IfOk result (IsCallOf (Some (codes "node", rows_of (found_of found.now)))) }
     ensures sound { IfOk result
@@ -33,7 +33,7 @@ pub fn call_of<'a>(found: &ArgMatches<'a>) -> Result<Call<'a>, ErrorKind>
     with_files(found, node).ok_or(ErrorKind::MissingRequiredArgument)
 }
 
-/// The call on this node with the files that were found.
+/// The call with this node and the matched files.
 fn with_files<'a>(found: &ArgMatches<'a>, node: OneNode<'a>) -> Option<Call<'a>>
     requires { IsOneNode (rows_of (found_of found.now)) node.me node.peers node.patience node.run }
     ensures some { IfSome result (IsCallOf (Some (codes "node", rows_of (found_of found.now)))) }

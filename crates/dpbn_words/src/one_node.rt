@@ -1,4 +1,4 @@
-//! What the subcommands on the node of one member take, `dpbn node` and `dpbn build`.
+//! The arguments of the subcommands for the node of one member, `dpbn node` and `dpbn build`.
 ghost use Rattle.std.specs.Prelude.{◌≡◌, IfErr, IfNone, IfOk, IfSome, [], codes, false};
 ghost use Rattle.clap.specs.Words.{IsAmong, app_of, found_of, rows_of, rule_of};
 ghost use Rattle.clap.specs.declared.builder.command.Command.TheViews.{out-Command as fields_of};
@@ -13,17 +13,17 @@ use clap::{Arg, ArgMatches, Command, value_parser};
 use std::alloc::{AllocError, Global};
 use words::text_of;
 
-/// What is told of the node of one member.
+/// The values for the node of one member.
 #[derive(Debug, Drop)]
 pub struct OneNode<'a> {
     pub me: u8,
     pub peers: Peers<'a>,
-    /// For how many milliseconds a turn of it waits for a datagram: at most 60,000.
+    /// The number of milliseconds that a turn waits for a datagram: at most 60,000.
     pub patience: Option<u16>,
     pub run: Run<'a>,
 }
 
-/// The command with the options on the node behind those that it takes.
+/// The command with the options about the node after its other arguments.
 pub fn with_node<'a>(alloc: Global, command: Command<'a>) -> Result<Command<'a>, AllocError>
     requires local { (fields_of command).has_globals ≡ false }
     ensures app { IfOk result (λ more. app_of more ≡ with_rules (app_of command.entry) one_node) }
@@ -39,7 +39,7 @@ pub fn with_node<'a>(alloc: Global, command: Command<'a>) -> Result<Command<'a>,
     with_run(alloc, command)
 }
 
-/// The command with the options on the run behind those that it takes.
+/// The command with the options about the run after its other arguments.
 fn with_run<'a>(alloc: Global, command: Command<'a>) -> Result<Command<'a>, AllocError>
     requires local { (fields_of command).has_globals ≡ false }
     ensures app { IfOk result (λ more. app_of more ≡ with_rules (app_of command.entry) run) }
@@ -56,7 +56,7 @@ fn with_run<'a>(alloc: Global, command: Command<'a>) -> Result<Command<'a>, Allo
     with_options(command, key, unsealed, continued)
 }
 
-/// The number of the node's own member.
+/// The option with the number of the node's member.
 fn me<'a>(alloc: Global) -> Arg<'a>
     ensures rule { rule_of result ≡ needed_rule (number (codes "me") 0 255) }
     ensures local { result.global ≡ false }
@@ -65,7 +65,7 @@ fn me<'a>(alloc: Global) -> Arg<'a>
     needed(alloc, "me", "K", "the number of this member, from 0 on").value_parser(range)
 }
 
-/// The first port of all members.
+/// The option with the first port of all members.
 fn base<'a>(alloc: Global) -> Arg<'a>
     ensures rule { rule_of result ≡ number (codes "base") 1024 65526 }
     ensures local { result.global ≡ false }
@@ -75,7 +75,7 @@ fn base<'a>(alloc: Global) -> Arg<'a>
     option(alloc, "base", "PORT", help).value_parser(range)
 }
 
-/// For how many milliseconds a turn waits for a datagram.
+/// The option with the number of milliseconds that a turn waits for a datagram.
 fn patience<'a>(alloc: Global) -> Arg<'a>
     ensures rule { rule_of result ≡ number (codes "patience") 0 60000 }
     ensures local { result.global ≡ false }
@@ -85,7 +85,7 @@ fn patience<'a>(alloc: Global) -> Arg<'a>
     option(alloc, "patience", "MS", help).value_parser(range)
 }
 
-/// What was told of the node, or the kind of fault in it.
+/// The values for the node, or the kind of their fault.
 pub fn one_node_of<'a>(found: &ArgMatches<'a>) -> Result<OneNode<'a>, ErrorKind>
     ensures node { IfOk result (λ node.
         IsOneNode (rows_of (found_of found.now)) node.me node.peers node.patience node.run) }
@@ -98,7 +98,7 @@ pub fn one_node_of<'a>(found: &ArgMatches<'a>) -> Result<OneNode<'a>, ErrorKind>
     with_peers(found, peers, run).ok_or(ErrorKind::MissingRequiredArgument)
 }
 
-/// The first port of all members, or their hosts: one of the two has to be given.
+/// The first port of all members, or their hosts: exactly one is required.
 fn peers_of<'a>(found: &ArgMatches<'a>) -> Result<Peers<'a>, ErrorKind>
     ensures peers { IfOk result (ArePeers (rows_of (found_of found.now))) }
     ensures sound { IfOk result (λ peers.
@@ -120,8 +120,8 @@ fn peers_of<'a>(found: &ArgMatches<'a>) -> Result<Peers<'a>, ErrorKind>
     }
 }
 
-/// The key's file and whether the run is continued. With hosts there has to be a key, or that there
-/// is none has to be told; never both.
+/// The file of the key, and whether the run is continued. With hosts either a key is required, or
+/// the flag that there is none. Both are never allowed.
 fn run_of<'a>(found: &ArgMatches<'a>) -> Result<Run<'a>, ErrorKind>
     ensures run { IfOk result (IsRun (rows_of (found_of found.now))) }
     ensures sound { IfOk result (λ run.
@@ -145,7 +145,7 @@ fn run_of<'a>(found: &ArgMatches<'a>) -> Result<Run<'a>, ErrorKind>
     }
 }
 
-/// The node with these peers, of this run, and the values that were found.
+/// The node with these peers, this run and the matched values.
 fn with_peers<'a>(found: &ArgMatches<'a>, peers: Peers<'a>, run: Run<'a>) -> Option<OneNode<'a>>
     requires peers { ArePeers (rows_of (found_of found.now)) peers }
     requires run { IsRun (rows_of (found_of found.now)) run }
@@ -163,7 +163,7 @@ fn with_peers<'a>(found: &ArgMatches<'a>, peers: Peers<'a>, run: Run<'a>) -> Opt
     })
 }
 
-/// For how many milliseconds a turn waits, if that was given.
+/// The number of milliseconds that a turn waits, if it was given.
 fn patience_of(found: &ArgMatches<'_>) -> Option<Option<u16>>
     ensures some { IfSome result
         (IsNumberIf (rows_of (found_of found.now)) (codes "patience") 0 60000) }

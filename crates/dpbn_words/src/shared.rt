@@ -1,4 +1,4 @@
-//! What several subcommands take.
+//! The arguments of several subcommands.
 ghost use Rattle.std.specs.Prelude.{◌≡◌, IfNone, IfOk, IfSome, codes, false};
 ghost use Rattle.clap.specs.Words.{app_of, found_of, rows_of, rule_of};
 ghost use Rattle.clap.specs.declared.builder.command.Command.TheViews.{out-Command as fields_of};
@@ -12,7 +12,7 @@ use clap::{Arg, ArgMatches, Command, value_parser};
 use std::alloc::{AllocError, Global};
 use words::{is_single, single, text_of};
 
-/// What clap is told of a subcommand on nodes whose turns are counted.
+/// clap's command for a subcommand whose nodes take a given number of turns.
 pub fn command<'a>(alloc: Global, name: &'a str, about: &'a str) -> Result<Command<'a>, AllocError>
     ensures app { IfOk result (λ command. app_of command ≡ shared_app name.entry.now) }
     ensures local { IfOk result (λ command. (fields_of command).has_globals ≡ false) }
@@ -22,7 +22,8 @@ pub fn command<'a>(alloc: Global, name: &'a str, about: &'a str) -> Result<Comma
     with_counts(alloc, with_paths(alloc, command, builds)?)
 }
 
-/// The command with the options that name files and folders, one of which is its own.
+/// The command with the options that name files and folders, of which one is particular to the
+/// subcommand.
 pub fn with_paths<'a>(
     alloc: Global,
     command: Command<'a>,
@@ -39,7 +40,7 @@ pub fn with_paths<'a>(
     with_options(command, listing, own, dir)
 }
 
-/// The command with the options on members and turns.
+/// The command with the options about members and turns.
 fn with_counts<'a>(alloc: Global, command: Command<'a>) -> Result<Command<'a>, AllocError>
     requires local { (fields_of command).has_globals ≡ false }
     ensures app { IfOk result (λ more. app_of more ≡ with_rules (app_of command.entry) counts) }
@@ -50,7 +51,7 @@ fn with_counts<'a>(alloc: Global, command: Command<'a>) -> Result<Command<'a>, A
         .arg(single(alloc))
 }
 
-/// How many members there are.
+/// The option with the number of members.
 pub fn members<'a>(alloc: Global) -> Arg<'a>
     ensures rule { rule_of result ≡ needed_rule (number (codes "members") 1 9) }
     ensures local { result.global ≡ false }
@@ -59,7 +60,7 @@ pub fn members<'a>(alloc: Global) -> Arg<'a>
     needed(alloc, "members", "N", "how many members there are, 1 to 9").value_parser(range)
 }
 
-/// What the members weigh.
+/// The option with the members' weights.
 pub fn weights<'a>(alloc: Global) -> Arg<'a>
     ensures rule { rule_of result ≡ option_rule (codes "weights") }
     ensures local { result.global ≡ false }
@@ -68,7 +69,7 @@ pub fn weights<'a>(alloc: Global) -> Arg<'a>
     option(alloc, "weights", "W0,W1,..", help)
 }
 
-/// How many turns are taken.
+/// The option with the number of turns.
 fn turns<'a>(alloc: Global) -> Arg<'a>
     ensures rule { rule_of result ≡ needed_rule (number (codes "turns") 0 1000000) }
     ensures local { result.global ≡ false }
@@ -78,7 +79,7 @@ fn turns<'a>(alloc: Global) -> Arg<'a>
     needed(alloc, "turns", "T", help).value_parser(range)
 }
 
-/// After each how many turns the nodes' lines are told.
+/// The option with the number of turns after which the nodes' lines are printed.
 fn progress<'a>(alloc: Global) -> Arg<'a>
     ensures rule { rule_of result ≡ number (codes "progress") 1 1000000 }
     ensures local { result.global ≡ false }
@@ -88,7 +89,7 @@ fn progress<'a>(alloc: Global) -> Arg<'a>
     option(alloc, "progress", "N", help).value_parser(range)
 }
 
-/// The values that were found.
+/// The matched values.
 pub fn files_of<'a>(found: &ArgMatches<'a>) -> Option<Files<'a>>
     ensures some { IfSome result (AreFiles (rows_of (found_of found.now))) }
     ensures none { IfNone result (¬ HasFiles (rows_of (found_of found.now))) }

@@ -1,4 +1,4 @@
--- Lists of packages that are known.
+-- Known lists of packages.
 use Rattle.std.proofs.Common.{◌≡◌, ◌++◌, codes, refl, [], ◌∷◌}
 use Rattle.hex.proofs.OnLiterals.{hex_on_literals}
 use Rattle.auditing.specs.declared.entry.Entry.{Entry}
@@ -19,7 +19,7 @@ example_no_end : lines_in (codes "ab" ++ line_feed ∷ codes "c") ≡ codes "ab"
 unfolding lines_in
 example_no_end = refl
 
--- an empty line is one, behind which the text does not end
+-- an empty line is a line, if the text doesn't end before it
 example_empty_line : lines_in (codes "ab" ++ line_feed ∷ line_feed ∷ []) ≡ codes "ab" ∷ [] ∷ []
 unfolding lines_in
 example_empty_line = refl
@@ -27,7 +27,7 @@ example_empty_line = refl
 example_fields : pieces_at blank (codes "package a/q q-1 00") ≡ codes "package" ∷ codes "a/q" ∷ codes "q-1" ∷ codes "00" ∷ []
 example_fields = refl
 
--- one blank more is one field more
+-- one more space is one more field
 example_two_blanks : pieces_at blank (codes "package  a/q") ≡ codes "package" ∷ [] ∷ codes "a/q" ∷ []
 example_two_blanks = refl
 

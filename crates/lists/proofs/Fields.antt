@@ -9,7 +9,7 @@ use Rattle.lists.specs.inside.Signatures.{AreFieldsOf, IsSignature}
 use Rattle.lists.specs.declared.list_line.ListLine.{ListLine}
 use Rattle.lists.specs.declared.list_line.ListLine.TheVariants.{Package, Built}
 
--- a text has a piece at least
+-- a text has at least one piece
 pub some_pieces : (b : ℕ) (t : Text) → 0 < length (pieces_at b t)
 some_pieces b t = omega (arith, length-slice_split (λ c. c == b) t)
 
@@ -20,7 +20,7 @@ module _ (line word behind : Text) (cut : pieces_at blank line ≡ word ∷ piec
       let fields : AreFieldsOf behind names.path names.name names.digest = cc in
       record { path = names.path; name = names.name; digest = names.digest; fields = fields; spelled = names.spelled }
 
-  -- a line that spells nothing behind its first field says nothing
+  -- a line whose rest after the first field is not a signature is not one of a list
   pub not_spelled : ((d : Dep) → ¬ IsSignature behind d) → (s : ListLine) → Says line s → ⊥
   not_spelled none (Package d) says = none d (named _ d says)
   not_spelled none (Built d) says = none d (named _ d says)

@@ -1,4 +1,4 @@
--- The texts of the items so far, one behind the other.
+-- The texts of the items so far, one after the other.
 use Rattle.std.proofs.Common.{◌≡◌, ◌+◌, ◌<◌, ◌∙◌, ◌++◌, ℕ, List, [], ◌∷◌, length, get_or, take, ap, sym, flat_map}
 use Rattle.std.proofs.lemmas.List.{flat_map_more, take_more}
 use Rattle.faults.specs.Bytes.{Text}

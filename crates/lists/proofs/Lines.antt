@@ -1,4 +1,4 @@
--- The lines of a list, up to the one that is read.
+-- The lines of a list, up to the one that is parsed.
 use Rattle.std.proofs.Common.{◌≡◌, ◌+◌, ◌<◌, ◌≤◌, ◌∙◌, ◌++◌, ◌==◌, ℕ, true, false, List, [], ◌∷◌, Option, None, Some, if◌then◌else◌, length, take, arith, ap, refl, sym, subst, append_assoc, length-append}
 use Rattle.std.proofs.Math.Seq.{take-append_seam, take-append-add}
 use Rattle.std.proofs.lemmas.Bool.{ne_eqb}
@@ -14,14 +14,14 @@ use Rattle.lists.specs.declared.list_line.ListLine.{ListLine}
 use Rattle.lists.proofs.Fields.{some_pieces}
 use Rattle.lists.proofs.Saying.{no_list, said_more}
 
--- what the lines say, with one more
+-- the contents of the lines, with one more
 said_next : (done : List Text) (line : Text) (before : Option Packages) (after : Packages) → AllZip Says done (said_in before) → AddsLine before line after
     → AllZip Says (done ++ line ∷ []) (said_in (Some after))
 said_next done line before after all adds =
     subst (λ (said : List ListLine). AllZip Says (done ++ line ∷ []) said) (sym adds.added)
     (said_more done (said_in before) line adds.said all adds.says)
 
--- the line behind these is the first that belongs to no list
+-- the line after these is the first that can't be one of a list
 first_bad : (lines done : List Text) (line : Text) (more : List Text) (before : Option Packages) → lines ≡ done ++ line ∷ more
     → AllZip Says done (said_in before) → CannotFollow before line → IsFirstBadAt lines (length done)
 first_bad lines done line more before are all cannot = record {
@@ -49,9 +49,9 @@ by_length : (t : Text) → (length t == 0) ≡ is_empty t
 by_length [] = refl
 by_length (b ∷ t) = ne_eqb (length (b ∷ t)) 0 (λ none. omega arith)
 
--- ---- a text that is read
+-- ---- a text that is parsed
 
--- the lines before the rest of the text were read
+-- the lines before the rest of the text were parsed
 pub record ReadSoFar (text left : Text) (number : ℕ) (packages : Option Packages) : Type 0 where
   pub done : List Text
   pub cut : pieces_at line_feed text ≡ done ++ pieces_at line_feed left
@@ -67,7 +67,7 @@ module _ (text left : Text) (number : ℕ) (packages : Option Packages) (so_far 
   unfolding lines_in
   lines_from t ts are = ap without_empty_end (so_far.cut ∙ ap (λ ps. so_far.done ++ ps) are) ∙ end_behind so_far.done t ts
 
-  -- a line that ends
+  -- a line with its LF
   module _ (line behind : Text) (next : pieces_at line_feed left ≡ line ∷ pieces_at line_feed behind) where
     pub line_read : (after : Packages) → length behind < length left → AddsLine packages line after → ReadSoFar text behind (number + 1) (Some after)
     line_read after shorter adds = record {
@@ -88,7 +88,7 @@ module _ (text left : Text) (number : ℕ) (packages : Option Packages) (so_far 
           so_far.said cannot,
     )
 
-  -- the last, which does not
+  -- the last line, without LF
   module _ (last : pieces_at line_feed left ≡ left ∷ []) where
     pub all_read : (length left == 0) ≡ true → AreEntries text (entries_in packages)
     all_read none =

@@ -1,4 +1,4 @@
--- A text is one list at most, and the beginnings of a list are lists.
+-- A text is at most one list, and prefixes of a list are lists.
 use Rattle.std.proofs.Common.{◌≡◌, ◌∙◌, ◌++◌, ℕ, zero, suc, List, [], ◌∷◌, map, take, codes, ap, refl, subst, sym}
 use Rattle.std.specs.List.{AllZip, flat_map}
 use Rattle.auditing.specs.declared.entry.Entry.{Entry}
@@ -12,7 +12,7 @@ use Rattle.lists.specs.List.{AreList, Names, Says, said_of}
 use Rattle.lists.specs.declared.list_line.ListLine.{ListLine}
 use Rattle.lists.specs.declared.list_line.ListLine.TheVariants.{Package, Built}
 
--- a line names one package, behind one word
+-- a line names one package, after one word
 named_once : (line word other : Text) (d e : Dep) → Names word line d → Names other line e → (word ≡ other) × (d ≡ e)
 named_once line word other d e names also =
     let fields : word ∷ names.path ∷ names.name ∷ names.digest ∷ [] ≡ other ∷ also.path ∷ also.name ∷ also.digest ∷ [] = sym names.fields ∙ also.fields in
@@ -42,7 +42,7 @@ said_once (l ∷ ls) (s ∷ ss) (t ∷ ts) all also =
     let rest = said_once ls ss ts all.1 also.1 in
     λ i. first i ∷ rest i
 
--- where what a package was built on ends
+-- the end of the lines of what a package was built on
 built_once : (xs ys : List Dep) (es fs : List Entry) → map Built xs ++ flat_map said_of es ≡ map Built ys ++ flat_map said_of fs
     → (xs ≡ ys) × (flat_map said_of es ≡ flat_map said_of fs)
 built_once [] [] es fs e = (refl, e)
@@ -73,7 +73,7 @@ entries_once (x ∷ es) (y ∷ fs) e =
 pub one_list : (lines : List Text) (es fs : List Entry) → AllZip Says lines (flat_map said_of es) → AllZip Says lines (flat_map said_of fs) → es ≡ fs
 one_list lines es fs all also = entries_once es fs (said_once lines (flat_map said_of es) (flat_map said_of fs) all also)
 
--- ---- beginnings
+-- ---- prefixes
 
 taken_said : (n : ℕ) (lines : List Text) (said : List ListLine) → AllZip Says lines said → AllZip Says (take n lines) (take n said)
 taken_said zero lines said all = tt
@@ -95,7 +95,7 @@ begun_built es begun (x ∷ xs) (suc n) =
     let rest = begun_built es begun xs n in
     record { built = x ∷ rest.built; entries = rest.entries; same = ap (λ (ss : List ListLine). Built x ∷ ss) rest.same }
 
--- what a beginning says is said of entries
+-- a prefix of the contents is that of some entries
 begun_list : (es : List Entry) (k : ℕ) → (fs : List Entry) × (take k (flat_map said_of es) ≡ flat_map said_of fs)
 begun_list [] zero = ([], refl)
 begun_list [] (suc k) = ([], refl)

@@ -1,4 +1,4 @@
--- What lines say, one behind the other.
+-- The contents of lines, one after the other.
 use Rattle.std.proofs.Common.{◌≡◌, ◌∙◌, ◌++◌, List, [], ◌∷◌, Option, map, ap, refl, subst, sym, append_assoc}
 use Rattle.std.proofs.lemmas.Grind.{flat_map-append}
 use Rattle.std.proofs.lemmas.List.{append-nil, map-append}
@@ -12,7 +12,7 @@ use Rattle.lists.specs.declared.list.Packages.{Packages}
 use Rattle.lists.specs.declared.list_line.ListLine.{ListLine}
 use Rattle.lists.specs.declared.list_line.ListLine.TheVariants.{Package, Built}
 
--- one line more, and what it says
+-- one more line, and its contents
 pub said_more : (lines : List Text) (said : List ListLine) (line : Text) (s : ListLine) → AllZip Says lines said → Says line s
     → AllZip Says (lines ++ line ∷ []) (said ++ s ∷ [])
 said_more [] [] line s all says = (says, tt)
@@ -20,7 +20,7 @@ said_more [] (t ∷ ts) line s all says = absurd all
 said_more (l ∷ ls) [] line s all says = absurd all
 said_more (l ∷ ls) (t ∷ ts) line s all says = (all.0, said_more ls ts line s all.1 says)
 
--- what the last line says, and what those before it say
+-- the contents of the last line, and those of the lines before it
 record LastSaid (lines : List Text) (line : Text) (said : List ListLine) : Type 0 where
   front : List ListLine
   last : ListLine
@@ -51,13 +51,13 @@ nothing_said : (said : List ListLine) → AllZip Says [] said → said ≡ []
 nothing_said [] all = refl
 nothing_said (s ∷ ss) all = absurd all
 
--- what is said first of a list is a package
+-- the first line of a list is that of a package
 built_is_not_first : (entries : List Entry) (s : ListLine) → flat_map said_of entries ≡ s ∷ [] → IsBuilt s → ⊥
 built_is_not_first [] s e built = cc
 built_is_not_first (entry ∷ entries) (Package d) e built = built
 built_is_not_first (entry ∷ entries) (Built d) e built = cc
 
--- with a line that cannot follow, the lines are no list
+-- with a line that can't follow, the lines are not a list
 pub no_list : (lines : List Text) (line : Text) (before : Option Packages) → AllZip Says lines (said_in before) → CannotFollow before line
     → ¬ AreList (lines ++ line ∷ [])
 no_list lines line before all cannot (entries, are) =
@@ -71,11 +71,11 @@ no_list lines line before all cannot (entries, are) =
 abbrev entry_of : Dep → List Dep → Entry
 entry_of d built = record { path = d.path; name = d.name; digest = d.digest; built = built }
 
--- one package more
+-- one more package
 pub package_said : (earlier : List Entry) (d : Dep) → flat_map said_of (earlier ++ entry_of d [] ∷ []) ≡ flat_map said_of earlier ++ Package d ∷ []
 package_said earlier d = flat_map-append said_of earlier (entry_of d [] ∷ [])
 
--- one more that the last package was built on
+-- one more package that the last one was built on
 pub built_said : (earlier : List Entry) (d : Dep) (built : List Dep) (dep : Dep)
     → flat_map said_of (earlier ++ entry_of d (built ++ dep ∷ []) ∷ []) ≡ flat_map said_of (earlier ++ entry_of d built ∷ []) ++ Built dep ∷ []
 built_said earlier d built dep =

@@ -1,4 +1,4 @@
--- Signatures that were read, beside their texts.
+-- Signatures that were parsed, with their texts.
 use Rattle.std.proofs.Common.{◌≡◌, ◌++◌, ◌∙◌, List, [], ◌∷◌, Option, Some, IfSome, All, Contains, length, arith, ap, sym, subst}
 use Rattle.std.specs.Map.{lookup}
 use Rattle.std.specs.Str.{bytes_eq}
@@ -12,7 +12,7 @@ use Rattle.faults.specs.Pieces.{pieces_at}
 use Rattle.lists.specs.inside.Signatures.{Entry, HasThreeFields, IsReadEntry, IsSignature, texts_of_entries}
 use Rattle.lists.proofs.Fields.{some_pieces}
 
--- ---- a text that was read before
+-- ---- a text that was parsed before
 
 entry_there : (es : List Entry) (text : Text) (d : Dep) → Some d ≡ lookup (bytes_eq text) es → Contains es (text, d)
 entry_there es text d found =
@@ -21,7 +21,7 @@ entry_there es text d found =
     (IfSome-lookup {eq = bytes_eq} (λ x y e. (bytes_eq-Decides x y).0 e) text es) in
     there
 
--- it was read as its signature
+-- it was parsed as its signature
 pub found_is : (es : List Entry) (text : Text) (d : Dep) → Some d ≡ lookup (bytes_eq text) es → All IsReadEntry es → IsSignature text d
 found_is es text d found good = All-contains IsReadEntry es (text, d) good (entry_there es text d found)
 
@@ -47,7 +47,7 @@ new_there es new text d is =
 
 -- ---- fields
 
--- a text with three blanks has more fields
+-- a text with three spaces has too many fields
 pub more_fields : (text path behind name digest more rest : Text) → pieces_at blank text ≡ path ∷ pieces_at blank behind
     → pieces_at blank behind ≡ name ∷ pieces_at blank digest → pieces_at blank digest ≡ more ∷ pieces_at blank rest → ¬ HasThreeFields text
 more_fields text path behind name digest more rest first second third (p, n, d, fields) =

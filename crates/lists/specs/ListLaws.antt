@@ -5,7 +5,7 @@ use Rattle.faults.specs.Bytes.{Text}
 use Rattle.lists.specs.List.{AreEntries, IsFirstBadLine}
 use Rattle.lists.specs.declared.list.ListFault.{ListFault}
 
--- a text has one list of entries at most
+-- a text has at most one list of entries
 abbrev pub OnlyOneList : Type 0
 OnlyOneList = (text : Text) (xs ys : List Entry) → AreEntries text xs → AreEntries text ys → xs ≡ ys
 

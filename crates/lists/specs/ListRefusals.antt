@@ -4,7 +4,7 @@ use Rattle.lists.specs.declared.list.ListFault.{ListFault}
 use Rattle.lists.specs.declared.list.ListFault.TheVariants.{Memory, BadList}
 use Rattle.program.specs.declared.refusal.Refusal.{Refusal}
 
--- the number by which each refusal is told
+-- the number that is reported for each refusal
 abbrev pub number_of : ListFault → ℕ
 number_of Memory = 1
 number_of (BadList line) = 1308
@@ -14,6 +14,6 @@ abbrev pub place_of : ListFault → Option ℕ
 place_of Memory = None
 place_of (BadList line) = Some line
 
--- how the refusal is told
+-- the refusal for a fault of a list
 abbrev pub list_refusal : ListFault → Refusal
 list_refusal e = record { number = number_of e; place = place_of e }

@@ -1,7 +1,7 @@
 //! What holds of lists of packages.
 ghost use Rattle.lists.specs.ListLaws.{ListsHaveNoFault, OnlyOneList};
 
-/// A text is one list of packages at most, and no line of a list is a fault of it.
+/// A text is at most one list of packages, and a list has no bad line.
 pub fn lists_and_faults()
     ensures one_list { OnlyOneList }
     ensures no_fault { ListsHaveNoFault }

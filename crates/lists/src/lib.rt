@@ -1,5 +1,4 @@
-//! A list of packages, in the order in which they were built, as a text: how it is read, and how it
-//! is written.
+//! A list of packages as a text, in the order in which they were built: its parser, and its writer.
 #![tactic(auto)]
 
 mod laws;

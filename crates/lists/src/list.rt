@@ -14,8 +14,8 @@ use program::Refusal;
 use std::alloc::Global;
 use thiserror::Error;
 
-/// Why a text is read as no list of packages: want of memory, or else its first line that belongs
-/// to none, counted from 1.
+/// Why a text is not a list of packages: out of memory, or else the first line that can't be one of
+/// a list, counted from 1.
 #[derive(Clone, Copy, Debug, PartialEq, Eq, Error)]
 pub enum ListFault {
     #[error("out of memory")]
@@ -60,7 +60,7 @@ impl From<ListFault> for Refusal {
     }
 }
 
-/// The packages of lines that were read. The last may still be followed by what it was built on.
+/// The packages of the lines that were parsed. Lines of what the last one was built on may follow.
 #[derive(Drop)]
 pub(crate) struct Packages {
     earlier: Vec<Entry>,
@@ -70,10 +70,10 @@ pub(crate) struct Packages {
 
 /// The entries of a list of packages.
 ///
-/// A package has a line `package PATH NAME DIGEST`, and behind it a line `built PATH NAME DIGEST`
-/// for each package that it was built on; the paths may have any of their spellings, and the
-/// digests are in lower-case hexadecimal digits. Lines end with LF, which the last may lack. A text
-/// of no bytes is the empty list, and an empty line is a fault.
+/// A package has a line `package PATH NAME DIGEST`, followed by a line `built PATH NAME DIGEST` for
+/// each package that it was built on. Paths may be spelled in any way; digests are in lower-case
+/// hexadecimal digits. Lines end with LF, which may be missing after the last. An empty text is the
+/// empty list, and an empty line is a fault.
 pub fn read_list(alloc: Global, text: &[u8]) -> Result<Vec<Entry>, ListFault>
     ensures entries { IfOk result (λ entries. AreEntries text.now entries.items) }
     ensures refused { IfErr result (λ e. (e ≡ ListFault.Memory) ⊎ IsFirstBadLine text.now e) }
@@ -93,7 +93,7 @@ pub fn read_list(alloc: Global, text: &[u8]) -> Result<Vec<Entry>, ListFault>
     Ok(entries(alloc, packages)?)
 }
 
-/// The packages with one line more, which has that number.
+/// The packages after one more line, which has this number.
 fn with_line<'t>(
     alloc: Global,
     signatures: &mut Signatures<'t>,
@@ -122,7 +122,7 @@ fn with_line<'t>(
     }
 }
 
-/// The packages with what one line more says, if that can follow.
+/// The packages after the contents of one more line, if they can follow.
 fn with_said(
     alloc: Global,
     packages: Option<Packages>,

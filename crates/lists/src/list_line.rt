@@ -8,16 +8,16 @@ use claims::Dep;
 use faults::{Memory, split_once};
 use std::alloc::Global;
 
-/// What a line says.
+/// The contents of a line.
 #[derive(Drop)]
 pub enum ListLine {
     /// A package of the list.
     Package(Dep),
-    /// A package that the one before it in the list was built on.
+    /// A package that the previous one of the list was built on.
     Built(Dep),
 }
 
-/// What the line says, if it is one of a list.
+/// The contents of the line, if it is one of a list.
 pub fn list_line<'t>(
     alloc: Global,
     signatures: &mut Signatures<'t>,

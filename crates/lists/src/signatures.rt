@@ -1,4 +1,4 @@
-//! Signatures as they stand in a text, of which each different one is read once.
+//! Signatures in a text. Each distinct one is parsed once.
 ghost use Rattle.std.specs.Prelude.{◌≡◌, ◌∷◌, [], Contains, IfNone, IfOk, IfSome, MatchOption, nat_eq};
 ghost use Rattle.std.proofs.Common.{rules};
 ghost use Rattle.std.specs.Cmp.{partial_equiv_from_equiv};
@@ -18,7 +18,7 @@ use std::alloc::Global;
 use std::hash::{Hash, Hasher};
 use std::marker::Model;
 
-/// A signature as it stands in a text. Such are compared and hashed by their bytes.
+/// The text of a signature. Compared and hashed by its bytes.
 #[derive(Drop)]
 struct Written<'t> {
     text: &'t [u8],
@@ -47,7 +47,7 @@ impl<'t> Eq for Written<'t> {
 }
 
 impl<'t> Hash for Written<'t> {
-    // The text is fed in one write, so that a hasher takes many bytes at a time.
+    // The text is passed to the hasher in one write, so that it can take many bytes at a time.
     ghost hash_input = { λ text. text ∷ [] };
 
     ghost respects_eq = { Prim.search (hashing, rules) };
@@ -57,7 +57,7 @@ impl<'t> Hash for Written<'t> {
     }
 }
 
-/// The signatures that were read, which contracts see as their texts.
+/// The signatures that were parsed. Contracts see their texts.
 #[derive(Drop)]
 pub struct Signatures<'t> {
     read: IndexMap<Written<'t>, Dep>,
@@ -75,7 +75,7 @@ impl<'t> Model for Signatures<'t> {
 }
 
 impl<'t> Signatures<'t> {
-    /// None yet.
+    /// No signatures yet.
     pub fn new(alloc: Global) -> Signatures<'t>
         ensures { result ≡ [] }
     {
@@ -84,8 +84,8 @@ impl<'t> Signatures<'t> {
         }
     }
 
-    /// The signature `PATH NAME DIGEST` that the text is, if it is one. A text that was read before
-    /// is answered with a copy of what it was read as.
+    /// The signature that the text `PATH NAME DIGEST` spells, if it does. For a text that was
+    /// parsed before, the result is a copy of the earlier one.
     pub fn read(&mut self, alloc: Global, text: &'t [u8]) -> Result<Option<Dep>, Memory>
         ensures some { IfOk result (λ found. IfSome found (IsSignature text.entry.now)) }
         ensures none { IfOk result
@@ -108,7 +108,7 @@ impl<'t> Signatures<'t> {
     }
 }
 
-/// The signature that the text is, if it is one.
+/// The signature that the text spells, if it does.
 fn signature(alloc: Global, text: &[u8]) -> Result<Option<Dep>, Memory>
     ensures some { IfOk result (λ signature. IfSome signature (IsSignature text.now)) }
     ensures none { IfOk result
@@ -120,7 +120,7 @@ fn signature(alloc: Global, text: &[u8]) -> Result<Option<Dep>, Memory>
     spelled(alloc, path, name, digest)
 }
 
-/// What stands between the blanks, if these are two.
+/// The fields of the text, if it has exactly two spaces.
 fn fields(text: &[u8]) -> Option<(&[u8], &[u8], &[u8])>
     ensures { MatchOption result (¬ HasThreeFields text.now)
         (λ fields. AreFieldsOf text.now fields.0.now fields.1.now fields.2.now) }

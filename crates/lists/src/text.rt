@@ -8,8 +8,8 @@ use pkgname::PkgName;
 use pkgpath::PkgPath;
 use std::alloc::Global;
 
-/// The list in the form in which an audit reads it: for each package a line `package PATH NAME
-/// DIGEST`, and behind it a line `built PATH NAME DIGEST` for each that it was built on.
+/// The list in the form that an audit parses: for each package a line `package PATH NAME DIGEST`,
+/// followed by a line `built PATH NAME DIGEST` for each package that it was built on.
 pub fn list_text(alloc: Global, list: &[Record]) -> Result<Vec<u8>, Memory>
     ensures { IfOk result (λ text. text.items ≡ list_text list.now) }
 {
@@ -40,7 +40,7 @@ fn put_package(text: &mut Vec<u8>, content: &Record) -> Result<(), Memory>
     Ok(())
 }
 
-/// Appends a line with the word, which ends with a blank, and a package's path, name and digest.
+/// Appends a line with the word, which includes its space, and a package's path, name and digest.
 fn put_signature(
     text: &mut Vec<u8>,
     word: &[u8],
@@ -58,7 +58,7 @@ fn put_signature(
     put_digest(text, digest)
 }
 
-/// Appends a blank and the digest, and ends the line.
+/// Appends a space, the digest and a line feed.
 fn put_digest(text: &mut Vec<u8>, digest: &[u8; 32]) -> Result<(), Memory>
     ensures { OnOk result (text.new.items ≡ text.old.items ++ digest_end digest.now) }
 {

@@ -1,4 +1,4 @@
-//! Claims, and questions for what is agreed.
+//! Opening claims, and asking for what is agreed.
 ghost use Rattle.std.specs.Prelude.{◌<◌, IfOk, length};
 ghost use Rattle.protocol.specs.Answers.{answered, everyone};
 ghost use Rattle.protocol.specs.InTheAgreement.{view};
@@ -14,8 +14,8 @@ use pkgpath::PkgPath;
 use protocol::{Input, Outcome, Refusal};
 
 impl<'a> Member<'a> {
-    /// A claim for the unit is opened, in a round above the one that is asked for and all that the
-    /// member opened, and is offered to all.
+    /// Opens a claim for the unit and offers it to all. Its round is above `above` and above all
+    /// rounds that the member opened for the unit.
     pub(crate) fn claimed(&self, path: &PkgPath, host: u16, above: u64) -> Result<Step, Refusal>
         ensures { IsPrepared self.now (Input.Claim path.now host above) result }
     {
@@ -34,7 +34,7 @@ impl<'a> Member<'a> {
         }
     }
 
-    /// A claim for the unit is opened in this round.
+    /// Opens a claim for the unit in this round.
     fn opening(&self, unit: u32, host: u16, round: u64) -> Result<Step, Memory>
         requires { unit < length self.now.division.units }
         ensures { IfOk result (Makes self.now (answered self.now unit host (everyone self.now)
@@ -67,7 +67,7 @@ impl<'a> Member<'a> {
         })
     }
 
-    /// All others are asked for what is agreed for the unit.
+    /// Asks all other members for the agreed build of the unit.
     pub(crate) fn asked(&self, path: &PkgPath) -> Result<Step, Refusal>
         ensures { IsPrepared self.now (Input.Ask path.now) result }
     {

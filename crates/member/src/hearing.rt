@@ -1,4 +1,4 @@
-//! What a member answers to messages.
+//! How a member answers messages.
 ghost use Rattle.std.specs.Prelude.{◌≡◌, ◌<◌, [], ◌∷◌, IfOk, MatchOption, MatchResult, Ok, Err};
 ghost use Rattle.std.specs.Prelude.{Some, false, length, option_map};
 ghost use Rattle.protocol.specs.Answers.{message_of};
@@ -25,7 +25,7 @@ use package_record::Build;
 use protocol::{Input, Outcome, Refusal, Sends};
 
 impl<'a> Member<'a> {
-    /// A message comes.
+    /// Answers a message.
     pub(crate) fn heard(&self, message: Message) -> Result<Step, Refusal>
         ensures { IsPrepared self.now (Input.Message message) result }
     {
@@ -38,7 +38,7 @@ impl<'a> Member<'a> {
         }
     }
 
-    /// The unit that the message is about; else, why it is refused.
+    /// The unit that the message is about, or the reason why it is refused.
     pub(crate) fn unit_heard(&self, message: &Message) -> Result<u32, Refusal>
         ensures ok { IfOk result (λ unit. (unit < length self.now.division.units)
             × (message.now.sender < length self.now.weights)) }
@@ -55,7 +55,7 @@ impl<'a> Member<'a> {
         }
     }
 
-    /// The message about the unit is answered. Of a build that may be kept the tree's texts are.
+    /// Answers the message about the unit. A build that may be kept shares the tree's texts.
     fn read(&self, unit: u32, message: Message) -> Result<Step, Memory>
         requires unit { unit < length self.now.division.units }
         requires sender { message.sender < length self.now.weights }
@@ -76,8 +76,9 @@ impl<'a> Member<'a> {
         self.answered(unit, sender, body)
     }
 
-    /// Whether the body carries a build that may be kept. What comes again, behind a vote for it or
-    /// once the unit is held, is not; nor is a report that is not greater than those that came.
+    /// Whether the body carries a build that may be kept. An agreed build may if the unit isn't
+    /// held yet. A proposed one may unless the last vote was under its claim. A reported one may if
+    /// its vote is under a greater claim than the one reported so far.
     fn may_keep(&self, unit: u32, body: &Body) -> bool
         requires { unit < length self.now.division.units }
     {
@@ -94,8 +95,9 @@ impl<'a> Member<'a> {
         }
     }
 
-    /// Whether the open claim is this one, for the unit, and keeps the report of a vote under
-    /// `voted`: as long as promises come in, one that is greater than the report that it has.
+    /// Whether this is the open claim, is for the unit, and keeps the report of a vote under
+    /// `voted`. It does while it gathers promises, if that vote is greater than the one reported so
+    /// far.
     fn keeps(&self, unit: u32, claim: Claim, voted: Claim) -> bool {
         let Some(open) = self.claim_for(unit) else {
             return false;
@@ -113,7 +115,7 @@ impl<'a> Member<'a> {
         }
     }
 
-    /// The message about the unit is answered.
+    /// Answers the message about the unit.
     fn answered(&self, unit: u32, sender: u8, body: Body) -> Result<Step, Memory>
         requires unit { unit < length self.now.division.units }
         requires sender { sender < length self.now.weights }
@@ -137,7 +139,7 @@ impl<'a> Member<'a> {
         }
     }
 
-    /// The voter's step, which answers the claim's member.
+    /// The voter's step, which answers the member that made the claim.
     fn voting(&self, unit: u32, claim: Claim, step: VoterStep) -> Result<Step, Memory>
         requires unit { unit < length self.now.division.units }
         requires kept { step.change ≡ step.note }
@@ -167,7 +169,8 @@ impl<'a> Member<'a> {
         }
     }
 
-    /// The note of the fact on the unit, if there is one, and the answer to the claim's member.
+    /// The note of the fact about the unit, if there is one, and the answer to the member that made
+    /// the claim.
     fn texts_of(
         &self,
         unit: u32,
@@ -185,7 +188,7 @@ impl<'a> Member<'a> {
         Ok((note, sends))
     }
 
-    /// The note of the fact on the unit, if there is one.
+    /// The note of the fact about the unit, if there is one.
     fn note_of(&self, unit: u32, fact: Option<Fact>) -> Result<Option<Note>, Memory>
         requires { unit < length self.now.division.units }
         ensures { IfOk result (λ note. note ≡ option_map (on_unit self.now unit) fact) }
@@ -256,7 +259,7 @@ impl<'a> Member<'a> {
         }
     }
 
-    /// What follows a claimer's step, before its change of the claim.
+    /// What follows from a claimer's step, before it changes the claim.
     fn following(&self, own: &OpenClaim, next: Next) -> Result<Step, Memory>
         requires { self.now.claim ≡ Some (open_of own.now) }
         ensures { (change : ClaimerChange Value) → IfOk result
@@ -281,7 +284,7 @@ impl<'a> Member<'a> {
         }
     }
 
-    /// A majority voted: the build is held, and all others are told.
+    /// A majority voted: the build is held, and sent to all others.
     fn holding(&self, unit: u32, noted: Build, sent: Build) -> Result<Step, Memory>
         requires { unit < length self.now.division.units }
         ensures { (change : ClaimerChange Value) → IfOk result
@@ -301,7 +304,7 @@ impl<'a> Member<'a> {
         })
     }
 
-    /// The note that the build of the unit is held, and the fact that the member keeps of it.
+    /// The note that the build of the unit is held, and the fact that the member keeps.
     fn note_held(&self, unit: u32, build: Build) -> Result<(Note, Fact), Memory>
         requires { unit < length self.now.division.units }
         ensures note { IfOk result
@@ -313,7 +316,7 @@ impl<'a> Member<'a> {
         Ok((note, Fact::Held(kept)))
     }
 
-    /// What is agreed is held, unless a build of the unit is.
+    /// The agreed build becomes held, unless one of the unit is held already.
     fn agreed(&self, unit: u32, build: Build) -> Result<Step, Memory>
         requires { unit < length self.now.division.units }
         ensures { IfOk result (Makes self.now (hears self.now unit 0 (Body.Agreed build))) }
@@ -338,7 +341,7 @@ impl<'a> Member<'a> {
         })
     }
 
-    /// The sender asks for what is agreed, and is told if it is held.
+    /// The sender asks for the agreed build. It gets it if one is held here.
     fn asked_by(&self, unit: u32, sender: u8) -> Result<Step, Memory>
         requires { unit < length self.now.division.units }
         ensures { IfOk result (Makes self.now (hears self.now unit sender Body.Ask)) }
@@ -354,7 +357,7 @@ impl<'a> Member<'a> {
     }
 }
 
-/// A build is to be made: this job is given.
+/// Gives this job to be built.
 fn giving(job: Job) -> Result<Step, Memory>
     ensures { (change : ClaimerChange Value) → IfOk result
         (λ made. counting made change ≡ quiet_prepared [] (Some job) change) }
@@ -372,7 +375,7 @@ fn giving(job: Job) -> Result<Step, Memory>
     })
 }
 
-/// The sender, and the members of the claims that the body names; that in a record is none of them.
+/// The sender, and the members of the claims that the body names, except for claims in records.
 fn members_of(sender: u8, body: &Body) -> ArrayVec<u8, 9>
     ensures { result.items ≡ sender ∷ members_of body.now }
 {

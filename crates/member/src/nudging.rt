@@ -1,4 +1,4 @@
-//! What the open claim waits for is asked for again.
+//! Repeats what the open claim waits for.
 ghost use Rattle.std.specs.Prelude.{◌≡◌, [], IfOk, None};
 ghost use Rattle.member.specs.shared.Fields.{job_in};
 ghost use Rattle.member.specs.inside.Steps.{IsPrepared};
@@ -10,7 +10,8 @@ use faults::Memory;
 use protocol::{Input, Outcome, Refusal, Sends};
 
 impl<'a> Member<'a> {
-    /// The offer or the proposal goes to those that have not answered, or the job is given again.
+    /// Sends the offer or the proposal again to those that have not answered, or gives the job
+    /// again.
     pub(crate) fn nudged(&self) -> Result<Step, Refusal>
         ensures { IsPrepared self.now Input.Nudge result }
     {
@@ -40,7 +41,7 @@ impl<'a> Member<'a> {
         }
     }
 
-    /// The job is given again.
+    /// Gives the job again.
     fn building_again(&self) -> Result<Step, Memory>
         ensures { IfOk result (λ step. step ≡ record {
           note = None;

@@ -1,4 +1,5 @@
-//! A member over its log: its note is on the disk before it gives out any bytes of its step.
+//! A member over its log. The note of a step is on the disk before any bytes of the step are given
+//! out.
 #![tactic(auto)]
 
 mod fault;

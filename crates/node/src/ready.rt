@@ -1,4 +1,4 @@
-//! A step that is ready to be taken, and what comes out of it.
+//! A step that is ready to be taken, and what it gives out.
 ghost use Rattle.std.specs.Prelude.{◌≡◌, All, IfOk, None, Some, option_map};
 ghost use Rattle.std.specs.Option.{ForSome, option_copied};
 ghost use Rattle.node.specs.Parcels.{datagrams_to};
@@ -15,22 +15,23 @@ use std::alloc::Global;
 use std::marker::Model;
 use wire::{Header, Piece};
 
-/// What becomes of the pieces that a node keeps.
+/// How a step changes the pieces that a node keeps.
 #[derive(Drop)]
 pub enum Change {
     /// They stay.
     Stays,
-    /// One more is kept.
+    /// One is added.
     Keeps(Piece),
     /// Those with this header are dropped.
     Drops(Header),
 }
 
-/// A step with all that it grew: the member's step, its note and its datagrams as bytes, and what
-/// becomes of the pieces. Contracts see what the member prepared, and that change.
+/// A step with all that it allocated: the member's step, its note and datagrams as bytes, and the
+/// change of the pieces. Contracts see what the member prepared, and that change.
 #[derive(Drop)]
 pub struct Ready {
-    /// None where a piece came that leaves its message waiting: the member takes no step then.
+    /// None if a piece was received and its message is still incomplete: the member then takes no
+    /// step.
     pub(crate) step: Option<Step>,
     pub(crate) note: Option<Vec<u8>>,
     pub(crate) sends: Parcels,
@@ -49,7 +50,7 @@ impl Model for Ready {
 }
 
 impl Ready {
-    /// The member's step, which changes the pieces so.
+    /// The member's step, with this change of the pieces.
     pub(crate) fn of(alloc: Global, step: Step, change: Change) -> Result<Ready, Memory>
         requires sends { All (λ x. IsMessage x.message) step.sends }
         requires note { ForSome step.note IsNote }
@@ -70,7 +71,7 @@ impl Ready {
         }
     }
 
-    /// The member takes no step, since a message is not whole yet.
+    /// No step of the member, since a message is still incomplete.
     pub(crate) fn waiting(alloc: Global, change: Change) -> Ready
         ensures { result ≡ record { step = None; change = change } }
     {
@@ -92,7 +93,7 @@ impl Ready {
         }
     }
 
-    /// The member's step, what goes out, and what becomes of the pieces. It takes no memory.
+    /// The member's step, its datagrams, and the change of the pieces. Does not allocate.
     pub(crate) fn apart(self) -> (Option<Step>, Parcels, Change)
         ensures step { result.0 ≡ self.step }
         ensures sends { result.1 ≡ datagrams_to (sends_in self.step) }
@@ -107,15 +108,15 @@ impl Ready {
         (step, sends, change)
     }
 
-    /// The step that the member takes, if it takes one.
+    /// The member's step, if there is one.
     pub fn step(&self) -> Option<&Step>
         ensures { option_copied result ≡ self.now.step }
     {
         self.step.as_ref()
     }
 
-    /// What goes out once the step is taken: datagrams with the member that each goes to, in order
-    /// of receiver, and the pieces of a message in order.
+    /// The datagrams that are sent once the step is taken, with their receivers: in order of
+    /// receiver, and the pieces of a message in order.
     pub fn sends(&self) -> &Parcels
         ensures { result.now ≡ datagrams_to (sends_in self.now.step) }
     {
@@ -123,7 +124,7 @@ impl Ready {
     }
 }
 
-/// The text of the step's note, if it has one, and what it sends, as bytes.
+/// The text of the step's note, if it has one, and its messages as bytes.
 fn texts_of(alloc: Global, step: &Step) -> Result<(Option<Vec<u8>>, Parcels), Memory>
     requires sends { All (λ x. IsMessage x.message) step.now.sends }
     requires note { ForSome step.now.note IsNote }
@@ -136,13 +137,12 @@ fn texts_of(alloc: Global, step: &Step) -> Result<(Option<Vec<u8>>, Parcels), Me
     Ok((note, sends))
 }
 
-/// What goes out once the step's note is on the disk.
+/// What is given out once the step's note is on the disk.
 #[derive(Drop)]
 pub struct Out {
-    /// Datagrams with the member that each goes to, in order of receiver, and the pieces of a
-    /// message in order.
+    /// The datagrams with their receivers, in order of receiver, and the pieces of a message in
+    /// order.
     pub sends: Parcels,
-    /// What is to be built, where a majority promised and reported nothing, or where it is told
-    /// again.
+    /// The job, if a majority promised and reported no vote, or if the job is given again.
     pub job: Option<Job>,
 }

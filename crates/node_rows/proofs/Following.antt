@@ -1,4 +1,4 @@
--- What calls that follow one another leave of the notes.
+-- What successive calls leave of the notes.
 use Rattle.std.proofs.Common.{inl, inr, ℕ, ◌++◌, ◌∷◌, List, [], None, Option, Some, Result, Ok, Err, OnOk, sym, subst, ap, ◌∙◌, append_assoc}
 use Rattle.std.proofs.lemmas.List.{append-nil}
 use Rattle.std.proofs.lemmas.List.{map-append}
@@ -17,12 +17,12 @@ use Rattle.stable_record.specs.declared.identity.Identity.{Identity}
 use Rattle.wire.specs.Spelling.{note_text}
 use Rattle.node_rows.specs.Rows.{EachCrashLeavesItsNotes, HasThese, LosesNoNote}
 
--- what is no worse holds all along too
+-- a weaker property holds all along, too
 along_so : (P Q : List ℕ → Type 0) (start new : History) → ((c : List ℕ) → P c → Q c) → AllAlong P start new → AllAlong Q start new
 along_so P Q start _ so (at_first leaves) = at_first (λ c left. so c (leaves c left))
 along_so P Q start _ so (and_then call h rest leaves) = and_then call h (along_so P Q start h so rest) (λ c left. so c (leaves c left))
 
--- calls that go on with what is no worse
+-- continuing with a stronger property
 along_on : (P Q : List ℕ → Type 0) (start mid new : History) → ((c : List ℕ) → Q c → P c) → AllAlong P start mid → AllAlong Q mid new → AllAlong P start new
 along_on P Q start mid _ so first (at_first leaves) = first
 along_on P Q start mid _ so first (and_then call h rest leaves) = and_then call h (along_on P Q start mid h so first rest) (λ c left. so c (leaves c left))
@@ -40,7 +40,7 @@ module _ {D : Type 0} (history : D → History) (n : LoggedNode D) (on : IsOnLog
         lengths = settled.lengths;
       })
 
-  -- and these are such as it has
+  -- and these are the notes that it has
   has_its_own : (c : List ℕ) → HasNotes (identity_of n.node.member) (texts_of n.node.notes) c → HasThese n.node c
   has_its_own c has = record { more = []; notes = rw append-nil has }
 
@@ -61,7 +61,7 @@ module _ {D : Type 0} (history : D → History) (n : LoggedNode D) (on : IsOnLog
           one c (inl has) = has_its_own c has
           one c (inr has) = record { more = note_text x ∷ []; notes = has }
 
--- what has the notes after a step has those before it
+-- a file with the notes after a step has those before it
 had_them : (n : NodeState) (t : Taken) (c : List ℕ) → HasThese (after n t) c → HasThese n c
 had_them n t c has = by t.answer.note has.more has.notes
   where
@@ -73,13 +73,13 @@ had_them n t c has = by t.answer.note has.more has.notes
           (ap (λ (ts : List Text). ts ++ more) (map-append note_text n.notes (x ∷ [])) ∙ append_assoc (texts_of n.notes) (note_text x ∷ []) more) notes;
     }
 
--- and so no note is lost where one call follows another
+-- and so no note is lost by one call after another
 pub none_lost_then : (old mid : NodeState) (asked : Asked) (out : Out) (start then now : History) → HasHandled old mid asked out → LosesNoNote old start then → LosesNoNote mid then now → LosesNoNote old start now
 none_lost_then old mid asked out start then now handled first second =
     along_on (HasThese old) (HasThese mid) start then now
     (λ c has. had_them old handled.step c (subst (λ (n : NodeState). HasThese n c) handled.taken.state has)) first second
 
--- what holds whatever is answered
+-- what holds whatever is returned
 pub ok_if : {T E : Type 0} (r : Result T E) (P : Type 0) → P → OnOk r P
 ok_if (Ok x) P is = is
 ok_if (Err e) P is = tt

@@ -30,7 +30,7 @@ use Rattle.wire.specs.declared.datagram.Datagram.TheVariants as datagram
 use Rattle.wire.specs.declared.datagram.Header.{Header}
 use Rattle.wire.specs.declared.datagram.Piece.{Piece}
 
--- what a filter leaves alone is there
+-- an element that is all a filter leaves is in the list
 any_left : {A : Type 0} (P : A → Bool) (xs : List A) (x : A) → filter P xs ≡ x ∷ [] → list_any P xs ≡ true
 any_left P [] x e = absurd (let no : [] ≡ x ∷ [] = e in cc)
 any_left P (y ∷ ys) x e = by (P y) refl (λ rest. any_left P ys x rest)
@@ -41,7 +41,7 @@ any_left P (y ∷ ys) x e = by (P y) refl (λ rest. any_left P ys x rest)
         ap (λ (b : Bool). b || list_any P ys) is
         ∙ later (sym (ap (λ (b : Bool). if b then y ∷ filter P ys else filter P ys) is) ∙ e)
 
--- where each piece stands once, all are there
+-- if each piece occurs once, all are there
 are_there : (h : Header) (text : Text) (pieces : List Piece) → AreAllThere h text pieces → are_all h pieces ≡ true
 are_there h text pieces once =
     list_all-from_AllPass (has_number h pieces) (numbers_of h.length)
@@ -51,7 +51,7 @@ module _ (old new : NodeState) (m : Message Value) (h : Header) (text : Text) (p
     (again : datagram_of (datagram_text (datagram.Piece p)) ≡ Ok (datagram.Piece p)) (runs : old.stopped ≡ false)
     (last : IsLastPiece old.pieces p h text) (joins : joined h (bytes_of h (with_piece old.pieces p)) ≡ Ok m)
     (handled : HasHandled old new (Comes (datagram_text (datagram.Piece p))) out) where
-  -- what they join to is the message
+  -- they join to the message
   is_whole : arrival_of_piece old.pieces p None ≡ Whole m (without h old.pieces)
   is_whole =
       ap (λ (x : Header). if has_number x old.pieces p.number then Waits old.pieces else arrival_of_new old.pieces p) last.of_header
@@ -60,7 +60,7 @@ module _ (old new : NodeState) (m : Message Value) (h : Header) (text : Text) (p
       ∙ ap (λ (b : Bool). if b then arrival_of_all (without h old.pieces) (joined h (bytes_of h (with_piece old.pieces p))) else Waits (with_piece old.pieces p)) (are_there h text (with_piece old.pieces p) last.all_there)
       ∙ ap (λ (r : Result (Message Value) WireFault). arrival_of_all (without h old.pieces) r) joins
 
-  -- the step is that on what the piece is to the node
+  -- the step is that on the meaning of the piece to the node
   steps : Ok handled.step ≡ step_on old.member (arrival_of_piece old.pieces p (refusal_of old.member p.header))
   steps =
       handled.takes.right_is
@@ -80,7 +80,7 @@ module _ (old new : NodeState) (m : Message Value) (h : Header) (text : Text) (p
         taken = handled.taken;
       }
 
--- and so it is of what a call answers
+-- and so is that of the call
 pub if_joined : (r : Result Out NodeFault) (old new : NodeState) (came : Text) (p : Piece) → came ≡ datagram_text (datagram.Piece p)
     → datagram_of (datagram_text (datagram.Piece p)) ≡ Ok (datagram.Piece p) → OnlyRunningNodesTake → PiecesJoinInAnyOrder
     → IfOk r (HasHandled old new (Comes came)) → IfOk r (TookWithLast old new p)

@@ -1,4 +1,4 @@
--- Crashes behind a step, and while a node is opened.
+-- Crashes after a step, and while a node is opened.
 use Rattle.std.proofs.Common.{◌≡◌, ℕ, List, Ok, sym, subst, ap, ◌∙◌}
 use Rattle.faults.specs.Bytes.{Text}
 use Rattle.listing.specs.Tree.{Tree}
@@ -22,7 +22,7 @@ module _ {D : Type 0} (history : D → History) (old : NodeState) (n : LoggedNod
       subst (λ (x : NodeState). IsOf tree weights me x.member) (sym handled.taken.state)
       (record { over = own.over; weigh = own.weigh; own = own.own })
 
-  -- whatever a crash leaves then opens as the node after its step
+  -- whatever a crash then leaves opens as the node after its step
   pub as_after : (left : Text) → MayLeave (history n.log.disk) left → (m : NodeState) → OpensAsOne tree weights me → IsOpened tree weights me m
       → Opens (identity_of m.member) left (Ok (texts_of m.notes)) → IsAsAfter old asked m
   as_after left may m one opened opens =
@@ -38,7 +38,7 @@ pub at_last : (P : Text → Type 0) (start now : History) → AllAlong P start n
 at_last P start _ (at_first leaves) = leaves
 at_last P start _ (and_then call h rest leaves) = leaves
 
--- what a crash leaves while a file is opened opens as the file, where that was on the disk
+-- what a crash leaves while a file is opened opens as the file, if that was on the disk
 pub as_at_first : (tree : Tree) (weights : List ℕ) (me : ℕ) (start now : History) → IsOnDisk start → AllAlong (OpensAsLeft (identity tree weights me) start) start now
     → (left : Text) → MayLeave now left → (m : NodeState) → IsOpened tree weights me m → Opens (identity_of m.member) left (Ok (texts_of m.notes))
     → Opens (identity tree weights me) (seen start) (Ok (texts_of m.notes))
@@ -50,7 +50,7 @@ as_at_first tree weights me start now on along left may m opened opens =
     subst (λ (file : Text). Opens i file (Ok (texts_of m.notes))) (on so.left so.could_be)
     ((so.same (Ok (texts_of m.notes))).1 (subst (λ (x : Identity). Opens x left (Ok (texts_of m.notes))) its opens))
 
--- whose log the node's is that was opened
+-- the log of the opened node has this member's identity
 pub own_identity : (tree : Tree) (weights : List ℕ) (me : ℕ) (m : NodeState) → IsOpened tree weights me m → identity_of m.member ≡ identity tree weights me
 own_identity tree weights me m opened =
     ap (λ (x : NodeState). identity_of x.member) opened.node ∙ ap (λ (t : Tree). identity t weights me) opened.of_tree

@@ -1,4 +1,4 @@
--- What an offer leaves.
+-- The effect of an offer.
 use Rattle.std.proofs.Common.{◌≡◌, ◌∙◌, ℕ, List, Bool, true, false, not, ◌&&◌, eqb, eq-eqb, Option, Some, Result, Ok, Err, if◌then◌else◌, refl, sym, ap}
 use Rattle.std.proofs.lemmas.Bool.{cond-true}
 use Rattle.agreement.specs.Claims.{is_above, is_promised}
@@ -28,11 +28,11 @@ use Rattle.protocol.specs.declared.refusal.Refusal.{Refusal}
 use Rattle.engine.specs.Division.{number_found}
 use Rattle.wire.specs.declared.datagram.Piece.{Piece}
 
--- what is put somewhere stands there
+-- what is put at a place is there
 put_same : {X : Type 0} (f : ℕ → X) (i : ℕ) (x : X) → put f i x i ≡ x
 put_same f i x = cond-true (eqb i i) x (f i) (eq-eqb i i refl)
 
--- an offer leaves the greater of what was promised and of what was offered
+-- after an offer the promise is the greater of the previous one and the offered claim
 pub offered : (i : ℕ) (x : members.Member Value) (c : Claim) → (on_offer i x c).member.promised ≡ greater x.promised c
 offered i x c = by (is_above c x.promised) (is_promised c x.promised && not (is_voted c x.voted)) _ _ _ refl refl refl
   where
@@ -42,7 +42,7 @@ offered i x c = by (is_above c x.promised) (is_promised c x.promised && not (is_
     by false true A B C e f h = f
     by false false A B C e f h = h
 
--- where a node heard something its member answered
+-- if a node handled a message, its member answered it
 pub answer_of : (pieces : List Piece) (r : Result Answer Refusal) (step : Taken) → heard pieces r ≡ Ok step
     → (a : Answer) × (r ≡ Ok a) × (step ≡ record { answer = a; pieces = pieces })
 answer_of pieces (Ok a) step e = (a, refl, (let two : Ok (record { answer = a; pieces = pieces }) ≡ Ok step = e in cc))

@@ -1,4 +1,4 @@
--- What a node is that is opened again.
+-- A node that is opened again.
 use Rattle.std.proofs.Common.{◌≡◌, ◌⊎◌, inl, inr, ⊎_elim, ℕ, ◌++◌, ◌∷◌, List, [], None, Option, Some, Result, Ok, Err, IfErr, IfOk, MatchResult, OnOk, refl, sym, subst, ap, ◌∙◌}
 use Rattle.std.specs.Prelude.{◌≢◌}
 use Rattle.std.proofs.lemmas.List.{map-append}
@@ -22,7 +22,7 @@ use Rattle.wire.specs.Spelling.{note_text}
 use Rattle.node_rows.proofs.Following.{notes_stay}
 use Rattle.node_rows.specs.Rows.{HasNotesBeforeOrAfter, IsOf, reopened}
 
--- where a node was opened, whatever else is known
+-- a node that was opened, with what else is known
 pub if_opened : {T E : Type 0} (r : Result T E) (P Q R : T → Type 0) (O : Type 0) → ((x : T) → P x → Q x → O → R x) → IfOk r P → IfOk r Q → OnOk r O → IfOk r R
 if_opened (Ok x) P Q R O f p q o = f x p q o
 if_opened (Err e) P Q R O f p q o = tt
@@ -31,7 +31,7 @@ pub if_refused : {T E : Type 0} (r : Result T E) (P Q R : E → Type 0) → ((e 
 if_refused (Ok x) P Q R f p q = tt
 if_refused (Err e) P Q R f p q = f e p q
 
--- what is said of both answers
+-- the part of a result's property for success
 pub at_ok : {T E : Type 0} (r : Result T E) (P : T → Type 0) (Q : E → Type 0) → MatchResult r P Q → IfOk r P
 at_ok (Ok x) P Q is = is
 at_ok (Err e) P Q is = tt
@@ -67,7 +67,7 @@ module _ {D : Type 0} (history : D → History) (n : LoggedNode D) (on : IsOnLog
         inr (subst (λ (i : Identity). HasNotes i (texts_of n.node.notes) file) on.owner has),
       )
 
-  -- so it is opened as that
+  -- so it is opened as that node
   pub opened_again : (m : NodeState) → OpensAsOne tree weights me → IsOpened tree weights me m → Opens (identity_of m.member) file (Ok (texts_of m.notes)) → m ≡ reopened n.node
   opened_again m one opened opens =
       let two : Ok m ≡ Ok (reopened n.node) = one file (Ok m) (Ok (reopened n.node)) (opened, opens) its_file in cc
@@ -108,7 +108,7 @@ module _ {D : Type 0} (history : D → History) (n : LoggedNode D) (on : IsOnLog
       (subst (λ (i : Identity). Opens i left (Ok ts)) mine (inr has)) in
       cc
 
-  -- a crash while it is asked leaves a file of its notes, with that of the step or without
+  -- a crash during a call leaves a file with its notes, either with or without that of the step
   pub crashed : (asked : Asked) (h : History) → LeavesItsNoteAtMost n.node asked (history n.log.disk) h → (left : Text) → MayLeave h left → HasOneAnswer (identity tree weights me)
       → (m : NodeState) → IsOpened tree weights me m → Opens (identity_of m.member) left (Ok (texts_of m.notes)) → HasNotesBeforeOrAfter n.node asked m
   crashed asked h leaves left may one m opened opens = by leaves

@@ -1,4 +1,4 @@
--- Bytes that spell a message.
+-- Bytes that encode a message.
 use Rattle.std.proofs.Common.{◌≡◌, Bool, false, Result, Ok, Err, IfOk, if◌then◌else◌, sym, subst, ap, ◌∙◌}
 use Rattle.faults.specs.Bytes.{Text}
 use Rattle.ballots.specs.declared.message.Message.{Message}
@@ -19,7 +19,7 @@ use Rattle.wire.specs.declared.WireFault.{WireFault}
 use Rattle.wire.specs.declared.datagram.Datagram.{Datagram}
 use Rattle.wire.specs.declared.datagram.Datagram.TheVariants.{Whole}
 
--- the step on what is read as a message is that on the message
+-- the step on bytes that are parsed as the message is that on the message
 took : (old new : NodeState) (m : Message Value) (out : Out) → datagram_of (datagram_text (Whole m)) ≡ Ok (Whole m) → OnlyRunningNodesTake
     → HasHandled old new (Comes (datagram_text (Whole m))) out → TookMessage old new m out
 took old new m out again running handled =
@@ -31,7 +31,7 @@ took old new m out again running handled =
     ∙ ap (λ (r : Result Datagram WireFault). step_on old.member (arrival_of old.member old.pieces r)) again in
     record { step = handled.step; is = sym right; taken = handled.taken }
 
--- and so it is of what a call answers
+-- and so is that of the call
 pub if_took : (r : Result Out NodeFault) (old new : NodeState) (m : Message Value) (text : Text) → text ≡ datagram_text (Whole m)
     → datagram_of (datagram_text (Whole m)) ≡ Ok (Whole m) → OnlyRunningNodesTake
     → IfOk r (HasHandled old new (Comes text)) → IfOk r (TookMessage old new m)

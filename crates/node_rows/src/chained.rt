@@ -1,4 +1,4 @@
-//! Two calls in a row.
+//! Two calls in succession.
 ghost use Rattle.std.specs.Prelude.{IfOk, OnOk};
 ghost use Rattle.node.specs.OnLog.{IsOnLog};
 ghost use Rattle.node.specs.Ranges.{IsGoodInput};

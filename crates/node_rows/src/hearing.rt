@@ -1,4 +1,4 @@
-//! A message that is handed to a node as bytes.
+//! Messages that a node receives as bytes.
 ghost use Rattle.std.specs.Prelude.{◌≡◌, IfOk, None};
 ghost use Rattle.agreement.specs.Member.{greater};
 ghost use Rattle.protocol.specs.Step.{facts_named};
@@ -14,7 +14,7 @@ use stable_record::Disk;
 use std::alloc::Global;
 use wire::{Datagram, Piece, encode, pieces_join, texts_are_read_again};
 
-/// Writes a message down that carries no build, and hands it to a node.
+/// Encodes a message that carries no build, and passes it to a node.
 pub fn deliver<D: Disk>(
     node: &mut Node<'_, D>,
     alloc: Global,
@@ -32,8 +32,8 @@ pub fn deliver<D: Disk>(
     node.handle_datagram(text.as_slice())
 }
 
-/// Writes a piece down, and hands it to a node. Where it is the last that was missing of a message,
-/// the node takes its member's step on that.
+/// Encodes a piece, and passes it to a node. If it is the last missing one of a message, the node
+/// takes its member's step on that message.
 pub fn deliver_piece<D: Disk>(
     node: &mut Node<'_, D>,
     alloc: Global,
@@ -51,7 +51,7 @@ pub fn deliver_piece<D: Disk>(
     node.handle_datagram(text.as_slice())
 }
 
-/// Hands an offer to a node, and tells what the node has promised then for its unit.
+/// Passes an offer to a node, and returns what the node has then promised for its unit.
 pub fn offer<D: Disk>(
     node: &mut Node<'_, D>,
     alloc: Global,
@@ -60,7 +60,7 @@ pub fn offer<D: Disk>(
 ) -> Result<Option<Claim>, NodeFault>
     requires message { IsMessage message.now }
     requires offer { message.now.body ≡ Body.Offer claim }
-    // It is the greater of what was promised and of what was offered.
+    // The result is the greater of the previous promise and the offered claim.
     ensures { IfOk result (λ promised. promised
         ≡ greater (facts_named node.old.node.member message.now.path).promised claim) }
 {

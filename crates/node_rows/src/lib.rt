@@ -1,4 +1,4 @@
-//! A node's calls one after the other, over what their contracts say and no more.
+//! Calls of a node in succession, proved from their contracts alone.
 #![tactic(auto)]
 
 mod chained;

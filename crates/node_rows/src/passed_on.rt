@@ -1,4 +1,4 @@
-//! What one node sends, at another one.
+//! Messages from one node to another.
 ghost use Rattle.std.specs.Prelude.{IfOk, OnOk, slice_get};
 ghost use Rattle.node.specs.OnLog.{IsOnLog};
 ghost use Rattle.node.specs.Ranges.{IsGoodInput};
@@ -9,7 +9,7 @@ use member::Input;
 use node::{Node, NodeFault, Out, Parcels};
 use stable_record::Disk;
 
-/// A node takes an input, and another one takes the first datagram that goes out of it.
+/// A node handles an input, and another one handles the first datagram of its step.
 pub fn pass_on<D: Disk, E: Disk>(
     sender: &mut Node<'_, D>,
     receiver: &mut Node<'_, E>,
@@ -19,7 +19,7 @@ pub fn pass_on<D: Disk, E: Disk>(
     ensures passed_on { IfOk result (IsPassedOn sender.old.node sender.new.node
         receiver.old.node receiver.new.node (Does input)) }
 
-    // Whatever was passed on, its note was on the sender's disk before.
+    // When a datagram is passed on, its note is already on the sender's disk.
     ensures noted { D.is_kept sender.new.log.disk → IsOnLog D.history sender.old
         → OnOk result (EachCrashLeavesItsNotes D.history sender.new) }
 {
@@ -27,7 +27,7 @@ pub fn pass_on<D: Disk, E: Disk>(
     receive_first(receiver, &out.sends)
 }
 
-/// The node takes the first of these, if there is one.
+/// The node handles the first of these, if there is one.
 fn receive_first<E: Disk>(
     receiver: &mut Node<'_, E>,
     sends: &Parcels,

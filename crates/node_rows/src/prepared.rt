@@ -1,4 +1,4 @@
-//! Steps that are made ready, and taken or let go.
+//! Steps that are made ready, and then taken or dropped.
 ghost use Rattle.std.specs.Prelude.{◌≡◌, IfOk, OnOk};
 ghost use Rattle.node.specs.Calls.{HasHandled};
 ghost use Rattle.node.specs.OnLog.{IsOnLog};
@@ -9,7 +9,7 @@ use member::Input;
 use node::{Node, NodeFault, Out};
 use stable_record::Disk;
 
-/// Makes the step on an input ready, and lets it go.
+/// Makes the step on an input ready, and drops it.
 pub fn let_go<D: Disk>(node: &mut Node<'_, D>, input: Input) -> Result<(), NodeFault>
     requires message { IsGoodInput input }
     ensures same { node.new ≡ node.old }
@@ -29,7 +29,7 @@ pub fn take<D: Disk>(node: &mut Node<'_, D>, input: Input) -> Result<Out, NodeFa
     node.finish(ready)
 }
 
-/// Makes the step on an input ready and lets it go, and takes bytes.
+/// Makes the step on an input ready and drops it, and then handles bytes.
 pub fn let_go_then_receive<D: Disk>(
     node: &mut Node<'_, D>,
     input: Input,

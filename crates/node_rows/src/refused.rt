@@ -1,4 +1,4 @@
-//! Calls after one that was refused.
+//! Calls after a refused one.
 ghost use Rattle.std.specs.Prelude.{◌≡◌, ◌⊎◌, IfOk, true};
 ghost use Rattle.node.specs.Calls.{HasHandled};
 ghost use Rattle.node.specs.Ranges.{IsGoodInput};
@@ -9,14 +9,14 @@ use member::Input;
 use node::{Node, NodeFault, Out};
 use stable_record::Disk;
 
-/// Takes the input, or else the bytes.
+/// Handles the input, or if it is refused, the bytes.
 pub fn take_or_receive<D: Disk>(
     node: &mut Node<'_, D>,
     input: Input,
     bytes: &[u8],
 ) -> Result<Out, NodeFault>
     requires message { IsGoodInput input }
-    // What was refused has done nothing.
+    // The refused call has changed nothing.
     ensures { IfOk result (λ out. HasHandled node.old.node node.new.node (Does input) out
         ⊎ HasHandled node.old.node node.new.node (Comes bytes.now) out) }
 {
@@ -26,13 +26,14 @@ pub fn take_or_receive<D: Disk>(
     }
 }
 
-/// Takes the first bytes, or else the second ones.
+/// Handles the first bytes, or if they are refused, the second ones.
 pub fn receive_either<D: Disk>(
     node: &mut Node<'_, D>,
     first: &[u8],
     second: &[u8],
 ) -> Result<Out, NodeFault>
-    // Bytes that were refused have done nothing, but for the pieces that make no message with them.
+    // Refused bytes have changed nothing, except for dropping the pieces that don't join to a
+    // message.
     ensures { IfOk result (λ out. HasHandled node.old.node node.new.node (Comes first.now) out
         ⊎ HasHandledLater node.old.node node.new.node (Comes first.now) (Comes second.now) out) }
 {
@@ -42,7 +43,7 @@ pub fn receive_either<D: Disk>(
     }
 }
 
-/// Whether a node that stopped says so, and does nothing, also to bytes.
+/// Whether a stopped node says so and does nothing, also on bytes.
 pub fn take_when_stopped<D: Disk>(node: &mut Node<'_, D>, input: Input, bytes: &[u8]) -> bool
     requires message { IsGoodInput input }
     requires stopped { node.old.node.stopped ≡ true }

@@ -26,14 +26,14 @@ pub fn reopen<'a, D: Disk>(
     me: u8,
 ) -> Result<Node<'a, D>, (NodeFault, D)>
     requires { me < length weights.now }
-    // It knows what it knew, and has no claim and no pieces.
+    // It knows what it knew, and has neither claim nor pieces.
     ensures opened { IfOk result (λ n. D.is_kept n.log.disk → IsOnLog D.history node.entry
         → IsOf tree.entry.now weights.now me node.entry.node.member
         → n.node ≡ reopened node.entry.node) }
     ensures on_log { IfOk result (λ n. D.is_kept n.log.disk → IsOnLog D.history n) }
     ensures kept { IfOk result (λ n. D.is_kept n.log.disk → D.is_kept node.entry.log.disk) }
 
-    // Nothing but memory and the device can be in the way.
+    // Only memory and the device can prevent that.
     ensures refused { IfErr result (λ e. D.is_kept e.1 → IsOnLog D.history node.entry
         → IsOf tree.entry.now weights.now me node.entry.node.member
         → (e.0 ≡ NodeFault.Memory) ⊎ (e.0 ≡ NodeFault.Log LogFault.Device)) }
@@ -42,7 +42,7 @@ pub fn reopen<'a, D: Disk>(
     Node::open(alloc, node.into_disk(), tree, weights, me)
 }
 
-/// Stops the node, opens it again, and takes bytes.
+/// Stops the node, opens it again, and handles bytes.
 pub fn receive_after_reopening<'a, D: Disk>(
     alloc: Global,
     node: Node<'a, D>,
@@ -68,7 +68,7 @@ pub fn receive_after_reopening<'a, D: Disk>(
     }
 }
 
-/// Takes an input, stops by a crash that leaves the disk as told, and is opened again.
+/// Handles an input; a crash during it leaves this disk; the node is opened again.
 pub fn crash_inside<'a>(
     alloc: Global,
     node: Node<'a, FaultDisk>,
@@ -80,7 +80,7 @@ pub fn crash_inside<'a>(
 ) -> Result<Node<'a, MemDisk>, (NodeFault, MemDisk)>
     requires me { me < length weights.now }
     requires message { IsGoodInput input }
-    // Its log has the notes from before, with that of the step or without.
+    // Its log has the previous notes, either with or without that of the step.
     ensures { IfOk result (λ n. IsOnLog history_of node.entry
         → IsOf tree.entry.now weights.now me node.entry.node.member
         → HasNotesBeforeOrAfter node.entry.node (Does input) n.node) }
@@ -91,7 +91,7 @@ pub fn crash_inside<'a>(
     Node::open(alloc, disk, tree, weights, me)
 }
 
-/// Takes an input; where it was taken, a crash comes, and the node is opened again.
+/// Handles an input. If it succeeded, a crash follows, and the node is opened again.
 pub fn crash_behind<'a>(
     alloc: Global,
     node: Node<'a, FaultDisk>,
@@ -123,7 +123,7 @@ pub fn crash_behind<'a>(
     }
 }
 
-/// Opens a node of a disk that may fail; whatever is answered, a crash comes, and it is opened
+/// Opens a node on a disk that may fail. Whatever the result, a crash follows, and it is opened
 /// again.
 pub fn crash_in_opening<'a>(
     alloc: Global,

@@ -1,4 +1,4 @@
--- Bytes that stand nowhere in a text.
+-- Bytes that don't occur in a text.
 use Rattle.std.proofs.Common.{◌≡◌, ℕ, zero, suc, ◌/◌, ◌%◌, Bool, true, false, not, ◌||◌, cond, eqb, List, [], ◌∷◌, ◌++◌, get_or, Option, Some, None, Ok, refl, sym, ap, ◌∙◌, inl, inr}
 use Rattle.std.specs.List.{All, list_all, onto_first}
 use Rattle.std.proofs.lemmas.Bool.{and_from, and_parts, cases_Bool, eqb-true, not-true, or_parts}
@@ -26,7 +26,7 @@ lacks_all c (b ∷ bs) none =
 pub lacks-append : (c : ℕ) (xs ys : Text) → has_byte c xs ≡ false → has_byte c ys ≡ false → has_byte c (xs ++ ys) ≡ false
 lacks-append c xs ys front behind = list_any-append (λ b. eqb b c) xs ys ∙ rw front behind
 
--- where each byte passes a test that the byte doesn't
+-- if all bytes of the text pass a test, and this byte doesn't
 pub lacks_failing : (p : ℕ → Bool) (c : ℕ) (text : Text) → p c ≡ false → list_all p text ≡ true → has_byte c text ≡ false
 lacks_failing p c [] fails all = refl
 lacks_failing p c (b ∷ bs) fails all =
@@ -51,7 +51,7 @@ onto_first_lacks c b (p ∷ ps) all =
     let here = or_parts (eqb b c) (has_byte c p) (not-true (has_byte c (b ∷ p)) parts.0) in
     (here.0, and_from (lacks c p) (list_all (lacks c) ps) (ap not here.1) parts.1)
 
--- where no piece has the byte, and it is not the one that separates
+-- if no piece has the byte, and it isn't the separator
 pub lacks_in_pieces : (s c : ℕ) (text : Text) → eqb s c ≡ false → list_all (lacks c) (pieces_at s text) ≡ true → has_byte c text ≡ false
 lacks_in_pieces s c [] other all = refl
 lacks_in_pieces s c (b ∷ bs) other all =

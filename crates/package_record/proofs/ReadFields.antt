@@ -1,4 +1,4 @@
--- Fields that are spelled so are read.
+-- The texts of fields are parsed as these fields.
 use Rattle.std.proofs.Common.{◌≡◌, ℕ, ◌+◌, ◌<◌, ◌≤◌, ◌^◌, Bool, true, false, cond, not, ◌&&◌, ◌||◌, eqb, leb, ltb, List, [], ◌∷◌, ◌++◌, length, get_or, take, drop, Result, Ok, Err, refl, sym, ap, ◌∙◌, arith, inl, inr, codes, decimal}
 use Rattle.std.specs.Char.{is_ascii_digit}
 use Rattle.std.specs.List.{list_all, position_or_len}
@@ -40,7 +40,7 @@ same_text text = (bytes_eq-Decides text text).1 refl
 
 -- ---- lines
 
--- the place behind n lines, with these before it
+-- the place after n lines, with these lines left
 abbrev pub at : ℕ → List Text → Place
 at n ls = record { passed = n; lines = ls }
 

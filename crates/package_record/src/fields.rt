@@ -1,4 +1,4 @@
-//! What a record says, field by field.
+//! The contents of a record, field by field.
 ghost use Rattle.std.specs.Prelude.{◌≡◌, IfOk};
 ghost use Rattle.package_record.specs.Views.{content_of};
 
@@ -9,7 +9,7 @@ use pkgname::PkgName;
 use pkgpath::PkgPath;
 use std::alloc::Global;
 
-/// What a record says, as it was handed in or read.
+/// The contents of a record, as given or parsed.
 #[derive(Drop)]
 pub struct Fields {
     pub path: PkgPath,
@@ -22,7 +22,7 @@ pub struct Fields {
 }
 
 impl Fields {
-    /// The same, with the texts that are had of the packages that are named.
+    /// Equal fields, which use the given texts of the packages that they name.
     pub(crate) fn with_texts<T: Texts>(self, texts: &T) -> Result<Fields, Memory>
         ensures { IfOk result (λ fields. content_of fields ≡ content_of self) }
     {
@@ -41,7 +41,7 @@ impl Fields {
     }
 }
 
-/// Equal paths, with the texts that are had of them, and no room to spare.
+/// Equal paths, which use the given texts, without spare capacity.
 fn paths_with_texts<T: Texts>(paths: Vec<PkgPath>, texts: &T) -> Result<Vec<PkgPath>, Memory>
     ensures { IfOk result (λ same. same.items ≡ paths.items) }
 {

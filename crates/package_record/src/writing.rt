@@ -19,7 +19,7 @@ use itoa::Buffer;
 use pkgpath::PkgPath;
 use std::alloc::Global;
 
-/// Appends a line that is made of these parts.
+/// Appends a line made of these parts.
 #[tactic(auto, unfolding(crate::specs::Content::ended))]
 fn put_line(out: &mut Vec<u8>, parts: &[&[u8]]) -> Result<(), Memory>
     ensures { OnOk result
@@ -32,14 +32,14 @@ fn put_line(out: &mut Vec<u8>, parts: &[&[u8]]) -> Result<(), Memory>
     Ok(())
 }
 
-/// Appends the line of a word and what belongs to it.
+/// Appends a line made of a word and its text.
 pub fn put_field(out: &mut Vec<u8>, word: &[u8], text: &[u8]) -> Result<(), Memory>
     ensures { OnOk result (out.new.items ≡ out.old.items ++ ended ((word.now ++ text.now) ∷ [])) }
 {
     put_line(out, &[word, text])
 }
 
-/// The lines that say what the package is.
+/// Appends the lines with the version of the format, and the package's name and path.
 fn put_names(out: &mut Vec<u8>, fields: &Fields) -> Result<(), Memory>
     ensures text { OnOk result
         (out.new.items ≡ out.old.items ++ ended (name_lines (content_of fields.now))) }

@@ -1,4 +1,4 @@
--- What of a text a writer took so far.
+-- Which part of a text a writer has taken so far.
 use Rattle.std.proofs.Common.{◌≡◌, ◌-◌, ◌++◌, ◌∙◌, ℕ, List, [], Option, length, take, drop, ap, refl, subst, sym, append_assoc, append-nil, take-append-drop}
 use Rattle.std.proofs.KnownBytes.{Appends-kept, Appends-nil, Appends-trans}
 use Rattle.std.proofs.Math.Seq.{take-append_seam, take-length}
@@ -7,7 +7,7 @@ use Rattle.std.specs.Io.KnownBytes.{Appends, Keeps}
 use Rattle.faults.specs.Bytes.{Text}
 use Rattle.program.specs.Printing.{AppendsBeginning}
 
--- what is no more in the rest of the text was written
+-- what is no longer in the rest of the text was written
 abbrev pub HasTaken : Option (List ℕ) → Option (List ℕ) → Text → Text → Type 0
 HasTaken before after text rest = (done : Text) × (text ≡ done ++ rest) × Appends before after done
 
@@ -33,6 +33,6 @@ module _ (a b : Option (List ℕ)) (text rest : Text) (taken : HasTaken a b text
   pub all_taken : rest ≡ [] → Appends a b text
   all_taken none = subst (Appends a b) (sym (taken.1 ∙ ap (λ l. taken.0 ++ l) none ∙ append-nil taken.0)) taken.2
 
--- the whole is a beginning
+-- the whole text is a prefix of itself
 pub whole_begins : (a b : Option (List ℕ)) (text : Text) → Appends a b text → AppendsBeginning a b text
 whole_begins a b text all = (length text, subst (Appends a b) (sym (take-length text)) all)

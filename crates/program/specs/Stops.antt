@@ -11,29 +11,29 @@ use Rattle.program.specs.declared.refusal.Refusal.{Refusal}
 use Rattle.program.specs.declared.stop.Stop.{Stop}
 use Rattle.program.specs.declared.stop.Stop.TheVariants.{Refused, Unwritten, WrongWords}
 
--- the status with which the program then ends
+-- the exit status of the program
 abbrev pub status_after : Stop → ℕ
 status_after (WrongWords e) = 2
 status_after (Refused r) = 1
 status_after (Unwritten r) = 1
 
--- clap's error stops the program: for want of memory, or as wrong words
+-- clap's error stops the program, as out of memory or as wrong words
 abbrev pub StopsBy : Error → Stop → Type 0
 StopsBy e stop =
     ((kind_of e ≡ OutOfMemory) × (stop ≡ Refused memory_refusal))
     ⊎ ((kind_of e ≢ OutOfMemory) × (stop ≡ WrongWords e))
 
--- the line that tells a refusal
+-- the line that is printed for a refusal
 abbrev pub refusal_line : Text → Refusal → Text
 refusal_line program r = program ++ codes ": " ++ refusal_text r ++ line_feed ∷ []
 
--- What was written since, where it is known, is the line of the refusal; clap's own texts are its.
+-- What was written, if known, is the line of the refusal. Nothing is said about clap's own texts.
 abbrev pub IsTold : Text → Stop → Option (List ℕ) → Option (List ℕ) → Type 0
 IsTold program (WrongWords e) before after = ⊤
 IsTold program (Refused r) before after = Appends before after (refusal_line program r)
 IsTold program (Unwritten r) before after = Appends before after (refusal_line program r)
 
--- What was written since, where it is known, is a beginning of that line; clap's own texts are its.
+-- What was written, if known, is a prefix of that line. Nothing is said about clap's own texts.
 abbrev pub IsBegun : Text → Stop → Option (List ℕ) → Option (List ℕ) → Type 0
 IsBegun program (WrongWords e) before after = ⊤
 IsBegun program (Refused r) before after = AppendsBeginning before after (refusal_line program r)

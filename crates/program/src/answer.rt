@@ -1,6 +1,6 @@
 //! The answer to a call.
 
-/// What a call prints, and the status with which the program then ends.
+/// What a call prints, and the exit status of the program.
 #[derive(Drop)]
 pub struct Answer {
     pub text: Vec<u8>,

@@ -1,5 +1,5 @@
-//! What the programs have in common: how they read a listing, what a line on a node says, how an
-//! answer is written out, and how they tell why they stop.
+//! What the programs share: reading a listing, the status line of a node, printing an answer, and
+//! reporting why they stop.
 #![tactic(auto)]
 
 mod answer;

@@ -7,13 +7,13 @@ use crate::refusal::Refusal;
 use std::fs;
 use std::rt::Files;
 
-/// Texts that have names. Whoever is handed some can read them and do nothing else with them: what
-/// is generic in them writes, renames and removes no file.
+/// Texts with names. Code that is given them can only read them: code that is generic in them can't
+/// write, rename or remove a file.
 pub trait NamedTexts {
-    /// That a read of this name gave this text, as far as whoever has the texts says so.
+    /// Whether a read of this name returned this text, as far as the implementation says.
     ghost gave: { Self → Text → Text → Type 0 } = { λ _ _ _. ⊤ };
 
-    /// The text of that name.
+    /// The text with that name.
     ///
     /// # Errors
     ///
@@ -23,14 +23,14 @@ pub trait NamedTexts {
         ensures refused { IfErr result IsSystemRefusal };
 }
 
-/// The files of the system that a program runs on.
+/// The files of the system that the program runs on.
 #[derive(Drop)]
 pub struct SystemFiles<'a, R> {
     rt: &'a R,
 }
 
 impl<'a, R: Files + AllocGlobal> SystemFiles<'a, R> {
-    /// They are those of this system.
+    /// The files of this system.
     pub fn of(rt: &'a R) -> SystemFiles<'a, R> {
         SystemFiles { rt }
     }

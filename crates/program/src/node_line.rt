@@ -1,11 +1,11 @@
-//! A line that says what a node shows.
+//! The status line of a node.
 ghost use Rattle.std.specs.Prelude.{◌≡◌, IfOk, string_bytes};
 ghost use Rattle.program.specs.NodeLine.{counts_line, node_line};
 
 use engine::Counts;
 use std::alloc::{AllocError, Global};
 
-/// How many packages have each letter, as a line.
+/// The number of packages of each letter, as a line.
 pub fn counts_text(alloc: Global, counts: Counts) -> Result<String, AllocError>
     ensures { IfOk result (λ text. string_bytes text ≡ counts_line counts) }
 {
@@ -19,7 +19,7 @@ pub fn counts_text(alloc: Global, counts: Counts) -> Result<String, AllocError>
     format!(in alloc; "I={i} B={b} Q={q} T={t} !={ignored}\n")
 }
 
-/// How many packages have each letter at the node, or that it is down, as a line.
+/// The number of packages that have each letter at the node, or that it is down, as a line.
 pub fn node_text(alloc: Global, node: u8, counts: Option<Counts>) -> Result<String, AllocError>
     ensures { IfOk result (λ text. string_bytes text ≡ node_line node counts) }
 {

@@ -1,4 +1,4 @@
-//! Writing out what was made.
+//! Printing an answer.
 ghost use Rattle.std.specs.Prelude.{OnErr, OnOk};
 ghost use Rattle.std.specs.Io.KnownBytes.{Appends};
 ghost use Rattle.program.specs.Printing.{AppendsBeginning};
@@ -6,8 +6,8 @@ ghost use Rattle.program.specs.Printing.{AppendsBeginning};
 use std::io;
 use std::io::{ErrorKind, Write};
 
-/// Writes the text and flushes it. After an error no more than a beginning of it was written, which
-/// the contract of `Write::write_all` does not say.
+/// Writes the text and flushes it. After an error only a prefix of it was written; the contract of
+/// `Write::write_all` doesn't say that.
 pub fn print<O: Write>(out: &mut O, text: &[u8]) -> io::Result<()>
     ensures ok { OnOk result (Appends (O.contents out.old) (O.contents out.new) text.now) }
     ensures err { OnErr result

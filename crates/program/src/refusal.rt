@@ -1,4 +1,4 @@
-//! How a refusal is told.
+//! Refusals, as they are reported.
 ghost use Rattle.std.specs.Prelude.{◌≡◌, Some};
 ghost use Rattle.program.specs.Listings.{listing_refusal};
 ghost use Rattle.program.specs.Refusals.{
@@ -14,8 +14,8 @@ use std::alloc::AllocError;
 use std::io::ErrorKind;
 use std::{fmt, io};
 
-/// The number of a fault, and the line or event where it came up, counted from 1, if it has one.
-/// What a trace has outside its events is 0.
+/// The number of a fault, and its line or event, counted from 1, if it has one. The place is 0 for
+/// what is outside the events of a trace.
 #[derive(Clone, Copy, Debug, PartialEq, Eq)]
 pub struct Refusal {
     pub number: u32,
@@ -23,7 +23,7 @@ pub struct Refusal {
 }
 
 impl Refusal {
-    /// How the fault is told.
+    /// The refusal for the fault.
     pub fn of<F: Fault>(fault: &F) -> Refusal
         ensures number { result.number ≡ F.number_of fault.now }
         ensures place { result.place ≡ F.place_of fault.now }
@@ -34,7 +34,7 @@ impl Refusal {
         }
     }
 
-    /// Memory was refused.
+    /// Out of memory.
     pub fn memory() -> Refusal
         ensures { result ≡ memory_refusal }
     {

@@ -14,22 +14,22 @@ use std::fmt::Write as _;
 use std::io;
 use std::io::Write;
 
-/// How many bytes the line of a refusal may have: a name of 80, and what stands behind it.
+/// The maximum length of the line of a refusal in bytes: a name of 80, and what follows it.
 const MOST_IN_LINE: usize = 128;
 
 /// Why the program stops before its answer is printed.
 #[derive(Drop)]
 pub enum Stop {
-    /// The words make no call, or ask for help. Nothing was written.
+    /// The words are not a call, or ask for help. Nothing was written.
     WrongWords(Error),
-    /// The call can't be carried out. Nothing was written.
+    /// The call can't be executed. Nothing was written.
     Refused(Refusal),
-    /// The answer, or its end, can't be written: fault 2.
+    /// The answer, or the rest of it, can't be written: fault 2.
     Unwritten(Refusal),
 }
 
 impl Stop {
-    /// The status with which the program then ends: 2 or 1.
+    /// The exit status of the program: 2 or 1.
     pub fn status(&self) -> u8
         ensures after { result ≡ status_after self.now }
         ensures ill { (result ≡ 1) ⊎ (result ≡ 2) }
@@ -40,8 +40,8 @@ impl Stop {
         }
     }
 
-    /// Says why on `err`: clap's text, or one line, the program's name and then `: fault N` or
-    /// `: fault N at K`. After an error no more than a beginning of that line was written.
+    /// Prints the reason to `err`: clap's text, or one line of the program's name and `: fault N`
+    /// or `: fault N at K`. After an error only a prefix of that line was written.
     pub fn tell<E: Write>(self, program: &str, err: &mut E) -> io::Result<()>
         ensures told { OnOk result
             (IsTold program.now self (E.contents err.old) (E.contents err.new)) }
@@ -56,8 +56,8 @@ impl Stop {
     }
 }
 
-/// Writes the line that tells a refusal, for which no memory is asked. Of a name for which it has
-/// no room nothing is told.
+/// Writes the line of a refusal without allocating memory. If the program's name is too long for
+/// it, nothing is written.
 fn tell_refusal<E: Write>(program: &str, refusal: Refusal, err: &mut E) -> io::Result<()>
     ensures told { OnOk result (Appends (E.contents err.old) (E.contents err.new)
         (refusal_line program.now refusal)) }
@@ -70,7 +70,7 @@ fn tell_refusal<E: Write>(program: &str, refusal: Refusal, err: &mut E) -> io::R
     }
 }
 
-/// The line that tells a refusal, if there is room for it.
+/// The line of a refusal, if it fits.
 fn line_of(program: &str, refusal: Refusal) -> Option<ArrayString<MOST_IN_LINE>>
     ensures { IfSome result (λ line. line.bytes ≡ refusal_line program.now refusal) }
 {

@@ -10,7 +10,7 @@ use listing::{ListingFault, Tree};
 use std::alloc::Global;
 use std::rt::Files;
 
-/// The tree that the listing describes, where each path is a group of its own or not.
+/// The tree that the listing describes; each path is a group of its own, or not.
 pub fn tree_of_text(alloc: Global, listing: &[u8], is_single: bool) -> Result<Tree, ListingFault>
     ensures { IsRightUnless ListingFault.Memory result (tree_of (rules_for is_single) listing.now) }
 {
@@ -21,7 +21,7 @@ pub fn tree_of_text(alloc: Global, listing: &[u8], is_single: bool) -> Result<Tr
     }
 }
 
-/// The tree that the listing of this name describes.
+/// The tree that the listing with this name describes.
 ///
 /// # Errors
 ///

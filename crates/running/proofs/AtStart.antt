@@ -1,4 +1,4 @@
--- Nodes at the start stand on their disks.
+-- Nodes at the start agree with their disks.
 use Rattle.std.proofs.Common.{◌≡◌, ◌⊎◌, inl, inr, ⊎_elim, ◌++◌, ℕ, zero, suc, List, [], ◌∷◌, length, map, replicate, None, Some, Ok, Err, Result, IfOk, slice_get, refl, sym, ap, subst, ◌∙◌, arith}
 use Rattle.ballots.specs.declared.message.Note.{Note}
 use Rattle.faults.specs.Bytes.{Text}
@@ -27,7 +27,7 @@ no_notes : (i : Identity) (texts : List (List ℕ)) → Opens i [] (Ok texts) �
 no_notes i texts (inl blank) = blank.1
 no_notes i texts (inr notes) = absurd (omega (arith, ap length notes.parts))
 
--- notes without texts are none
+-- without texts there are no notes
 none_spelled : (notes : List (Note Value)) → texts_of notes ≡ [] → notes ≡ []
 none_spelled [] e = refl
 none_spelled (n ∷ ns) e = absurd (omega (arith, ap length e))
@@ -53,7 +53,7 @@ fresh_of tree weights me file empty (Err e) is = tt
 
 module _ (tree : Tree) (weights : List ℕ) (d : Division) (of_tree : d.tree ≡ tree)
     (divided : IsDivision d) where
-  -- a fresh node is the one over that division
+  -- a fresh node is the one over this division
   fresh_is : (me : ℕ) (n : LoggedNode MemDisk) → IsFresh tree weights me n
       → n.node ≡ opened_node d weights me []
   fresh_is me n is =
@@ -62,12 +62,12 @@ module _ (tree : Tree) (weights : List ℕ) (d : Division) (of_tree : d.tree ≡
       (o.of_tree ∙ sym of_tree) o.divided divided in
       o.node ∙ (λ i. opened_node (same i) weights me (is.empty i))
 
-  -- the world sees it as one that is fresh
+  -- the world sees it as a fresh node
   pub seen_fresh : (me : ℕ) (x : Slot) → IsUpFresh tree weights me x → node_view x ≡ fresh_node
   seen_fresh me (Up n) is = ap up_node (fresh_is me n is)
   seen_fresh me (Down r) is = absurd is
 
-  -- it stands on its disk
+  -- it agrees with its disk
   pub fresh_stands : (w : World) → w.division ≡ d → w.weights ≡ weights → (me : ℕ) (x : Slot)
       → IsUpFresh tree weights me x → StandsOn w me x
   fresh_stands w ed ew me (Up n) is =
@@ -77,7 +77,7 @@ module _ (tree : Tree) (weights : List ℕ) (d : Division) (of_tree : d.tree ≡
       (right n.node (fresh_is me n is), is.on_log)
   fresh_stands w ed ew me (Down r) is = absurd is
 
--- elements that all show as one
+-- elements that all have the same view
 alike : {X Y : Type 0} (f : X → Y) (y : Y) (xs : List X)
     → ((k : ℕ) (x : X) → slice_get xs k ≡ Some x → f x ≡ y) → map f xs ≡ replicate (length xs) y
 alike f y [] same = refl
@@ -102,7 +102,7 @@ one_node (z ∷ zs) y x zero e = inl e
 one_node (z ∷ zs) y x (suc k) e = ⊎_elim (λ old. inl old) (λ new. inr (ap suc new.0, new.1))
     (one_node zs y x k e)
 
--- fresh nodes with the next one are fresh
+-- fresh nodes with the next one added are fresh
 pub fresh_more : (tree : Tree) (weights : List ℕ) (nodes now : List Slot) (n : LoggedNode MemDisk)
     (me : ℕ)
     → ((k : ℕ) (x : Slot) → slice_get nodes k ≡ Some x → IsUpFresh tree weights k x)

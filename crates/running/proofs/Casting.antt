@@ -13,7 +13,7 @@ use Rattle.agreement.specs.declared.claim.Claim.{Claim}
 use Rattle.agreement.proofs.Order.{claim_same_true}
 use Rattle.protocol.specs.State.{Value}
 
--- a vote as it is sent
+-- the message of a vote
 abbrev pub vote_of : ℕ → Claim → messages.Message Value
 vote_of k c = messages.Vote k c
 
@@ -21,11 +21,11 @@ pub votes_same : (a c : Claim) (i j : ℕ) → Some (vote_of i a) ≡ Some (vote
     → (j ≡ i) × (a ≡ c)
 votes_same a c i j e = (cc, cc)
 
--- The member notes the vote, or it is the last that it noted.
+-- The member notes the vote, or it is the last one that it noted.
 abbrev pub IsNoted : Member Value → Outcome Value → Ballot Value → Type 0
 IsNoted x o b = (o.note ≡ Some (members.Voted b)) ⊎ ((o.note ≡ None) × (x.voted ≡ Some b))
 
--- The vote that goes out is the member's own, and it is noted.
+-- The vote that is sent is the member's own, and it is noted.
 pub record IsNotedVote (i : ℕ) (x : Member Value) (o : Outcome Value) (j : ℕ) (c : Claim) :
     Type 0 where
   pub own : j ≡ i
@@ -33,11 +33,11 @@ pub record IsNotedVote (i : ℕ) (x : Member Value) (o : Outcome Value) (j : ℕ
   pub claim : ballot.claim ≡ c
   pub noted : IsNoted x o ballot
 
--- Each vote that goes out is so.
+-- Each vote that is sent is noted.
 pub record VotesAreNoted (i : ℕ) (x : Member Value) (o : Outcome Value) : Type 0 where
   pub each : (j : ℕ) (c : Claim) → o.send ≡ Some (vote_of j c) → IsNotedVote i x o j c
 
--- the message is no vote
+-- the message is not a vote
 abbrev IsNoVote : messages.Message Value → Type 0
 IsNoVote (messages.Offer c) = Unit {0}
 IsNoVote (messages.Promise p) = Unit {0}
@@ -53,7 +53,7 @@ message_same a b e = cc
 outcome_same : (a b : Outcome Value) → Some a ≡ Some b → a ≡ b
 outcome_same a b e = cc
 
--- a last vote under the claim is one
+-- a last vote under the claim exists
 last_vote : (c : Claim) (o : Option (Ballot Value)) → is_voted c o ≡ true
     → (b : Ballot Value) × (o ≡ Some b) × (b.claim ≡ c)
 last_vote c None e = absurd (true≢false (sym e))
@@ -88,7 +88,7 @@ module _ (i : ℕ) (x : Member Value) where
     };
   }
 
-  -- and one that is said again
+  -- and one that is sent again
   again : (b : Ballot Value) → is_voted b.claim x.voted ≡ true
       → VotesAreNoted i x (says x (vote_of i b.claim))
   again b is = record {
@@ -151,7 +151,7 @@ module _ (i : ℕ) (x : Member Value) where
   on_asks None = silent x
   on_asks (Some v) = telling x (messages.Agreed v) tt
 
-  -- when a message comes
+  -- the member receives a message
   on_messages : (enough : Quorums) (m : messages.Message Value)
       → VotesAreNoted i x (on_message enough i x m)
   on_messages enough (messages.Offer c) = on_offers c
@@ -208,7 +208,7 @@ module _ (i : ℕ) (x : Member Value) where
   questions (Some v) o e = absurd (let wrong : None ≡ Some o = e in cc)
   questions None o e = subst (VotesAreNoted i x) (outcome_same _ o e) (telling x messages.Ask tt)
 
-  -- whatever the member is asked
+  -- whatever the member is asked to do
   pub votes_are_noted : (enough : Quorums) (sent : List (messages.Message Value))
       (input : theory.Input Value) (o : Outcome Value)
       → theory.answer enough i x sent input ≡ Some o → VotesAreNoted i x o

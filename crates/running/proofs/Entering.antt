@@ -1,4 +1,4 @@
--- What is entered in a world's tables stands behind what was there.
+-- A world's tables are extended at their ends.
 use Rattle.std.proofs.Common.{◌≡◌, ◌≢◌, ◌<◌, ◌≤◌, ◌+◌, ℕ, zero, suc, Bool, true, false, cond, List, [], ◌∷◌, ◌++◌, length, map, take, get_or, refl, sym, ap, subst, ◌∙◌, arith, append_assoc, ◌||◌}
 use Rattle.std.specs.Prelude.{AllPairs}
 use Rattle.std.specs.List.{list_any}
@@ -20,14 +20,14 @@ use Rattle.running.specs.inside.Tables.{HasGrown, list_in}
 
 -- ---- tables that grow
 
--- what begins a beginning begins the whole
+-- a prefix of a prefix is a prefix of the whole
 begins_on : {X : Type 0} (m n : ℕ) (a b c : List X) → length a ≡ m → length b ≡ n → take m b ≡ a
     → take n c ≡ b → take m c ≡ a
 begins_on m n a b c short long ab bc =
     let less : m ≤ n = omega (arith, length-take m b, ap length ab, short, long) in
     sym (take-take m n c less) ∙ ap (take m) bc ∙ ab
 
--- tables that grew, and grew on, have grown
+-- extending is transitive
 pub grown_on : (p q r : Tables) → HasGrown p q → HasGrown q r → HasGrown p r
 grown_on p q r first then = record {
   sent = datagrams.grown_on p.sent q.sent r.sent first.sent then.sent;
@@ -36,7 +36,7 @@ grown_on p q r first then = record {
       then.listed;
 }
 
--- tables whose lists have more behind them have grown
+-- tables with more at the ends of their lists are extended
 pub grown_by : (p q : Tables) (sent : List Text) (list : List Content) (listed : List Text)
     → q.sent ≡ p.sent ++ sent → list_in q ≡ list_in p ++ list
     → q.listed.keys ≡ p.listed.keys ++ listed → HasGrown p q
@@ -48,7 +48,7 @@ grown_by p q sent list listed es el ek = record {
       ∙ take_at p.listed.keys listed (length p.listed.keys) refl;
 }
 
--- the same lists have grown by nothing
+-- equal lists are extended by nothing
 pub grown_none : (p q : Tables) → q.sent ≡ p.sent → list_in q ≡ list_in p
     → q.listed.keys ≡ p.listed.keys → HasGrown p q
 grown_none p q es el ek = record {
@@ -59,7 +59,7 @@ grown_none p q es el ek = record {
       ∙ take_all (length p.listed.keys) p.listed.keys (omega arith);
 }
 
--- tables where a path alone was kept more have grown
+-- tables with only one more path are extended
 pub grown_key : (p q : Tables) (path : Text) → q.sent ≡ p.sent → list_in q ≡ list_in p
     → q.listed.keys ≡ insert_key bytes_eq p.listed.keys path → HasGrown p q
 grown_key p q path es el ek = by_case (list_any (bytes_eq path) p.listed.keys) ek
@@ -72,7 +72,7 @@ grown_key p q path es el ek = by_case (list_any (bytes_eq path) p.listed.keys) e
 
 -- ---- the list
 
--- a path that is kept beside the list is that of a package in it
+-- a path in the set is that of a package in the list
 pub paths_have : (list : List Content) (path : Text)
     → list_any (bytes_eq path) (paths_of list) ≡ has_path list path
 paths_have [] path = refl
@@ -84,7 +84,7 @@ pub any_have : (list packages : List Content) (keys : List Text) → keys ≡ pa
 any_have list packages keys are = λ i. list_any
     (λ (r : Content). (ap (list_any (bytes_eq r.path)) are ∙ paths_have list r.path) i) packages
 
--- an element passes no test that none passes
+-- an element fails a test that no element passes
 none_at : {X : Type 0} (p : X → Bool) (xs : List X) (i : ℕ) (d : X) → i < length xs
     → list_any p xs ≡ false → p (get_or xs i d) ≡ false
 none_at p [] i d within none = absurd (omega arith)
@@ -92,7 +92,7 @@ none_at p (x ∷ xs) zero d within none = (or_parts (p x) (list_any p xs) none).
 none_at p (x ∷ xs) (suc i) d within none = none_at p xs i d (omega (arith, within))
     (or_parts (p x) (list_any p xs) none).1
 
--- a text isn't among those before it, where all differ
+-- a text is not among those before it, if all differ
 not_before : (ts : List Text) → AllPairs ◌≢◌ ts → (i : ℕ) → i < length ts
     → list_any (bytes_eq (get_or ts i [])) (take i ts) ≡ false
 not_before ts apart i within = list_any_none (bytes_eq (get_or ts i [])) (take i ts) (λ k d below.
@@ -109,7 +109,8 @@ not_before ts apart i within = list_any_none (bytes_eq (get_or ts i [])) (take i
         absurd (apart k i [] below within (get_or_default ts k [] d (omega (arith, below, within))
         ∙ sym same))
 
--- So the path of the build's next package is new beside the list and those before it.
+-- So the path of the build's next package is neither in the list nor that of an earlier package of
+-- the build.
 pub next_is_new : (list build : List Content) → IsBuild build
     → list_any (λ r. has_path list r.path) build ≡ false → (i : ℕ) (r : Content) → i < length build
     → r ≡ get_or build i r
@@ -132,7 +133,7 @@ next_is_new list build is none i r within here =
     (paths_have list r.path ∙ old)
     ∙ ap (list_any (bytes_eq r.path)) (sym (take-map (λ (c : Content). c.path) i build)) ∙ new
 
--- then it goes behind the others, and so its package does
+-- then it is appended, and so is its package
 pub path_entered : (list build : List Content) → IsBuild build
     → list_any (λ r. has_path list r.path) build ≡ false → (i : ℕ) (r : Content) → i < length build
     → r ≡ get_or build i r

@@ -35,19 +35,19 @@ none_applies false false false false true x y z u v h =
 none_applies false false false false false x y z u v h =
     record { first = refl; second = refl; third = refl; fourth = refl; fifth = refl }
 
--- what stands at a place within a list
+-- the element at a place within a list
 pub get_some : {X : Type 0} (xs : List X) (k : ℕ) → k < length xs → (x : X)
     × (slice_get xs k ≡ Some x)
 get_some [] k lt = absurd (omega (arith, lt))
 get_some (x ∷ xs) zero lt = (x, refl)
 get_some (x ∷ xs) (suc k) lt = get_some xs k (omega (arith, lt))
 
--- what is not refused holds
+-- a negation that is false
 pub not_false : (b : Bool) → not b ≡ false → b ≡ true
 not_false true e = refl
 not_false false e = absurd (true≢false e)
 
--- an element of a mapped list is one of the list, mapped
+-- an element of a mapped list is an element of the list, mapped
 pub get_mapped : {X Y : Type 0} (f : X → Y) (xs : List X) (k : ℕ) (x : X)
     → slice_get xs k ≡ Some x → slice_get (map f xs) k ≡ Some (f x)
 get_mapped f [] k x e = absurd (let wrong : None ≡ Some x = e in cc)
@@ -56,7 +56,7 @@ get_mapped f (y ∷ ys) (suc k) x e = get_mapped f ys k x e
 
 -- ---- what an event asks
 
--- a step asks for something, and what it delivers was sent
+-- a step asks for something, and the datagram that it delivers was sent
 pub can_be_asked : (w : World) (e : Event) → is_step e ≡ true → lacks_datagram w e ≡ false
     → CanBeAsked w.sent e
 can_be_asked w (events.Claim n path host above) is there =

@@ -8,10 +8,10 @@ use Rattle.world.specs.declared.fault.WorldFault.{WorldFault}
 use Rattle.world.specs.declared.fault.WorldFault.TheVariants.{Memory}
 use Rattle.running.specs.History.{History, IsHistory, StoppedAt, taken}
 
--- of all events, these are still to come, and this is the next
+-- of all events, these are still to come, and this one is next
 module _ (all : List Event) (coming : List declared.Event) (e : declared.Event)
     (behind : List declared.Event) (next : coming ≡ e ∷ behind) where
-  -- it stands behind those that were taken
+  -- it follows those that were taken
   among : (old : List Event) → old ++ map event_view coming ≡ all
       → old ++ event_view e ∷ map event_view behind ≡ all
   among old before = ap (λ es. old ++ map event_view es) (sym next) ∙ before
@@ -42,7 +42,7 @@ module _ (all : List Event) (coming : List declared.Event) (e : declared.Event)
     refused = refused;
   }
 
--- none is still to come: all were taken
+-- no event is still to come: all were taken
 pub all_taken : (all : List Event) (coming : List declared.Event) → length coming ≡ 0
     → (old : List Event) → old ++ map event_view coming ≡ all → old ≡ all
 all_taken all [] none old before = sym (append-nil old) ∙ before

@@ -13,7 +13,7 @@ use Rattle.world.specs.Headline.{HasOneList, HoldAlike}
 use Rattle.world.specs.World.{IsMade, start}
 use Rattle.running.specs.History.{AlongRun, History, IsHistory, taken}
 
--- Each world that events led to has one list, and is safe; and nodes hold the same.
+-- Each world that events lead to has one list, and is safe, and nodes hold equal packages.
 pub has_one_list : (h : History) → IsHistory h
     → HasOneList h.world.division h.world.weights (taken h) h.world
 has_one_list h is =
@@ -31,7 +31,7 @@ hold_alike h is =
     always_alike each_run_is_acts build_is_read h.world.division h.world.weights is.made (taken h)
     h.world is.led
 
--- ---- how a history goes on
+-- ---- extending a history
 
 -- At the start no events were taken.
 pub at_start : (h : History) → IsMade h.world.division h.world.weights
@@ -41,7 +41,7 @@ at_start h made e none = record {
   led = subst (λ es. Leads (start h.world.division h.world.weights) es h.world) (sym none) e;
 }
 
--- An event that happens leads on.
+-- An event that happens extends the history.
 pub goes_on : (old new : History) (e : Event) → IsHistory old → Happens old.world e new.world
     → taken new ≡ taken old ++ e ∷ [] → IsHistory new
 goes_on old new e is happens kept =

@@ -1,4 +1,4 @@
--- The list after a step is the one with the build that its vote decides.
+-- The list after a step is extended by the build that its vote decides.
 use Rattle.std.proofs.Common.{◌≡◌, ◌⊎◌, ℕ, zero, true, List, [], ◌∷◌, Option, None, Some, refl, sym, ap, subst, ◌∙◌, arith, inr, ⊎_elim, true≢false}
 use Rattle.std.specs.Prelude.{Contains, option_and_then}
 use Rattle.faults.specs.Bytes.{Text}
@@ -36,7 +36,7 @@ use Rattle.running.proofs.VoteSent.{vote_is}
 use Rattle.running.proofs.NewVotes.{not_decided, said_same, says_it, votes_so}
 use Rattle.running.proofs.VoteLists.{vote_lists}
 
--- where the same was sent, the list stays
+-- if nothing new was sent, the list is unchanged
 list_stays : (w : World) (after : List Text) → after ≡ w.sent → IsListAfter w after w.agreed
 list_stays w after same = inr (
   λ t c d. true≢false
@@ -46,7 +46,7 @@ list_stays w after same = inr (
 
 -- ---- what a member's answer decides
 
--- the build that the note and the sends decide
+-- the build that the note and the messages decide
 abbrev decided_in : World → State → Option (Note Value) → List Send → Option Value
 decided_in w member note sends =
     option_and_then (λ m. decided_by w.weights w.sent member note m (claim_voted m.body))
@@ -63,7 +63,7 @@ module _ (w : World) (made : IsMade w.division w.weights) (acts : List (Act Valu
     (local : AreLocal w) (m : Matches w (after_all_acts w.division w.weights acts))
     (e : Event) (s : Acted w e)
     (a : IsAct w.division w.weights acts w made (refl, refl) local m build_is_read e s) where
-  -- the node, and the member that it is
+  -- the node, and its member
   abbrev k : ℕ
   k = whose e
 
@@ -77,11 +77,11 @@ module _ (w : World) (made : IsMade w.division w.weights) (acts : List (Act Valu
   abbrev answer : Answer
   answer = s.taken.answer
 
-  -- what was sent then
+  -- what was sent afterwards
   abbrev sent : List Text
   sent = with_sends w.sent answer.sends
 
-  -- the list with what the note and these sends decide
+  -- the list extended by the build that the note and these messages decide
   abbrev IsListBy : List Send → Type 0
   IsListBy sends =
       IsListAfter w sent (with_decision w.agreed (decided_in w member answer.note sends))
@@ -146,7 +146,8 @@ module _ (w : World) (made : IsMade w.division w.weights) (acts : List (Act Valu
       (λ a. act_lists w made acts local m e s a)
       (step_is_act e step s)
 
--- In a world that is reached, the list after a step is the one with what the step decides.
+-- In a world that can be reached, the list after a step is extended by the build that the step
+-- decides.
 pub step_lists : (w : World) → IsReached w → (e : Event) → is_step e ≡ true → (x : WorldNode)
     → (t : Taken) → Acts w e x t → (r : ReadyStep) → t ≡ taken_by (node_at w (whose e) x) r
     → IsListAfter w (with_sends w.sent t.answer.sends)

@@ -1,4 +1,4 @@
--- Votes, as they are said and noted, and which of them a step adds to what was sent.
+-- Votes, as they are sent and noted, and which of them a step adds to what was sent.
 use Rattle.std.proofs.Common.{◌≡◌, ◌⊎◌, ◌==◌, ℕ, true, List, Option, None, Some, option_map, refl, sym, ap, ◌∙◌, inl, inr, ⊎_elim, eq-eqb, true≢false}
 use Rattle.std.specs.Prelude.{Contains}
 use Rattle.std.proofs.lemmas.Bool.{and_from, and_parts, cond-true}
@@ -45,12 +45,12 @@ use Rattle.running.specs.inside.Deciding.{claim_voted, voted_in}
 use Rattle.running.proofs.Casting.{vote_of, votes_same}
 use Rattle.running.proofs.VoteSent.{whole_text}
 
--- ---- votes, as they are said and noted
+-- ---- votes, as they are sent and noted
 
 pub said_same : (a b : messages.Message Value) → Some a ≡ Some b → a ≡ b
 said_same a b e = cc
 
--- what is said as a vote votes
+-- a body that is sent as a vote is a vote
 pub votes_so : (k j : ℕ) (c : Claim) (b : Body Value) → said k b ≡ vote_of j c
     → claim_voted b ≡ Some c
 votes_so k j c (bodies.Offer d) e = absurd cc
@@ -61,7 +61,7 @@ votes_so k j c (bodies.Agreed v) e = absurd cc
 votes_so k j c bodies.Ask e = absurd cc
 votes_so k j c (bodies.Nay d p) e = absurd cc
 
--- claims that are one are found to be
+-- equal claims are compared as equal
 pub claim_is_same : (d c : Claim) → d ≡ c → claim_same d c ≡ true
 claim_is_same d c e = and_from (d.round == c.round) (d.member == c.member)
     (eq-eqb d.round c.round (ap (λ (x : Claim). x.round) e))
@@ -85,7 +85,7 @@ fact_value (fact.Held v) b c e is =
 note_same : (a b : members.Note Value) → Some a ≡ Some b → a ≡ b
 note_same a b e = cc
 
--- what is noted in the theory is noted here
+-- a note in the theory is a note here
 pub none_noted : (o : Option (Note Value)) → option_map (λ n. note_of n.fact) o ≡ None → o ≡ None
 none_noted None e = refl
 none_noted (Some n) e = absurd (let wrong : Some (note_of n.fact) ≡ None = e in cc)
@@ -107,7 +107,7 @@ module _ (w : World) (made : IsMade w.division w.weights) (acts : List (Act Valu
     (local : AreLocal w) (m : Matches w (after_all_acts w.division w.weights acts))
     (e : Event) (s : Acted w e)
     (a : IsAct w.division w.weights acts w made (refl, refl) local m build_is_read e s) where
-  -- the node, and the member that it is
+  -- the node, and its member
   abbrev k : ℕ
   k = whose e
 
@@ -117,7 +117,7 @@ module _ (w : World) (made : IsMade w.division w.weights) (acts : List (Act Valu
   abbrev member : State
   member = member_at w k x
 
-  -- its answer, and what the step is in the theory
+  -- its answer, and the step in the theory
   abbrev answer : Answer
   answer = s.taken.answer
 
@@ -127,7 +127,7 @@ module _ (w : World) (made : IsMade w.division w.weights) (acts : List (Act Valu
   abbrev name : Text
   name = name_of w d.unit
 
-  -- what was sent then
+  -- what was sent afterwards
   abbrev sent : List Text
   sent = with_sends w.sent answer.sends
 
@@ -138,7 +138,7 @@ module _ (w : World) (made : IsMade w.division w.weights) (acts : List (Act Valu
   pub written : (z : Send) → Contains answer.sends z → IsMessage z.message
   written z there = All-contains (λ z. IsMessage z.message) answer.sends z d.written there
 
-  -- a vote that is among the datagrams then was sent before, or the step says it
+  -- a vote among the datagrams was sent before, or the step sends it
   abbrev IsOldOrNew : Text → Claim → ℕ → Type 0
   IsOldOrNew t c j =
       (voters w w.sent t c j ≡ true) ⊎ ((d.outcome.send ≡ Some (vote_of j c)) × (t ≡ name))
@@ -166,7 +166,7 @@ module _ (w : World) (made : IsMade w.division w.weights) (acts : List (Act Valu
             sym (ap (λ (n : Message Value). n.path) same) ∙ says.path,
           )
 
-  -- so a claim is decided only by a vote that the step says
+  -- so a claim is decided only by a vote that the step sends
   pub not_decided : (t : Text) (c : Claim)
       → ((j : ℕ) → d.outcome.send ≡ Some (vote_of j c) → t ≡ name → ⊥)
       → IsDecided w sent t c → ⊥

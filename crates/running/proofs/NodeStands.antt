@@ -1,4 +1,4 @@
--- A node that stands on its log, and what a stop leaves of it.
+-- A node that agrees with its log, and what a stop leaves of it.
 use Rattle.std.proofs.Common.{◌≡◌, ℕ, List, [], ◌∷◌, ◌++◌, ◌-◌, length, length-append, append_assoc, append-nil, refl, sym, ap, subst, ◌∙◌, arith, Option}
 use Rattle.std.proofs.lemmas.List.{drop_all, drop_at}
 use Rattle.faults.specs.Bytes.{Text}
@@ -20,12 +20,12 @@ use Rattle.running.specs.declared.slot.Slot.TheVariants.{Up}
 use Rattle.running.specs.declared.slot.DownNode.{DownNode}
 use Rattle.running.specs.inside.Standing.{HasLeft, StandsOn, file_of, last_bytes, down_view}
 
--- what is left is the world's node, and stands on its disk
+-- what is left is the world's node, and agrees with its disk
 pub record IsLeftAs (w : World) (k : ℕ) (r : DownNode) (y : WorldNode) : Type 0 where
   pub view : down_view r ≡ y
   pub left : HasLeft w k (down_view r) r.disk
 
--- a disk with a file leaves just that
+-- a disk with a file leaves exactly that
 stands_on_disk : (disk : MemDisk) (file : List ℕ) → mem_history disk ≡ stands file ∷ []
     → IsOnDisk (mem_history disk)
 stands_on_disk disk file e = subst IsOnDisk (sym e) (λ c left. left.0)
@@ -42,12 +42,12 @@ module _ (w : World) (k : ℕ) (n : LoggedNode MemDisk) (is : StandsOn w k (Up n
   owner : n.log.identity ≡ identity w.division.tree w.weights k
   owner = is.1.owner ∙ whose w k n.node is.0
 
-  -- and ends behind its notes
+  -- and it ends after its notes
   end : n.log.end ≡ gate_place (identity_of n.node.member) (texts_of n.node.notes)
   end = is.1.holds.settled.place
       ∙ ap (λ (j : Identity). gate_place j (texts_of n.node.notes)) is.1.owner
 
-  -- so it is full where the notes say so
+  -- so it is full if the notes say so
   pub lacks_room : (o : Option (Note Value)) → IsFull (node_at w k (up_node n.node)) o
       → LacksRoom n.log o
   lacks_room o full = lack_of_full n end o (full_here w k n.node is.0 o full)
@@ -56,7 +56,7 @@ module _ (w : World) (k : ℕ) (n : LoggedNode MemDisk) (is : StandsOn w k (Up n
       → IsFull (node_at w k (up_node n.node)) o
   is_full o lacks = full_there w k n.node is.0 o (full_of_lack n end o lacks)
 
-  -- its file with these bytes behind it
+  -- its file, with these bytes appended
   pub file_left : (torn : Text) (disk : MemDisk) → file_of disk ≡ file_of n.log.disk ++ torn
       → IsOnDisk (mem_history disk) → HasLeft w k (down_node n.node.notes torn) disk
   file_left torn disk same on_disk =
@@ -117,7 +117,7 @@ module _ (w : World) (k : ℕ) (n : LoggedNode MemDisk) (is : StandsOn w k (Up n
     on_log,
   )
 
-  -- it is the same, on its log
+  -- it is unchanged, and on its log
   pub same_so : (m : LoggedNode MemDisk) → m.node ≡ n.node → IsOnLog mem_history m
       → StandsOn w k (Up m)
   same_so m e on_log = (

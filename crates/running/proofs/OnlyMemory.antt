@@ -1,4 +1,4 @@
--- A file that has a node opens as that node, but for want of memory.
+-- A file that has a node opens as that node, unless memory runs out.
 use Rattle.std.proofs.Common.{◌≡◌, ◌≢◌, ℕ, List, [], Result, Ok, Err, Some, refl, arith, inl, inr}
 use Rattle.std.specs.Prelude.{All}
 use Rattle.std.proofs.lemmas.List.Elements.{All-nil}

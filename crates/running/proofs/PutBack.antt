@@ -10,7 +10,7 @@ put_back [] i x lt = absurd (omega (arith, lt))
 put_back (y ∷ ys) zero x lt = refl
 put_back (y ∷ ys) (suc i) x lt = ap (λ l. y ∷ l) (put_back ys i x (omega (arith, lt)))
 
--- what an index reads stands there
+-- what an index reads is the element there
 pub stands_at : {X : Type 0} (xs : List X) (i : ℕ) (x : X) → x ≡ slice_index_or xs i x
     → i < length xs → slice_get xs i ≡ Some x
 stands_at xs i x e lt = slice_get-get_or xs i x lt ∙ ap Some (sym e)

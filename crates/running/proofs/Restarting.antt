@@ -91,7 +91,7 @@ module _ (s : WorldState) (me : ℕ) (standing : IsStanding s) (reached : IsReac
   abbrev r : DownNode
   r = its_down.0
 
-  -- what stands at the place is what is left of it
+  -- the element at the place is what is left of it
   pub at_place : (x : Slot) → slice_get nodes me ≡ Some x → x ≡ Down r
   at_place x g = some_same x (Down r) (sym g ∙ its_down.1)
 
@@ -164,7 +164,7 @@ module _ (s : WorldState) (me : ℕ) (standing : IsStanding s) (reached : IsReac
       standing_with s t but me (Up n) put standing stands_again,
     )
 
-  -- what is read at the place
+  -- the element that was read at the place
   module _ (old : Slot) (read : old ≡ slice_index_or nodes me old) where
     old_is : old ≡ Down r
     old_is = at_place old (stands_at nodes me old read place_within)

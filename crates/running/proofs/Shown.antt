@@ -19,7 +19,7 @@ use Rattle.running.specs.declared.slot.Slot.TheVariants.{Up, Down}
 use Rattle.running.specs.declared.world_state.WorldState.{WorldState}
 use Rattle.running.specs.inside.Standing.{IsStanding, StandsOn, disk_of, file_of, node_view, world_of}
 
--- how long a file with these notes is
+-- the length of a file with these notes
 notes_long : (i : Identity) (notes : List (List ℕ)) (file : List ℕ) (has : HasNotes i notes file)
     → length file ≡ gate_place i notes + 1 + length has.behind
 notes_long i notes file has =
@@ -31,7 +31,7 @@ notes_long i notes file has =
       length-append (header i) (entries notes),
     )
 
--- The file of a node that stands on its disk is as long as the world says.
+-- The file of a node that agrees with its disk has the length that the world says.
 pub file_long : (w : World) (k : ℕ) (p : Slot) → StandsOn w k p
     → length (file_of (disk_of p)) ≡ file_length w k (node_view p)
 file_long w k (Up n) stands =
@@ -58,14 +58,14 @@ file_long w k (Down r) stands =
 
 -- ---- nodes of a world
 
--- what stands at the place shows so
+-- the view of the element at the place
 view_at : (nodes : List Slot) (k : ℕ) (p : Slot) (x : WorldNode) → slice_get nodes k ≡ Some p
     → slice_get (map node_view nodes) k ≡ Some x → node_view p ≡ x
 view_at nodes k p x there e =
     let shown : Some (node_view p) ≡ Some x =
     sym (slice_get-map node_view nodes k ∙ ap (option_map node_view) there) ∙ e in cc
 
--- a number of a node that is up is one of a node
+-- the number of a node that is up is that of a node
 pub up_within : (nodes : List Slot) (k : ℕ) → up_of (slice_get (map node_view nodes) k) ≡ true
     → k < length nodes
 up_within nodes k up = ⊎_elim
@@ -85,7 +85,7 @@ module _ (s : WorldState) (standing : IsStanding s) (k : ℕ) (x : WorldNode)
       subst (λ y. n.node ≡ node_at (world_of s) k y) (view_at s.nodes.items k (Up n) x there at)
       (standing.disks k (Up n) there).0
 
-  -- Its file is as long as the world says.
+  -- Its file has the length that the world says.
   pub file_shown : (p : Slot) → slice_get s.nodes.items k ≡ Some p
       → length (file_of (disk_of p)) ≡ file_length (world_of s) k x
   file_shown p there =

@@ -16,27 +16,27 @@ use Rattle.running.specs.declared.world_state.WorldState.{WorldState}
 use Rattle.running.specs.inside.Standing.{IsStanding, StandsOn, node_view, down_view, world_of}
 use Rattle.running.specs.inside.Tables.{AreListed, list_in}
 
--- The scenes differ in their nodes alone.
+-- The states differ only in their nodes.
 pub record IsBut (s t : WorldState) : Type 0 where
   pub tree : t.tree ≡ s.tree
   pub units : t.units ≡ s.units
   pub weights : t.weights ≡ s.weights
   pub tables : t.tables ≡ s.tables
 
--- what stands at a place, put there again
+-- the element at a place, put there again
 pub put_again : {X : Type 0} (xs : List X) (k : ℕ) (x : X) → slice_get xs k ≡ Some x
     → slice_set xs k x ≡ xs
 put_again xs k x e =
     ap (slice_set xs k) (sym (get_or_from_slice_get xs k x x e)) ∙ set-get_or xs k x
 
--- what was put at a place stands there
+-- an element that was put at a place is there
 pub put_there : {X : Type 0} (xs : List X) (k : ℕ) (x : X) → k < length xs
     → slice_get (slice_set xs k x) k ≡ Some x
 put_there [] k x lt = absurd (omega (arith, lt))
 put_there (y ∷ ys) zero x lt = refl
 put_there (y ∷ ys) (suc k) x lt = put_there ys k x (omega (arith, lt))
 
--- how a node stands depends on the tree's units and the weights alone
+-- whether a node agrees with its disk only depends on the tree's units and the weights
 pub stands_there : (w v : World) (k : ℕ) (x : Slot) → v.division ≡ w.division
     → v.weights ≡ w.weights → StandsOn w k x → StandsOn v k x
 stands_there w v k (Up n) units weights (is, on_log) =
@@ -82,7 +82,7 @@ module _ (s t : WorldState) (is : IsBut s t) (k : ℕ) (x : Slot)
         agreed = list_in (is.tables i);
       }
 
-  -- each node stands, where this one does
+  -- each node agrees with its disk, if this one does
   pub standing_with : IsStanding s → StandsOn (world_of s) k x → IsStanding t
   standing_with standing here = record {
     tree = ap (λ (d : Division). d.tree) is.units ∙ standing.tree ∙ sym is.tree;

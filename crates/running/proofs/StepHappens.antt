@@ -44,7 +44,7 @@ was_true : (b : Bool) → not b ≡ false → b ≡ true
 was_true true e = refl
 was_true false e = absurd (true≢false e)
 
--- a step is no restart, and leaves its note
+-- a step is not a restart, and leaves its note
 pub no_restart : (e : Event) → is_step e ≡ true → is_restart e ≡ false
 no_restart (events.Claim n path host above) is = refl
 no_restart (events.Built n path files) is = refl
@@ -97,7 +97,7 @@ module _ (s t : WorldState) (k : ℕ) (x : Slot) (is : IsWith s t k x) where
         agreed = list_in t.tables;
       }
 
-  -- where the node looks as it did, and the tables are the same, so is the world
+  -- if the node and the tables are unchanged, so is the world
   stays : (y : Slot) → slice_get s.nodes.items k ≡ Some y → node_view x ≡ node_view y
       → AreSame s.tables t.tables → world_of t ≡ world_of s
   stays y there looks same =
@@ -110,7 +110,7 @@ module _ (s t : WorldState) (k : ℕ) (x : Slot) (is : IsWith s t k x) where
       let list = same.list in
       world_is ∙ (λ i. with_tables (world_of s) (nodes i) (sent i) (list i))
 
-  -- each node stands, where this one does
+  -- each node agrees with its disk, if this one does
   stands : IsStanding s → StandsOn (world_of s) k x → AreListed t.tables → IsStanding t
   stands standing here listed = record {
     tree = ap (λ (d : _). d.tree) is.units ∙ standing.tree ∙ sym is.tree;
@@ -153,7 +153,7 @@ module _ (s : WorldState) (e : Event) (may : fault_before (world_of s) e ≡ Non
     length-map s.nodes.items node_view,
   )
 
-  -- that stands at the place
+  -- that is at the place
   pub at_place : (place : ℕ) → place ≡ events.node_of e → (x y : Slot)
       → x ≡ slice_index_or s.nodes.items place x → x ≡ y
       → slice_get s.nodes.items (events.node_of e) ≡ Some y
@@ -174,7 +174,7 @@ module _ (s : WorldState) (e : Event) (may : fault_before (world_of s) e ≡ Non
 
 -- ---- a stop between two steps
 
--- What a stop leaves.
+-- The state after a stop.
 pub record IsDown (s : WorldState) (n : ℕ) (t : WorldState) : Type 0 where
   pub stops : Stops (world_of s) n (world_of t)
   pub standing : IsStanding t
@@ -204,7 +204,7 @@ is_down s n standing may t but stopped = by stopped.node refl
           standing = standing_with s t but n (Down stopped.down) stopped.nodes standing left.left;
         }
 
--- so it happens where the event says so
+-- so it happens if the event says so
 abbrev pub with_nodes : WorldState → Vec Slot Global → WorldState
 with_nodes s nodes = record s { nodes = nodes }
 
@@ -259,7 +259,7 @@ module _ (s : WorldState) (e : Event) (standing : IsStanding s) (reached : IsRea
   can = can_be_asked w e is_a_step (there s e may (no_restart e is_a_step)).fifth
 
   module _ (n : LoggedNode MemDisk) (at : slice_get nodes k ≡ Some (Up n)) where
-    -- it stands on its log
+    -- it agrees with its log
     pub on_log : StandsOn w k (Up n)
     on_log = standing.disks k (Up n) at
 
@@ -274,7 +274,7 @@ module _ (s : WorldState) (e : Event) (standing : IsStanding s) (reached : IsRea
 
     -- ---- refused
 
-    -- what is refused is refused in the world, and changes nothing
+    -- what the node refuses is refused in the world, and changes nothing
     refused_so : (f : NodeFault) (asked : Asked) → asked_by w.sent e ≡ Some asked
         → Takes n.node asked (Err f) → (m : NodeState) → m ≡ left_by n.node asked f
         → (m ≡ n.node) × IsRefusedByNode w e (refused_by f)

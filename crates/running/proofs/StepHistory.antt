@@ -1,5 +1,5 @@
--- What was taken stays, and an event that happens leads on; and what holds then of the world before
--- and of the one after.
+-- The events taken before are kept, and an event that happens extends the history; and what then
+-- holds of the worlds before and after.
 use Rattle.std.proofs.Common.{◌≡◌, ◌++◌, [], ◌∷◌, Result, Ok, Err, map, sym, ap, subst, ◌∙◌}
 use Rattle.std.specs.Prelude.{OnErr, OnOk}
 use Rattle.std.proofs.lemmas.List.{map-append}
@@ -15,13 +15,13 @@ use Rattle.running.specs.declared.running_world.World.TheInside.{Inside}
 use Rattle.running.specs.inside.Standing.{history_of, world_of}
 use Rattle.running.proofs.Following.{goes_on, has_one_list}
 
--- where the world is the same, and no event was kept
+-- the world is unchanged, and no event was kept
 pub stays_so : (w v : Inside) → IsHistory (history_of w) → world_of v.state ≡ world_of w.state
     → v.events.items ≡ w.events.items → IsHistory (history_of v)
 stays_so w v is world events = subst IsHistory
     (λ i. record { world = sym world i; events = sym events i }) is
 
--- and where the event that happened was
+-- the event happened, and was kept
 pub goes_so : (w v : Inside) (e : declared.Event) → IsHistory (history_of w)
     → Happens (world_of w.state) (event_view e) (world_of v.state)
     → v.events.items ≡ w.events.items ++ e ∷ [] → IsHistory (history_of v)
@@ -58,14 +58,14 @@ module _ (h : History) (is : IsHistory h) where
 
 -- ---- before and after
 
--- an event that happens leads to a later world, and so does one that is refused
+-- a later world follows an event that happens, and one that is refused
 pub later_so : (old new : History) (e : Event) (r : Result (Prim.Unit {0}) WorldFault)
     → OnOk r (Happens old.world e new.world) → OnErr r (new ≡ old) → IsLater old.world new.world
 later_so old new e (Ok u) happens same = event_later old.world new.world e happens
 later_so old new e (Err f) happens same =
     same_later old.world new.world (ap (λ (h : History). h.world) same)
 
--- so where the list only grew, nodes before and after hold alike
+-- so if the list only grew, nodes before and after hold equal packages
 pub alike_so : (old new : History) → IsHistory old → IsHistory new
     → IsBeginningOf old.world.agreed new.world.agreed → HoldAlike old.world new.world
 alike_so old new before after grows =

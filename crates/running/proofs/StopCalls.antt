@@ -20,7 +20,7 @@ use Rattle.running.proofs.StateWith.{IsBut}
 use Rattle.running.proofs.StopsInside.{at_place, its_node, not_readied, readied_nodes, readied_stands, within}
 use Rattle.running.proofs.StopsByLeft.{stops_in, stops_not}
 
--- The call that stops the node leaves the world in which it stopped there, or the one that stood.
+-- The call leaves the world in which the node stopped there, or the previous one.
 pub record IsLeftIn (s : WorldState) (e : Event) (l : Left) (t : WorldState)
     (r : Result (Unit {0}) NodeFault) : Type 0 where
   pub taken : OnOk r (StopsIn (world_of s) e l (world_of t))

@@ -27,7 +27,7 @@ use Rattle.running.proofs.NodeStands.{IsLeftAs, lacks_room, stopped_so, took_so,
 use Rattle.running.proofs.StateWith.{IsBut, put_again, put_there}
 use Rattle.running.proofs.StopsInside.{down_so, full_so, its_node, up_again, within}
 
--- a node that stood at the place stopped there
+-- the node at the place stopped there
 record HasStoppedAt (w : World) (k : ℕ) (n : LoggedNode MemDisk) (old new : List Slot) : Type 0
   where
     down : DownNode

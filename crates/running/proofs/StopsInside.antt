@@ -32,7 +32,7 @@ use Rattle.running.proofs.Taking.{told_so}
 use Rattle.running.proofs.StateWith.{IsBut, put_again, standing_with, world_with}
 use Rattle.running.proofs.EventAsks.{NoneApplies, asks_so, can_be_asked, get_mapped, get_some, none_applies, not_false}
 
--- a refusal
+-- the node's refusal
 abbrev refuses_with : NodeFault → Result Taken NodeFault
 refuses_with f = Err f
 
@@ -86,7 +86,7 @@ module _ (s : WorldState) (e : Event) (l : Left) (standing : IsStanding s)
   is : StandsOn w k (Up n)
   is = standing.disks k (Up n) its_node.1
 
-  -- what stands at the place is that node
+  -- the element at the place is that node
   pub at_place : (x : Slot) → slice_get nodes k ≡ Some x → x ≡ Up n
   at_place x g = some_same x (Up n) (sym g ∙ its_node.1)
 
@@ -98,7 +98,7 @@ module _ (s : WorldState) (e : Event) (l : Left) (standing : IsStanding s)
 
   -- ---- made ready
 
-  -- a step that is ready leaves the node as it was
+  -- making a step ready leaves the node unchanged
   record IsSameReady (x : Slot) (r : ReadyStep) : Type 0 where
     same : x ≡ Up n
     is_ready : IsReadyFor n.node r
@@ -121,7 +121,7 @@ module _ (s : WorldState) (e : Event) (l : Left) (standing : IsStanding s)
         takes = subst (Takes n.node asked) p.given p.takes;
       }
 
-  -- what is refused is refused in the world, and changes nothing
+  -- what the node refuses is refused in the world, and changes nothing
   refused_so : (f : NodeFault) (asked : Asked) → asked_by w.sent e ≡ Some asked
       → Takes n.node asked (Err f) → (m : NodeState) → m ≡ left_by n.node asked f
       → (m ≡ n.node) × IsRefusedByNode w (events.StopIn e l) (refused_by f)
@@ -167,7 +167,7 @@ module _ (s : WorldState) (e : Event) (l : Left) (standing : IsStanding s)
     standing_with s t but k (Up m) put standing (same_so w k n is m same on_log),
   )
 
-  -- the step was not made ready
+  -- the step could not be made ready
   pub not_readied : (t : WorldState) → IsBut s t → (x : Slot) (f : NodeFault)
       → t.nodes.items ≡ slice_set nodes k x
       → ReadiesStep w.sent e (Up n) x (Err f)
@@ -178,7 +178,7 @@ module _ (s : WorldState) (e : Event) (l : Left) (standing : IsStanding s)
       let u = up_again t but n (put ∙ ap (slice_set nodes k) r.0) refl is.1 in
       (u.0, u.1, r.1)
 
-  -- the step was made ready, and the nodes are as they were
+  -- the step was made ready, and the nodes are unchanged
   pub readied_nodes : (x : Slot) (r : ReadyStep) → ReadiesStep w.sent e (Up n) x (Ok r)
       → slice_set nodes k x ≡ nodes
   readied_nodes x r h = ap (slice_set nodes k) (ready_same x r h).same

@@ -1,4 +1,4 @@
--- A node's step on what an event asks: what it is once it is ready, and what a refusal leaves.
+-- A node's step on what an event asks, once it is ready, and the state after a refusal.
 use Rattle.std.proofs.Common.{◌≡◌, ◌⊎◌, inl, inr, ℕ, List, Option, Some, Ok, Err, refl, sym, ap, subst, ◌∙◌}
 use Rattle.faults.specs.Bytes.{Text}
 use Rattle.events.specs.Events.{Event}
@@ -26,7 +26,7 @@ use Rattle.world.specs.declared.fault.WorldFault.TheVariants as worlds
 
 -- ---- refusals
 
--- what a step refuses, as a world tells it
+-- a refusal of a step, as the world has it
 pub told_so : (w : World) (e : Event) (f : NodeFault) → IsByStep (Err f)
     → IsRefusedByNode w e (worlds.Node f) → IsRefusedByNode w e (refused_by f)
 told_so w e node_fault.Memory kind r = absurd kind
@@ -44,7 +44,7 @@ stays_on_log n m on log_is member notes = record {
       (subst (λ notes. Holds mem_history n.log (texts_of notes)) (sym notes) on.holds);
 }
 
--- What is ready is the step that is right, and the node stays.
+-- The ready step is the right one, and the node is unchanged.
 pub record StandsReady (sent : List Text) (e : Event) (n m : NodeState) (t : Taken) : Type 0 where
   pub asked : Asked
   pub asks : asked_by sent e ≡ Some asked
@@ -62,7 +62,7 @@ stands_ready sent e n m t (inr (asked, asks, done)) = record {
   stays = done.state;
 }
 
--- What is refused is refused as is right.
+-- What is refused is rightly refused.
 pub refused_ready : (sent : List Text) (e : Event) (n m : LoggedNode MemDisk) (f : NodeFault)
     → IsReadied sent e n.node m.node (Err f) → RefusesStep sent e n m f
 refused_ready sent e n m f (inl (memory, same)) =
@@ -101,7 +101,7 @@ ready_on_log sent e n m r ready log_is on =
 
 -- ---- the step
 
--- Over a disk in memory a step is not taken for want of memory, or of room in the log.
+-- Over a disk in memory a step fails only if memory runs out, or if the log has no room.
 pub log_causes : (l : Log MemDisk) (noted : Option (Note Value)) (f : NodeFault)
     → IsLogCause l noted f → (f ≡ node_fault.Log log.Device → ⊥)
     → (f ≡ node_fault.Memory) ⊎ ((f ≡ node_fault.Log log.Full) × LacksRoom l noted)
@@ -134,7 +134,7 @@ takes_step weights e old new n m k r ready log_is done =
           (same_node n m s.stays log_is) done;
     }
 
--- One that was made ready and not finished is refused: memory was wanting, or the log is full.
+-- A step that was made ready and not finished is refused: out of memory, or the log is full.
 pub refuses_step : (sent : List Text) (e : Event) (n m k : LoggedNode MemDisk) (r : ReadyStep)
     (f : NodeFault) → IsReadied sent e n.node m.node (Ok (taken_by n.node r)) → m.log ≡ n.log
     → k.node ≡ m.node

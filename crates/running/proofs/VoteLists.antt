@@ -58,11 +58,11 @@ module _ (w : World) (made : IsMade w.division w.weights) (acts : List (Act Valu
     (local : AreLocal w) (m : Matches w (after_all_acts w.division w.weights acts))
     (e : Event) (s : Acted w e)
     (a : IsAct w.division w.weights acts w made (refl, refl) local m build_is_read e s) where
-  -- what the acts leave
+  -- the cluster after the acts
   abbrev here : Cluster Value
   here = after_all_acts w.division w.weights acts
 
-  -- the node, before and then, and the member that it is
+  -- the node, before and after, and its member
   abbrev k : ℕ
   k = whose e
 
@@ -75,7 +75,7 @@ module _ (w : World) (made : IsMade w.division w.weights) (acts : List (Act Valu
   abbrev member : State
   member = member_at w k x
 
-  -- its answer, and what the step is in the theory
+  -- its answer, and the step in the theory
   abbrev answer : Answer
   answer = s.taken.answer
 
@@ -85,7 +85,7 @@ module _ (w : World) (made : IsMade w.division w.weights) (acts : List (Act Valu
   abbrev name : Text
   name = name_of w d.unit
 
-  -- what was sent then
+  -- what was sent afterwards
   abbrev sent : List Text
   sent = with_sends w.sent answer.sends
 
@@ -114,7 +114,7 @@ module _ (w : World) (made : IsMade w.division w.weights) (acts : List (Act Valu
         let path = says.path in
         λ i. record { sender = sender i; tree = tree i; path = path i; body = body i }
 
-    -- who sent it before, and with this vote
+    -- the members that sent it before, and those with this one
     abbrev before : Members
     before = voters_in w.weights w.sent text
 
@@ -169,7 +169,7 @@ module _ (w : World) (made : IsMade w.division w.weights) (acts : List (Act Valu
         (majority_within w.weights (voters w sent name c) (with_member before k)
         (λ j lt e. counted_then j lt e))
 
-    -- Whether the vote makes a majority, as it is tested and as it is
+    -- whether the vote makes a majority, by the test and in fact
     majority_is : makes_majority w.weights (voters_of w.weights w.sent z.message) z.message.sender
         ≡ (is_majority w.weights (voters w sent name c)
         && not (is_majority w.weights (voters w w.sent name c)))
@@ -260,7 +260,7 @@ module _ (w : World) (made : IsMade w.division w.weights) (acts : List (Act Valu
     proposed = subst (λ (c : Claim). WasProposed w sent name c b.value) noted.claim
         (⊎_elim by_note (λ last. by_last last.1) noted.noted)
 
-    -- ---- so the list has that build where the vote makes a majority
+    -- ---- so the list is extended by that build if the vote makes a majority
 
     abbrev IsListWith : Option Value → Type 0
     IsListWith o = IsListAfter w sent (with_decision w.agreed o)

@@ -19,7 +19,7 @@ use Rattle.running.specs.inside.Deciding.{claim_voted, message_in, sender_place}
 
 -- ---- the message
 
--- what all sends share is in the first
+-- all sends have the message of the first one
 pub message_is : (sends : List Send) (m : Message Value)
     → sends ≡ sent_to (Some m) (receivers_of sends) → (sends ≡ [] → ⊥)
     → message_in sends ≡ Some m
@@ -28,7 +28,7 @@ message_is (s ∷ ss) m e some = ap message_in e
 
 -- ---- its text
 
--- what is voted for is in a vote
+-- a body with a claim that is voted for is a vote
 pub vote_is : (b : Body Value) (c : Claim) → claim_voted b ≡ Some c → b ≡ body.Vote c
 vote_is (body.Offer d) c e = absurd (let wrong : None ≡ Some c = e in cc)
 vote_is (body.Promise d r) c e = absurd (let wrong : None ≡ Some c = e in cc)
@@ -38,11 +38,11 @@ vote_is (body.Agreed v) c e = absurd (let wrong : None ≡ Some c = e in cc)
 vote_is body.Ask c e = absurd (let wrong : None ≡ Some c = e in cc)
 vote_is (body.Nay d p) c e = absurd (let wrong : None ≡ Some c = e in cc)
 
--- the text of a message that goes out in whole
+-- the text of a message that is sent whole
 abbrev pub whole_text : Message Value → Text
 whole_text m = datagram_text (datagram.Whole m)
 
--- a vote goes out in whole, so that its text is the first that does
+-- a vote is sent whole, so its text is the first one
 first_text : (sends : List Send) (m : Message Value) (c : Claim) → message_in sends ≡ Some m
     → claim_voted m.body ≡ Some c
     → (to : ℕ) × (slice_get (datagrams_to sends) 0 ≡ Some (to, whole_text m))
@@ -58,7 +58,7 @@ first_text (s ∷ ss) m c e votes =
           ∙ ap (λ (n : Message Value). Some (s.to, whole_text n)) same,
     )
 
--- What goes out first in the step of a member that says a vote is that vote's text.
+-- The first text that a member sends in a step with a vote is the text of that vote.
 pub text_of_vote : (step : Option Prepared) (p : Prepared) (sends : List Send) (m : Message Value)
     (c : Claim) (to : ℕ) (text : Text) → step ≡ Some p → sends ≡ p.sends → message_in sends ≡ Some m
     → claim_voted m.body ≡ Some c → Some (to, text) ≡ slice_get (datagrams_to (sends_in step)) 0
@@ -70,6 +70,6 @@ text_of_vote step p sends m c to text stands sends_are said votes first =
     (first ∙ ap (λ (l : List Send). slice_get (datagrams_to l) 0) all ∙ f.1) in
     ap (λ (x : ℕ × Text). x.1) both
 
--- and it has a place for the sender's number
+-- and it has the place of the sender's number
 pub has_sender : (m : Message Value) → sender_place < length (whole_text m)
 has_sender m = omega arith

@@ -19,7 +19,7 @@ same_tests false false f g = refl
 
 -- ---- tallies
 
--- a set has one that is named already
+-- adding an element that a set has changes nothing
 named_again : (xs : List ℕ) (m k : ℕ) → named_in xs m ≡ true
     → named_in xs k ≡ with_member (named_in xs) m k
 named_again xs m k e = by (k == m) refl
@@ -28,7 +28,7 @@ named_again xs m k e = by (k == m) refl
     by true t = ap (named_in xs) (eqb-true k m t) ∙ e
     by false f = refl
 
--- who joins a tally joins the set of those that joined
+-- joining a tally adds the member to its set
 pub joined_set : (s : Support) (m : ℕ) → set_of (joined_by s m) ≡ with_member (set_of s) m
 joined_set s m = λ i k. member k i
   where
@@ -41,7 +41,7 @@ joined_set s m = λ i k. member k i
     member : (k : ℕ) → named_in (named_with s.joined m) k ≡ with_member (named_in s.joined) m k
     member k = by (named_in s.joined m) k refl
 
--- who is no member makes no majority
+-- a sender that is not a member makes no majority
 pub none_makes_none : (ws : List ℕ) (S : Members) (k : ℕ) → length ws ≤ k
     → makes_majority ws S k ≡ false
 none_makes_none ws S k out = by (is_majority ws (with_member S k)) (is_majority ws S)
@@ -58,13 +58,13 @@ none_makes_none ws S k out = by (is_majority ws (with_member S k)) (is_majority 
     by true false h = absurd (true≢false (sym (h refl)))
     by false b h = refl
 
--- ---- who sent a vote
+-- ---- the members that sent a vote
 
--- those below this number that sent the vote
+-- the members below this number that sent the vote
 abbrev pub voters_below : ℕ → List Text → Text → Members
 voters_below n sent vote k = nat_lt k n && is_among sent (slice_set vote sender_place k)
 
--- below the next there are those below this one, and this one if it did
+-- those below the next number are those below this one, and this one if it sent the vote
 pub voters_next : (n : ℕ) (sent : List Text) (vote : Text)
     → is_among sent (slice_set vote sender_place n) ≡ true
     → with_member (voters_below n sent vote) n ≡ voters_below (suc n) sent vote
@@ -112,10 +112,10 @@ voters_same n sent vote none = λ i k. at k i
         a : ℕ → Bool
         a j = is_among sent (slice_set vote sender_place j)
 
--- ---- one turn more
+-- ---- one more iteration
 
--- Once a member's turn is over, those that voted are the voters below the next, where it joined if
--- it voted.
+-- After the iteration of a member, the tally has the voters below the next number; it joined if it
+-- sent the vote.
 pub voters_more : (n : ℕ) (sent : List Text) (vote : Text) (test : Bool) (old new : Support)
     → test ≡ is_among sent (slice_set vote sender_place n)
     → new ≡ (if test then joined_by old n else old)

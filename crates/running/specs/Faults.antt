@@ -3,10 +3,10 @@ use Rattle.std.specs.Prelude.{ℕ, Option}
 use Rattle.world.specs.Refusals as world
 use Rattle.running.specs.declared.run_fault.RunFault.{RunFault}
 
--- the number by which a run's refusal is told: that of the fault
+-- the number that is reported for a run's refusal: that of the fault
 abbrev pub number_of : RunFault → ℕ
 number_of f = world.number_of f.fault
 
--- the number of the refusal that led to the fault
+-- the number of the underlying refusal of the fault
 abbrev pub cause_of : RunFault → Option ℕ
 cause_of f = world.cause_of f.fault

@@ -11,32 +11,32 @@ use Rattle.world.specs.World.{IsMade, World, WorldNode, start}
 use Rattle.world.specs.declared.fault.WorldFault.{WorldFault}
 use Rattle.world.specs.declared.fault.WorldFault.TheVariants.{Memory}
 
--- a world, and the events that were taken, in turn
+-- a world, and the events that it took, in order
 pub record History : Type 0 where
   pub world : World
   pub events : List declared.Event
 
--- the events that were taken, in turn
+-- the events that were taken, in order
 abbrev pub taken : History → List Event
 taken h = map event_view h.events
 
--- The events led to the world from the start, over units of a tree and weights that are right.
+-- The events lead from the start to the world, over the units of a tree and with valid weights.
 pub record IsHistory (h : History) : Type 0 where
   pub made : IsMade h.world.division h.world.weights
   pub led : Leads (start h.world.division h.world.weights) (taken h) h.world
 
--- At each moment of its run, after each beginning of the events that were taken, P holds of the
--- world that stood then.
+-- At each moment of the run, after each prefix of the events that were taken, P holds of the world
+-- of that moment.
 abbrev pub AlongRun : History → (List Event → World → Type 0) → Type 0
 AlongRun h P = AtEachMoment h.world.division h.world.weights (taken h) h.world P
 
--- how many bytes the log's file has: up to the closed gate, and what stands behind it
+-- the length of the log's file in bytes: up to and including the closed gate, and what is after it
 abbrev pub file_length : World → ℕ → WorldNode → ℕ
 file_length w k x =
     gate_place (identity w.division.tree w.weights k) (texts_of x.notes) + 1 + length x.behind
 
--- The run stopped at the event of this number, counted from 1: those before it happened, and it is
--- refused with the fault, or memory was wanting.
+-- The run stopped at the event of this number, counted from 1: the events before it happened, and
+-- it is refused with the fault, or memory ran out.
 pub record StoppedAt (tree : Tree) (weights : List ℕ) (events : List Event) (place : ℕ)
     (fault : WorldFault) : Type 0 where
   pub history : History
@@ -49,7 +49,8 @@ pub record StoppedAt (tree : Tree) (weights : List ℕ) (events : List Event) (p
   pub number : place ≡ length (taken history) + 1
   pub refused : (fault ≡ Memory) ⊎ IsRefused history.world event fault
 
--- A run's fault has the number of the event at which it stopped, or none, where memory was wanting.
+-- A run's fault has the number of the event at which the run stopped. It has none if memory ran out
+-- before.
 abbrev pub IsRunFault : Tree → List ℕ → List Event → Option ℕ → WorldFault → Type 0
 IsRunFault tree weights events None fault = fault ≡ Memory
 IsRunFault tree weights events (Some place) fault = StoppedAt tree weights events place fault

@@ -5,7 +5,7 @@ ghost use Rattle.protocol.specs.Answers.{tree_digest};
 use listing::Tree;
 use std::marker::Model;
 
-/// A tree whose digest is computed once, for all nodes that are opened over it.
+/// A tree with its digest, which is computed once for all nodes over it.
 #[derive(Drop)]
 pub(crate) struct DigestedTree<'a> {
     tree: &'a Tree,
@@ -42,7 +42,7 @@ impl<'a> DigestedTree<'a> {
         self.tree
     }
 
-    /// Its digest.
+    /// The tree's digest.
     pub(crate) fn digest(&self) -> &[u8; 32]
         ensures { result.now ≡ tree_digest self.now }
     {

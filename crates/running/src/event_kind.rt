@@ -1,4 +1,4 @@
-//! What an event is: of which node, of what kind, and whether what it names is there.
+//! The kind of an event, its node, and whether what it refers to exists.
 ghost use Rattle.std.specs.Prelude.{◌≡◌, List, Some, length};
 ghost use Rattle.events.specs.Events as events;
 ghost use Rattle.events.specs.Events.{event_view};
@@ -10,7 +10,7 @@ ghost use Rattle.world.specs.World as worlds;
 
 use events::Event;
 
-/// The node that the event is of.
+/// The node of the event.
 pub(crate) fn node_of(event: &Event) -> u8
     ensures { result ≡ events.node_of (event_view event.now) }
 {
@@ -27,7 +27,7 @@ pub(crate) fn node_of(event: &Event) -> u8
     }
 }
 
-/// Whether the event is a step that a stop may cut short.
+/// Whether the event is a step that a stop may interrupt.
 pub(crate) fn is_step(event: &Event) -> bool
     ensures { result ≡ events.is_step (event_view event.now) }
 {
@@ -37,7 +37,7 @@ pub(crate) fn is_step(event: &Event) -> bool
     }
 }
 
-/// Whether it is a stop inside what is no step.
+/// Whether the event is a stop inside something other than a step.
 pub(crate) fn is_bad_stop(event: &Event) -> bool
     ensures { result ≡ happening.is_bad_stop (event_view event.now) }
 {
@@ -57,7 +57,7 @@ pub(crate) fn is_restart(event: &Event) -> bool
     }
 }
 
-/// Whether it delivers a datagram with a number that is none of so many that were sent.
+/// Whether the event delivers a datagram whose number is not below the number of sent ones.
 pub(crate) fn lacks_datagram(sent: usize, event: &Event) -> bool
     ensures { (w : worlds.World) → sent ≡ length w.sent
         → result ≡ happening.lacks_datagram w (event_view event.now) }
@@ -69,7 +69,7 @@ pub(crate) fn lacks_datagram(sent: usize, event: &Event) -> bool
     }
 }
 
-/// A host that the event names has a number of 16 bits.
+/// The hosts that the event names have numbers of 16 bits.
 pub(crate) fn host_fits(event: &Event)
     ensures { (sent : List Text) (asked : Asked)
         → asked_by sent (event_view event.now) ≡ Some asked → IsAsked asked }

@@ -1,11 +1,11 @@
-//! Events that are handed over, one after the other.
+//! A queue of events.
 ghost use Rattle.std.specs.Prelude.{◌≡◌, ◌∷◌, [], MatchOption};
 
 use events::Event;
 use std::marker::Model;
 
-/// Events, from the last on, so that the room of those that were handed over is given back.
-/// Contracts see them in their order, from the first on.
+/// A queue of events, stored in reverse, so that the memory of taken ones is freed. Contracts see
+/// them in order, first event first.
 #[derive(Drop)]
 pub(crate) struct EventQueue {
     left: Vec<Event>,
@@ -25,7 +25,7 @@ impl Model for EventQueue {
 }
 
 impl EventQueue {
-    /// All of the events are left.
+    /// A queue of all these events.
     pub(crate) fn new(events: Vec<Event>) -> EventQueue
         ensures { result ≡ events.items }
     {
@@ -34,7 +34,7 @@ impl EventQueue {
         EventQueue { left }
     }
 
-    /// Hands the first event over, if one is left.
+    /// Takes the first event, if one is left.
     pub(crate) fn next(&mut self) -> Option<Event>
         ensures { MatchOption result (self.old ≡ []) (λ event. self.old ≡ event ∷ self.new) }
     {

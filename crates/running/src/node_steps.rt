@@ -1,4 +1,4 @@
-//! The step of one node on what an event asks, and what it enters in the world's tables.
+//! The step of one node on what an event asks, and its entries in the world's tables.
 ghost use Rattle.std.specs.Prelude.{◌≡◌, ◌⊎◌, IfErr, IfOk, OnErr, OnOk};
 ghost use Rattle.events.specs.Events.{event_view};
 ghost use Rattle.faults.specs.Answers.{map_ok};
@@ -31,8 +31,8 @@ use stable_record::{LogFault, MemDisk};
 use std::alloc::Global;
 use world::WorldFault;
 
-/// The node's step on what the event asks. Its growths in the world come before it is taken, and
-/// are cut back where it is not.
+/// The node's step on what the event asks. The tables are extended before the step is taken, and
+/// cut back if it is not.
 pub(crate) fn step_node(
     weights: &Weights,
     tables: &mut Tables,
@@ -61,7 +61,7 @@ pub(crate) fn step_node(
     }
 }
 
-/// Enters what the step sends and what it decides, and takes it.
+/// Enters what the step sends and decides, and takes the step.
 fn finish_step(
     weights: &Weights,
     tables: &mut Tables,
@@ -88,7 +88,7 @@ fn finish_step(
     Ok(())
 }
 
-/// Enters what the step sends and what it decides.
+/// Enters what the step sends and decides.
 fn enter_step(
     weights: &Weights,
     tables: &mut Tables,
@@ -110,8 +110,8 @@ fn enter_step(
     tables.sent.enter(ready.sends())
 }
 
-/// Makes the node's step ready on what the event asks of it. The event is a step, and what it
-/// delivers was sent.
+/// Makes the node's step on what the event asks ready. The event has to be a step, and the datagram
+/// that it delivers has to have been sent.
 pub(crate) fn prepare_step(
     node: &mut Node<'_, MemDisk>,
     sent: &Datagrams,
@@ -145,8 +145,8 @@ pub(crate) fn prepare_step(
     }
 }
 
-/// The node takes the step that is ready. What goes out of it is dropped: who is to have it reads
-/// it before.
+/// The node takes the ready step. Its messages and its job are dropped: the caller reads them
+/// before.
 pub(crate) fn finish_on_log(node: &mut Node<'_, MemDisk>, ready: Ready) -> Result<(), NodeFault>
     requires present { IsReadyFor node.old.node ready }
     requires on_log { IsOnLog mem_history node.old }
@@ -157,7 +157,7 @@ pub(crate) fn finish_on_log(node: &mut Node<'_, MemDisk>, ready: Ready) -> Resul
     Ok(())
 }
 
-/// Why the node refuses the event.
+/// The world's fault if the node refuses with this one.
 pub(crate) fn refused(fault: NodeFault) -> WorldFault
     ensures { result ≡ refused_by fault }
 {
@@ -167,7 +167,7 @@ pub(crate) fn refused(fault: NodeFault) -> WorldFault
     }
 }
 
-/// A claim for an equal path.
+/// A claim input, with a copy of the path.
 fn claim(path: &PkgPath, host: u16, above: u64) -> Result<Input, Memory>
     ensures { IfOk result (λ input. input ≡ inputs.Claim path.now host above) }
 {
@@ -175,7 +175,7 @@ fn claim(path: &PkgPath, host: u16, above: u64) -> Result<Input, Memory>
     Ok(Input::Claim { path, host, above })
 }
 
-/// An equal build of an equal path.
+/// An input for a finished build, with copies of the path and the packages.
 fn built(path: &PkgPath, packages: &Packages) -> Result<Input, Memory>
     ensures { IfOk result (λ input. input ≡ inputs.Built path.now packages.now) }
 {
@@ -184,7 +184,7 @@ fn built(path: &PkgPath, packages: &Packages) -> Result<Input, Memory>
     Ok(Input::Built { path, packages })
 }
 
-/// A failed build of an equal path.
+/// An input for a failed build, with a copy of the path.
 fn failed(path: &PkgPath) -> Result<Input, Memory>
     ensures { IfOk result (λ input. input ≡ inputs.Failed path.now) }
 {
@@ -192,7 +192,7 @@ fn failed(path: &PkgPath) -> Result<Input, Memory>
     Ok(Input::Failed { path })
 }
 
-/// A question for an equal path.
+/// An input that asks for the agreed build, with a copy of the path.
 fn ask(path: &PkgPath) -> Result<Input, Memory>
     ensures { IfOk result (λ input. input ≡ inputs.Ask path.now) }
 {

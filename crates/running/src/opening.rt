@@ -10,8 +10,8 @@ use node::{Node, NodeFault};
 use stable_record::MemDisk;
 use std::alloc::Global;
 
-/// The node that the disk's notes restore. Such a disk never fails, and there is a node of its
-/// file, so nothing but memory may be wanting.
+/// The node that the disk's notes restore. A disk in memory never fails, and the file is known to
+/// be a node's, so only memory can run out.
 pub(crate) fn opened<'a>(
     alloc: Global,
     disk: MemDisk,

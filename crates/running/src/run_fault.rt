@@ -7,8 +7,8 @@ use std::error::Error;
 use std::fmt;
 use world::WorldFault;
 
-/// The event at which a run stopped, counted from 1, and why. Where memory was wanting before the
-/// first, there is none.
+/// The event at which a run stopped, counted from 1, and why it did. There is no event if memory
+/// ran out before the first.
 #[derive(Clone, Copy, Debug, PartialEq, Eq)]
 pub struct RunFault {
     pub event: Option<u64>,
@@ -42,7 +42,7 @@ impl Fault for RunFault {
 }
 
 impl RunFault {
-    /// The number of the refusal that led to what a node refuses, if one did.
+    /// The number of the underlying refusal, if a node refused and there is one.
     pub fn cause(&self) -> Option<u32>
         ensures { result ≡ cause_of self.now }
     {

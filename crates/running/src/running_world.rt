@@ -1,5 +1,4 @@
-//! A world, which contracts see as its nodes, its datagrams, its list, and the events that led to
-//! it.
+//! A world. Contracts see its nodes, its datagrams, its list, and the events that led to it.
 ghost use Rattle.std.specs.Prelude.{◌≡◌, ◌<◌, [], IfOk, Some, length, slice_get, true};
 ghost use Rattle.std.specs.Option.{option_copied};
 ghost use Rattle.engine.specs.State as engines;
@@ -31,7 +30,7 @@ use stable_record::MemDisk;
 use std::alloc::Global;
 use std::marker::Model;
 
-/// Nodes on disks in memory, the datagrams that they sent, and the list of what is agreed.
+/// Nodes on disks in memory, the datagrams that they sent, and the list of agreed packages.
 #[derive(Drop)]
 pub struct World<'a> {
     pub(crate) state: WorldState<'a>,
@@ -57,7 +56,7 @@ impl<'a> Model for World<'a> {
 
 impl<'a> World<'a> {
     /// The world at its start: all nodes are up, nothing is noted, and nothing was sent. `weights`
-    /// has one for each member.
+    /// has one weight for each member.
     pub fn new(alloc: Global, tree: &'a Tree, weights: &Weights) -> Result<World<'a>, Memory>
         ensures world { IfOk result (λ w. w.world ≡ start w.world.division weights.now) }
         ensures tree { IfOk result (λ w. w.world.division.tree ≡ tree.entry.now) }
@@ -70,8 +69,9 @@ impl<'a> World<'a> {
         })
     }
 
-    /// The agreed list, in the order in which it grew: it has at most one package a path, each is a
-    /// record and fits the tree, an audit of it says yes, and all that nodes hold is in it.
+    /// The agreed list, in the order in which it grew. It has at most one package for each path;
+    /// each is a record and fits the tree; an audit of it succeeds; and it contains all that nodes
+    /// hold.
     pub fn agreed(&self) -> &[Record]
         ensures list { result.now ≡ self.now.world.agreed }
         ensures one_a_path { HasOneAPath self.now.world }
@@ -83,7 +83,7 @@ impl<'a> World<'a> {
         self.state.tables.agreed.as_slice()
     }
 
-    /// The agreed list, for which the rest of the world goes.
+    /// The agreed list. The rest of the world is dropped.
     pub fn into_agreed(self) -> Vec<Record>
         ensures { result.items ≡ self.entry.world.agreed }
     {
@@ -92,8 +92,8 @@ impl<'a> World<'a> {
         tables.agreed
     }
 
-    /// The events that were taken, in turn. They led to this world from its start, so that all
-    /// holds of it that holds of each run.
+    /// The events that were taken, in order. They lead from the start to this world, so that what
+    /// holds of each run holds of it.
     pub fn events(&self) -> &[Event]
         ensures events { result.now ≡ self.now.events }
         ensures history { IsHistory self.now }
@@ -108,14 +108,14 @@ impl<'a> World<'a> {
         self.state.tables.sent.as_set()
     }
 
-    /// How many nodes there are, one for each member.
+    /// The number of nodes, one for each member.
     pub fn len(&self) -> u8
         ensures { result ≡ length self.now.world.nodes }
     {
         self.state.nodes.len() as u8
     }
 
-    /// Whether the node is up. A number that is none of a node is not.
+    /// Whether the node is up. False if there is no node with this number.
     pub fn is_up(&self, node: u8) -> bool
         ensures { result ≡ is_up self.now.world node }
     {
@@ -138,14 +138,14 @@ impl<'a> World<'a> {
         &self.state.units
     }
 
-    /// What each member weighs.
+    /// The weight of each member.
     pub fn weights(&self) -> &Weights
         ensures { result.now ≡ self.now.world.weights }
     {
         &self.state.weights
     }
 
-    /// The events that were taken, for which the rest of the world goes.
+    /// The events that were taken. The rest of the world is dropped.
     pub fn into_events(self) -> Vec<Event>
         ensures { result.items ≡ self.entry.events }
     {
@@ -162,7 +162,7 @@ impl<'a> World<'a> {
         self.state.up(node).held(path)
     }
 
-    /// The letter of the package at the position, as a node that is up shows it.
+    /// The letter of the package at the position, by a node that is up.
     pub fn letter(&self, node: u8, position: u32) -> Letter
         requires up { is_up self.now.world node ≡ true }
         requires listed { position < length self.now.world.division.tree }
@@ -172,7 +172,7 @@ impl<'a> World<'a> {
         self.state.up(node).letter(position)
     }
 
-    /// How many packages have each letter, as a node that is up shows them.
+    /// The number of packages with each letter, by a node that is up.
     pub fn counts(&self, node: u8) -> Counts
         requires { is_up self.now.world node ≡ true }
         ensures { (x : _) → slice_get self.now.world.nodes node ≡ Some x
@@ -181,7 +181,7 @@ impl<'a> World<'a> {
         self.state.up(node).counts()
     }
 
-    /// The number of bytes of a member's log, whether it is up or down.
+    /// The length of a member's log in bytes, whether it is up or down.
     pub fn log_len(&self, node: u8) -> u64
         requires { node < length self.now.world.nodes }
         ensures { (x : _) → slice_get self.now.world.nodes node ≡ Some x

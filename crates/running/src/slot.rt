@@ -16,7 +16,7 @@ pub(crate) struct DownNode {
     pub(crate) disk: MemDisk,
     /// The notes of its log.
     pub(crate) noted: Noted,
-    /// How many bytes a torn write left behind the closed gate of its log.
+    /// The number of bytes that a torn write left after the closed gate of its log.
     pub(crate) behind: usize,
 }
 
@@ -48,7 +48,7 @@ impl<'a> Slot<'a> {
         }
     }
 
-    /// A disk with the bytes of its log's file, and these behind them.
+    /// A disk with the bytes of its log's file, followed by these.
     pub(crate) fn disk_with(&self, alloc: Global, behind: &[u8]) -> Result<MemDisk, Memory>
         ensures { IfOk result (λ disk. mem_history disk
             ≡ stands (file_of (disk_of self.now) ++ behind.now) ∷ []) }
@@ -58,7 +58,7 @@ impl<'a> Slot<'a> {
         MemDisk::new(alloc, file.as_slice())
     }
 
-    /// What is left of it once it is down. It takes no memory.
+    /// What is left of it once it is down. Does not allocate.
     pub(crate) fn into_down(self) -> DownNode
         ensures disk { result.disk ≡ disk_of self.entry }
         ensures notes { notes_in result.noted.texts ≡ (node_view self.entry).notes }

@@ -54,7 +54,7 @@ use stable_record::MemDisk;
 use std::alloc::Global;
 use std::mem;
 
-/// The node at the place stops between two steps. It takes no memory.
+/// The node at the place stops between two steps. Does not allocate.
 pub(crate) fn stop(nodes: &mut Vec<Slot<'_>>, place: usize)
     requires { place < length nodes.old.items }
     ensures { IsStopped nodes.old.items nodes.new.items place }
@@ -63,7 +63,7 @@ pub(crate) fn stop(nodes: &mut Vec<Slot<'_>>, place: usize)
     nodes.insert(place, Slot::Down(down)).unwrap();
 }
 
-/// The node at the place stops, and a torn write leaves these bytes behind the closed gate.
+/// The node at the place stops, and a torn write leaves these bytes after the closed gate.
 fn stop_torn(nodes: &mut Vec<Slot<'_>>, place: usize, torn: &[u8]) -> Result<(), NodeFault>
     requires { place < length nodes.old.items }
     ensures stopped { OnOk result
@@ -83,7 +83,7 @@ fn stop_torn(nodes: &mut Vec<Slot<'_>>, place: usize, torn: &[u8]) -> Result<(),
     Ok(())
 }
 
-/// The step of a node that is up on what the event asks, ready.
+/// The step of a node that is up, on what the event asks, made ready.
 fn prepare_in_slot(slot: &mut Slot<'_>, sent: &Datagrams, step: &Event) -> Result<Ready, NodeFault>
     requires asks { CanBeAsked sent.now (event_view step.now) }
     requires up { (node_view slot.old).up ≡ true }
@@ -96,7 +96,7 @@ fn prepare_in_slot(slot: &mut Slot<'_>, sent: &Datagrams, step: &Event) -> Resul
     }
 }
 
-/// The node that is up takes the step, and what comes out of it is lost.
+/// The node, which is up, takes the step. Its messages and its job are lost.
 fn finish_in_slot(slot: &mut Slot<'_>, ready: Ready) -> Result<(), NodeFault>
     requires { IsReady slot.old ready }
     ensures took { OnOk result (TookStep slot.old ready slot.new) }
@@ -120,7 +120,7 @@ fn stop_behind(nodes: &mut Vec<Slot<'_>>, place: usize, ready: Ready) -> Result<
     Ok(())
 }
 
-/// The node at the place stops inside the step that is ready, and this is left of its note.
+/// The node at the place stops inside the ready step, and this is left of its note.
 fn stop_with(
     nodes: &mut Vec<Slot<'_>>,
     place: usize,
@@ -147,7 +147,7 @@ fn stop_with(
     }
 }
 
-/// Puts a node in the place of another.
+/// Puts this node at the place, instead of the one there.
 fn put<'a>(nodes: &mut Vec<Slot<'a>>, place: usize, slot: Slot<'a>)
     requires { place < length nodes.old.items }
     ensures { nodes.new.items ≡ slice_set nodes.old.items place slot.entry }
@@ -156,7 +156,7 @@ fn put<'a>(nodes: &mut Vec<Slot<'a>>, place: usize, slot: Slot<'a>)
     drop(before);
 }
 
-/// The node that a copy of its disk restores.
+/// The node that is restored from a copy of its disk.
 fn restarted<'a>(
     alloc: Global,
     slot: &Slot<'_>,
@@ -196,7 +196,8 @@ impl<'a> WorldState<'a> {
         }
     }
 
-    /// The node starts again, with what its notes restore. Until it is up its disk stays as it is.
+    /// The node starts again, in the state that its notes restore. Until it is up, its disk is
+    /// unchanged.
     pub(crate) fn restart(&mut self, me: u8) -> Result<(), NodeFault>
         requires standing { IsStanding self.old }
         requires reached { IsReached (world_of self.old) }

@@ -20,7 +20,7 @@ pub(crate) struct Tables {
     pub(crate) sent: Datagrams,
     /// The list, in the order in which it grew.
     pub(crate) agreed: Vec<Record>,
-    /// The paths of its packages, in that order.
+    /// The paths of the list's packages, in that order.
     pub(crate) listed: IndexSet<PkgPath>,
 }
 
@@ -38,14 +38,14 @@ impl Tables {
         }
     }
 
-    /// How many datagrams and packages there are.
+    /// The numbers of datagrams and of packages.
     pub(crate) fn lengths(&self) -> (usize, usize)
         ensures { result ≡ (length self.now.sent, length self.now.agreed.items) }
     {
         (self.sent.len(), self.agreed.len())
     }
 
-    /// Keeps so many datagrams and packages. It takes no memory.
+    /// Keeps this number of datagrams and of packages. Does not allocate.
     pub(crate) fn cut_back(&mut self, lengths: (usize, usize))
         ensures sent { self.new.sent ≡ take lengths.0 self.old.sent }
         ensures list { list_in self.new ≡ take lengths.1 (list_in self.old) }
@@ -57,7 +57,7 @@ impl Tables {
         self.listed.truncate(agreed);
     }
 
-    /// Appends the build's packages, unless one of their paths is in the list.
+    /// Appends the build's packages, unless the list has one of their paths already.
     pub(crate) fn append(&mut self, build: &Build) -> Result<(), Memory>
         requires { AreListed self.old }
         ensures ok { OnOk result (list_in self.new ≡ with_build (list_in self.old) build.now) }
@@ -65,7 +65,7 @@ impl Tables {
         ensures grown { HasGrown self.old self.new }
         ensures sent { self.new.sent ≡ self.old.sent }
     {
-        // Its path says that it is the build of a unit.
+        // Calling this gives the proof that it is the build of a unit.
         let _unit = build.unit_path();
         let packages = build.packages();
         if self.has_any(packages) {
@@ -77,7 +77,7 @@ impl Tables {
         Ok(())
     }
 
-    /// Whether the list has a package with a path of these.
+    /// Whether the list has a package with the path of one of these.
     fn has_any(&self, packages: &[Record]) -> bool
         requires { AreListed self.now }
         ensures { result ≡ list_any (λ r. has_path (list_in self.now) r.path) packages.now }
@@ -87,7 +87,7 @@ impl Tables {
             .any(|package| self.listed.contains(package.path()))
     }
 
-    /// Appends the package, and enters its path.
+    /// Appends the package, and adds its path to the set.
     fn append_package(&mut self, content: &Record) -> Result<(), Memory>
         ensures ok { OnOk result (list_in self.new ≡ list_in self.old ++ content.now ∷ []) }
         ensures listed { OnOk result (self.new.listed.keys

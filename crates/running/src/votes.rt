@@ -34,8 +34,8 @@ fn claim_of(message: &Message) -> Option<Claim>
     }
 }
 
-/// Those of the members that sent this vote. Votes of two members for one claim differ in their
-/// senders alone.
+/// The members that sent this vote. The votes of two members for one claim differ only in the
+/// sender.
 fn voters(alloc: Global, weights: &Weights, sent: &Datagrams, text: &[u8]) -> Result<Tally, Memory>
     requires { SENDER_PLACE < length text.now }
     ensures weights { IfOk result (λ tally. tally.weights ≡ weights.now) }
@@ -53,8 +53,8 @@ fn voters(alloc: Global, weights: &Weights, sent: &Datagrams, text: &[u8]) -> Re
     Ok(tally)
 }
 
-/// Whether a majority has voted with this member's vote, and had not without it. Who is no member
-/// makes none.
+/// Whether this member's vote makes a majority that didn't exist before. A sender that is not a
+/// member makes none.
 fn makes_majority(mut tally: Tally, sender: u8) -> bool
     ensures { result ≡ makes_majority tally.weights (set_of tally) sender }
 {
@@ -76,7 +76,8 @@ fn voted_in(fact: &Fact, claim: Claim) -> Option<&Build>
     }
 }
 
-/// The build of the node's last vote for the unit that the path names, if it is under the claim.
+/// The build of the node's last vote for the unit that the path names, if that vote is under the
+/// claim.
 fn voted_last<'a>(node: &'a Node<'_, MemDisk>, path: &PkgPath, claim: Claim) -> Option<&'a Build>
     ensures { option_map (λ build. build.now) result
         ≡ option_and_then (value_under claim)
@@ -88,8 +89,8 @@ fn voted_last<'a>(node: &'a Node<'_, MemDisk>, path: &PkgPath, claim: Claim) -> 
     }
 }
 
-/// The build that the step votes for under the claim: the node notes that vote now, or has noted
-/// it.
+/// The build that the step votes for under the claim: by the note of the step, or by an earlier
+/// one.
 fn voted<'a>(
     node: &'a Node<'_, MemDisk>,
     step: &'a Step,
@@ -105,8 +106,8 @@ fn voted<'a>(
     }
 }
 
-/// The build of the claim that the node's step decides: with the vote that it sends a majority of
-/// the members has sent votes for the claim, and before it none had.
+/// The build that the node's step decides, if it does: with the vote that it sends, a majority of
+/// the members has sent votes for the claim, and before it had not.
 pub(crate) fn decided<'a>(
     alloc: Global,
     weights: &Weights,

@@ -1,4 +1,4 @@
-//! A whole run, from the start to what its events lead to.
+//! A whole run, from the start to the end of its events.
 ghost use Rattle.std.specs.Prelude.{◌≡◌, All, IfErr, IfOk, map};
 ghost use Rattle.events.specs.Events.{event_view};
 ghost use Rattle.world.specs.Headline.{
@@ -32,11 +32,11 @@ use listing::Tree;
 use std::alloc::Global;
 use world::WorldFault;
 
-/// Runs the events from the start, and hands them to the world. At each moment there is one list of
-/// packages, which only grows and has at most one package a path; each was built by a host under a
-/// claim for its unit, after every dependency in its signature stood in the list with that very
-/// signature; every package that a node holds is in it; and a path that a node shows as installable
-/// has its run closure held there.
+/// Runs the events from the start, and moves them into the world. At each moment there is one list
+/// of packages, which only grows and has at most one package for each path. Each was built by a
+/// host under a claim for its unit, after every dependency in its signature was in the list with
+/// that very signature. Every package that a node holds is in the list. If a node shows a path as
+/// installable, it holds that path's run closure.
 ///
 /// # Errors
 ///
@@ -67,7 +67,7 @@ pub fn run<'a>(
     ensures installable { IfOk result (λ w. AlongRun w (λ early v. InstallableIsHeld v)) }
     ensures allowed { IfOk result (λ w. AlongRun w (λ early v. AuditSaysYes v)) }
 
-    // Why that is so.
+    // Why this holds.
     ensures one_proposal { IfOk result (λ w. AlongRun w (λ early v. OneProposal v)) }
     ensures promises_bound { IfOk result (λ w. AlongRun w (λ early v. PromisesBound v)) }
     ensures votes_noted { IfOk result (λ w. AlongRun w (λ early v. SentVotesAreNoted v)) }
@@ -81,7 +81,7 @@ pub fn run<'a>(
     Ok(world)
 }
 
-/// The world that the events lead to.
+/// The world after the events.
 fn world_after<'a>(
     alloc: Global,
     tree: &'a Tree,

@@ -22,13 +22,13 @@ use stable_record::MemDisk;
 use std::alloc::Global;
 use world::WorldFault;
 
-/// What stands of a world: its tree, what members weigh, their nodes, and what was sent and agreed.
+/// The parts of a world: its tree, the weights, the members' nodes, and what was sent and agreed.
 #[derive(Drop)]
 pub(crate) struct WorldState<'a> {
     pub(crate) tree: DigestedTree<'a>,
     /// The tree's units.
     pub(crate) units: Units<'a>,
-    /// What each member weighs.
+    /// The weight of each member.
     pub(crate) weights: Weights,
     /// The members' nodes, by number.
     pub(crate) nodes: Vec<Slot<'a>>,
@@ -48,7 +48,8 @@ impl<'a> WorldState<'a> {
         ensures standing { IfOk result IsStanding }
     {
         let units = Units::new(alloc, tree)?;
-        // These say that the units divide the tree, and what weights may be.
+        // Calling this gives the proof that the units divide the tree, and the range of the
+        // weights.
         let _count = units.len();
         let _weights = weights.as_slice();
         let digested = DigestedTree::new(tree);
@@ -62,7 +63,7 @@ impl<'a> WorldState<'a> {
         })
     }
 
-    /// Whether the node is up. A number that is none of a node is not.
+    /// Whether the node is up. False if there is no node with this number.
     pub(crate) fn is_up(&self, node: u8) -> bool
         ensures { result ≡ is_up (world_of self.now) node }
     {

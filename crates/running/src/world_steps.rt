@@ -21,13 +21,14 @@ use std::alloc::Global;
 use world::WorldFault;
 
 impl<'a> World<'a> {
-    /// Takes the event, or refuses it and changes nothing. Whichever it was, the list only grew,
-    /// and at each moment of all that was taken so far the world has one list.
+    /// Takes the event, or refuses it and changes nothing. In both cases the list has only grown,
+    /// and the world has one list at each moment of the events taken so far.
     ///
     /// # Errors
     ///
-    /// `Memory`; else the first of these: `BadTrace` with 0, a stop inside what is no step;
-    /// `NoSuchNode`; `NodeDown`, or `NodeUp` of a restart; `NoSuchDatagram`; what the node refuses.
+    /// `Memory`; else the first of these: `BadTrace` with 0, for a stop inside something other than
+    /// a step; `NoSuchNode`; `NodeDown`, or `NodeUp` for a restart; `NoSuchDatagram`; the node's
+    /// refusal.
     pub fn step(&mut self, event: &Event) -> Result<(), WorldFault>
         ensures taken { OnOk result
             (Happens self.old.world (event_view event.now) self.new.world) }
@@ -36,14 +37,14 @@ impl<'a> World<'a> {
         ensures refused { IfErr result (λ f. (f ≡ WorldFault.Memory)
             ⊎ IsRefused self.old.world (event_view event.now) f) }
 
-        // Whichever it was, of the world before and the one after.
+        // In both cases, of the world before and the world after.
         ensures before { IsHistory self.old }
         ensures fixed { (self.new.world.division ≡ self.old.world.division)
             × (self.new.world.weights ≡ self.old.world.weights) }
         ensures grows { IsBeginningOf self.old.world.agreed self.new.world.agreed }
         ensures alike { HoldAlike self.old.world self.new.world }
 
-        // The events that were taken led to the world from its start; at each moment of them there
+        // The events that were taken lead from the start to the world; at each moment of them there
         // is one list of packages; and this is why.
         ensures history { IsHistory self.new }
         ensures one_list { HasOneList self.new.world.division self.new.world.weights
@@ -54,7 +55,7 @@ impl<'a> World<'a> {
         self.step_copy(event)
     }
 
-    /// Takes an equal event and keeps it, or refuses it and changes nothing.
+    /// Takes a copy of the event and keeps it, or refuses the event and changes nothing.
     fn step_copy(&mut self, event: &Event) -> Result<(), WorldFault>
         ensures taken { OnOk result
             (Happens self.old.world (event_view event.now) self.new.world) }
@@ -102,7 +103,7 @@ impl<'a> World<'a> {
 }
 
 impl<'a> WorldState<'a> {
-    /// Takes the event, which nothing but its node may refuse, or refuses it and changes nothing.
+    /// Takes the event, which only its node may refuse, or refuses it and changes nothing.
     fn step(&mut self, event: &Event) -> Result<(), NodeFault>
         requires standing { IsStanding self.old }
         requires reached { IsReached (world_of self.old) }
@@ -125,7 +126,7 @@ impl<'a> WorldState<'a> {
         }
     }
 
-    /// The node takes its step, and what it sends is entered; or all stays.
+    /// The node takes its step, and what it sends is entered; or nothing changes.
     fn step_node(&mut self, event: &Event) -> Result<(), NodeFault>
         requires standing { IsStanding self.old }
         requires reached { IsReached (world_of self.old) }

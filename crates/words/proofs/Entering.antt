@@ -1,4 +1,4 @@
--- Words in which clap finds no fault name a subcommand, and not that of clap's own which asks for help.
+-- Words in which clap finds no fault name a subcommand other than clap's own `help`.
 use Rattle.std.proofs.Common.{◌≡◌, ◌&&◌, ℕ, Bool, true, false, not, List, [], ◌∷◌, Option, None, Some, IfSome, refl, sym, subst, true≢false, codes}
 use Rattle.std.specs.Prelude.{find, fold, if◌then◌else◌, is_some, option_map}
 use Rattle.std.specs.List.{list_any}
@@ -15,14 +15,14 @@ use Rattle.clap.specs.Walk.{after_flag, after_step, answers_to, arg_by_index, fi
 use Rattle.clap.specs.Walk.{to_positional, walk, walk_from, walked, walked_from, word_met}
 use Rattle.clap.specs.declared.error.kind.ErrorKind.{ErrorKind}
 
--- ---- where no fault is found
+-- ---- no fault is found
 
--- neither of two steps fails
+-- neither of two checks fails
 pub neither : (a b : Kinds) → or_else a b ≡ [] → (a ≡ []) × (b ≡ [])
 neither [] b none = (refl, none)
 neither (k ∷ ks) b none = absurd (let no : k ∷ ks ≡ [] = none in cc)
 
--- what would be a fault is not so
+-- the condition of a fault doesn't hold
 untrue : (b : Bool) (k : ErrorKind) (ks : Kinds) → (if b then k ∷ ks else []) ≡ [] → b ≡ false
 untrue true k ks none = absurd (let no : k ∷ ks ≡ [] = none in cc)
 untrue false k ks none = refl
@@ -34,10 +34,10 @@ checks_pass false true c none = absurd cc
 checks_pass false false true none = absurd cc
 checks_pass false false false none = (refl, refl)
 
--- ---- which subcommands a walk without a fault meets
+-- ---- the subcommands that a walk without a fault reaches
 
 module _ (s : Shape) (names : Names) where
-  -- the name of a subcommand that is met does not ask for help
+  -- the name of the subcommand is not that of `help`
   abbrev pub IsNoHelp : Text → Type 0
   IsNoHelp name = (bytes_eq name (codes "help") && not s.disable_help_subcommand) ≡ false
 
@@ -120,7 +120,7 @@ given : (a b : Bool) → (not a && b) ≡ false → b ≡ true → a ≡ true
 given true b e t = refl
 given false b e t = absurd (true≢false (subst (λ (x : Bool). x ≡ false) t e))
 
--- the subcommand whose name the words have has no fault either
+-- the subcommand that the words name has no fault either
 pub record Enters (b : App) (words : List Text) : Type 0 where
   pub name : Text
   pub rest : List Text
@@ -160,7 +160,7 @@ module _ (b : App) (words : List Text) where
       let goes = goes end.stopped enters.0 some well in
       record { name = goes.0; rest = goes.1; shape = goes.2; found = goes.3; faultless = goes.4; enters = goes.5; no_help = goes.6 }
 
--- no argument that must be given lacks, where no fault is found
+-- if no fault is found, no required argument is missing
 pub none_lacks : (s : Shape) (words : List Text) → s.subcommand_negates_reqs ≡ false → level_fault s [] nothing_held words false [] ≡ []
     → list_any (λ a. a.required && not (is_given a.id (finished s.rules (walk s.rules [] nothing_held words).held))) s.rules ≡ false
 none_lacks s words keeps none =

@@ -1,4 +1,4 @@
--- The calls of `dpbr` at words that are known.
+-- The calls of `dpbr` for known words.
 use Rattle.std.proofs.Common.{◌≡◌, codes, refl, Option, Some, List, [], ◌∷◌, option_map, option_and_then}
 use Rattle.clap.specs.Words.{Row, Text, first_of}
 use Rattle.clap.proofs.OnLiterals.{clap_on_literals}
@@ -84,7 +84,7 @@ example_wayon_builds : value_at (codes "BUILDS") (wayon_words (codes "0") (codes
 unfolding matched dpbr_app clap_on_literals
 example_wayon_builds = refl
 
--- a number past its range, or none
+-- a number out of range, or not a number
 example_node_past : faults_of (wayon_words (codes "256") (codes "7")) ≡ kind.ValueValidation ∷ []
 unfolding faults_of dpbr_app clap_on_literals
 example_node_past = refl
@@ -97,7 +97,7 @@ example_no_host : faults_of (wayon_words (codes "0") (codes "h")) ≡ kind.Value
 unfolding faults_of dpbr_app clap_on_literals
 example_no_host = refl
 
--- `--single` stands anywhere behind the subcommand
+-- `--single` may be anywhere after the subcommand
 example_single : AreTaken (codes "dpbr" ∷ codes "status" ∷ codes "tree" ∷ codes "--single" ∷ codes "held" ∷ [])
 unfolding faults_of dpbr_app clap_on_literals
 example_single = refl
@@ -123,7 +123,7 @@ example_single_first : faults_of (codes "dpbr" ∷ codes "--single" ∷ codes "a
 unfolding faults_of dpbr_app clap_on_literals
 example_single_first = refl
 
--- no subcommand, one that is not there, a word too few, a word too many, help
+-- no subcommand, an unknown one, a missing word, an extra word, help
 example_none : faults_of (codes "dpbr" ∷ []) ≡ kind.MissingSubcommand ∷ []
 unfolding faults_of dpbr_app clap_on_literals
 example_none = refl

@@ -1,4 +1,4 @@
--- What is read of a number that was matched.
+-- The result of parsing a matched number.
 use Rattle.std.proofs.Common.{◌≡◌, ◌<◌, ◌^◌, ◌∙◌, ℕ, List, Option, None, Some, IfNone, IfSome, Result, Ok, refl, sym, subst}
 use Rattle.std.specs.Str.Parse.{ParsesUnsigned}
 use Rattle.clap.specs.Matches.{ReadsOne}
@@ -12,7 +12,7 @@ module _ {E : Type 0} (G : List ℕ → Result ℕ E → Type 0) (k : ℕ)
     (rows : List Row) (id : Text) (r : Option ℕ)
     (none : one_of id rows ≡ None → r ≡ None)
     (value : (t : List ℕ) → one_of id rows ≡ Some t → ReadsOne G t r) where
-  -- what is read is the number that the text writes
+  -- the result is the number that the text writes
   pub some_number : IfSome r (IsNumber rows id)
   some_number = by (one_of id rows) refl
     where
@@ -24,7 +24,7 @@ module _ {E : Type 0} (G : List ℕ → Result ℕ E → Type 0) (k : ℕ)
       by None is = subst (λ (o : Option ℕ). IfSome o (IsNumber rows id)) (sym (none is)) tt
       by (Some t) is = read t is r (value t is)
 
-  -- a number in the range is read
+  -- a number in range is parsed
   pub a_number : (most : ℕ) → most < 2 ^ k → IfNone r (HasNumber rows id most → ⊥)
   a_number most fits = by r refl
     where

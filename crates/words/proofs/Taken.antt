@@ -1,4 +1,4 @@
--- Words that clap takes name a call.
+-- Words that clap accepts are a call.
 use Rattle.std.proofs.Common.{◌≡◌, ◌⊎◌, ◌&&◌, ◌||◌, inl, inr, ℕ, Bool, true, false, cond, List, [], ◌∷◌, None, Some, refl, sym, subst, not, true≢false, codes}
 use Rattle.std.specs.Prelude.{find, if◌then◌else◌, pos}
 use Rattle.std.specs.List.{slice_index_or}
@@ -20,7 +20,7 @@ use Rattle.words.proofs.Uses.{given_matched, known, rows_fit}
 use Rattle.words.specs.Calls.{AreTaken, IsWord, dpbr_app, faults_of, matched, status_command, word}
 use Rattle.words.specs.inside.Naming.{HasNumber, NamesCall}
 
--- which one of five is found: the last passes the test
+-- which of five is found: the last one passes the test
 abbrev IsOneOf : {X : Type 0} → (X → Bool) → X → X → X → X → X → X → Type 0
 IsOneOf p a b c d e x = (a ≡ x) ⊎ ((b ≡ x) ⊎ ((c ≡ x) ⊎ ((d ≡ x) ⊎ ((e ≡ x) × (p e ≡ true)))))
 
@@ -39,7 +39,7 @@ found_among {X} p a b c d e x = by (p a) (p b) (p c) (p d) (p e) refl
     by false false false false true at f = inr (inr (inr (inr (same e x f, at))))
     by false false false false false at f = absurd (let no : None ≡ Some x = f in cc)
 
--- the subcommands as they are built: the program's four, and clap's own
+-- the subcommands as clap builds them: the program's four, and its own
 abbrev subcommand_at : ℕ → Shape
 subcommand_at k = slice_index_or (built dpbr_app).subs k status_command
 
@@ -54,17 +54,17 @@ help_is_met name met = sym ((bytes_eq-Decides (codes "help") name).0 (by (bytes_
 never_help : (name : Text) → name ≡ codes "help" → (bytes_eq name (codes "help") && true) ≡ false → ⊥
 never_help name is no_help = true≢false (subst (λ (t : Text). (bytes_eq t (codes "help") && true) ≡ false) is no_help)
 
--- what does not lack is given
+-- an argument that is not missing is given
 is_there : (a b : Bool) → (not a || b) ≡ false → (a ≡ true) × (b ≡ false)
 is_there true b e = (refl, e)
 is_there false b e = absurd (true≢false e)
 
--- no fault of a value: it passes
+-- a value without a fault is accepted
 passed : (b : Bool) (k : ErrorKind) → (if b then [] else k ∷ []) ≡ [] → b ≡ true
 passed true k e = refl
 passed false k e = absurd (let no : k ∷ [] ≡ [] = e in cc)
 
--- a word, or a number, under the name of an argument that is given
+-- a word or a number for an argument that is given
 module _ (c : List Rule) (rows : List Row) (fit : AllFit c rows) (a : Rule) (own : arg_by_id c a.id ≡ Some a) where
   word_there : is_given a.id rows ≡ true → (t : Text) × IsWord rows a.id t
   word_there given =

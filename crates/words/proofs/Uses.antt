@@ -1,4 +1,5 @@
--- Where clap finds no fault in words, what it matched under a name is what a use of that argument may have.
+-- If clap finds no fault in words, the matches for an argument are values that a use of it may
+-- have.
 use Rattle.std.proofs.Common.{◌≡◌, ◌<◌, ◌⊎◌, inl, inr, ◌++◌, ◌&&◌, ◌||◌, not, ℕ, zero, suc, Bool, true, false, cond, List, [], ◌∷◌, Option, None, Some, IfSome, arith, refl, sym, subst, ap, append_assoc, length, true≢false}
 use Rattle.std.specs.Prelude.{find, fold, if◌then◌else◌, is_some, option_and_then, option_map, slice_get}
 use Rattle.std.specs.List.{list_any}
@@ -21,15 +22,16 @@ use Rattle.clap.specs.Walk.{walk, walk_from, walked, walked_from, word_met}
 use Rattle.words.proofs.Entering.{neither}
 use Rattle.words.proofs.Rows.{AllFit, AreKnown, AreValues, fit_bundle, fit_defaults, fit_flag, fit_long, fit_plain, fit_positional, fit_settled, found_known, has_values}
 
--- ---- arguments with names of their own
+-- ---- arguments with different names
 
--- the names of these arguments differ from one another and from those before them, and each use of them has a value
+-- the names of these arguments differ from each other and from those before them, and each use of
+-- them has a value
 abbrev pub are_known : List Rule → List Rule → Bool
 are_known before [] = true
 are_known before (a ∷ rules) =
     not (list_any (λ b. bytes_eq b.id a.id) before) && (has_values a (action_of a) && are_known (before ++ a ∷ []) rules)
 
--- an argument of a new name is the one of its name
+-- an argument with a new name is the one of its name
 own_found : (before : List Rule) (a : Rule) (rules : List Rule) → list_any (λ b. bytes_eq b.id a.id) before ≡ false → arg_by_id (before ++ a ∷ rules) a.id ≡ Some a
 own_found [] a rules none = rw ((bytes_eq-Decides a.id a.id).1 refl) refl
 own_found (b ∷ before) a rules none = by (bytes_eq b.id a.id) none (own_found before a rules)
@@ -40,7 +42,7 @@ own_found (b ∷ before) a rules none = by (bytes_eq b.id a.id) none (own_found 
     by true none rest = absurd (true≢false none)
     by false none rest = rest none
 
--- those that pass the test are known, behind those before them
+-- arguments that pass the test are known, after those before them
 each_known : (before rules : List Rule) → are_known before rules ≡ true → AreKnown (before ++ rules) rules
 each_known before [] test = tt
 each_known before (a ∷ rules) test =
@@ -54,7 +56,7 @@ each_known before (a ∷ rules) test =
     by false named false has test rest = absurd (true≢false (sym test))
     by false named true has test rest = (record { own = own_found before a rules named; values = has }, rest test)
 
--- so a list of arguments passes a test that computes
+-- so a list of arguments passes a test that can be computed
 pub known : (c : List Rule) → are_known [] c ≡ true → AreKnown c c
 known c test = each_known [] c test
 
@@ -124,7 +126,7 @@ module _ (s : Shape) (names : Names) (all : AreKnown s.rules s.rules) where
       let parts = neither (turn_fault s names w word) _ none in
       fit_walk words (walked s.rules names w word) parts.1 (fit_walked w word parts.0 p)
 
--- where no fault is found, each row fits
+-- if no fault is found, each row is valid
 pub rows_fit : (s : Shape) (words : List Text) → AreKnown s.rules s.rules → level_fault s [] nothing_held words false [] ≡ []
     → AllFit s.rules (rows_after s.rules [] words)
 rows_fit s words all none =
@@ -135,7 +137,8 @@ rows_fit s words all none =
     let held : AllFit s.rules end.rows = fit_walk s [] all words (walk_from nothing_held) walks.0 tt in
     fit_defaults s.rules s.rules (settled s.rules end).rows all defaults.0 (fit_settled s.rules s.args_override_self all end settles.0 held)
 
--- a value was matched under the argument's name: the first passes its parser, and is read as its are
+-- a value was matched for the argument: the first one is accepted by its parser, and parsed as the
+-- argument's are
 pub record IsMatched (a : Rule) (rows : List Row) : Type 0 where
   pub text : Text
   pub first : first_of a.id rows ≡ Some text
@@ -177,7 +180,7 @@ module _ (c : List Rule) (a : Rule) (own : arg_by_id c a.id ≡ Some a) where
   as_matched : (rows : List Row) → In (find (λ (r : Row). bytes_eq r.id a.id) rows) → IsMatched a rows
   as_matched rows there = record { text = there.0; first = there.1; one = there.2; passes = there.3 }
 
-  -- nothing was matched under the name, or such a value
+  -- nothing was matched for the argument, or such a value
   pub none_or_matched : (rows : List Row) → AllFit c rows → (first_of a.id rows ≡ None) ⊎ IsMatched a rows
   none_or_matched rows all = by (find (λ (r : Row). bytes_eq r.id a.id) rows) refl (in_found rows all)
     where

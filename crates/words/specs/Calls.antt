@@ -7,25 +7,25 @@ use Rattle.clap.specs.declared.builder.value_parser.ValueParser.TheVariants.{Sig
 use Rattle.words.specs.declared.Call.{Call}
 use Rattle.words.specs.declared.Call.TheVariants.{Audit, Run, Status, Wayon}
 
--- ---- what clap is told
+-- ---- what clap is given
 
--- a word that has to stand
+-- a required word
 abbrev pub word : Text → Rule
 word id = record (new_rule id) { required = true }
 
--- a number from 0 up to this that has to stand
+-- a required number from 0 to this maximum
 abbrev pub number : Text → ℕ → Rule
 number id most = record (word id) { parser = Some (Signed (pos 0) (pos most)) }
 
--- a word that may stand, with two dashes before it
+-- a flag, after two dashes
 abbrev pub flag : Text → Rule
 flag id = record (new_rule id) { long = Some id; action = Some SetTrue }
 
--- each path is to be a group of its own
+-- the flag that makes each path a group of its own
 abbrev pub single : Rule
 single = flag (codes "single")
 
--- a subcommand with these words behind it
+-- a subcommand with these arguments
 abbrev pub command : Text → List Rule → Shape
 command name rules = (fold with_rule (new_app name) rules).top
 
@@ -48,18 +48,18 @@ wayon_command = command (codes "wayon")
     (word (codes "LISTING") ∷ word (codes "TRACE") ∷ number (codes "NODE") 255
     ∷ word (codes "PATH") ∷ number (codes "HOST") 65535 ∷ word (codes "BUILDS") ∷ single ∷ [])
 
--- the program with its subcommand on letters alone; it has to be given a subcommand
+-- the program with only its subcommand on letters; a subcommand is required
 abbrev pub letters_app : App
 letters_app =
     let program = new_app (codes "dpbr") in
     with_subcommand
     (record program { top = record program.top { subcommand_required = true } }) status_command
 
--- the program with its subcommands on lists alone
+-- the program with only its subcommands on lists
 abbrev pub list_app : App
 list_app = with_subcommand letters_app audit_command
 
--- the program with its subcommands on lists and runs alone
+-- the program with only its subcommands on lists and runs
 abbrev pub run_app : App
 run_app = with_subcommand list_app run_command
 
@@ -67,39 +67,39 @@ run_app = with_subcommand list_app run_command
 unfoldable pub dpbr_app : App
 dpbr_app = with_subcommand run_app wayon_command
 
--- the kinds of fault of which clap names one, where it finds any in the words
+-- the kinds of the faults that clap finds in the words; it reports one of them
 unfoldable pub faults_of : List Text → Kinds
 faults_of words = fault_of dpbr_app words
 
--- clap takes the words: it finds no fault in them
+-- clap accepts the words: it finds no fault in them
 abbrev pub AreTaken : List Text → Type 0
 AreTaken words = faults_of words ≡ []
 
--- the subcommand that clap matches of the words, and what it matches under the names of that
+-- the subcommand that clap matches in the words, and its matches for that subcommand's arguments
 unfoldable pub matched : List Text → Option (Text × List Row)
 matched words = subcommand_of dpbr_app words
 
--- ---- what a call is
+-- ---- calls
 
--- the first word that was matched under a name
+-- the first word that was matched for an argument
 abbrev pub IsWord : List Row → Text → Text → Type 0
 IsWord rows id value = first_of id rows ≡ Some value
 
--- what was matched under a name is read as the number
+-- the number that was matched for an argument
 abbrev pub IsNumber : List Row → Text → ℕ → Type 0
 IsNumber rows id n =
     (t : Text) × (one_of id rows ≡ Some t) × (digits_value 10 (without_leading_plus t) ≡ n)
 
--- the flag was given
+-- whether the flag was given
 abbrev pub IsFlag : List Row → Text → Bool → Type 0
 IsFlag rows id given = (given ≡ true) ↔ (first_of id rows ≡ Some (codes "true"))
 
--- under these two names these words were matched, and so the flag was given or not
+-- these words were matched for these two arguments, and the flag was given or not
 abbrev pub AreValues : List Row → Text × Text → Text → Text → Bool → Type 0
 AreValues rows names first second is_single =
     IsWord rows names.0 first × IsWord rows names.1 second × IsFlag rows (codes "single") is_single
 
--- clap matched the call's subcommand, and the call's values are those of its matches
+-- clap matched the call's subcommand, and the call has the values of its matches
 abbrev pub IsCallOf : Option (Text × List Row) → Call → Type 0
 IsCallOf None call = ⊥
 IsCallOf (Some (name, rows)) (Status listing held is_single) = (name ≡ codes "status")

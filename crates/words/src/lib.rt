@@ -1,4 +1,4 @@
-//! The words of `dpbr`: which call of the program they make, as clap matches them.
+//! The command line of `dpbr`: which call of the program it is, as clap parses it.
 #![tactic(auto)]
 
 ghost use Rattle.std.specs.Prelude.{◌≡◌, IfNone, IfOk, IfSome, map};
@@ -18,11 +18,11 @@ use clap::{ArgMatches, Command, Error};
 use std::alloc::{AllocError, Global};
 use std::convert::AsStr;
 
-/// A call of the program, with its other words, such as the names of its files, and whether each
-/// path of the listing is a group of its own.
+/// A call of the program, with its arguments, such as the names of files, and whether each path of
+/// the listing is a group of its own.
 #[derive(Debug, Drop)]
 pub enum Call<'a> {
-    /// The letters of a listing's packages, where those named in a text of package paths are held.
+    /// The letters of a listing's packages, if those in a text of package paths are held.
     Status {
         listing: &'a str,
         held: &'a str,
@@ -34,14 +34,14 @@ pub enum Call<'a> {
         list: &'a str,
         is_single: bool,
     },
-    /// What a trace of events leaves of nodes that build a listing's packages.
+    /// The state that a trace of events leaves, of nodes that build a listing's packages.
     Run {
         listing: &'a str,
         trace: &'a str,
         is_single: bool,
     },
-    /// Events behind a trace by which a node comes to hold the packages of a path, which a host
-    /// builds of the files that are given.
+    /// Events after those of a trace that make a node hold the packages of a path, which a host
+    /// builds from the given files.
     Wayon {
         listing: &'a str,
         trace: &'a str,
@@ -53,13 +53,13 @@ pub enum Call<'a> {
     },
 }
 
-/// The call that the words make, the first of which is the program's name.
+/// The call of these words, of which the first is the program's name.
 ///
-/// Words that make no call, and those that ask for help, are refused with clap's text.
+/// Words that are not a call, or that ask for help, are refused with clap's text.
 pub fn dpbr_words<'a, S: AsStr>(alloc: Global, words: &'a [S]) -> Result<Call<'a>, Error>
     ensures call { IfOk result (IsCallOf (matched (map S.text words.entry.now))) }
-    // Where there is a call clap found no fault in the words, and a refusal is for want of memory
-    // or of a kind of their faults.
+    // If there is a call, clap found no fault in the words. A refusal is either out of memory or of
+    // the kind of one of their faults.
     ensures faults { FailsBy (faults_of (map S.text words.entry.now)) result }
 {
     let matches = matches_of(alloc, words)?;
@@ -69,7 +69,7 @@ pub fn dpbr_words<'a, S: AsStr>(alloc: Global, words: &'a [S]) -> Result<Call<'a
     }
 }
 
-/// What clap matches of the words.
+/// clap's matches of the words.
 fn matches_of<'a, S: AsStr>(alloc: Global, words: &'a [S]) -> Result<ArgMatches<'a>, Error>
     ensures matched { IfOk result
         (λ m. subcommand_rows_of m ≡ matched (map S.text words.entry.now)) }
@@ -92,12 +92,12 @@ fn call_of<'a>(matches: &ArgMatches<'a>) -> Option<Call<'a>>
     }
 }
 
-/// The refusal of words that name no call.
+/// The refusal of words without a call.
 fn no_call(alloc: Global) -> Result<Error, AllocError> {
     dpbr_command(alloc)?.error(ErrorKind::MissingSubcommand, "the words name no call")
 }
 
-/// What clap is told of the program.
+/// clap's command for the program.
 #[tactic(auto, unfolding(crate::specs::Calls::dpbr_app))]
 fn dpbr_command<'a>(alloc: Global) -> Result<Command<'a>, AllocError>
     ensures { IfOk result (λ command. app_of command ≡ dpbr_app) }
@@ -105,21 +105,21 @@ fn dpbr_command<'a>(alloc: Global) -> Result<Command<'a>, AllocError>
     with_runs(alloc)?.subcommand(wayon::command(alloc)?)
 }
 
-/// The same of its subcommands on lists and runs alone.
+/// The command with only its subcommands on lists and runs.
 fn with_runs<'a>(alloc: Global) -> Result<Command<'a>, AllocError>
     ensures { IfOk result (λ command. app_of command ≡ run_app) }
 {
     with_lists(alloc)?.subcommand(run::command(alloc)?)
 }
 
-/// The same of its subcommands on lists alone.
+/// The command with only its subcommands on lists.
 fn with_lists<'a>(alloc: Global) -> Result<Command<'a>, AllocError>
     ensures { IfOk result (λ command. app_of command ≡ list_app) }
 {
     with_letters(alloc)?.subcommand(audit::command(alloc)?)
 }
 
-/// The same of its subcommand on letters alone.
+/// The command with only its subcommand on letters.
 fn with_letters<'a>(alloc: Global) -> Result<Command<'a>, AllocError>
     ensures { IfOk result (λ command. app_of command ≡ letters_app) }
 {

@@ -10,7 +10,7 @@ use crate::arguments::{self, is_single, required, text_of};
 use clap::{ArgMatches, Command};
 use std::alloc::{AllocError, Global};
 
-/// What clap is told of the subcommand.
+/// clap's command for the subcommand.
 pub fn command<'a>(alloc: Global) -> Result<Command<'a>, AllocError>
     ensures shape { IfOk result (λ command. shape_of command ≡ run_command) }
     ensures local { IfOk result (λ command. (fields_of command).has_globals ≡ false) }
@@ -21,7 +21,7 @@ pub fn command<'a>(alloc: Global) -> Result<Command<'a>, AllocError>
     arguments::command(alloc, "run", about, listing, trace)
 }
 
-/// The call with the values that were found.
+/// The call with the matched values.
 pub fn call_of<'a>(found: &ArgMatches<'a>) -> Option<Call<'a>>
     ensures some { IfSome result (IsCallOf (Some (codes "run", rows_of (found_of found.now)))) }
     ensures none { IfNone result

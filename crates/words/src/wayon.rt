@@ -10,7 +10,7 @@ use crate::arguments::{is_single, required, single, texts_of, with_words};
 use clap::{Arg, ArgMatches, Command, value_parser};
 use std::alloc::{AllocError, Global};
 
-/// What clap is told of the subcommand.
+/// clap's command for the subcommand.
 pub fn command<'a>(alloc: Global) -> Result<Command<'a>, AllocError>
     ensures shape { IfOk result (λ command. shape_of command ≡ wayon_command) }
     ensures local { IfOk result (λ command. (fields_of command).has_globals ≡ false) }
@@ -19,7 +19,7 @@ pub fn command<'a>(alloc: Global) -> Result<Command<'a>, AllocError>
     with_words(front(alloc)?, host(alloc), builds)?.arg(single(alloc))
 }
 
-/// The same up to the path.
+/// The command with the arguments up to the path.
 fn front<'a>(alloc: Global) -> Result<Command<'a>, AllocError>
     ensures app { IfOk result (λ command. app_of command ≡ wayon_front) }
     ensures local { IfOk result (λ command. (fields_of command).has_globals ≡ false) }
@@ -36,7 +36,7 @@ fn front<'a>(alloc: Global) -> Result<Command<'a>, AllocError>
     with_words(command, node(alloc), path)
 }
 
-/// The word of a node's number.
+/// The argument with a node's number.
 fn node<'a>(alloc: Global) -> Arg<'a>
     ensures rule { rule_of result ≡ number (codes "NODE") 255 }
     ensures local { result.global ≡ false }
@@ -47,7 +47,7 @@ fn node<'a>(alloc: Global) -> Arg<'a>
         .value_parser(value_parser!(u8))
 }
 
-/// The word of a host's number.
+/// The argument with a host's number.
 fn host<'a>(alloc: Global) -> Arg<'a>
     ensures rule { rule_of result ≡ number (codes "HOST") 65535 }
     ensures local { result.global ≡ false }
@@ -58,7 +58,7 @@ fn host<'a>(alloc: Global) -> Arg<'a>
         .value_parser(value_parser!(u16))
 }
 
-/// The call with the values that were found.
+/// The call with the matched values.
 pub fn call_of<'a>(found: &ArgMatches<'a>) -> Option<Call<'a>>
     ensures some { IfSome result (IsCallOf (Some (codes "wayon", rows_of (found_of found.now)))) }
     ensures none { IfNone result (¬ NamesWay (rows_of (found_of found.now))) }

@@ -1,4 +1,4 @@
--- Lists of lines, and the texts that they are.
+-- Lists of lines, and their texts.
 use Rattle.std.proofs.Common.{◌≡◌, suc, Bool, true, false, List, [], ◌∷◌, ◌++◌, All, codes, drop, get_or, map, refl, sym, ap, ◌∙◌, append_assoc, arith}
 use Rattle.std.specs.List.{list_all}
 use Rattle.std.proofs.lemmas.Bool.{and_parts, not-true}
@@ -16,7 +16,7 @@ use Rattle.work.specs.Tasks.{Task, host_line, job_text, package_line, task_of, t
 abbrev pub are_lines : List Text → Bool
 are_lines lines = list_all (lacks 10) lines
 
--- two texts that are cut at the same place
+-- two texts that are split at the same place
 same_halves : (l m rest other : Text) → has_byte 10 l ≡ false → has_byte 10 m ≡ false
     → l ++ 10 ∷ rest ≡ m ++ 10 ∷ other → (l ≡ m) × (rest ≡ other)
 same_halves l m rest other no_l no_m is =
@@ -35,13 +35,13 @@ nothing_ends : (l rest : Text) → [] ≡ l ++ 10 ∷ rest → ⊥
 nothing_ends [] rest is = cc
 nothing_ends (x ∷ l) rest is = cc
 
--- texts that are the same begin with the same line
+-- equal texts begin with the same line
 pub same_first : (l m : Text) (ls ms : List Text) → has_byte 10 l ≡ false → has_byte 10 m ≡ false
     → ended (l ∷ ls) ≡ ended (m ∷ ms) → l ≡ m
 same_first l m ls ms no_l no_m is =
     (same_halves l m (ended ls) (ended ms) no_l no_m (sym (first_line l ls) ∙ is ∙ first_line m ms)).0
 
--- lines of one text are the same lines
+-- lines with equal texts are equal
 pub same_lines : (ls ms : List Text) → are_lines ls ≡ true → are_lines ms ≡ true → ended ls ≡ ended ms → ls ≡ ms
 same_lines [] [] none other is = refl
 same_lines [] (m ∷ ms) none other is = absurd (nothing_ends m (ended ms) (sym no_lines ∙ is ∙ first_line m ms))
@@ -53,16 +53,16 @@ same_lines (l ∷ ls) (m ∷ ms) some other is =
     (sym (first_line l ls) ∙ is ∙ first_line m ms) in
     ap (λ x. x ∷ ls) halves.0 ∙ ap (λ xs. m ∷ xs) (same_lines ls ms one.1 two.1 halves.1)
 
--- ---- where lines of one kind end
+-- ---- the end of the lines of one kind
 
--- the lines don't go on with one of this kind
+-- the next line is not of this kind
 abbrev pub Stops : {X : Type 0} → (X → Text) → List Text → Type 0
 Stops {X} f lines = (x : X) (rest : List Text) → lines ≡ f x ∷ rest → ⊥
 
 pub heads_are : (x y : Text) (xs ys : List Text) → x ∷ xs ≡ y ∷ ys → (x ≡ y) × (xs ≡ ys)
 heads_are x y xs ys is = (ap (λ (ls : List Text). get_or ls 0 []) is, ap (drop 1) is)
 
--- one behind the other, the lines of each kind are the same
+-- the first lines of one kind are equal
 pub same_front : {X : Type 0} (f : X → Text) (xs ys : List X) (r s : List Text) → Stops f r → Stops f s
     → map f xs ++ r ≡ map f ys ++ s → (map f xs ≡ map f ys) × (r ≡ s)
 same_front f [] [] r s stops other is = (refl, is)
@@ -73,7 +73,7 @@ same_front f (x ∷ xs) (y ∷ ys) r s stops other is =
     let behind = same_front f xs ys r s stops other front.1 in
     (ap (λ l. l ∷ map f xs) front.0 ∙ ap (λ ls. f y ∷ ls) behind.0, behind.1)
 
--- lines of one kind are of the same things, if each line tells its thing
+-- lines of one kind are those of equal elements, if each line determines its element
 pub same_things : {X : Type 0} (f : X → Text) (Is : X → Type 0) → ((x y : X) → Is x → Is y → f x ≡ f y → x ≡ y)
     → (xs ys : List X) → All Is xs → All Is ys → map f xs ≡ map f ys → xs ≡ ys
 same_things f Is tells [] [] are other is = refl
@@ -87,13 +87,13 @@ same_things f Is tells (x ∷ xs) (y ∷ ys) are other is =
 
 -- ---- the text of a job
 
--- the host's line and the claim's behind the text of the task
+-- the lines of the host and the claim after the text of the task
 pub job_told : (tree : Text) (job : jobs.Task) (front mid whole : Text) → front ≡ task_text tree (task_of job)
     → mid ≡ front ++ ended (host_line job.host ∷ []) → whole ≡ mid ++ ended (claim_line job.claim ∷ []) → whole ≡ job_text tree job
 job_told tree job front mid whole task host claim =
     ended_more [] front whole _ (host_line job.host ∷ claim_line job.claim ∷ []) task (ended_more front mid whole _ _ host claim)
 
--- the lines of its packages and of its signatures behind the tree's and the unit's
+-- the lines of the packages and of the signatures after those of the tree and the unit
 pub task_told : (tree : Text) (t : Task) (head first mid whole : Text) → head ≡ ended (tree_line tree ∷ [])
     → first ≡ head ++ ended ((codes "@unit " ++ t.unit) ∷ []) → mid ≡ first ++ ended (map package_line t.packages)
     → whole ≡ mid ++ ended (map built_line t.built) → whole ≡ task_text tree t

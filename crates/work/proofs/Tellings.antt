@@ -1,4 +1,4 @@
--- What texts of tasks and of jobs tell.
+-- What the texts of tasks and of jobs determine.
 use Rattle.std.proofs.Common.{◌≡◌, ℕ, suc, ◌^◌, ◌<◌, ◌≤◌, true, false, List, [], ◌∷◌, ◌++◌, All, codes, decimal, drop, get_or, map, true≢false, inl, inr, refl, sym, ap, ◌∙◌, append_assoc, arith}
 use Rattle.std.specs.Str.{bytes_eq}
 use Rattle.std.specs.Str.Parse.{digits_value}
@@ -28,7 +28,7 @@ use Rattle.work.specs.Laws.{IsJob, IsTask, NameTellsTheTask, TaskTextIsFirst, Te
 use Rattle.work.specs.Tasks.{Task, host_line, package_line, task_lines, task_of, task_text, tree_line}
 use Rattle.work.proofs.Lines.{Stops, are_lines, heads_are, same_first, same_front, same_lines, same_things}
 
--- ---- lines, word first
+-- ---- the first word of a line
 
 built_spelled : (d : Dep) → built_line d ≡ codes "@built " ++ (d.path ++ 32 ∷ (d.name ++ 32 ∷ encode_lower d.digest))
 built_spelled d =
@@ -39,7 +39,7 @@ built_spelled d =
 claim_spelled : (c : Claim) → claim_line c ≡ codes "@claim " ++ (decimal c.round ++ 46 ∷ decimal c.member)
 claim_spelled c = append_assoc (codes "@claim " ++ decimal c.round) (codes ".") (decimal c.member)
 
--- the byte behind the `@` of the first line, by which kinds of lines are told apart
+-- the byte after the `@` of the first line, which distinguishes the kinds of lines
 abbrev kind : List Text → ℕ
 kind [] = 0
 kind (line ∷ lines) = get_or line 1 0
@@ -91,7 +91,7 @@ last_are_lines job good =
     and_from _ _ (line_lacks (host_line job.host) (number_lacks job.host (omega (arith, good.host))))
     (and_from _ _ (line_lacks (claim_line job.claim) (claim_lacks job.claim good.claim)) refl)
 
--- ---- what each line tells
+-- ---- what each line determines
 
 same_digits : (xs ys : Text) → IsBytes xs → IsBytes ys → encode_lower xs ≡ encode_lower ys → xs ≡ ys
 same_digits xs ys bytes_x bytes_y is =
@@ -120,12 +120,12 @@ host_tells : (g h : ℕ) → g < 2 ^ 64 → h < 2 ^ 64 → host_line g ≡ host_
 host_tells g h small other is =
     sym (decimal_value g small) ∙ ap (λ (line : Text). digits_value 10 (drop 6 line)) is ∙ decimal_value h other
 
--- ---- a task's lines, and others behind them
+-- ---- the lines of a task, and others after them
 
 abbrev with_last : Text → Task → List Text → List Text
 with_last tree t last = tree_line tree ∷ ((codes "@unit " ++ t.unit) ∷ (map package_line t.packages ++ (map built_line t.built ++ last)))
 
--- what stands behind a task's lines goes on with none of theirs
+-- the line after those of a task is not of their kinds
 record IsLast (last : List Text) : Type 0 where
   packages : Stops package_line last
   built : Stops built_line last
@@ -149,7 +149,7 @@ built_is_next (d ∷ ds) last is_last path rest is = let no : 98 ≡ 112 = ap ki
 abbrev made : Text → List Text → List Dep → Task
 made unit packages built = record { unit = unit; packages = packages; built = built }
 
--- the lines of the trees are the same, and so are those behind them
+-- the lines of the trees are equal, and so are those after them
 same_tree : (tree its : Text) (t u : Task) (last other : List Text) → IsBytes tree → IsBytes its
     → with_last tree t last ≡ with_last its u other → tree ≡ its
 same_tree tree its t u last other bytes fine is = tree_tells tree its bytes fine (ap (λ (ls : List Text). get_or ls 0 []) is)

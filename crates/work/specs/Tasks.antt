@@ -1,4 +1,4 @@
--- What is to be built on what, as a text, and its name.
+-- Tasks: what is to be built on what, as a text, and the name of that.
 use Rattle.std.specs.Prelude.{◌++◌, ℕ, List, ◌∷◌, [], codes, decimal, map}
 use Rattle.faults.specs.Bytes.{Text}
 use Rattle.hex.specs.Hex.{encode_lower}
@@ -13,11 +13,11 @@ pub record Task : Type 0 where
   pub packages : List Text
   pub built : List Dep
 
--- that of a job, whoever builds it under whichever claim
+-- the task of a job, without its host and claim
 abbrev pub task_of : jobs.Task → Task
 task_of job = record { unit = job.path; packages = job.packages; built = job.deps }
 
--- the line of a package that is to be made
+-- the line of a package to build
 abbrev pub package_line : Text → Text
 package_line path = codes "@package " ++ path
 
@@ -25,22 +25,21 @@ package_line path = codes "@package " ++ path
 abbrev pub host_line : ℕ → Text
 host_line host = codes "@host " ++ decimal host
 
--- the line of the digest of the tree whose unit is to be built
+-- the line of the digest of the unit's tree
 abbrev pub tree_line : Text → Text
 tree_line tree = codes "@tree " ++ encode_lower tree
 
--- a line for the tree's digest, one for the unit, then one for each package, then one for each
--- signature
+-- a line for the tree's digest, one for the unit, one for each package, and one for each signature
 abbrev pub task_lines : Text → Task → List Text
 task_lines tree t =
     tree_line tree
     ∷ (codes "@unit " ++ t.unit) ∷ map package_line t.packages ++ map built_line t.built
 
--- the text of a task in a tree of this digest: these lines
+-- the text of a task in a tree of this digest
 abbrev pub task_text : Text → Task → Text
 task_text tree t = ended (task_lines tree t)
 
--- the text of a job: the lines of its task, and behind them its host and its claim
+-- the text of a job: the lines of its task, followed by its host and its claim
 abbrev pub job_text : Text → jobs.Task → Text
 job_text tree job =
     ended (task_lines tree (task_of job) ++ host_line job.host ∷ claim_line job.claim ∷ [])

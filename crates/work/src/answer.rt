@@ -1,16 +1,14 @@
-//! What there is of a build.
+//! The result of a build.
 
-/// What stands for a job where its builds come in.
+/// The result of a job, as found in the work folder.
 #[derive(Drop)]
 pub enum Answer {
     /// Nothing yet.
     NotYet,
-    /// That the build failed, by whoever built, or by the node that took what was handed in for
-    /// none.
+    /// The build failed: so says the builder, or the node that found its result malformed.
     Failed,
     /// A text of more than `LONGEST_ANSWER` bytes.
     TooLong,
-    /// A text that is to name the files of the unit's packages, as `traces::read_builds` reads
-    /// them.
+    /// A text with the files of the unit's packages, in the form that `traces::read_builds` parses.
     Made(Vec<u8>),
 }

@@ -1,4 +1,4 @@
-//! Why a folder doesn't serve.
+//! Why a folder can't be used.
 ghost use Rattle.std.specs.Prelude.{◌≡◌, ◌⊎◌, None};
 ghost use Rattle.work.specs.Refusals.{number_of};
 ghost use Rattle.work.specs.declared.fault.WorkFault.TheVariants.{Files, Memory as NoMemory};
@@ -17,7 +17,7 @@ pub enum WorkFault {
     /// The system refused something.
     #[error("a file of the work folder can't be read or written")]
     Files,
-    /// The folder has files, and the log beside which it is opened has no notes.
+    /// The folder has files, but the log that it is opened with has no notes.
     #[error("the work folder has files of another run")]
     OtherRun,
 }

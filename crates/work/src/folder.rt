@@ -1,4 +1,4 @@
-//! The folder with the files. No contract says what a file holds, or what the system makes of a
+//! The folder with the files. Contracts don't say what a file contains, or how the system answers a
 //! call.
 ghost use Rattle.std.specs.Prelude.{◌≡◌, IfErr, IfOk};
 ghost use Rattle.work.specs.Answers.{Fits};
@@ -16,14 +16,14 @@ use std::fs;
 use std::fs::{File, OpenOptions};
 use std::io::{ErrorKind, Read, Write};
 
-/// One of the three folders.
+/// One of the three subfolders.
 #[derive(Clone, Copy)]
 enum Part {
-    /// What is to be built: the node writes there.
+    /// What is to be built. The node writes here.
     Jobs,
-    /// What was built: whoever builds writes there.
+    /// What was built. Builders write here.
     Done,
-    /// What failed: whoever builds writes there, and the node of what it takes for no build.
+    /// What failed. Builders write here, and the node does for results that it finds malformed.
     Failed,
 }
 
@@ -37,13 +37,13 @@ impl Part {
     }
 }
 
-/// A folder with three, by which jobs go out and builds come in. A file has the name of what is to
-/// be built, and is whole: one that is still written has a name that begins with a dot, is synced
-/// before it gets its own, and then the folder is. Whenever a crash comes, a name stands for the
-/// whole file or for none.
+/// A folder with three subfolders, through which jobs are given and builds returned. A file is
+/// named after the task, and is always complete: it is written under a name that begins with a dot,
+/// synced and renamed, and then the folder is synced. After a crash at any moment a name has either
+/// the complete file or none.
 ///
-/// Two nodes of one run that have notes may have one folder: what is equal work has one name, and
-/// what each writes meanwhile has the node's number behind that.
+/// Two nodes of one run that have notes may share a folder: equal tasks have equal names, and the
+/// temporary names have the node's number appended.
 #[derive(Clone, Copy)]
 pub struct Folder<'f> {
     path: &'f str,
@@ -52,14 +52,14 @@ pub struct Folder<'f> {
 }
 
 impl<'f> Folder<'f> {
-    /// The folder at a path. It and the three are made where they are not there. Whether the log
-    /// beside it has notes says whether files may be there: without notes no job of this run went
-    /// out yet.
+    /// Opens the folder at a path. It and its subfolders are created if they don't exist.
+    /// `has_notes` is whether the log has notes. Without notes no job of this run has been given
+    /// yet, so there must be no files.
     ///
     /// # Errors
     ///
-    /// What the system refused; `OtherRun`, where the log has no notes and one of the three has a
-    /// file that is whole.
+    /// What the system refused; `OtherRun` if the log has no notes and a subfolder has a complete
+    /// file.
     pub fn open(
         rt: &HostRuntime,
         path: &'f str,
@@ -80,12 +80,12 @@ impl<'f> Folder<'f> {
         Ok(folder)
     }
 
-    /// Posts a job of a tree of this digest, and answers its name. One that stands there already is
-    /// replaced by it: its task is the same, and host and claim are told anew.
+    /// Writes a job for a tree of this digest, and returns its name. It replaces an earlier file of
+    /// that name, which has the same task and perhaps another host or claim.
     ///
     /// # Errors
     ///
-    /// What the system refused: then what stood there stands, or this job does.
+    /// What the system refused. The previous file, if any, is then still there, or this one is.
     pub fn post(&self, rt: &HostRuntime, tree: &[u8; 32], job: &Job) -> Result<Name, WorkFault>
         ensures name { IfOk result (λ name. name ≡ name_of tree.now (task_of job.now)) }
         ensures refused { IfErr result IsOfSystem }
@@ -96,7 +96,7 @@ impl<'f> Folder<'f> {
         Ok(name)
     }
 
-    /// Whether the file of the job that has this name stands: somebody may have taken it away.
+    /// Whether the file of the job with this name exists. Others may have removed it.
     ///
     /// # Errors
     ///
@@ -107,9 +107,9 @@ impl<'f> Folder<'f> {
         self.stands(rt, Part::Jobs, name)
     }
 
-    /// What there is of the build that has this name. That it failed goes first. What isn't a
-    /// regular file, as a folder or a FIFO, is as a file without a byte, which names no files: it
-    /// isn't opened, since that might wait for ever.
+    /// The result of the build with this name. A mark that it failed takes precedence. If the
+    /// result is not a regular file, such as a folder or a FIFO, it is treated as an empty file,
+    /// which is malformed. It isn't opened, because that might block forever.
     ///
     /// # Errors
     ///
@@ -136,8 +136,8 @@ impl<'f> Folder<'f> {
         }
     }
 
-    /// Whether the build that has this name failed: a mark says so, until somebody takes it away so
-    /// that it is tried again.
+    /// Whether the build with this name is marked as failed. It stays marked until somebody removes
+    /// the mark, so that it is tried again.
     ///
     /// # Errors
     ///
@@ -148,7 +148,7 @@ impl<'f> Folder<'f> {
         self.stands(rt, Part::Failed, name)
     }
 
-    /// Whether something stands for the job that has this name: what was built, or that it failed.
+    /// Whether there is a result for the job with this name: a build, or a mark that it failed.
     ///
     /// # Errors
     ///
@@ -162,9 +162,9 @@ impl<'f> Folder<'f> {
         self.stands(rt, Part::Done, name)
     }
 
-    /// Marks the build that has this name as failed, with a line on why, since what was handed in
-    /// makes none. Once the mark is on the disk, that is taken away: so whoever takes away the mark
-    /// has the job built anew.
+    /// Marks the build with this name as failed, with a line that says why, because its result is
+    /// malformed. After the mark is on the disk, the result is removed: so the job is built anew
+    /// after somebody removes the mark.
     ///
     /// # Errors
     ///
@@ -177,9 +177,9 @@ impl<'f> Folder<'f> {
         self.remove(rt, Part::Done, name)
     }
 
-    /// Takes away the job that has this name, and what came of it, once all of its unit is held.
-    /// The job goes first, so that nobody builds it who finds its build gone. What isn't there is
-    /// no refusal.
+    /// Removes the job with this name, and its result, after all of its unit is held. The job is
+    /// removed first, so that no builder finds the job without its result and builds it again.
+    /// Files that don't exist are no error.
     ///
     /// # Errors
     ///
@@ -192,8 +192,8 @@ impl<'f> Folder<'f> {
         self.remove(rt, Part::Failed, name)
     }
 
-    /// Writes a file: into one whose name begins with a dot, which is synced before it gets the
-    /// name, and then the folder is. What an earlier run left under that name goes first.
+    /// Writes a file under a name that begins with a dot, syncs and renames it, and then syncs the
+    /// folder. A file that an earlier run left under the temporary name is removed first.
     fn write(&self, rt: &HostRuntime, part: Part, name: &Name, text: &[u8]) -> Result<(), WorkFault>
         ensures { IfErr result IsOfSystem }
     {
@@ -211,7 +211,7 @@ impl<'f> Folder<'f> {
         sync(rt, place)
     }
 
-    /// Removes a file, if it is there.
+    /// Removes a file, if it exists.
     fn remove(&self, rt: &HostRuntime, part: Part, name: &Name) -> Result<(), WorkFault>
         ensures { IfErr result IsOfSystem }
     {
@@ -219,7 +219,7 @@ impl<'f> Folder<'f> {
         removed(rt, path.as_str())
     }
 
-    /// Whether something stands in one of the three under the name.
+    /// Whether something exists under the name in one of the subfolders.
     fn stands(&self, rt: &HostRuntime, part: Part, name: &Name) -> Result<bool, WorkFault>
         ensures { IfErr result IsOfSystem }
     {
@@ -227,7 +227,7 @@ impl<'f> Folder<'f> {
         Ok(fs::exists(rt, path.as_str())?)
     }
 
-    /// Whether something stands for the answer that is no regular file.
+    /// Whether the result exists but isn't a regular file.
     fn is_no_file(&self, rt: &HostRuntime, name: &Name) -> Result<bool, WorkFault>
         ensures { IfErr result IsOfSystem }
     {
@@ -239,7 +239,7 @@ impl<'f> Folder<'f> {
         }
     }
 
-    /// The answer's file, to be read, or none, where none has that name.
+    /// The result's file, opened for reading, if it exists.
     fn opened(&self, rt: &HostRuntime, name: &Name) -> Result<Option<File>, WorkFault>
         ensures { IfErr result IsOfSystem }
     {
@@ -251,7 +251,7 @@ impl<'f> Folder<'f> {
         }
     }
 
-    /// Where a file stands.
+    /// The path of a file.
     fn path_of(&self, alloc: Global, part: Part, name: &Name) -> Result<String, AllocError> {
         let place = self.place_of(alloc, part)?;
         let place = place.as_str();
@@ -259,7 +259,7 @@ impl<'f> Folder<'f> {
         format!(in alloc; "{place}/{digits}")
     }
 
-    /// Where one of the three stands.
+    /// The path of a subfolder.
     fn place_of(&self, alloc: Global, part: Part) -> Result<String, AllocError> {
         let path = self.path;
         let word = part.word();
@@ -267,7 +267,7 @@ impl<'f> Folder<'f> {
     }
 }
 
-/// Removes a file, if it is there.
+/// Removes a file, if it exists.
 fn removed(rt: &HostRuntime, path: &str) -> Result<(), WorkFault>
     ensures { IfErr result IsOfSystem }
 {
@@ -278,7 +278,7 @@ fn removed(rt: &HostRuntime, path: &str) -> Result<(), WorkFault>
     }
 }
 
-/// Whether a folder has a file that is whole.
+/// Whether a folder has a complete file.
 fn has_files(rt: &HostRuntime, folder: &str) -> Result<bool, WorkFault>
     ensures { IfErr result IsOfSystem }
 {
@@ -290,7 +290,7 @@ fn has_files(rt: &HostRuntime, folder: &str) -> Result<bool, WorkFault>
     Ok(false)
 }
 
-/// Brings the names that a folder has to the disk.
+/// Syncs the names in a folder to the disk.
 fn sync(rt: &HostRuntime, folder: &str) -> Result<(), WorkFault>
     ensures { IfErr result IsOfSystem }
 {

@@ -7,22 +7,22 @@ ghost use Rattle.work.specs.Laws.{
   TextTellsTheTree,
 };
 
-/// A text is that of tasks of one tree.
+/// The text of a task determines the digest of its tree.
 pub fn text_tells_the_tree()
     ensures { TextTellsTheTree }
 {}
 
-/// A text is that of one task.
+/// The text of a task determines the task.
 pub fn text_tells_the_task()
     ensures { TextTellsTheTask }
 {}
 
-/// A text is that of one job.
+/// The text of a job determines the job.
 pub fn text_tells_the_job()
     ensures { TextTellsTheJob }
 {}
 
-/// A name is that of one task, unless two texts have one SHA-256.
+/// The name of a task determines the task, unless two texts have the same SHA-256.
 pub fn name_tells_the_task()
     ensures { NameTellsTheTask }
 {}

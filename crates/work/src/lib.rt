@@ -1,5 +1,5 @@
-//! The folder by which a node's jobs go out and their builds come in: what is to be built on what,
-//! as a text with a name, and the files that have that name.
+//! The folder through which a node gives jobs and gets builds: tasks, which say what is to be built
+//! on what, as texts with names, and the files with these names.
 #![tactic(auto)]
 
 mod answer;
@@ -19,6 +19,6 @@ pub use crate::laws::{
 pub use crate::name::Name;
 pub use crate::text::{job_text, task_text};
 
-/// The most bytes that the text of an answer may have: four times those of the largest build, whose
-/// text takes two for each byte of a file.
+/// The maximum length of a result in bytes: four times that of the largest build, because its text
+/// has two digits for each byte of a file.
 pub const LONGEST_ANSWER: usize = 16_777_216;

@@ -1,4 +1,4 @@
-//! The name of what is to be built.
+//! The names of tasks.
 ghost use Rattle.std.specs.Prelude.{◌≡◌, IfOk};
 ghost use Rattle.work.specs.Tasks.{name_of, task_of};
 
@@ -9,10 +9,9 @@ use sha2::{Digest, Sha256};
 use std::alloc::Global;
 use std::marker::Model;
 
-/// The name under which a job goes out and its build comes in: the SHA-256 of its task's text, in
-/// 64 lower-case hexadecimal digits (FIPS 180-4), which contracts see as such. It is the same for
-/// each claim of the unit on the same signatures, at whichever node of a run over the tree; and
-/// another one where the tree is another.
+/// The name of a job and its result: the SHA-256 of its task's text, as 64 lower-case hexadecimal
+/// digits (FIPS 180-4). Contracts see these. Claims of one unit on the same signatures have the
+/// same name, at all nodes of a run over the tree. For another tree the name differs.
 #[derive(Debug, Drop)]
 pub struct Name {
     digits: String,

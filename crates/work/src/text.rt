@@ -11,8 +11,8 @@ use pkgpath::PkgPath;
 use std::alloc::Global;
 
 /// The text of a job's task in a tree of this digest: the tree, the unit, its packages, and what
-/// they are built on. It is the same for each claim of the unit on the same signatures, at
-/// whichever node of a run over the tree.
+/// they are built on. It is the same for all claims of the unit on the same signatures, at all
+/// nodes of a run over the tree.
 pub fn task_text(alloc: Global, tree: &[u8; 32], job: &Job) -> Result<Vec<u8>, Memory>
     ensures { IfOk result (λ text. text.items ≡ task_text tree.now (task_of job.now)) }
 {
@@ -24,7 +24,7 @@ pub fn task_text(alloc: Global, tree: &[u8; 32], job: &Job) -> Result<Vec<u8>, M
     Ok(text)
 }
 
-/// The text of a job: that of its task, and behind it the host and the claim for which it is given.
+/// The text of a job: that of its task, followed by the host and the claim that it is given for.
 pub fn job_text(alloc: Global, tree: &[u8; 32], job: &Job) -> Result<Vec<u8>, Memory>
     ensures { IfOk result (λ text. text.items ≡ job_text tree.now job.now) }
 {
@@ -34,7 +34,7 @@ pub fn job_text(alloc: Global, tree: &[u8; 32], job: &Job) -> Result<Vec<u8>, Me
     Ok(text)
 }
 
-/// Appends a line that is made of these parts.
+/// Appends a line made of these parts.
 #[tactic(auto, unfolding(package_record::specs::Content::ended))]
 fn put_line(out: &mut Vec<u8>, parts: &[&[u8]]) -> Result<(), Memory>
     ensures { OnOk result
@@ -47,7 +47,7 @@ fn put_line(out: &mut Vec<u8>, parts: &[&[u8]]) -> Result<(), Memory>
     Ok(())
 }
 
-/// Appends the line of a word and what belongs to it.
+/// Appends a line made of a word and its text.
 fn put_field(out: &mut Vec<u8>, word: &[u8], text: &[u8]) -> Result<(), Memory>
     ensures { OnOk result (out.new.items ≡ out.old.items ++ ended ((word.now ++ text.now) ∷ [])) }
 {

@@ -1,4 +1,4 @@
--- The packages of the lines that were read.
+-- The packages of the lines that were parsed.
 use Rattle.std.specs.Prelude.{◌≡◌, List, [], ◌∷◌, ◌++◌, Option, None, Some}
 use Rattle.std.specs.List.{flat_map}
 use Rattle.faults.specs.Bytes.{Text}
@@ -8,17 +8,17 @@ use Rattle.lists.specs.declared.list.Packages.{Packages}
 use Rattle.lists.specs.declared.list_line.ListLine.{ListLine}
 use Rattle.lists.specs.declared.list_line.ListLine.TheVariants.{Package, Built}
 
--- the package that was read last, with what it was built on so far
+-- the last package, with what it was built on as far as parsed
 abbrev pub last_entry : Packages → Entry
 last_entry p =
     record { path = p.last.path; name = p.last.name; digest = p.last.digest; built = p.built.items }
 
--- the packages that were read, in their order
+-- the packages that were parsed, in their order
 abbrev pub entries_in : Option Packages → List Entry
 entries_in None = []
 entries_in (Some p) = p.earlier.items ++ last_entry p ∷ []
 
--- what the lines said
+-- the contents of the lines that were parsed
 abbrev pub said_in : Option Packages → List ListLine
 said_in packages = flat_map said_of (entries_in packages)
 
@@ -27,13 +27,13 @@ abbrev pub IsBuilt : ListLine → Type 0
 IsBuilt (Package d) = ⊥
 IsBuilt (Built d) = Unit {0}
 
--- the line says something, and that was added
+-- the line is valid, and its contents were added
 pub record AddsLine (before : Option Packages) (line : Text) (after : Packages) : Type 0 where
   pub said : ListLine
   pub says : Says line said
   pub added : said_in (Some after) ≡ said_in before ++ said ∷ []
 
--- if the line says anything, it is about one that a package was built on, and no package was read
+-- if the line is valid, it is about a package that another was built on, and there is no package
 -- before it
 abbrev pub CannotFollow : Option Packages → Text → Type 0
 CannotFollow before line = (said : ListLine) → Says line said → (before ≡ None) × IsBuilt said

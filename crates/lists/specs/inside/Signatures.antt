@@ -1,21 +1,20 @@
--- The signatures that were read, beside their texts.
+-- The signatures that were parsed, with their texts.
 use Rattle.std.specs.Prelude.{◌≡◌, List, [], ◌∷◌, map}
 use Rattle.claims.specs.declared.deps.Dep.{Dep}
 use Rattle.faults.specs.Bytes.{Text, blank}
 use Rattle.faults.specs.Pieces.{pieces_at}
 use Rattle.lists.specs.List.{Spells}
 
--- the text is these fields, with one blank between two of them
+-- the text has these fields, separated by single spaces
 abbrev pub AreFieldsOf : Text → Text → Text → Text → Type 0
 AreFieldsOf text path name digest = pieces_at blank text ≡ path ∷ name ∷ digest ∷ []
 
--- the text has two blanks
+-- the text has two spaces
 abbrev pub HasThreeFields : Text → Type 0
 HasThreeFields text =
     (path : Text) × (name : Text) × (digest : Text) × AreFieldsOf text path name digest
 
--- the text is a path, a name and a digest, with one blank between two of them, and these spell the
--- package
+-- the text is a path, a name and a digest, separated by single spaces, which spell the package
 pub record IsSignature (text : Text) (d : Dep) : Type 0 where
   pub path : Text
   pub name : Text
@@ -23,14 +22,14 @@ pub record IsSignature (text : Text) (d : Dep) : Type 0 where
   pub fields : AreFieldsOf text path name digest
   pub spelled : Spells path name digest d
 
--- a signature as it stands in a text, and as it was read
+-- a signature's text, and the signature parsed from it
 abbrev pub Entry : Type 0
 Entry = Text × Dep
 
--- the signatures as they stand in a text
+-- the texts of the signatures
 abbrev pub texts_of_entries : List Entry → List Text
 texts_of_entries entries = map (λ e. e.0) entries
 
--- the entry's text was read as its signature
+-- the signature was parsed from the entry's text
 abbrev pub IsReadEntry : Entry → Type 0
 IsReadEntry e = IsSignature e.0 e.1

@@ -1,4 +1,4 @@
--- What an event asks, of what was sent.
+-- What an event asks of a node, given the sent datagrams.
 use Rattle.std.specs.Prelude.{◌≡◌, ◌⊎◌, List, Option, None, Some, Result, Err, option_map, slice_get}
 use Rattle.faults.specs.Bytes.{Text}
 use Rattle.events.specs.Events.{Event, Claim, Built, Failed, Nudge, Ask, Deliver, Stop, StopIn, Restart}
@@ -23,18 +23,18 @@ asked_by sent (Stop n) = None
 asked_by sent (StopIn e l) = None
 asked_by sent (Restart n) = None
 
--- The event is a step, and what it delivers was sent.
+-- The event is a step, and the datagram that it delivers, if any, was sent.
 abbrev pub CanBeAsked : List Text → Event → Type 0
 CanBeAsked sent e = (asked : Asked) × (asked_by sent e ≡ Some asked)
 
--- The node's step on what the event asks was made ready, or refused as is right; or memory was
--- wanting, and the node stays.
+-- The node's step on what the event asks is ready, or rightly refused; or memory ran out, and the
+-- node is unchanged.
 abbrev pub IsReadied : List Text → Event → NodeState → NodeState → Result Taken NodeFault → Type 0
 IsReadied sent e old new result =
     ((result ≡ Err node_fault.Memory) × (new ≡ old))
     ⊎ ((asked : Asked) × (asked_by sent e ≡ Some asked) × HasPrepared old new asked result)
 
--- how a world tells what its node refuses
+-- the world's fault if its node refuses with this one
 abbrev pub refused_by : NodeFault → WorldFault
 refused_by node_fault.Memory = fault.Memory
 refused_by (node_fault.Refused r) = fault.Node (node_fault.Refused r)

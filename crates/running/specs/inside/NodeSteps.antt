@@ -1,4 +1,4 @@
--- What a step of a node leaves in a world's tables.
+-- The tables of a world after a step of a node.
 use Rattle.std.specs.Prelude.{◌≡◌, ◌⊎◌, ℕ, List, Option, None, Some, Ok, Err}
 use Rattle.faults.specs.Bytes.{Text}
 use Rattle.events.specs.Events.{Event}
@@ -19,13 +19,13 @@ use Rattle.stable_record.specs.declared.mem_disk.MemDisk.{MemDisk}
 use Rattle.world.specs.Lists.{with_build}
 use Rattle.world.specs.Sent.{with_sends}
 
--- the list with the build that is decided, if one is
+-- the list with the decided build, if there is one
 abbrev pub with_decision : List Content → Option Value → List Content
 with_decision list None = list
 with_decision list (Some build) = with_build list build
 
--- The step was taken: the node is as it says, what it sends is entered, and the list has what it
--- decides.
+-- The step was taken: the node is changed by it, the messages that it sends are entered, and the
+-- build that it decides is appended to the list.
 pub record HasFinished (weights : List ℕ) (old : Tables) (n : LoggedNode MemDisk) (r : ReadyStep)
     (new : Tables) (m : LoggedNode MemDisk) : Type 0 where
   pub node : m.node ≡ after n.node (taken_by n.node r)
@@ -43,7 +43,7 @@ pub record TakesStep (weights : List ℕ) (e : Event) (old : Tables) (n : Logged
   pub takes : Takes n.node asked (Ok (taken_by n.node ready))
   pub finished : HasFinished weights old n ready new m
 
--- The node takes no step on what the event asks.
+-- The node refuses the step that the event asks for.
 pub record TakesNone (sent : List Text) (e : Event) (n m : LoggedNode MemDisk) (f : NodeFault)
     : Type 0 where
   pub asked : Asked
@@ -62,8 +62,8 @@ pub record HasNoRoom (sent : List Text) (e : Event) (n m : LoggedNode MemDisk) (
   pub fault : f ≡ node_fault.Log Full
   pub leaves : m.node ≡ n.node
 
--- The node refused the step on what the event asks: memory was wanting; or it takes none; or its
--- log is full.
+-- The node refused the step that the event asks for: out of memory; or it takes no such step; or
+-- its log is full.
 abbrev pub RefusesStep : List Text → Event → LoggedNode MemDisk → LoggedNode MemDisk → NodeFault
     → Type 0
 RefusesStep sent e n m f =

@@ -1,4 +1,4 @@
--- What a file of a disk in memory opens as.
+-- What the file of a disk in memory opens as.
 use Rattle.std.specs.Prelude.{◌≡◌, ℕ, List, Ok}
 use Rattle.faults.specs.Bytes.{Text}
 use Rattle.listing.specs.Tree.{Tree}
@@ -10,15 +10,15 @@ use Rattle.stable_record.specs.Opening.{HasOneAnswer, Opens}
 use Rattle.stable_record.specs.declared.mem_disk.MemDisk.{MemDisk}
 use Rattle.engine.specs.Division.{Division, IsDivision}
 
--- The tree has units.
+-- The tree has a division into units.
 abbrev pub HasUnits : Tree → Type 0
 HasUnits tree = (division : Division) × (division.tree ≡ tree) × IsDivision division
 
--- Some node is the one of the file's notes.
+-- The file's notes restore some node.
 abbrev pub HasNode : Tree → List ℕ → ℕ → Text → Type 0
 HasNode tree weights me file = (n : NodeState) × OpensNode tree weights me file (Ok n)
 
--- The node is the one of the file's notes, and on its log.
+-- The node is the one that the file's notes restore, and is on its log.
 pub record IsNodeOf (tree : Tree) (weights : List ℕ) (me : ℕ) (file : Text)
     (n : LoggedNode MemDisk) : Type 0 where
   pub opened : IsOpened tree weights me n.node

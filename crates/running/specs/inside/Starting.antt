@@ -16,7 +16,7 @@ pub record IsFresh (tree : Tree) (weights : List ℕ) (me : ℕ) (n : LoggedNode
   pub empty : n.node.notes ≡ []
   pub on_log : IsOnLog mem_history n
 
--- It is up and fresh.
+-- The node is up, over a log without notes.
 abbrev pub IsUpFresh : Tree → List ℕ → ℕ → Slot → Type 0
 IsUpFresh tree weights me (Up n) = IsFresh tree weights me n
 IsUpFresh tree weights me (Down r) = ⊥

@@ -1,4 +1,4 @@
--- What stops and restarts leave of nodes.
+-- Nodes after stops and restarts.
 use Rattle.std.specs.Prelude.{◌≡◌, ◌⊎◌, ◌++◌, ◌∷◌, ℕ, List, [], IfOk, Result, Some, length, slice_get, slice_set, true}
 use Rattle.events.specs.Events.{Event}
 use Rattle.events.specs.declared.event.Left.{Left}
@@ -21,7 +21,7 @@ use Rattle.stable_record.specs.InMemory.{mem_history}
 use Rattle.stable_record.specs.declared.log_fault.LogFault.TheVariants.{Full}
 use Rattle.stable_record.specs.declared.mem_disk.MemDisk.{MemDisk}
 
--- The node at the place is down now, with its notes and on its disk, and the others stay.
+-- The node at the place is down now, with its notes and its disk. The others are unchanged.
 pub record IsStopped (old new : List Slot) (place : ℕ) : Type 0 where
   pub node : Slot
   pub stood : slice_get old place ≡ Some node
@@ -31,8 +31,8 @@ pub record IsStopped (old new : List Slot) (place : ℕ) : Type 0 where
   pub notes : notes_in down.noted.texts ≡ (node_view node).notes
   pub behind : (node_view node).up ≡ true → down.behind ≡ 0
 
--- The node at the place is down now, with its notes, on a disk with its file and these bytes behind
--- it, and the others stay.
+-- The node at the place is down now, with its notes, and with a disk that has its file followed by
+-- these bytes. The others are unchanged.
 pub record IsStoppedTorn (old new : List Slot) (place : ℕ) (torn : Text) : Type 0 where
   pub node : Slot
   pub stood : slice_get old place ≡ Some node
@@ -44,20 +44,20 @@ pub record IsStoppedTorn (old new : List Slot) (place : ℕ) (torn : Text) : Typ
 
 -- ---- a stop inside a step
 
--- The step on what the event asks was made ready, or refused as is right; the log stays.
+-- The step on what the event asks is ready, or rightly refused. The log is unchanged.
 pub record HasReadied (sent : List Text) (e : Event) (n m : LoggedNode MemDisk)
     (result : Result ReadyStep NodeFault) : Type 0 where
   pub step : IsReadied sent e n.node m.node (map_ok (taken_by n.node) result)
   pub ready : IfOk result (IsReadyFor m.node)
   pub log : m.log ≡ n.log
 
--- A node that is up did so.
+-- As `HasReadied`, for a slot whose node is up and stays up.
 abbrev pub ReadiesStep : List Text → Event → Slot → Slot → Result ReadyStep NodeFault → Type 0
 ReadiesStep sent e (Up n) (Up m) result = HasReadied sent e n m result
 ReadiesStep sent e (Up n) (Down r) result = ⊥
 ReadiesStep sent e (Down r) x result = ⊥
 
--- A node that is up stands on its log, and may take the step.
+-- The slot's node is up, agrees with its log, and may take the step.
 abbrev pub IsReady : Slot → ReadyStep → Type 0
 IsReady (Up n) r = IsReadyFor n.node r × IsOnLog mem_history n
 IsReady (Down d) r = ⊥
@@ -69,14 +69,14 @@ pub record HasTakenOnLog (n : LoggedNode MemDisk) (r : ReadyStep) (m : LoggedNod
     pub room : ¬ (LacksRoom n.log (note_in r.step))
     pub on_log : IsOnLog mem_history m
 
--- A node that is up took the step, and is up then.
+-- The slot's node is up, took the step, and is still up.
 abbrev pub TookStep : Slot → ReadyStep → Slot → Type 0
 TookStep (Up n) r (Up m) = HasTakenOnLog n r m
 TookStep (Up n) r (Down d) = ⊥
 TookStep (Down c) r x = ⊥
 
--- The node is the same as before, and on its log: memory was wanting, or the log has no room for
--- the note of the step.
+-- The node is unchanged, and on its log: memory ran out, or the log has no room for the note of the
+-- step.
 pub record StaysOnLog (n : LoggedNode MemDisk) (r : ReadyStep) (m : LoggedNode MemDisk)
     (f : NodeFault) : Type 0 where
   pub node : m.node ≡ n.node
@@ -84,7 +84,7 @@ pub record StaysOnLog (n : LoggedNode MemDisk) (r : ReadyStep) (m : LoggedNode M
   pub cause : (f ≡ node_fault.Memory)
       ⊎ ((f ≡ node_fault.Log Full) × LacksRoom n.log (note_in r.step))
 
--- A node that is up took none, and stays.
+-- The slot's node is up, took no step, and is unchanged.
 abbrev pub TookNone : Slot → ReadyStep → Slot → NodeFault → Type 0
 TookNone (Up n) r (Up m) f = StaysOnLog n r m f
 TookNone (Up n) r (Down d) f = ⊥
@@ -96,7 +96,7 @@ pub record StandsReady (nodes : List Slot) (place : ℕ) (r : ReadyStep) : Type 
   pub stands : slice_get nodes place ≡ Some node
   pub ready : IsReady node r
 
--- The node at the place took the step, and is down then.
+-- The node at the place took the step, and is then down.
 pub record IsStoppedBehind (old new : List Slot) (place : ℕ) (r : ReadyStep) : Type 0 where
   pub node : Slot
   pub stood : slice_get old place ≡ Some node
@@ -104,7 +104,7 @@ pub record IsStoppedBehind (old new : List Slot) (place : ℕ) (r : ReadyStep) :
   pub took : TookStep node r then
   pub stopped : IsStopped (slice_set old place then) new place
 
--- The node at the place took no step, and the others stay.
+-- The node at the place took no step, and the others are unchanged.
 pub record HasNotStopped (old new : List Slot) (place : ℕ) (r : ReadyStep) (f : NodeFault) :
     Type 0 where
   pub node : Slot
@@ -119,7 +119,8 @@ IsStoppedWith left.None old new place r = IsStopped old new place
 IsStoppedWith (left.Torn torn) old new place r = IsStoppedTorn old new place torn
 IsStoppedWith left.Whole old new place r = IsStoppedBehind old new place r
 
--- It is not: only where the whole note is left something else than memory may be wanting.
+-- The node was not stopped. That can't happen if nothing is left of the note. If a torn note is
+-- left, memory ran out; if the whole note is, memory ran out or the log is full.
 abbrev pub IsNotStoppedWith : Left → List Slot → List Slot → ℕ → ReadyStep → NodeFault → Type 0
 IsNotStoppedWith left.None old new place r f = ⊥
 IsNotStoppedWith (left.Torn torn) old new place r f = (new ≡ old) × (f ≡ node_fault.Memory)

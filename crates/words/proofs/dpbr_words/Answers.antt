@@ -1,4 +1,4 @@
--- Words that clap takes name a call.
+-- Words that clap accepts are a call.
 use Rattle.std.proofs.Common.{map, subst, sym}
 use Rattle.words.proofs.Taken.{taken_names_call}
 use Rattle.words.specs.inside.Naming.{NamesCall}

@@ -1,4 +1,5 @@
--- What clap says of the command is said of the program, which is simple and whose arguments have no rule on one another.
+-- What clap says of the command holds of the program, which is simple, and whose arguments have no
+-- rules about each other.
 use Rattle.std.proofs.Common.{◌≡◌, ◌∙◌, ap, map, refl, subst, true, List}
 use Rattle.std.proofs.lemmas.Result.{IfOk-weaker}
 use Rattle.clap.specs.Words.{App, FailsBy, Text, fault_of, is_simple, is_simple_and_free, subcommand_of}

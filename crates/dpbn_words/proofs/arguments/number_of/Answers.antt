@@ -14,7 +14,7 @@ if_none : {X : Type 0} (o : Option X) (P : Type 0) → P → IfNone o P
 if_none None P p = p
 if_none (Some x) P p = tt
 
--- a number in the range is read
+-- a number in range is parsed
 number_read : {E : Type 0} (G : List ℕ → Result ℕ E → Type 0) → ((u : List ℕ) (x : Result ℕ E) → G u x → ParsesUnsigned 32 10 u x)
     → (rows : List Row) (id : Text) (r : Option ℕ) → ((t : List ℕ) → one_of id rows ≡ Some t → ReadsOne G t r)
     → (least most : ℕ) → most < 2 ^ 32 → HasNumber rows id least most → (n : ℕ) × (r ≡ Some n) × (least ≤ n) × (n ≤ most)
