@@ -16,6 +16,6 @@ run_key key tree weights = hmac key (run_text tree weights)
 abbrev pub key_text : Text
 key_text = codes "dpbn key 1"
 
--- what may be shown of a key: the first half of a code under which nothing is sealed
+-- what may be shown of a key: the first half of a code that no run uses as its key
 abbrev pub fingerprint : Text → Text
 fingerprint key = take 16 (hmac key key_text)
