@@ -22,8 +22,7 @@ use std::io::Write;
 /// Carries out the call that the arguments make, and returns the exit status:
 /// - 0;
 /// - 3 after a build that says that something isn't held;
-/// - 1 after a fault, which is written to `err` as one line, `dpbn: fault N` or `dpbn: fault N at
-///   K`;
+/// - 1 after a fault, with one line on `err`, `dpbn: fault N` or `dpbn: fault N at K`;
 /// - 2 if the arguments make no call or ask for help, after clap's text on `err`.
 ///
 /// Faults of turns are written to `err`, too, and the turns continue.

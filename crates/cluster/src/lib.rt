@@ -1,4 +1,4 @@
-//! What `dpbn` does: the calls that its arguments make, each of which has a crate of its own.
+//! What `dpbn` does: the calls that its arguments make. Each has a crate of its own.
 #![tactic(auto)]
 
 mod calls;

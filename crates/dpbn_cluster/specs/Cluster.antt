@@ -43,7 +43,8 @@ pub record IsClusterText (files : Files) (text : Text) : Type 0 where
   pub of_turns : AreEventsOfTurns files.turns events
   pub shown : IsShown division weights events text
 
--- why no cluster is made: a log doesn't belong to its member, or has notes
+-- what is reported if no cluster is made: the number and place of the fault, for instance that a
+-- log can't be opened or has notes
 abbrev pub IsClusterRefusal : Refusal → Type 0
 IsClusterRefusal r =
     (f : TurnFault) × (r ≡ record { number = number_of f; place = place_of f })

@@ -67,8 +67,8 @@ pub record HasFlushed (old new : Running) : Type 0 where
       ≡ old.port.handed.all ++ texts_that_wait old.port.leaving.waiting.items
 
 -- The node is the member's, over the tree, among members with these weights, as restored from this
--- log's notes. If the file does what its history says, these are the log's notes, the node has them
--- on it, and a crash while it was opened left what a crash before could leave.
+-- log's notes. Suppose the file does what its history says. Then these are the log's notes, the
+-- node has them on it, and a crash while it was opened left what a crash before could leave.
 pub record IsNodeOf (tree : Tree) (weights : List ℕ) (me : ℕ) (log : FileDisk)
     (n : LoggedNode FileDisk) : Type 0 where
   pub opened : IsOpened tree weights me n.node
@@ -114,7 +114,8 @@ Listen (Hosts text) members addresses =
 
 -- The run is the one that the arguments describe. A listing describes the tree, in which each path
 -- is a group of its own if `is_single`. The weights, the addresses and the key are those of the
--- arguments. Datagrams from strangers are accepted only if all members are on one host.
+-- arguments. Unless there is a key, datagrams from strangers are accepted if all members are on one
+-- host.
 pub record IsRunOf (is_single : Bool) (members : ℕ) (weights : Option Text) (peers : Peers)
     (run : Run) (of : RunOf) : Type 0 where
   pub described : IsDescribed is_single of.tree
@@ -158,8 +159,8 @@ pub record HasBegun (of : RunOf) (me : ℕ) (begun : Begun) : Type 0 where
   pub seated : IsSeated of me begun.port
   pub guarded : IsGuarded of begun.port
 
--- `Is` holds of the member's node, which was opened on the log of a start in the run, with no state
--- from earlier turns, and a port of its own that accepts only what the run allows.
+-- `Is` holds of the member's node, which was opened on the log of a start in the run. The node has
+-- no state from earlier turns, and a port of its own that accepts only what the run allows.
 pub record IsOfNode (of : RunOf) (me : ℕ) (Is : Running → Type 0) : Type 0 where
   pub begun : Begun
   pub has_begun : HasBegun of me begun

@@ -23,7 +23,7 @@ fn main(rt: HostRuntime) -> ExitCode {
     ExitCode::from(status)
 }
 
-/// The arguments. If one isn't valid UTF-8, there are none, which makes no call.
+/// The arguments. If one isn't valid UTF-8, this is an empty list, which makes no call.
 fn words(rt: &HostRuntime) -> io::Result<Vec<String>> {
     let args = match env::args(rt) {
         Ok(args) => args,

@@ -25,9 +25,9 @@ use std::alloc::Global;
 use traces::{Trace, write_trace};
 use way::way_on;
 
-/// What is printed of a way, after the trace was run, to a world where the node holds the unit that
-/// the path names, for this host and these files: the trace of the trace's events and then the
-/// way's, and a line feed.
+/// What is printed after the trace was run: the trace of its events, followed by those of a way,
+/// and a line feed. The way leads to a world where the node holds the unit that the path names, and
+/// uses this host and these files.
 ///
 /// # Errors
 ///

@@ -30,9 +30,9 @@ IsLeftInTurn n left =
     × ((before : List Text) → WasOffered before asked → TakesStep before n asked t)
     × (left ≡ texts_of (with_note n.notes t.answer.note)))
 
--- A node was opened on its log and took a turn, which left it in this state; then the same member's
--- node was opened over another disk. If a crash at some moment of the turn may leave that disk's
--- file, the second node has the first one's notes, or these and that of its step.
+-- A node was opened on its log and took a turn, which left it in this state. Then the same member's
+-- node was opened over another disk. Suppose a crash at some moment of the turn may leave that
+-- disk's file. Then the second node has the first one's notes, or these and that of its step.
 pub record ComesBack {D E P : Type 0} (is_kept : D → Type 0) (history : D → History)
     (left_kept : E → Type 0) (left_history : E → History) (tree : Tree) (weights : List ℕ) (me : ℕ)
     (disk : D) (left : E) (new : SoloState D P) (again : LoggedNode E) : Type 0 where

@@ -39,7 +39,7 @@ pub record IsStepStopped {D P : Type 0} (old new : SoloState D P) : Type 0 where
       → TakesStep before old.node.node asked taken
   pub node : new.node.node ≡ record old.node.node { stopped = true }
 
--- What each refusal of a turn does to the node.
+-- What each refusal of a turn does to the node. `NotSent` and `NotFresh` don't occur.
 abbrev pub IsRefusedTurn : {D P : Type 0} → SoloState D P → SoloState D P → TurnFault → Type 0
 IsRefusedTurn old new Memory = new.node.node ≡ old.node.node
 IsRefusedTurn old new (Node f) = (new.node.node ≡ old.node.node) ⊎ IsRefusal old new f

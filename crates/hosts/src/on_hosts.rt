@@ -5,9 +5,9 @@ use ports::Port;
 use stable_record::Disk;
 
 /// Law: a turn of the node on one of the hosts, as `Solo::turn` promises it, is one of the things
-/// that may happen to hosts, if bytes that it takes were offered before. It is a step whose sends
-/// were offered, a refusal, the node's end if its device failed, or nothing. So
-/// `lone_nodes_make_a_world` covers any list of turns.
+/// that may happen to hosts. The condition is that bytes which it takes were offered before. The
+/// turn is a step whose sends were offered, a refusal, the node's end if its device failed, or
+/// nothing. So `lone_nodes_make_a_world` covers any list of turns.
 pub fn turns_are_of_a_run<D: Disk, P: Port>()
     ensures { TurnsAreOfARun D.is_kept D.history D.failures_of P.given P.offered P.does P.vouches }
 {}

@@ -15,8 +15,8 @@ use stable_record::Disk;
 use std::alloc::Global;
 
 /// Opens the member's node on its log, takes a turn of it, and opens the same member's node over
-/// the disk `left`. If a crash at some moment of the turn may leave the file of that disk, the node
-/// that is opened again has the notes of the first, or these and that of its step.
+/// the disk `left`. Suppose a crash at some moment of the turn may leave the file of that disk.
+/// Then the second node has the notes of the first, or these and that of its step.
 pub fn open_turn_open<'a, D: Disk, P: Port, E: Disk>(
     alloc: Global,
     disk: D,
@@ -41,9 +41,9 @@ pub fn open_turn_open<'a, D: Disk, P: Port, E: Disk>(
     }
 }
 
-/// Takes a turn of the member's node, and opens the same member's node over the disk `left`. If the
-/// first node was on its log, and a crash at some moment of the turn may leave the file of that
-/// disk, the opened node has the notes of the first, or these and that of its step.
+/// Takes a turn of the member's node, and opens the same member's node over the disk `left`.
+/// Suppose the first node was on its log, and a crash at some moment of the turn may leave the file
+/// of that disk. Then the second node has the notes of the first, or these and that of its step.
 pub fn turn_then_open<'a, D: Disk, P: Port, E: Disk>(
     alloc: Global,
     solo: &mut Solo<'_, D, P>,

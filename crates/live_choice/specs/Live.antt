@@ -48,9 +48,11 @@ wished here (Some (k, w)) = option_map (λ s. (k, Does (asked_for w s))) (here k
 
 -- ---- (4) what nodes do about their open claims, in turn
 
--- What a member does about its open claim. It does nothing while the claim waits for its build. If
--- a greater claim blocks a claim without a build, the member leaves it. If a greater claim blocks a
--- claim with a build, the member claims anew, above that.
+-- What a member does about its open claim:
+-- - nothing while the claim waits for its build;
+-- - a nudge if no greater claim blocks it;
+-- - if a greater claim blocks it, nothing if it has no build yet, and otherwise a new claim above
+--   that.
 abbrev pub goes_on : State → OpenClaim → Progress → Option ℕ → Option Input
 goes_on s o (Gathering c joined k) None = Some inputs.Nudge
 goes_on s o (Gathering c joined k) (Some round) = None

@@ -14,7 +14,7 @@ const LEFT: [Left; 5] = [
     Left::Fill(255),
 ];
 
-/// Where opening a log and appending one note failed.
+/// The call that failed in a run that opens a log and appends one note.
 #[derive(Clone, Copy, Debug, PartialEq, Eq)]
 enum Met {
     Nothing,
@@ -22,7 +22,8 @@ enum Met {
     AtAppend,
 }
 
-/// Opens a file on a disk that fails, and appends a note. Returns where that failed, and the disk.
+/// Opens a file on a disk that fails, and appends a note. Returns the call that failed, and the
+/// disk.
 fn run(alloc: Global, file: &[u8], failing: Failing) -> Result<(Met, MemDisk), LogFault> {
     let disk = FaultDisk::new(MemDisk::new(alloc, file)?, failing);
     let mut log = match Log::open(alloc, disk, &who()) {
@@ -41,7 +42,7 @@ fn run(alloc: Global, file: &[u8], failing: Failing) -> Result<(Met, MemDisk), L
 }
 
 /// Checks that after each crash the notes are as they were, with the new one or without it. Returns
-/// where the run failed.
+/// the call that failed.
 fn crashes(
     rt: &impl Abort,
     alloc: Global,

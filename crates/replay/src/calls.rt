@@ -18,8 +18,7 @@ use words::{Call, dpbr_words};
 /// Carries out the call that the arguments make, and returns the exit status:
 /// - 0;
 /// - 3 after an audit whose answer is no;
-/// - 1 after a fault, which is written to `err` as one line, `dpbr: fault N` or `dpbr: fault N at
-///   K`, and nothing else;
+/// - 1 after a fault, with just one line on `err`, `dpbr: fault N` or `dpbr: fault N at K`;
 /// - 2 if the arguments make no call or ask for help, after clap's text on `err`.
 ///
 /// The first argument is the program's name. The whole output is made before any of it is written

@@ -1,4 +1,4 @@
-//! What `dpbr` does: the calls that its arguments make, each of which has a crate of its own.
+//! What `dpbr` does: the calls that its arguments make. Each has a crate of its own.
 #![tactic(auto)]
 
 mod calls;

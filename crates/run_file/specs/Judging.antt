@@ -9,8 +9,8 @@ use Rattle.run_file.specs.declared.judging.LogFound.TheVariants.{Absent, Blank, 
 use Rattle.run_file.specs.declared.judging.Plan.{Plan}
 use Rattle.run_file.specs.declared.judging.Plan.TheVariants.{Go, Make, Write}
 
--- If the run file is of this run, a log must exist and must have been initialized, since the run
--- file is written after that.
+-- If the run file is of this run, the log must exist, and opening it must not make a new log: the
+-- run file is written only after the log was made.
 abbrev pub with_same_run : LogFound → Result Plan RunFault
 with_same_run Absent = Err Lost
 with_same_run Blank = Err Lost
@@ -22,8 +22,9 @@ abbrev pub with_other_run : ℕ → LogFound → Result Plan RunFault
 with_other_run line Absent = Err Lost
 with_other_run line _ = Err (Differs line)
 
--- If there is no run file, the log is absent or has no notes, or it was written by a run without a
--- key. A run with a key doesn't accept such notes. A run that is continued needs a log.
+-- If there is no run file: a missing log is created, unless the run is continued; an existing log
+-- is opened, unless it has notes and the run has a key. Notes without a run file are from a run
+-- without a key that wrote none.
 abbrev pub without_run : Bool → Bool → LogFound → Result Plan RunFault
 without_run has_key true Absent = Err NothingThere
 without_run has_key false Absent = Ok Make

@@ -13,11 +13,11 @@ use thiserror::Error;
 /// Why a node doesn't start on the log that it finds, or that is missing.
 #[derive(Clone, Copy, Debug, PartialEq, Eq, Error)]
 pub enum RunFault {
-    /// The run file is of another run, and first differs in this line. 0 means that there is no run
-    /// file, but a log with notes, and the run has a key.
+    /// The run file is of another run, and first differs in this line. If the line is 0, the log
+    /// has notes but no run file, and the run has a key.
     #[error("the log is of another run, by line {0}")]
     Differs(u64),
-    /// There is a run file, but its log is missing or was never initialized.
+    /// There is a run file, but its log is missing, or is empty and would be made anew.
     #[error("the member's log is lost")]
     Lost,
     /// A run should be continued, but there is neither a log nor a run file.

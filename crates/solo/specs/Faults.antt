@@ -47,7 +47,7 @@ GoesDown given does vouches old new handed leaves k =
     × (new.node.node ≡ record old.node.node { stopped = true }) × leaves asked
 
 -- The cause of each refusal, and the state that it leaves. The port was asked only as for a choice,
--- and was offered nothing.
+-- and was offered nothing. `NotSent` and `NotFresh` don't occur.
 abbrev pub IsTurnFault : {D P : Type 0} → (P → Option (List Arrived)) → (P → Call → P → Type 0)
     → (P → Text → Type 0) → SoloState D P → SoloState D P → Handed → (Asked → Type 0) → TurnFault
     → Type 0

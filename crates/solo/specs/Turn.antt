@@ -83,8 +83,8 @@ LeavesAtMost is_kept history old new asked =
     → LeavesItsNoteAtMost old.node.node asked (history old.node.log.disk)
     (history new.node.log.disk)
 
--- Nothing was done to the disk if the node, unless it was stopped, was on its log: no write or cut
--- had an effect, and no sync succeeded.
+-- If the disk keeps to the disk model, and the node, unless it was stopped, was on its log, then
+-- nothing was done to the disk: no write or cut had an effect, and no sync succeeded.
 abbrev pub IsUntouched : {D P : Type 0} → (D → Type 0) → (D → History) → SoloState D P
     → SoloState D P → Type 0
 IsUntouched is_kept history old new =

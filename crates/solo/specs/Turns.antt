@@ -19,10 +19,11 @@ use Rattle.solo.specs.Turn.{HasTaken, IsChosen, IsHeard, IsUntouched, LeavesAtMo
 abbrev pub Outcome : Type 0
 Outcome = Result (Option Act) TurnFault
 
--- What a successful turn did. Either the node took its step on the turn's choice; then the port
--- went through exactly one receive, unless a job waited for its answer, and the step's sends, and
--- it vouches for bytes that the node took. Or there was nothing to do; then only the port changed,
--- which was asked in the same way.
+-- What a successful turn did:
+-- - It took the node's step on the turn's choice. The port went through exactly one receive, unless
+--   a job waited for its answer, and then the step's sends. It vouches for bytes that the node
+--   took.
+-- - Or there was nothing to do, and only the port changed, which was asked in the same way.
 pub record HasDone {D P : Type 0} (given : P → Option (List Arrived))
     (offered : P → Option (List Parcel)) (does : P → Call → P → Type 0)
     (vouches : P → Text → Type 0) (handed : Handed) (old new : SoloState D P) (answer : Outcome)

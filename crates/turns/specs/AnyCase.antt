@@ -11,8 +11,8 @@ use Rattle.world.specs.Happening.{Leads}
 use Rattle.world.specs.Headline.{HasOneList}
 use Rattle.world.specs.World.{World, node_at, start, up_node}
 
--- It is the same event; or the event is a stop that left nothing, and this is the same stop with
--- anything left.
+-- The second event is the first; or the first is a stop that left nothing, and the second is this
+-- stop with anything left.
 abbrev pub IsLeftAs : Event → Event → Type 0
 IsLeftAs e f =
     (f ≡ e)

@@ -49,8 +49,8 @@ abbrev pub IsAnswered : Option ℕ → Answered → Type 0
 IsAnswered lost_to (parcel, Ok u) = is_one lost_to parcel.to ≡ false
 IsAnswered lost_to (parcel, Err f) = f ≡ lost_by (is_one lost_to parcel.to)
 
--- The turn receives the first datagram in the queue, if it was sent and is for a node that is up,
--- unless a job waits for its answer or receives are set to fail.
+-- The turn receives the first datagram in the queue, if that was sent and is for a node that is up.
+-- The exceptions are that a job waits for its answer, or receives are set to fail.
 abbrev pub HearsFirst : {D : Type 0} → ClusterState D MemPortState → Given
     → Result (Option declared.Event) TurnFault → Type 0
 HearsFirst old builds answer =

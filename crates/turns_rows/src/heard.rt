@@ -18,9 +18,9 @@ pub struct Heard {
 }
 
 /// Takes a turn, and a second one if the first had an event. If the first had nothing to do, no
-/// node that is up has an open claim. What the first turn sent counts as sent afterwards. If the
-/// port returns one text that was sent, by then or before, for a node that is up, the second turn
-/// doesn't refuse it as not sent, and its event is the delivery of that text.
+/// node that is up has an open claim. What the first turn sent counts as sent afterwards. Suppose
+/// the port returns one text that was sent, by then or before, for a node that is up. Then the
+/// second turn doesn't refuse it as not sent, and its event is the delivery of that text.
 pub fn hear_next<D: Disk, P: Port>(
     cluster: &mut Cluster<'_, D, P>,
     first: &Packages,

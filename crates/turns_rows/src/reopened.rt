@@ -16,8 +16,8 @@ use turns::Cluster;
 use world::events_lead_to_later_worlds;
 
 /// Takes a turn. If the node with this number goes down in it, opens that member's node over the
-/// disk `left`. If a crash of the failed disk may leave the file of that disk, the opened node has
-/// the notes of the one that went down, or these and that of the event's step.
+/// disk `left`. Suppose a crash of the failed disk may leave the file of that disk. Then the opened
+/// node has the notes of the one that went down, or these and that of the event's step.
 pub fn turn_then_reopen<'a, D: Disk, P: Port, E: Disk>(
     alloc: Global,
     cluster: &mut Cluster<'_, D, P>,

@@ -29,7 +29,7 @@ among_more : (came : List Text) (bytes t : Text) → is_among came t ≡ true �
 among_more came bytes t there =
     list_any-append (λ u. bytes_eq u t) came (bytes ∷ []) ∙ ap (λ b. b || is_among (bytes ∷ []) t) there
 
--- a text is the same as itself
+-- `bytes_eq` is reflexive
 same_bytes : (t : Text) → bytes_eq t t ≡ true
 same_bytes t = nat_list_eq_equiv.refl t
 
@@ -69,7 +69,7 @@ module _ (key : Option Text) (came : List Text) where
 pub GoesOn-same : (old new : InboxState) → new ≡ old → GoesOn old new
 GoesOn-same old new same = rw same (record { key = refl; vouched = λ text h. h })
 
--- an inbox goes on from itself
+-- reflexivity
 pub goes_on_still : (inbox : InboxState) → GoesOn inbox inbox
 goes_on_still inbox = record { key = refl; vouched = λ text h. h }
 

@@ -51,7 +51,7 @@ seat_or_none (s ∷ seats) node = ⊎_elim
     (seat_or_none seats node))
     (cases_eq s.node node)
 
--- ---- what is out
+-- ---- texts handed over or queued
 
 -- what was handed over is no longer queued
 left_out : (waiting new : List (Waiting Way)) (handed now : List Text) → IsLeft waiting handed new now
@@ -79,7 +79,7 @@ leaves_text seats addresses from to text old new h =
     ∙ (map-append (λ (x : Way × Text). x.1) (in_line old) ((h.0, text) ∷ [])
     ∙ ap (λ (t : List Text). t ++ text ∷ []) (texts_in_line old)))
 
--- if nothing was handed over or queued, what is out is unchanged
+-- if nothing was handed over or queued, these texts are unchanged
 out_same : {C : Type 0} (old new : UdpPort C) → new.handed.all ≡ old.handed.all
     → new.leaving.waiting.items ≡ old.leaving.waiting.items → out_of new ≡ out_of old
 out_same old new handed waiting =
@@ -127,7 +127,7 @@ one_more_text old between new parcel u calls same none more behind =
       out = subst (λ (l : List Text). IsPermutation l (out_of new)) joined behind.out;
     }
 
--- if what is out is unchanged, it is a permutation of itself
+-- if these texts are unchanged, they are a permutation of themselves
 moved_none : {C : Type 0} (old new : UdpPort C) → out_of new ≡ out_of old → IsPermutation (out_of old) (out_of new)
 moved_none old new same =
     subst (λ (l : List Text). IsPermutation (out_of old) l) (sym same) (IsPermutation-refl (out_of old))

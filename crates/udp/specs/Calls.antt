@@ -12,8 +12,8 @@ use Rattle.udp.specs.declared.sockets.Seat.{Seat}
 use Rattle.udp.specs.declared.udp_port.UdpPort.{UdpPort}
 
 -- A port's configuration: the seats of the nodes here, the members' addresses, the maximum length
--- of a datagram in bytes, whether datagrams from other addresses are accepted, and the bytes that a
--- request begins with.
+-- of a datagram in bytes, whether datagrams from other addresses are accepted, and what a request
+-- begins with.
 pub record Setup : Type 0 where
   pub seats : List Seat
   pub addresses : List SocketAddr

@@ -1,4 +1,4 @@
--- Where the members of a cluster listen, parsed from the parts of a text.
+-- The addresses where the members of a cluster listen, parsed from the parts of a text.
 use Rattle.std.specs.Prelude.{◌≡◌, ◌≢◌, ◌<◌, ◌≤◌, ◌⊎◌, ◌+◌, ⊤, ℕ, List, Some, length, slice_get, take}
 use Rattle.std.specs.List.{AllPairs, AllZip, Contains}
 use Rattle.std.specs.Net.Grammar.{IsSocketV4Text}

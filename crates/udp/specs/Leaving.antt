@@ -1,4 +1,4 @@
--- The outgoing queue, and what was handed to the system.
+-- The outgoing queue, and the texts handed to the system.
 use Rattle.std.specs.Prelude.{◌≡◌, ◌⊎◌, ◌++◌, IsPermutation, List, [], ◌∷◌, map}
 use Rattle.faults.specs.Bytes.{Text}
 use Rattle.udp.specs.declared.line.Waiting.{Waiting}

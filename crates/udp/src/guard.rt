@@ -63,12 +63,12 @@ impl Guard {
         }
     }
 
-    /// Drops repeated requests, in addition. A datagram that begins with `front` is dropped and
-    /// counted if the same bytes came from the same member's address for the same node less than
-    /// 0.9 seconds before, and were queued. If the clock can't be read, none is dropped.
+    /// Drops repeated requests, too. A request is a datagram that begins with `front`. It is
+    /// dropped and counted if an equal one from the same member's address for the same node was
+    /// queued less than 0.9 seconds before. If the clock can't be read, none is dropped.
     ///
     /// The last 512 queued requests are remembered. So a member may repeat a request each second,
-    /// or send different ones at any rate; sooner repeats are ignored. A dropped request is like a
+    /// or send different ones at any rate. Earlier repeats are ignored. A dropped request is like a
     /// lost datagram.
     pub fn limiting(self, front: [u8; 5]) -> Guard
         ensures { result ≡ record self { front = Some front } }

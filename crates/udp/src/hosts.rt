@@ -1,4 +1,4 @@
-//! Where the members of a cluster listen.
+//! Parsing the addresses where the members of a cluster listen.
 ghost use Rattle.std.specs.Prelude.{◌≡◌, ◌↔◌, IfErr, IfOk, IsTrue, MatchOption, None, Some, length};
 ghost use Rattle.std.specs.List.{Contains};
 ghost use Rattle.std.specs.declared.net.socket_addr.SocketAddr.{SocketAddr};

@@ -1,4 +1,4 @@
-//! Nodes that hear each other over UDP.
+//! Ports over UDP.
 ghost use Rattle.std.specs.Prelude.{◌≡◌, ◌<◌, [], IfErr, IfOk, IfSome, None, OnErr, OnOk, length, true};
 ghost use Rattle.ports.specs.Calls.{Received, Sent, told};
 ghost use Rattle.ports.specs.Kept.{counted, one_more};
