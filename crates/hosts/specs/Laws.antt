@@ -26,7 +26,8 @@ use Rattle.world.specs.World.{IsMade, World, start}
 -- - At the start there is no note, and nothing was sent (`at_start`).
 -- - Bytes that arrive were sent by a node in this run, unaltered (`WasOffered`).
 -- - A node that starts opens its own log, as it was left (`HasOpened`, `IsLeft`).
--- - A refused turn has no effect (`HasStayed`, `HasRefused`).
+-- - A turn that is refused because memory or room on the log ran out has no effect (`HasStayed`).
+--   Another refusal leaves the node in the state after it (`HasRefused`).
 
 -- Whatever happens to the hosts is a list of events. It leads from the start to a world that has
 -- the hosts' nodes. So there is one list of packages at each moment.

@@ -13,6 +13,7 @@ ghost use Rattle.hosts.specs.Laws.{
 /// that is empty at first. They take turns in any order. What arrives was sent by one of them,
 /// unaltered; datagrams may be reordered, repeated or lost. Nodes end between turns or during one,
 /// and are opened again on what their logs were left as.
+///
 /// All that is a list of events, which lead from the start to a world that has these nodes. So
 /// there is one list of packages at each moment. No node refuses as foreign what another sent, and
 /// no run of a world is left out.

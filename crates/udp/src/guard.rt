@@ -68,8 +68,7 @@ impl Guard {
     /// queued less than 0.9 seconds before. If the clock can't be read, none is dropped.
     ///
     /// The last 512 queued requests are remembered. So a member may repeat a request each second,
-    /// or send different ones at any rate. Earlier repeats are ignored. A dropped request is like a
-    /// lost datagram.
+    /// or send different ones at any rate. A dropped request is like a lost datagram.
     pub fn limiting(self, front: [u8; 5]) -> Guard
         ensures { result ≡ record self { front = Some front } }
     {
