@@ -102,8 +102,8 @@ HasForeign nodes sent p handed old new =
     × IsChosenBy (here_in nodes) (length nodes) p handed old new (Some (k, Comes text))
     × (is_among sent text ≡ false)
 
--- Why nothing was prepared: memory ran out and there is something to do, the chosen node refuses,
--- or foreign bytes were received.
+-- Why nothing was prepared: memory ran out and there is something to do, the chosen node refuses
+-- what it would do on its own initiative, or bytes were received that no node sent.
 abbrev pub IsChoosingFault : {D : Type 0} → List (LoggedNode D) → List Text → Pending → Handed
     → Option (List Arrived) → Option (List Arrived) → TurnFault → Type 0
 IsChoosingFault nodes sent p handed old new refused.Memory =

@@ -15,7 +15,7 @@ pub record IsFresh {D : Type 0} (is_kept : D → Type 0) (history : D → Histor
   pub on_log : is_kept n.log.disk → IsOnLog history n
   pub stands : StandsFresh is_kept history n disk
 
--- Each of these nodes is, in order of disks.
+-- Each of these nodes is fresh, over the disk at its place.
 pub record AreFresh {D : Type 0} (is_kept : D → Type 0) (history : D → History) (tree : Tree)
     (weights : List ℕ) (disks : List D) (nodes : List (LoggedNode D)) : Type 0 where
   pub each : (k : ℕ) (n : LoggedNode D) → slice_get nodes k ≡ Some n
