@@ -1,4 +1,4 @@
--- What is kept, and put back.
+-- Updating and restoring the state between turns.
 use Rattle.std.proofs.Common.{◌≡◌, ◌==◌, ◌++◌, ℕ, Bool, true, false, List, [], ◌∷◌, Option, None, Some, length, take, refl, ap, ◌∙◌, arith, if◌then◌else◌}
 use Rattle.std.proofs.lemmas.List.{take_all, take_at}
 use Rattle.std.specs.List.{list_any}
@@ -21,7 +21,7 @@ claim_is (claimers.Gathering c t k) = refl
 claim_is (claimers.Building c weights) = refl
 claim_is (claimers.Voting c v t) = refl
 
--- a unit is kept once
+-- a failed unit is noted once
 pub failed_kept : (p : Pending) (u : ℕ) (keys : List ℕ)
     → keys ≡ (if list_any (λ v. u == v) p.failed then p.failed else p.failed ++ u ∷ [])
     → record p { failed = keys }
@@ -34,7 +34,7 @@ failed_kept p u keys e =
     by true = refl
     by false = refl
 
--- ---- put back
+-- ---- restored
 
 all_stay : (xs : List ℕ) → take (length xs) xs ≡ xs
 all_stay xs = take_all (length xs) xs (omega arith)

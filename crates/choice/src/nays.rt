@@ -1,4 +1,4 @@
-//! What nays say of an open claim.
+//! What nays say about an open claim.
 ghost use Rattle.std.specs.Prelude.{◌≡◌, IfOk, None, if◌then◌else◌};
 ghost use Rattle.std.specs.Str.{bytes_eq};
 ghost use Rattle.choice.specs.Nays.{above_after, in_the_way, nay_in, with_nay};
@@ -13,8 +13,8 @@ use pkgpath::PkgPath;
 use std::alloc::Global;
 use wire::{Datagram, WireFault, decode};
 
-/// The greatest round of the greater claims that stand in the way of the member's open one, once
-/// these bytes came.
+/// The greatest round of the greater claims that block the member's open claim, after these bytes
+/// were received.
 #[tactic(auto, using(crate::proofs::Keeping::claim_is))]
 pub(crate) fn above_after(
     alloc: Global,
@@ -33,7 +33,7 @@ pub(crate) fn above_after(
     Ok(with_nay(claim, above, nay))
 }
 
-/// The claim that stands in the way of this one for the unit of this name, if the bytes say so.
+/// The claim that blocks this one for the named unit, if the bytes name one.
 fn nay_in(
     alloc: Global,
     name: &PkgPath,
@@ -49,7 +49,7 @@ fn nay_in(
     }
 }
 
-/// The claim that stands in the way of this one for the unit of this name, if the message says so.
+/// The claim that blocks this one for the named unit, if the message names one.
 fn in_the_way(name: &PkgPath, claim: Claim, message: &Message) -> Option<Claim>
     ensures { result ≡ (if bytes_eq message.now.path name.now
         then in_the_way claim message.now.body else None) }
@@ -62,7 +62,7 @@ fn in_the_way(name: &PkgPath, claim: Claim, message: &Message) -> Option<Claim>
     }
 }
 
-/// The greatest round of the greater claims, with one more claim that stands in the way.
+/// The greatest round of the greater claims that block this one, with one more claim.
 fn with_nay(claim: Claim, above: Option<u64>, nay: Option<Claim>) -> Option<u64>
     ensures { result ≡ with_nay claim above nay }
 {

@@ -1,4 +1,4 @@
-//! What is kept between turns.
+//! The state that is kept between turns.
 ghost use Rattle.std.specs.Prelude.{◌≡◌, ◌<◌, ◌≤◌, IfOk, OnErr, OnOk, option_map, slice_set};
 ghost use Rattle.choice.specs.Acts.{asked_by};
 ghost use Rattle.choice.specs.Nays.{above_after};
@@ -22,8 +22,8 @@ use member::{Input, Member, OpenClaim};
 use std::alloc::Global;
 use std::marker::Model;
 
-/// What is kept between turns: the units of which a build failed, what nays named to each node, and
-/// whose turn it is to do something of itself.
+/// The state that is kept between turns: the units of which a build failed, the rounds that nays
+/// named to each node, and the node that is next to act on its own initiative.
 #[derive(Drop)]
 pub struct Pending {
     /// In the order in which they failed.
@@ -33,10 +33,10 @@ pub struct Pending {
     next: u8,
 }
 
-/// What was kept before a node did something, as far as that changes it.
+/// What has to be saved of the state before a node does something.
 #[derive(Clone, Copy, Debug, PartialEq, Eq)]
 pub struct Before {
-    /// How many units had failed.
+    /// The number of failed units.
     failed: usize,
     above: [Option<u64>; 9],
     next: u8,
@@ -56,7 +56,7 @@ impl Model for Pending {
 }
 
 impl Pending {
-    /// Nothing is kept yet.
+    /// The state at the start.
     pub fn new(alloc: Global) -> Pending
         ensures { result ≡ nothing_kept }
     {
@@ -74,8 +74,8 @@ impl Pending {
         self.failed.contains(&unit)
     }
 
-    /// The round above which the node's next claim for its unit has to be, if a greater claim
-    /// stands in the way of its open one.
+    /// The round that the node's next claim for its unit has to exceed, if a greater claim blocks
+    /// its open one.
     pub fn above(&self, node: u8) -> Option<u64>
         requires { node < 9 }
         ensures { result ≡ above_at self.now node }
@@ -83,15 +83,19 @@ impl Pending {
         self.above[node as usize]
     }
 
-    /// The node behind the one that last did something of itself.
+    /// The node after the one that last did something on its own initiative.
     pub fn next(&self) -> u8
         ensures { result ≡ self.now.next }
     {
         self.next
     }
 
-    /// Keeps what follows where the node, with this member, does so. It answers what was before, so
-    /// that this can be put back. It fails only for want of memory.
+    /// Updates the state for what the node, with this member, does. Returns what is needed to
+    /// restore the state with `put_back`.
+    ///
+    /// # Errors
+    ///
+    /// Out of memory.
     pub fn keep(&mut self, member: &Member<'_>, node: u8, act: &Act) -> Result<Before, Memory>
         requires { node < 9 }
         ensures kept { OnOk result
@@ -108,7 +112,7 @@ impl Pending {
         Ok(before)
     }
 
-    /// Puts back what was before a node did something. It takes no memory.
+    /// Restores the state from before a node did something. Does not allocate.
     pub fn put_back(&mut self, before: Before)
         requires { before.next ≤ 9 }
         ensures { self.new ≡ put_back self.old before }
@@ -119,7 +123,7 @@ impl Pending {
         self.next = before.next;
     }
 
-    /// What is kept now.
+    /// What has to be saved of the state now.
     fn remembered(&self) -> Before
         ensures before { result ≡ before_of self.now }
         ensures next { result.next ≤ 9 }
@@ -132,7 +136,7 @@ impl Pending {
         }
     }
 
-    /// Keeps what follows where the node is asked this by no other.
+    /// Updates the state for an input of the node.
     fn keep_input(&mut self, member: &Member<'_>, node: u8, input: &Input) -> Result<(), Memory>
         requires { node < 9 }
         ensures kept { OnOk result
@@ -151,7 +155,7 @@ impl Pending {
         Ok(())
     }
 
-    /// Keeps that the build of the claim's unit failed.
+    /// Notes that a build of the claim's unit failed.
     fn keep_failed(&mut self, claim: Option<&OpenClaim>) -> Result<(), Memory>
         ensures kept { OnOk result (self.new
             ≡ with_failed self.old (option_map open_of (option_copied claim.entry))) }
@@ -163,7 +167,7 @@ impl Pending {
         Ok(())
     }
 
-    /// Keeps what the bytes name to the node.
+    /// Notes the round that the bytes name to the node.
     fn keep_named(&mut self, member: &Member<'_>, node: u8, bytes: &[u8]) -> Result<(), Memory>
         requires { node < 9 }
         ensures kept { OnOk result (self.new ≡ record self.old {

@@ -1,4 +1,4 @@
--- A node takes what came for it.
+-- A node takes a received datagram.
 use Rattle.std.proofs.Common.{◌≡◌, ℕ, Bool, true, false, List, Option, None, Some, Err, refl, slice_get, slice_set, sym, ap, subst, ◌∙◌, inl, inr}
 use Rattle.std.specs.Prelude.{◌⊎◌, is_some, option_map, slice_index_or}
 use Rattle.choice.specs.Choice.{Chosen, Here, comes_to}
@@ -32,7 +32,7 @@ module _ {D : Type 0} (nodes : List (LoggedNode D)) (k : ℕ) (text : Text) (n :
     only_memory f (inr takes) = absurd (known k text f among
         (record { node = n; stands = stands; up = up; refuses = takes }))
 
-    -- and where memory is wanting it stays
+    -- if memory runs out, it is unchanged
     stays : (m : LoggedNode D) (f : NodeFault)
         → (f ≡ fault.Memory) ⊎ Takes n.node (Comes text) (Err f)
         → m.log ≡ n.log → m.node ≡ left_by n.node (Comes text) f → m ≡ n
@@ -41,12 +41,12 @@ module _ {D : Type 0} (nodes : List (LoggedNode D)) (k : ℕ) (text : Text) (n :
         left ∙ ap (left_by n.node (Comes text)) (only_memory f refuses) in
         λ i. record { node = node i; log = log i }
 
--- it was seen that bytes were sent
+-- it was found that the bytes were sent
 pub sent_seen : (sent : List Text) (text seen : Text) (is_sent : Bool) → seen ≡ text
     → is_sent ≡ is_among sent seen → is_sent ≡ true → is_among sent text ≡ true
 sent_seen sent text seen is_sent same is among = sym (is ∙ ap (is_among sent) same) ∙ among
 
--- what came is there to take, where it came for a node that is up
+-- there is something to take if it is for a node that is up
 pub some_came : (here : Here) (k : ℕ) (text : Text) (came : Arrived) → came ≡ Some (k, text)
     → is_some (here k) ≡ true → is_some (comes_to here came) ≡ true
 some_came here k text came is some =
@@ -57,7 +57,7 @@ some_came here k text came is some =
     by None none = absurd (let bad : false ≡ true = none in cc)
     by (Some s) here_is = refl
 
--- ---- the same, told of a node that is lent
+-- ---- the results for a borrowed node
 
 module _ {D : Type 0} (nodes : List (LoggedNode D)) (k : ℕ) (text : Text) (came : Arrived)
     (arrived : came ≡ Some (k, text)) (n m : LoggedNode D)
@@ -101,11 +101,11 @@ module _ {D : Type 0} (nodes : List (LoggedNode D)) (k : ℕ) (text : Text) (cam
 
     module _ (known : NoneIsForeign nodes sent) (f : NodeFault)
         (refuses : (f ≡ fault.Memory) ⊎ Takes n.node (Comes text) (Err f)) where
-      -- it refuses for want of memory alone
+      -- it refuses only because memory ran out
       pub wants_lent : f ≡ fault.Memory
       wants_lent = only_memory nodes k text n stands up sent known among f refuses
 
-      -- and then it is put back as it was
+      -- and then it is put back unchanged
       pub stays_lent : m.log ≡ n.log → m.node ≡ left_by n.node (Comes text) f
           → slice_set nodes k m ≡ nodes
       stays_lent log left = put_back nodes k n value m

@@ -1,4 +1,4 @@
--- What a receive answered, and what it gave.
+-- The answer of a receive, and what it returned.
 use Rattle.std.proofs.Common.{◌≡◌, ℕ, [], ◌∷◌, Option, None, Some, Result, Ok, Vec, ap, refl, sym}
 use Rattle.std.specs.declared.alloc.Global.{Global}
 use Rattle.choosing.specs.inside.Cases.{arrived}
@@ -7,12 +7,12 @@ use Rattle.ports.specs.Calls.{told}
 use Rattle.ports.specs.Kept.{Arrived, GoesOnBy}
 use Rattle.ports.specs.declared.fault.PortFault.{PortFault}
 
--- what it gave is what it answered
+-- what it returned is its answer
 pub came_told : (o : Option (ℕ × Vec ℕ Global)) → arrived o ≡ came_by (told (Ok o))
 came_told None = refl
 came_told (Some d) = refl
 
--- and what the receives of the calls gave
+-- and it is what the calls' receives returned
 pub in_calls : (came : Arrived) (answer : Result Arrived PortFault) → came ≡ came_by answer
     → GoesOnBy (came ∷ []) (Some []) (Some (came_by answer ∷ []))
 in_calls came answer is = ap (λ (c : Arrived). c ∷ []) (sym is)

@@ -11,22 +11,22 @@ use Rattle.ports.specs.Kept.{Arrived, GoesOnBy}
 use Rattle.choosing.specs.Choosing.{IsChosenBy, looked_for}
 use Rattle.choosing.specs.Handed.{AllBuilds, Handed, IsChoiceBy, IsLeftToDo, SoFar, answers_first, first_answered}
 
--- where nothing was asked, it goes on by nothing
+-- a record continues by nothing
 pub goes_on : {X : Type 0} (o : Option (List X)) → GoesOnBy [] o o
 goes_on None = tt
 goes_on (Some xs) = sym (append-nil xs)
 
--- the first of three that is something
+-- `option_or` is associative
 or_then : (a b c : Chosen) → option_or a (option_or b c) ≡ option_or (option_or a b) c
 or_then None b c = refl
 or_then (Some x) b c = refl
 
 module _ (here : Here) (count : ℕ) (p : Pending) (came : Arrived) where
-  -- what is answered before all else, or else what came
+  -- what is answered before anything else, or else what was received
   abbrev given_first : Handed → Chosen
   given_first handed = option_or (first_answered handed here count) (comes_to here came)
 
-  -- what is given is the choice
+  -- if it is something, it is the choice
   given_choice : (handed : Handed) (x : ℕ × Asked) → given_first handed ≡ Some x
       → IsChoiceBy handed here count p came (Some x)
   given_choice (AllBuilds builds) x is =
@@ -37,7 +37,7 @@ module _ (here : Here) (count : ℕ) (p : Pending) (came : Arrived) where
       (left_to_do here count p wish)
       ∙ ap (λ g. option_or g (left_to_do here count p wish)) is)
 
-  -- and else what is left to do
+  -- otherwise the choice is what is left to do
   left_choice : (handed : Handed) (c : Chosen) → given_first handed ≡ None
       → IsLeftToDo handed here count p c → IsChoiceBy handed here count p came c
   left_choice (AllBuilds builds) c none left =
@@ -50,7 +50,7 @@ module _ (here : Here) (count : ℕ) (p : Pending) (came : Arrived) where
 
 module _ (here : Here) (count : ℕ) (p : Pending) (handed : Handed)
     (old new : Option (List Arrived)) where
-  -- a job's answer
+  -- the answer to a job
   pub by_job : (x : ℕ × Asked) → first_answered handed here count ≡ Some x → GoesOnBy [] old new
       → IsChosenBy here count p handed old new (Some x)
   by_job x job goes = record {
@@ -65,7 +65,7 @@ module _ (here : Here) (count : ℕ) (p : Pending) (handed : Handed)
     looked : GoesOnBy (looked_for (answers_first handed here count) came) old new
     looked = subst (λ b. GoesOnBy (looked_for b came) old new) (sym (ap is_some no_job)) goes
 
-    -- what came is taken
+    -- the received datagram is taken
     pub by_arrival : (x : ℕ × Asked) → comes_to here came ≡ Some x
         → IsChosenBy here count p handed old new (Some x)
     by_arrival x comes = record {

@@ -1,4 +1,4 @@
--- What was chosen, or why nothing was made ready.
+-- What was chosen, or why nothing was prepared.
 use Rattle.std.proofs.Common.{◌≡◌, ℕ, true, false, List, [], ◌∷◌, Option, None, Some, length, refl, sym, subst, ◌∙◌, inl, inr}
 use Rattle.std.specs.Prelude.{is_some, option_map}
 use Rattle.choice.specs.Choice.{Chosen, Here, comes_to}
@@ -76,7 +76,7 @@ module _ {D : Type 0} (nodes : List (LoggedNode D)) (sent : List Text) (p : Pend
 
   module _ (none : first_answered handed here count ≡ None) (came : Arrived)
       (goes : GoesOnBy (came ∷ []) old new) where
-    -- ---- what came
+    -- ---- what was received
 
     arrived_event : ((k : ℕ) (text : Text) → comes_to here came ≡ Some (k, Comes text)
         → is_among sent text ≡ true)
@@ -163,7 +163,7 @@ module _ {D : Type 0} (nodes : List (LoggedNode D)) (sent : List Text) (p : Pend
         refuses,
       )
 
--- ---- the same, told of nodes that are as they were
+-- ---- the results for unchanged nodes
 
 module _ {D : Type 0} (nodes : List (LoggedNode D)) (sent : List Text) (p : Pending)
     (handed : Handed) (old new : Option (List Arrived)) where
@@ -185,7 +185,7 @@ module _ {D : Type 0} (nodes : List (LoggedNode D)) (sent : List Text) (p : Pend
         (subst (λ x. IsChosenAs nodes (first_answered handed (here_in nodes) (length nodes)) x) nothing
         jobs)
 
-    -- ---- what came
+    -- ---- what was received
 
     pub arrival_denied : (f : TurnFault) → IsNotTaken xs sent came f
         → IsChoosingFault nodes sent p handed old new f

@@ -1,4 +1,4 @@
--- Units that are claimed elsewhere.
+-- Units that are claimed by other nodes.
 use Rattle.std.proofs.Common.{◌≡◌, ◌≢◌, ◌+◌, ◌-◌, ◌==◌, ◌&&◌, ◌||◌, ◌++◌, ℕ, Bool, true, false, not, List, [], ◌∷◌, Option, None, Some, refl, sym, ap, ◌∙◌, arith, eq-eqb}
 use Rattle.std.proofs.lemmas.Bool.{ne_eqb}
 use Rattle.std.proofs.lemmas.List.Folds.{list_any-append}
@@ -13,11 +13,11 @@ module _ (here : Here) (k : ℕ) where
   abbrev claim_at : ℕ → Option OpenClaim
   claim_at j = option_and_then (λ s. s.claim) (here j)
 
-  -- whether it is another node, and claims the unit
+  -- whether this is another node with a claim for the unit
   abbrev claims : ℕ → ℕ → Bool
   claims u j = not (j == k) && is_for u (claim_at j)
 
-  -- These units are claimed by others among the first nodes.
+  -- These are the units that other nodes among the first i claim.
   abbrev pub AreElsewhere : List ℕ → ℕ → Type 0
   AreElsewhere units i =
       (u : ℕ) → list_any (λ v. v == u) units ≡ list_any (claims u) (range_with_len 0 i)
@@ -37,7 +37,7 @@ module _ (here : Here) (k : ℕ) where
   or_no false = refl
 
   module _ (units : List ℕ) (i : ℕ) (are : AreElsewhere units i) where
-    -- one that doesn't count
+    -- a node that doesn't count
     no_more : ((u : ℕ) → claims u i ≡ false) → AreElsewhere units (i + 1)
     no_more lacks u =
         are u ∙ (or_no (list_any (claims u) (range_with_len 0 i))
@@ -48,7 +48,7 @@ module _ (here : Here) (k : ℕ) where
     pub itself : i ≡ k → AreElsewhere units (i + 1)
     itself same = no_more (λ u. ap (λ b. not b && is_for u (claim_at i)) (eq-eqb i k same))
 
-    -- one without a claim
+    -- a node without a claim
     pub no_claim : option_map (λ (o : OpenClaim). o.unit) (claim_at i) ≡ None
         → AreElsewhere units (i + 1)
     no_claim none = no_more (λ u. by u (claim_at i) none)
@@ -62,7 +62,7 @@ module _ (here : Here) (k : ℕ) where
             both false = refl
         by u (Some o) none = absurd (let no : ◌≡◌ {A = Option ℕ} (Some o.unit) None = none in cc)
 
-    -- one with a claim
+    -- a node with a claim
     pub one_claim : i ≢ k → (v : ℕ)
         → option_map (λ (o : OpenClaim). o.unit) (claim_at i) ≡ Some v
         → AreElsewhere (units ++ v ∷ []) (i + 1)

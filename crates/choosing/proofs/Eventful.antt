@@ -23,7 +23,7 @@ use Rattle.protocol.specs.declared.input.Input.TheVariants as inputs
 use Rattle.choosing.specs.Events.{event_of}
 
 module _ (sent : List Text) where
-  -- a node that is asked so is asked by an event
+  -- what a node is asked has an event
   abbrev pub IsEventful : ℕ × Asked → Type 0
   IsEventful x = is_some (event_of sent x) ≡ true
 
@@ -94,7 +94,7 @@ module _ (sent : List Text) where
           let same : y ≡ x = cc in
           subst IsEventful same (job_is builds k (here k) y at)
 
-  -- ---- what nodes do of themselves
+  -- ---- what nodes do on their own initiative
 
   own_by_is : (k : ℕ) (s : State) (o : Option OpenClaim) (above : Option ℕ) (barred : Barred)
       (input : Input) → IsOwnBy s o above barred (Some input) → IsEventful (k, Does input)
@@ -124,7 +124,7 @@ module _ (sent : List Text) where
   own_is here count p k (Some s) input is =
       own_by_is k s s.claim (above_at p k) (barred_at here count p k) input is
 
-  -- what the first does of itself
+  -- what the first does on its own initiative
   pub owns_are : (here : Here) (count : ℕ) (p : Pending) (ks : List ℕ) (x : ℕ × Asked)
       → IsFirstOwn here count p ks (Some x) → IsEventful x
   owns_are here count p [] x is =
@@ -135,7 +135,7 @@ module _ (sent : List Text) where
       let same : ◌≡◌ {A = ℕ × Asked} x (k, Does input) = cc in
       subst IsEventful (sym same) (own_is here count p k (here k) input own)
 
-  -- ---- what came
+  -- ---- what was received
 
   found_from : (text : Text) (n : ℕ) (texts : List Text)
       → is_some (position_from (bytes_eq text) n texts) ≡ is_among texts text

@@ -1,4 +1,4 @@
--- What the first of some nodes does that does anything.
+-- What the first of some nodes that does anything does.
 use Rattle.std.proofs.Common.{◌≡◌, ◌++◌, ℕ, List, [], ◌∷◌, Option, None, Some, refl}
 use Rattle.node.specs.Step.{Does}
 use Rattle.protocol.specs.declared.input.Input.{Input}
@@ -6,7 +6,7 @@ use Rattle.choice.specs.Choice.{Chosen, Here, IsDoneOr, IsFirstOwn, IsOwnIf}
 use Rattle.choice.specs.Pending.{Pending}
 
 module _ (here : Here) (count : ℕ) (p : Pending) where
-  -- where none of the first does anything, it is the first of the later ones
+  -- if none of the first nodes does anything, the choice is that of the later ones
   pub first_then : (ks ys : List ℕ) (c : Chosen) → IsFirstOwn here count p ks None
       → IsFirstOwn here count p ys c → IsFirstOwn here count p (ks ++ ys) c
   first_then [] ys c none later = later
@@ -21,7 +21,7 @@ module _ (here : Here) (count : ℕ) (p : Pending) where
       by (Some input) further done =
           absurd (let no : ◌≡◌ {A = Chosen} None (Some (k, Does input)) = done in cc)
 
-  -- and else the later ones don't matter
+  -- otherwise the later ones don't matter
   pub first_some : (ks ys : List ℕ) (x : _) → IsFirstOwn here count p ks (Some x)
       → IsFirstOwn here count p (ks ++ ys) (Some x)
   first_some [] ys x none =
@@ -35,12 +35,12 @@ module _ (here : Here) (count : ℕ) (p : Pending) where
       by None further rest = further rest
       by (Some input) further done = done
 
-  -- one more that does nothing
+  -- one more node that does nothing
   pub none_more : (ks : List ℕ) (k : ℕ) → IsFirstOwn here count p ks None
       → IsOwnIf here count p k (here k) None → IsFirstOwn here count p (ks ++ k ∷ []) None
   none_more ks k none is = first_then ks (k ∷ []) None none (None, is, refl)
 
-  -- the next does something
+  -- the next node does something
   pub done_next : (ks : List ℕ) (k : ℕ) (more : List ℕ) (input : Input)
       → IsFirstOwn here count p ks None → IsOwnIf here count p k (here k) (Some input)
       → IsFirstOwn here count p (ks ++ k ∷ more) (Some (k, Does input))

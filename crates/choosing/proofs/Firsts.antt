@@ -17,11 +17,11 @@ use Rattle.choosing.specs.Choosing.{IsChosenAs, IsPartAt}
 use Rattle.choosing.specs.Here.{here_in}
 use Rattle.choosing.specs.inside.Cases.{IsNotDone, IsWantFor}
 
--- ---- those from one number on, below another
+-- ---- nodes from one number on, below another
 
 module _ (at : ℕ → Chosen) (from i : ℕ) (behind : from ≤ i)
     (none : first_given at (range_with_len from (i - from)) ≡ None) where
-  -- one more that does nothing
+  -- one more node that does nothing
   none_more : at i ≡ None → first_given at (range_with_len from (i + 1 - from)) ≡ None
   none_more is =
       ap (first_given at) (range_more from i behind)
@@ -29,7 +29,7 @@ module _ (at : ℕ → Chosen) (from i : ℕ) (behind : from ≤ i)
       ∙ (ap (λ o. option_or o (first_given at (i ∷ []))) none
       ∙ ap (λ o. option_or o None) is))
 
-  -- the next does something
+  -- the next node does something
   first_here : (below : ℕ) → i < below → (x : ℕ × Asked) → at i ≡ Some x
       → first_given at (range_with_len from (below - from)) ≡ Some x
   first_here below before x is =
@@ -39,9 +39,9 @@ module _ (at : ℕ → Chosen) (from i : ℕ) (behind : from ≤ i)
       ∙ (ap (λ o. option_or o (first_given at (i ∷ rest))) none
       ∙ ap (λ o. option_or o (first_given at rest)) is))
 
--- what a node is to do, of so many, by its part
+-- what each node is to do, by its part
 module _ {D : Type 0} (nodes : List (LoggedNode D)) (does : ℕ → State → Option Input) where
-  -- the part of one
+  -- the part of one node
   abbrev pub part_of : List (LoggedNode D) → ℕ → Option Input
   part_of xs k = option_and_then (does k) (here_in xs k)
 
@@ -73,7 +73,7 @@ module _ {D : Type 0} (nodes : List (LoggedNode D)) (does : ℕ → State → Op
           first_here does_so from i behind none below before (i, Does input)
           (ap (option_map {U = ℕ × Asked} (λ (input : Input). (i, Does input))) is)
 
-      -- it is what is chosen
+      -- it is the choice
       pub this_chosen : (o : Option Readied) (r : Ready) → o ≡ Some r.readied → r.node ≡ i
           → IsPartAt xs i (part_of xs i) o → IsChosenAs nodes first (Some r)
       this_chosen o r some at part =
@@ -87,7 +87,7 @@ module _ {D : Type 0} (nodes : List (LoggedNode D)) (does : ℕ → State → Op
           by (Some input) is part =
               subst (λ c. IsChosenAs nodes c (Some r)) (sym (first_is input is)) (at, part)
 
-      -- memory was wanting for it
+      -- memory ran out for it
       pub this_wants : (f : TurnFault) → IsWantFor (part_of xs i) f → IsWantFor first f
       this_wants f (memory, some) = (
         memory,
@@ -122,7 +122,7 @@ module _ {D : Type 0} (nodes : List (LoggedNode D)) (does : ℕ → State → Op
           by (inr (k, input, g, node, is, refuses)) =
               inr (k, input, g, node, this_one input k is, refuses)
 
--- ---- one thing, or else another
+-- ---- one choice, or else another
 
 module _ {D : Type 0} (nodes : List (LoggedNode D)) (a b : Chosen) where
   or_is : (x : ℕ × Asked) → a ≡ Some x → option_or a b ≡ Some x
@@ -157,7 +157,7 @@ module _ {D : Type 0} (nodes : List (LoggedNode D)) (a b : Chosen) where
     other : option_or a b ≡ b
     other = ap (λ c. option_or c b) none_first
 
-    -- and else the other
+    -- otherwise the other
     pub else_chosen : (r : Option Ready) → IsChosenAs nodes b r → IsChosenAs nodes (option_or a b) r
     else_chosen r made = subst (λ c. IsChosenAs nodes c r) (sym other) made
 

@@ -1,4 +1,4 @@
--- A node that is lent does what it is to do, and stays as it was.
+-- A borrowed node does what it is to do, and is unchanged.
 use Rattle.std.proofs.Common.{◌≡◌, ◌≢◌, ◌<◌, ◌≤◌, ◌-◌, ℕ, Bool, true, false, List, Option, None, Some, Err, length, slice_get, refl, sym, ap, subst, ◌∙◌, inl, inr}
 use Rattle.std.specs.List.{range_with_len}
 use Rattle.std.specs.Prelude.{◌⊎◌, is_some, option_and_then, option_map, slice_index_or}
@@ -62,7 +62,7 @@ module _ {D : Type 0} (nodes : List (LoggedNode D)) (k : ℕ) (n m : LoggedNode 
     does_this input is =
         ap (option_map {U = ℕ × Asked} (λ (input : Input). (k, Does input))) (part_is ∙ is)
 
-    -- or it is not done
+    -- or that isn't done
     pub part_not_done : m ≡ n → (g : NodeFault) (f : TurnFault) → f ≡ told g
         → is_some (does k n.node.member) ≡ true → IsNoPart m (does k n.node.member) g
         → IsNotDone nodes
@@ -138,14 +138,14 @@ module _ {D : Type 0} (nodes : List (LoggedNode D)) (k : ℕ) (n m : LoggedNode 
       )
     ]
 
--- it was seen that nobody is here
+-- it was found that no node is here
 pub down_seen : {D : Type 0} (nodes seen : List (LoggedNode D)) (k : ℕ) (is_up : Bool)
     → seen ≡ nodes → is_up ≡ is_some (here_in seen k) → is_up ≡ false
     → is_some (here_in nodes k) ≡ false
 down_seen nodes seen k is_up same is down =
     sym (is ∙ ap (λ xs. is_some (here_in xs k)) same) ∙ down
 
--- nothing is done for a wish of a node that is not here
+-- if the node of the wish isn't here, nothing is done for it
 pub no_wish : {D : Type 0} (nodes : List (LoggedNode D)) (k : ℕ) (w : Wish)
     → is_some (here_in nodes k) ≡ false
     → IsChosenAs nodes (wished (here_in nodes) (Some (k, w))) None
@@ -158,8 +158,8 @@ no_wish nodes k w none = by (here_in nodes k) none
 
 -- ---- in turn
 
--- what the first of those in turn does is what the first of the first ones does, or else of the
--- later ones
+-- what the first node in turn does is what the first of the first ones does, or else of the later
+-- ones
 pub going_parts : {D : Type 0} (nodes : List (LoggedNode D)) (p : Pending) (next all : ℕ)
     → next ≡ p.next → all ≡ length nodes → next ≤ length nodes
     → first_going (here_in nodes) (length nodes) p

@@ -21,11 +21,11 @@ use Rattle.choosing.specs.Here.{here_in}
 use Rattle.choosing.specs.inside.Cases.{IsWantFor, answer_here}
 
 module _ {D : Type 0} (nodes : List (LoggedNode D)) (builds : Given) where
-  -- none of so many nodes has a job
+  -- none of this number of nodes has a job
   abbrev pub NoneHasJob : ℕ → Type 0
   NoneHasJob i = first_given (job_at (here_in nodes) builds) (range_with_len 0 i) ≡ None
 
-  -- one more has none
+  -- nor has one more
   none_has_more : (i : ℕ) → NoneHasJob i → answer_here nodes builds i ≡ None → NoneHasJob (i + 1)
   none_has_more i none is =
       ap (first_given (job_at (here_in nodes) builds)) more
@@ -84,7 +84,7 @@ module _ {D : Type 0} (nodes : List (LoggedNode D)) (builds : Given) where
         by None is some = absurd (let no : false ≡ true = some in cc)
         by (Some input) is some = ap is_some (first_is input is)
 
-  -- no part is no answer
+  -- no part means no answer
   none_of_part : (i : ℕ) → IsPartAt nodes i (answer_here nodes builds i) None → answer_here nodes builds i ≡ None
   none_of_part i = by (answer_here nodes builds i)
     where
@@ -92,7 +92,7 @@ module _ {D : Type 0} (nodes : List (LoggedNode D)) (builds : Given) where
       by None part = refl
       by (Some input) part = absurd part
 
-  -- ---- the same, told of nodes that are as they were
+  -- ---- the results for unchanged nodes
 
   module _ (old : List (LoggedNode D)) (was : old ≡ nodes) where
     pub job_answered : (count i : ℕ) → i < count → NoneHasJob i → (o : Option Readied) (r : Ready)
@@ -119,7 +119,7 @@ module _ {D : Type 0} (nodes : List (LoggedNode D)) (builds : Given) where
           (subst (λ xs. is_some (answer_here xs builds i) ≡ true) was some),
     )
 
-  -- ---- the same, told of a node that is lent
+  -- ---- the results for a borrowed node
 
   module _ (k : ℕ) (n m : LoggedNode D) (below : k < length nodes)
       (value : n ≡ slice_index_or nodes k n) (up : n.node.stopped ≡ false) where

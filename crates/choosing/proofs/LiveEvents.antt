@@ -1,4 +1,4 @@
--- What is answered before all else, and what is left to do, is an event.
+-- What is answered before anything else, and what is left to do, is an event.
 use Rattle.std.proofs.Common.{◌≡◌, ℕ, true, List, [], ◌∷◌, Option, None, Some, refl, sym, subst, ◌∙◌}
 use Rattle.std.specs.List.{range_with_len}
 use Rattle.std.specs.Prelude.{option_and_then, option_map}
@@ -24,7 +24,7 @@ some_is : {X : Type 0} (x y : X) → Some x ≡ Some y → x ≡ y
 some_is x y e = cc
 
 module _ (sent : List Text) where
-  -- the first of those that are events is one
+  -- the first of these is an event if each is
   first_is : (at : ℕ → Chosen) → ((k : ℕ) (x : ℕ × Asked) → at k ≡ Some x → IsEventful sent x)
       → (ks : List ℕ) (x : ℕ × Asked) → first_given at ks ≡ Some x → IsEventful sent x
   first_is at each [] x is = absurd (never x is)

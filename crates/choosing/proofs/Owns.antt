@@ -1,4 +1,4 @@
--- What the first of the nodes does of itself that does anything.
+-- What the first node that does anything does on its own initiative.
 use Rattle.std.proofs.Common.{◌≡◌, ◌≤◌, ◌<◌, ◌+◌, ◌-◌, ◌==◌, ◌||◌, ◌++◌, ℕ, true, false, List, Option, None, Some, drop, length, slice_get, take, sym, ap, subst, ◌∙◌, arith, inl, inr}
 use Rattle.std.specs.List.{list_any, range_with_len}
 use Rattle.std.specs.Prelude.{is_some, slice_index_or}
@@ -76,9 +76,9 @@ module _ {D : Type 0} (nodes : List (LoggedNode D)) (p : Pending) where
       )
     ]
 
-  -- ---- the same, told of a node that is lent, and stays as it was
+  -- ---- the results for a borrowed node that is unchanged
 
-  -- units that are claimed elsewhere, seen twice
+  -- units that other nodes claim, found twice
   pub elsewhere_seen : (k : ℕ) (seen : List (LoggedNode D)) (units others : List ℕ)
       → seen ≡ nodes → others ≡ units
       → ((u : ℕ) → list_any (λ v. v == u) units ≡ is_elsewhere (here_in seen) (length seen) k u)
@@ -131,11 +131,11 @@ module _ {D : Type 0} (nodes : List (LoggedNode D)) (p : Pending) where
           subst (λ x. IsNoPart x own f) same part,
         ))
 
-  -- ---- those from one number on, below another
+  -- ---- nodes from one number on, below another
 
   module _ (from i : ℕ) (behind : from ≤ i)
       (none : IsFirstOwn here count p (range_with_len from (i - from)) None) where
-    -- one more that does nothing
+    -- one more node that does nothing
     pub nothing_more : (r : Option Readied) → r ≡ None → IsOwnPart nodes p i r
         → IsFirstOwn here count p (range_with_len from (i + 1 - from)) None
     nothing_more r nothing part = by (subst (λ x. IsOwnPart nodes p i x) nothing part)
@@ -156,7 +156,7 @@ module _ {D : Type 0} (nodes : List (LoggedNode D)) (p : Pending) where
           (done_next here count p (range_with_len from (i - from)) i
           (range_with_len (i + 1) (below - (i + 1))) input none is)
 
-      -- it is what is chosen
+      -- it is the choice
       pub own_chosen : (o : Option Readied) (r : Ready) → o ≡ Some r.readied → r.node ≡ i
           → IsOwnPart nodes p i o
           → IsFirstPart nodes p (range_with_len from (below - from)) (Some r)
@@ -207,7 +207,7 @@ module _ {D : Type 0} (nodes : List (LoggedNode D)) (p : Pending) where
         (first_some here count p (range_with_len next (all - next)) (range_with_len 0 (next - 0))
         x is)
 
-    -- the first is among the first ones
+    -- the choice is among the first ones
     pub first_turn : (o : Option Ready) (r : Ready) → o ≡ Some r
         → IsFirstPart nodes p (range_with_len next (all - next)) o
         → IsFirstPart nodes p (in_turn p.next count) (Some r)
@@ -219,7 +219,7 @@ module _ {D : Type 0} (nodes : List (LoggedNode D)) (p : Pending) where
         by (None, is, made) = absurd made
         by (Some x, is, made) = (Some x, among_first x is, made)
 
-    -- a refusal, likewise
+    -- a refusal of the first ones
     pub first_refused : (f : TurnFault)
         → IsFirstFault nodes p (range_with_len next (all - next)) f
         → IsFirstFault nodes p (in_turn p.next count) f
@@ -228,7 +228,7 @@ module _ {D : Type 0} (nodes : List (LoggedNode D)) (p : Pending) where
     first_refused f (inr (k, input, g, node, is, refuses)) =
         inr (k, input, g, node, among_first (k, Does input) is, refuses)
 
-    -- and else among the later ones
+    -- otherwise the choice is among the later ones
     module _ (xs : List (LoggedNode D)) (same : xs ≡ nodes) (o : Option Ready)
         (nothing : o ≡ None)
         (first : IsFirstPart nodes p (range_with_len next (all - next)) o) where

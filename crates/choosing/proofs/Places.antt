@@ -13,7 +13,7 @@ use Rattle.protocol.specs.declared.input.Input.{Input}
 use Rattle.choosing.specs.Here.{member_up, here_in}
 use Rattle.choosing.specs.Choosing.{IsPartAt, told}
 
--- a refusal is told as want of memory, or as the node's
+-- a refusal is reported as out of memory or as the node's own
 pub told_is : (f : NodeFault) → (told f ≡ refused.Memory) ⊎ (told f ≡ refused.Node f)
 told_is fault.Memory = inl refl
 told_is (fault.Refused r) = inr refl
@@ -21,7 +21,7 @@ told_is (fault.Log f) = inr refl
 told_is fault.Stopped = inr refl
 told_is (fault.Foreign f) = inr refl
 
--- who is here is one of them
+-- a node that is here is one of the nodes
 pub within : {D : Type 0} (nodes : List (LoggedNode D)) (k : ℕ)
     → is_some (here_in nodes k) ≡ true → k < length nodes
 within {D} nodes k some = by (slice_get nodes k) refl some
@@ -31,7 +31,7 @@ within {D} nodes k some = by (slice_get nodes k) refl some
     by None there some = absurd (let no : false ≡ true = some in cc)
     by (Some n) there some = slice_get_within nodes k n there
 
--- it was seen that somebody is here
+-- it was found that a node is here
 pub up_seen : {D : Type 0} (nodes seen : List (LoggedNode D)) (k : ℕ) (is_up : Bool)
     → seen ≡ nodes → is_up ≡ is_some (here_in seen k) → is_up ≡ true
     → is_some (here_in nodes k) ≡ true
@@ -45,12 +45,12 @@ module _ {D : Type 0} (nodes : List (LoggedNode D)) (k : ℕ) (n : LoggedNode D)
   is_here up = ap member_up stands
       ∙ ap (λ b. if b then None else Some n.node.member) up
 
-  -- one that is stopped is not
+  -- a stopped node is not
   pub none_here : n.node.stopped ≡ true → here_in nodes k ≡ None
   none_here down = ap member_up stands
       ∙ ap (λ b. if b then None else Some n.node.member) down
 
-  -- who is here is up
+  -- a node that is here is up
   pub up_here : is_some (here_in nodes k) ≡ true → n.node.stopped ≡ false
   up_here some = by n.node.stopped refl
     where
@@ -70,10 +70,10 @@ module _ {D : Type 0} (nodes : List (LoggedNode D)) (k : ℕ) (n : LoggedNode D)
 
 module _ {D : Type 0} (nodes : List (LoggedNode D)) (k : ℕ) (n : LoggedNode D)
     (value : n ≡ slice_index_or nodes k n) where
-  -- what an index reads stands there
+  -- what an index reads is the element at that place
   pub stands_at : k < length nodes → slice_get nodes k ≡ Some n
   stands_at below = slice_get_read nodes (length nodes) k n refl below value
 
-  -- it is put back as it was
+  -- it is put back unchanged
   pub put_back : (m : LoggedNode D) → m ≡ n → slice_set nodes k m ≡ nodes
   put_back m same = ap (slice_set nodes k) (same ∙ value) ∙ set-get_or nodes k n

@@ -1,4 +1,4 @@
--- Numbers in a row.
+-- Ranges of numbers.
 use Rattle.std.proofs.Common.{◌≡◌, ◌≤◌, ◌<◌, ◌+◌, ◌-◌, ◌++◌, ℕ, zero, suc, [], ◌∷◌, drop, take, refl, ap, ◌∙◌, arith}
 use Rattle.std.specs.List.{range_with_len}
 
@@ -8,7 +8,7 @@ none_less n = omega arith
 one_less : (m n : ℕ) → suc m + n ≡ suc (m + n)
 one_less m n = omega arith
 
--- a row is one of its beginnings and the rest
+-- a range is a shorter one and the rest
 pub range_parts : (a m n : ℕ) → range_with_len a (m + n)
     ≡ range_with_len a m ++ range_with_len (a + m) n
 range_parts a zero n =
@@ -20,7 +20,7 @@ range_parts a (suc m) n =
     ∙ (ap (λ xs. a ∷ xs) (range_parts (a + 1) m n)
     ∙ ap (λ b. (a ∷ range_with_len (a + 1) m) ++ range_with_len b n) here)
 
--- the row from one number to below another, with a number of it
+-- the range from one number to below another, split at one of its numbers
 pub range_at : (a b k : ℕ) → a ≤ k → k < b
     → range_with_len a (b - a)
     ≡ range_with_len a (k - a) ++ k ∷ range_with_len (k + 1) (b - (k + 1))
@@ -31,7 +31,7 @@ range_at a b k from below =
     ∙ (range_parts a (k - a) (suc (b - (k + 1)))
     ∙ ap (λ j. range_with_len a (k - a) ++ j ∷ range_with_len (j + 1) (b - (k + 1))) here)
 
--- one more
+-- a range that is longer by one
 pub range_more : (a k : ℕ) → a ≤ k
     → range_with_len a (k + 1 - a) ≡ range_with_len a (k - a) ++ k ∷ []
 range_more a k from =

@@ -1,4 +1,4 @@
--- The positions by node below which all units failed.
+-- By node, the position below which all units of queued packages failed.
 use Rattle.std.proofs.Common.{◌≡◌, ◌<◌, ℕ, zero, suc, Bool, true, false, List, [], ◌∷◌, Option, Some, get_or, length, replicate, slice_get, slice_set, if◌then◌else◌, refl, sym, ap, subst, ◌∙◌, inl, inr}
 use Rattle.std.proofs.lemmas.Bool.{cases_eq}
 use Rattle.std.proofs.lemmas.List.{get_or-set_other}
@@ -11,14 +11,14 @@ use Rattle.parts.proofs.FailedBelow.{none_below}
 use Rattle.parts.specs.Unfailed.{AllFailedBelow}
 use Rattle.protocol.specs.State.{State}
 
--- what is read where it was written, or beyond the end
+-- an element that was written is read, or 0 if it is beyond the end
 read_there : (xs : List ℕ) (k x : ℕ)
     → (get_or (slice_set xs k x) k 0 ≡ x) ⊎ (get_or (slice_set xs k x) k 0 ≡ 0)
 read_there [] k x = inr refl
 read_there (y ∷ ys) zero x = inl refl
 read_there (y ∷ ys) (suc k) x = read_there ys k x
 
--- so where all failed below what was written, they did below what is read
+-- so what holds of the position that was written holds of the one that is read
 pub below_there : (s : State) (p : Pending) (xs : List ℕ) (k x : ℕ) → AllFailedBelow s p x
     → AllFailedBelow s p (get_or (slice_set xs k x) k 0)
 below_there s p xs k x below = by (read_there xs k x)
@@ -29,7 +29,7 @@ below_there s p xs k x below = by (read_there xs k x)
     by (inr first) = subst (AllFailedBelow s p) (sym first) (none_below s p)
 
 module _ {D : Type 0} (nodes : List (LoggedNode D)) (p : Pending) where
-  -- the position of one node is another
+  -- one node's position changes
   pub moved_at : (unfailed : List ℕ) (k x : ℕ) → EachFailedBelow nodes p unfailed
       → ((n : LoggedNode D) → slice_get nodes k ≡ Some n → AllFailedBelow n.node.member p x)
       → EachFailedBelow nodes p (slice_set unfailed k x)
@@ -42,7 +42,7 @@ module _ {D : Type 0} (nodes : List (LoggedNode D)) (p : Pending) where
         (each j n at)
   ]
 
-  -- all failed below it at a node that is lent
+  -- it holds of a position at a borrowed node
   pub at_lent : (k : ℕ) (n : LoggedNode D) (s : State) (x : ℕ) → k < length nodes
       → n ≡ slice_index_or nodes k n → s ≡ n.node.member → AllFailedBelow s p x
       → (m : LoggedNode D) → slice_get nodes k ≡ Some m → AllFailedBelow m.node.member p x
@@ -53,20 +53,20 @@ module _ {D : Type 0} (nodes : List (LoggedNode D)) (p : Pending) where
       subst (λ (y : LoggedNode D). AllFailedBelow y.node.member p x) same
       (subst (λ t. AllFailedBelow t p x) member below)
 
--- ---- before any did
+-- ---- at the start
 
 zeros : (first count k : ℕ) → first ≡ 0 → get_or (replicate count first) k 0 ≡ first
 zeros first zero k is = sym is
 zeros first (suc count) zero is = refl
 zeros first (suc count) (suc k) is = zeros first count k is
 
--- there is nothing below the first position
+-- there is nothing below position 0
 pub none_yet : {D : Type 0} (nodes : List (LoggedNode D)) (p : Pending) (count : ℕ)
     → EachFailedBelow nodes p (replicate count 0)
 none_yet nodes p count k n at =
     subst (AllFailedBelow n.node.member p) (sym (zeros 0 count k refl)) (none_below n.node.member p)
 
--- and that is as good as any
+-- so it always holds of position 0
 pub lowered_below : (s : State) (p : Pending) (b : Bool) (from to : ℕ)
     → to ≡ (if b then 0 else from) → AllFailedBelow s p from → AllFailedBelow s p to
 lowered_below s p b from to is below = subst (AllFailedBelow s p) (sym is) (by b)

@@ -1,4 +1,4 @@
--- What was chosen, with its step ready.
+-- The choice of a turn, with its step prepared.
 use Rattle.std.specs.Prelude.{◌≡◌, ℕ, Bool, true, false, List, Option, None, Some, Result, Err, [], ◌∷◌, if◌then◌else◌, is_some, length, map, slice_get}
 use Rattle.choice.specs.Choice.{Chosen, Here}
 use Rattle.choice.specs.Pending.{Pending}
@@ -21,12 +21,11 @@ use Rattle.choosing.specs.Here.{here_in}
 use Rattle.choosing.specs.Events.{event_of}
 use Rattle.choosing.specs.declared.chosen.Chosen.{Chosen as Ready}
 
--- What receives gave in the turn: nothing was asked of the port where a job waited for its answer,
--- and else it was asked once.
+-- What receives returned in the turn. The port is asked once, unless a job waited for its answer.
 abbrev pub looked_for : Bool → Arrived → List Arrived
 looked_for has_job came = if has_job then [] else came ∷ []
 
--- Node k is up, and its step on this is ready.
+-- Node k is up, and its step on this is prepared.
 pub record IsReadiedAt {D : Type 0} (nodes : List (LoggedNode D)) (k : ℕ) (asked : Asked)
     (r : Readied) : Type 0 where
   pub node : LoggedNode D
@@ -34,7 +33,7 @@ pub record IsReadiedAt {D : Type 0} (nodes : List (LoggedNode D)) (k : ℕ) (ask
   pub up : node.node.stopped ≡ false
   pub readied : IsReadied node asked r
 
--- Node k's part was made ready, if it has one; and else there is none.
+-- Node k's part was prepared if it has one, and otherwise nothing was.
 abbrev pub IsPartAt : {D : Type 0} → List (LoggedNode D) → ℕ → Option Input → Option Readied
     → Type 0
 IsPartAt nodes k None None = Prim.Unit {0}
@@ -42,14 +41,14 @@ IsPartAt nodes k None (Some r) = ⊥
 IsPartAt nodes k (Some input) None = ⊥
 IsPartAt nodes k (Some input) (Some r) = IsReadiedAt nodes k (Does input) r
 
--- What was chosen was made ready, if anything was.
+-- What was chosen was prepared, or nothing was if nothing was chosen.
 abbrev pub IsChosenAs : {D : Type 0} → List (LoggedNode D) → Chosen → Option Ready → Type 0
 IsChosenAs nodes None None = Prim.Unit {0}
 IsChosenAs nodes None (Some r) = ⊥
 IsChosenAs nodes (Some x) None = ⊥
 IsChosenAs nodes (Some x) (Some r) = (r.node ≡ x.0) × IsReadiedAt nodes x.0 x.1 r.readied
 
--- Node k is up, and takes no step on this.
+-- Node k is up, and refuses this.
 pub record RefusesAt {D : Type 0} (nodes : List (LoggedNode D)) (k : ℕ) (asked : Asked)
     (f : NodeFault) : Type 0 where
   pub node : LoggedNode D
@@ -63,7 +62,7 @@ NoneIsForeign nodes sent =
     (k : ℕ) (text : Text) (f : NodeFault) → is_among sent text ≡ true
     → RefusesAt nodes k (Comes text) f → ⊥
 
--- the node's refusal, as one of a turn
+-- the node's refusal as that of a turn
 abbrev pub told : NodeFault → TurnFault
 told fault.Memory = refused.Memory
 told (fault.Refused r) = refused.Node (fault.Refused r)
@@ -71,14 +70,15 @@ told (fault.Log f) = refused.Node (fault.Log f)
 told fault.Stopped = refused.Node fault.Stopped
 told (fault.Foreign f) = refused.Node (fault.Foreign f)
 
--- It is the turn's choice, by what the port gave from the old moment to the new one.
+-- It is the turn's choice, given what the port returned between the old record of receives and the
+-- new one.
 pub record IsChosenBy (here : Here) (count : ℕ) (p : Pending) (handed : Handed)
     (old new : Option (List Arrived)) (chosen : Chosen) : Type 0 where
   pub came : Arrived
   pub looked : GoesOnBy (looked_for (answers_first handed here count) came) old new
   pub choice : IsChoiceBy handed here count p came chosen
 
--- What was chosen is the turn's choice, its step is ready, and it is an event.
+-- The turn's choice was prepared, and it is an event.
 pub record HasChosen {D : Type 0} (nodes : List (LoggedNode D)) (sent : List Text) (p : Pending)
     (handed : Handed) (old new : Option (List Arrived)) (r : Option Ready) : Type 0 where
   pub chosen : Chosen
@@ -86,7 +86,7 @@ pub record HasChosen {D : Type 0} (nodes : List (LoggedNode D)) (sent : List Tex
   pub readied : IsChosenAs nodes chosen r
   pub event : (x : _) → chosen ≡ Some x → is_some (event_of sent x) ≡ true
 
--- the chosen node takes no step on what it would do of itself
+-- the chosen node refuses what it would do on its own initiative
 abbrev pub IsRefusedOwn : {D : Type 0} → List (LoggedNode D) → List Text → Pending → Handed
     → Option (List Arrived) → Option (List Arrived) → NodeFault → Type 0
 IsRefusedOwn nodes sent p handed old new f =
@@ -94,7 +94,7 @@ IsRefusedOwn nodes sent p handed old new f =
     × IsChosenBy (here_in nodes) (length nodes) p handed old new (Some (k, Does input))
     × (is_some (event_of sent (k, Does input)) ≡ true) × RefusesAt nodes k (Does input) f
 
--- bytes came, for a node that is up, that none of the nodes sent
+-- bytes were received for a node that is up, and no node sent them
 abbrev pub HasForeign : {D : Type 0} → List (LoggedNode D) → List Text → Pending → Handed
     → Option (List Arrived) → Option (List Arrived) → Type 0
 HasForeign nodes sent p handed old new =
@@ -102,7 +102,8 @@ HasForeign nodes sent p handed old new =
     × IsChosenBy (here_in nodes) (length nodes) p handed old new (Some (k, Comes text))
     × (is_among sent text ≡ false)
 
--- Why nothing was made ready: memory was wanting for what there is to do, or one of these two.
+-- Why nothing was prepared: memory ran out and there is something to do, the chosen node refuses
+-- what it would do on its own initiative, or bytes were received that no node sent.
 abbrev pub IsChoosingFault : {D : Type 0} → List (LoggedNode D) → List Text → Pending → Handed
     → Option (List Arrived) → Option (List Arrived) → TurnFault → Type 0
 IsChoosingFault nodes sent p handed old new refused.Memory =
@@ -115,8 +116,8 @@ IsChoosingFault nodes sent p handed old new refused.NotSent =
     HasForeign nodes sent p handed old new
 IsChoosingFault nodes sent p handed old new refused.NotFresh = ⊥
 
--- The port answered some receives, and nothing else was asked of it; and by what they gave, where
--- nothing had been given before, this is so.
+-- The port answered these receives, and no other calls. `IsSo` holds of what they returned, with an
+-- empty record before them.
 pub record ByReceives {P : Type 0} (does : P → Call → P → Type 0) (port last : P)
     (IsSo : Option (List Arrived) → Option (List Arrived) → Type 0) : Type 0 where
   pub received : List (Result Arrived PortFault)

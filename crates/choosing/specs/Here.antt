@@ -4,7 +4,7 @@ use Rattle.choice.specs.Choice.{Here}
 use Rattle.node.specs.State.{LoggedNode}
 use Rattle.protocol.specs.State.{State}
 
--- the node's member, while it is up
+-- the node's member, if the node is up
 abbrev pub member_up : {D : Type 0} → Option (LoggedNode D) → Option State
 member_up None = None
 member_up (Some n) = if n.node.stopped then None else Some n.node.member

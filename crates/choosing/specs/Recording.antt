@@ -1,4 +1,4 @@
--- What is recorded of a step.
+-- The recorded events of a step.
 use Rattle.std.specs.Prelude.{◌≡◌, ℕ, List, Option, None, Some}
 use Rattle.ballots.specs.declared.message.Note.{Note}
 use Rattle.events.specs.Events.{Event, StopIn, event_view}
@@ -10,15 +10,15 @@ use Rattle.protocol.specs.State.{Value}
 use Rattle.choosing.specs.Events.{event_of}
 use Rattle.choosing.specs.declared.recording.Recorded.{Recorded}
 
--- It is a stop inside the step of the event, if there is a note; and else there is none.
+-- It is the event of a stop during the step, if the step has a note, and otherwise there is none.
 abbrev pub IsStopOf : Option (Note Value) → Event → Option declared.Event → Type 0
 IsStopOf None e None = Prim.Unit {0}
 IsStopOf None e (Some stop) = ⊥
 IsStopOf (Some note) e None = ⊥
 IsStopOf (Some note) e (Some stop) = event_view stop ≡ StopIn e left.None
 
--- These are the events of what the node is asked: to be kept, to be answered, and of a stop inside
--- the step.
+-- These are the events of what the node is asked: one to keep, one to return, and that of a stop
+-- during the step.
 pub record IsRecorded (sent : List Text) (x : ℕ × Asked) (ready : ReadyStep) (r : Recorded)
     : Type 0 where
   pub kept : event_of sent x ≡ Some (event_view r.kept)

@@ -1,4 +1,4 @@
-//! What a turn does.
+//! The choice of a turn.
 ghost use Rattle.std.specs.List.{list_any, range_with_len};
 ghost use Rattle.std.specs.Prelude.{
   ◌≡◌,
@@ -58,24 +58,27 @@ use protocol::Packages;
 use stable_record::Disk;
 use std::alloc::Global;
 
-/// What was chosen: a node, by its number, and what it does, with its step ready.
+/// What was chosen: a node, by its number, and what it does, with its step prepared.
 #[derive(Drop)]
 pub struct Chosen {
     pub node: usize,
     pub readied: Readied,
 }
 
-/// What the turn does, if anything: a node, and its part, with its step ready. The first of these
-/// that applies: the least node that has a job answers it; a node takes what came, for which the
-/// port is asked once; the first of the nodes that does anything of itself does so, beginning
-/// behind the one that last did. `nodes` are by number; no node changes. Below the position of each
-/// node in `unfailed` no package is queued there but those whose units failed: no turn looks at
-/// these again.
+/// The choice of the turn, if anything: a node, and its part, with its step prepared. It is the
+/// first of these that applies:
+/// 1. The least node that has a job answers it.
+/// 2. A node takes a received datagram that is for it; the port is asked once.
+/// 3. The first node that does anything on its own initiative does so, beginning with the one after
+/// the last.
+///
+/// `nodes` are by number, and aren't changed. Below its position in `unfailed`, each node's only
+/// queued packages are those whose units failed, so turns needn't search there again.
 ///
 /// # Errors
 ///
-/// `Memory`; `NotSent`, where bytes came, for a node that is up, that none of the nodes sent;
-/// `Node`, why the chosen node takes no step on what it would do of itself.
+/// `Memory`; `NotSent` if bytes were received for a node that is up and no node sent them; `Node`,
+/// why the chosen node refuses what it would do on its own initiative.
 pub fn choose<D: Disk, P: Port>(
     alloc: Global,
     nodes: &mut Vec<Node<'_, D>>,
@@ -97,7 +100,7 @@ pub fn choose<D: Disk, P: Port>(
     ensures refused { IfErr result (IsChoosingFault nodes.old.items sent.now pending.now
         (AllBuilds builds.now) (P.given port.old) (P.given port.new)) }
 
-    // The same by its calls, whatever it keeps of them: it was asked to receive, and nothing else.
+    // The choice, seen by the port's calls, even if it doesn't record them: it only received.
     ensures calls { IfOk result (λ r. ByReceives P.does port.old port.new
         (λ before after. HasChosen nodes.new.items sent.now pending.now
         (AllBuilds builds.now) before after r)) }
@@ -158,7 +161,7 @@ fn answer_at<D: Disk>(
     }
 }
 
-/// What came. A receive that fails gave nothing.
+/// Receives a datagram. A receive that fails counts as one that returned nothing.
 pub(crate) fn received<P: Port>(port: &mut P) -> Option<(u8, Vec<u8>)>
     ensures given { GoesOnBy (arrived result ∷ []) (P.given port.old) (P.given port.new) }
     ensures offered { GoesOnBy [] (P.offered port.old) (P.offered port.new) }
@@ -170,7 +173,8 @@ pub(crate) fn received<P: Port>(port: &mut P) -> Option<(u8, Vec<u8>)>
     }
 }
 
-/// That the node takes what came for it, if it is up. It was sent by one of the nodes.
+/// Prepares the node's step on a received datagram that is for it, if it is up. The datagram was
+/// sent by one of the nodes.
 pub(crate) fn taken_in<D: Disk>(
     alloc: Global,
     nodes: &mut Vec<Node<'_, D>>,
@@ -208,7 +212,7 @@ fn is_sent(alloc: Global, sent: &Datagrams, bytes: &[u8]) -> Result<bool, Memory
     Ok(sent.contains(&bytes))
 }
 
-/// Whether there is such a node, and it is up.
+/// Whether there is a node with this number, and it is up.
 pub(crate) fn is_up<D: Disk>(nodes: &[Node<'_, D>], at: usize) -> bool
     ensures { result ≡ is_some (here_in nodes.now at) }
 {
@@ -218,7 +222,7 @@ pub(crate) fn is_up<D: Disk>(nodes: &[Node<'_, D>], at: usize) -> bool
     }
 }
 
-/// What the first of the nodes does of itself that does anything.
+/// What the first node that does anything does on its own initiative.
 fn own_in_turn<D: Disk>(
     nodes: &mut Vec<Node<'_, D>>,
     pending: &Pending,
@@ -241,7 +245,7 @@ fn own_in_turn<D: Disk>(
     own_among(nodes, pending, unfailed, 0, next)
 }
 
-/// The same of the nodes from the first number on, below the second.
+/// Like `own_in_turn`, for the nodes from number `from` on, below `below`.
 fn own_among<D: Disk>(
     nodes: &mut Vec<Node<'_, D>>,
     pending: &Pending,
@@ -267,7 +271,7 @@ fn own_among<D: Disk>(
     Ok(None)
 }
 
-/// What this node does of itself, if it is up and does anything.
+/// What this node does on its own initiative, if it is up and does anything.
 fn own_at<D: Disk>(
     nodes: &mut Vec<Node<'_, D>>,
     pending: &Pending,
@@ -294,8 +298,8 @@ fn own_at<D: Disk>(
     }
 }
 
-/// The least position of a package that is queued at this node and whose unit didn't fail, or else
-/// the number of packages. The next turn begins there.
+/// The least position of a package that is queued at this node and whose unit hasn't failed, or the
+/// number of packages if there is none. The next turn's search begins there.
 fn unfailed_at<D: Disk>(
     nodes: &[Node<'_, D>],
     pending: &Pending,
@@ -344,7 +348,7 @@ fn open_unit<D: Disk>(nodes: &[Node<'_, D>], at: usize) -> Option<u32>
     Some(open.unit)
 }
 
-/// The node's refusal, as one of a turn.
+/// The node's refusal as that of a turn.
 pub fn told(fault: NodeFault) -> TurnFault
     ensures { result ≡ told fault }
 {

@@ -1,5 +1,5 @@
-//! What a turn of a cluster is: which node does what, with its step ready, and the event that that
-//! is.
+//! The choice of a cluster's turn: which node does what, with its step prepared, and the event of
+//! that.
 #![tactic(auto)]
 
 mod chosen;

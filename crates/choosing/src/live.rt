@@ -1,4 +1,4 @@
-//! What a turn does where builds are made while nodes run.
+//! The choice of a turn if builds are made while nodes run.
 ghost use Rattle.std.specs.List.{range_with_len};
 ghost use Rattle.std.specs.Prelude.{
   ◌≡◌,
@@ -53,16 +53,20 @@ use protocol::Packages;
 use stable_record::Disk;
 use std::alloc::Global;
 
-/// What the turn does, if anything: a node, and its part, with its step ready. The first of these
-/// that applies: the least node that has a job for which something is made answers it; a node takes
-/// what came, for which the port is asked once; the node for which something is wished does so, if
-/// it is up; the first of the nodes goes on with its open claim that does, beginning behind the one
-/// that last did something of itself. `nodes` and `made` are by number; no node changes.
+/// The choice of the turn, if anything: a node, and its part, with its step prepared. It is the
+/// first of these that applies:
+/// 1. The least node that has a job with files made for it answers that.
+/// 2. A node takes a received datagram that is for it; the port is asked once.
+/// 3. The node of the wish does what is wished, if it is up.
+/// 4. The first node that does anything about its open claim does so, beginning with the one after
+/// the last.
+///
+/// `nodes` and `made` are by number, and no node changes.
 ///
 /// # Errors
 ///
-/// `Memory`; `NotSent`, where bytes came, for a node that is up, that none of the nodes sent;
-/// `Node`, why the chosen node takes no step on what it would do of itself.
+/// `Memory`; `NotSent` if bytes were received for a node that is up and no node sent them; `Node`,
+/// why the chosen node refuses what it would do on its own initiative.
 pub fn choose_live<D: Disk, P: Port>(
     alloc: Global,
     nodes: &mut Vec<Node<'_, D>>,
@@ -84,7 +88,7 @@ pub fn choose_live<D: Disk, P: Port>(
         (SoFar (made_of (map (option_map (λ b. b.now)) made.now)) wish)
         (P.given port.old) (P.given port.new)) }
 
-    // The same by its calls, whatever it keeps of them: it was asked to receive, and nothing else.
+    // The choice, seen by the port's calls, even if it doesn't record them: it only received.
     ensures calls { IfOk result (λ r. ByReceives P.does port.old port.new
         (λ before after. HasChosen nodes.new.items sent.now pending.now
         (SoFar (made_of (map (option_map (λ b. b.now)) made.now)) wish) before after r)) }
@@ -102,7 +106,7 @@ pub fn choose_live<D: Disk, P: Port>(
     left_to_do(nodes, pending, wish)
 }
 
-/// The answer of the least node that has a job for which there is one yet.
+/// The answer of the least node that has a job with files made for it.
 fn answered_if<D: Disk>(
     alloc: Global,
     nodes: &mut Vec<Node<'_, D>>,
@@ -124,7 +128,7 @@ fn answered_if<D: Disk>(
     Ok(None)
 }
 
-/// What is made for this node's job, if anything is.
+/// The files made for this node's job, if any.
 fn made_for<'a>(made: &[Option<&'a Packages>], at: usize) -> Option<&'a Packages>
     ensures { option_map (λ b. b.now) result
         ≡ made_of (map (option_map (λ b. b.now)) made.now) at }
@@ -135,7 +139,7 @@ fn made_for<'a>(made: &[Option<&'a Packages>], at: usize) -> Option<&'a Packages
     }
 }
 
-/// The answer of this node, if it is up and has a job for which there is one yet.
+/// The answer of this node, if it is up and has a job with files made for it.
 fn answer_if_at<D: Disk>(
     alloc: Global,
     nodes: &mut Vec<Node<'_, D>>,
@@ -161,8 +165,7 @@ fn answer_if_at<D: Disk>(
     }
 }
 
-/// What is wished, or else what the first of the nodes does about its open claim that does
-/// anything.
+/// What is wished, or else what the first node that does anything does about its open claim.
 fn left_to_do<D: Disk>(
     nodes: &mut Vec<Node<'_, D>>,
     pending: &Pending,
@@ -182,7 +185,7 @@ fn left_to_do<D: Disk>(
     first_going(nodes, pending)
 }
 
-/// What is wished, if anything is, of a node that is up.
+/// What is wished, if there is a wish and its node is up.
 fn wished<D: Disk>(
     nodes: &mut Vec<Node<'_, D>>,
     wish: Option<(u8, Wish)>,
@@ -207,7 +210,7 @@ fn wished<D: Disk>(
     }
 }
 
-/// What the first of the nodes does about its open claim that does anything.
+/// What the first node that does anything does about its open claim.
 fn first_going<D: Disk>(
     nodes: &mut Vec<Node<'_, D>>,
     pending: &Pending,
@@ -227,7 +230,7 @@ fn first_going<D: Disk>(
     going_among(nodes, pending, 0, next)
 }
 
-/// The same of the nodes from the first number on, below the second.
+/// Like `first_going`, for the nodes from number `from` on, below `below`.
 fn going_among<D: Disk>(
     nodes: &mut Vec<Node<'_, D>>,
     pending: &Pending,
@@ -280,8 +283,8 @@ fn going_at<D: Disk>(
     }
 }
 
-/// Whether the member does anything about its open claim, where greater claims with rounds up to
-/// this one stand in its way.
+/// Whether the member does anything about its open claim, which claims with rounds up to `above`
+/// block.
 fn goes_on(member: &Member<'_>, above: Option<u64>) -> bool
     ensures { result ≡ is_some (going_on above member.now) }
 {

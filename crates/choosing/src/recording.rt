@@ -17,8 +17,8 @@ use pkgpath::PkgPath;
 use protocol::Packages;
 use std::alloc::Global;
 
-/// The event of a step: to be kept, and to be answered; and where the step has a note, that of a
-/// stop inside it.
+/// The events of a step: one to keep, one to return, and that of a stop during the step if the step
+/// has a note.
 #[derive(Drop)]
 pub struct Recorded {
     pub kept: Event,
@@ -47,7 +47,7 @@ pub fn events_of(
     })
 }
 
-/// The event of a stop inside the step, if it has a note. (A step without one asks nothing of the
+/// The event of a stop during the step, if it has a note. (A step without a note doesn't use the
 /// device.)
 fn stop_of(alloc: Global, event: &Event, ready: &Ready) -> Result<Option<Event>, Memory>
     ensures { IfOk result (IsStopOf (note_in ready.now.step) (event_view event.now)) }
@@ -60,7 +60,7 @@ fn stop_of(alloc: Global, event: &Event, ready: &Ready) -> Result<Option<Event>,
     Ok(Some(stop))
 }
 
-/// Whether the step notes something.
+/// Whether the step has a note.
 fn has_note(ready: &Ready) -> bool
     ensures { result ≡ is_some (note_in ready.now.step) }
 {
@@ -70,7 +70,7 @@ fn has_note(ready: &Ready) -> bool
     }
 }
 
-/// The event that the node does so.
+/// The event of the node's act.
 fn event_of(alloc: Global, sent: &Datagrams, node: u8, act: &Act) -> Result<Event, Memory>
     requires { is_some (event_of sent.now (node, asked_by act.now)) ≡ true }
     ensures { IfOk result (λ event.
@@ -82,7 +82,7 @@ fn event_of(alloc: Global, sent: &Datagrams, node: u8, act: &Act) -> Result<Even
     }
 }
 
-/// The event that the datagram comes to the node.
+/// The event that the datagram is delivered to the node.
 fn delivery(alloc: Global, sent: &Datagrams, node: u8, bytes: &[u8]) -> Result<Event, Memory>
     requires { is_some (option_map (λ d. Deliver d node)
         (position (bytes_eq bytes.now) sent.now)) ≡ true }
@@ -99,7 +99,7 @@ fn delivery(alloc: Global, sent: &Datagrams, node: u8, bytes: &[u8]) -> Result<E
     }
 }
 
-/// The event of an input of the node's own.
+/// The event of the node's own input.
 fn event_of_input(node: u8, input: &Input) -> Result<Event, Memory>
     requires { is_some (event_of_input node input.now) ≡ true }
     ensures { IfOk result (λ event. event_of_input node input.now ≡ Some (event_view event)) }
@@ -114,7 +114,7 @@ fn event_of_input(node: u8, input: &Input) -> Result<Event, Memory>
     }
 }
 
-/// A claim for an equal path.
+/// The event of a claim, with a copy of the path.
 fn claim(node: u8, path: &PkgPath, host: u16, above: u64) -> Result<Event, Memory>
     ensures { IfOk result (λ event. event_view event ≡ Claim node path.now host above) }
 {
@@ -127,7 +127,7 @@ fn claim(node: u8, path: &PkgPath, host: u16, above: u64) -> Result<Event, Memor
     })
 }
 
-/// An equal build of an equal path.
+/// The event of a build, with copies of the path and the files.
 fn built(node: u8, path: &PkgPath, packages: &Packages) -> Result<Event, Memory>
     ensures { IfOk result (λ event. event_view event ≡ Built node path.now packages.now) }
 {
@@ -140,7 +140,7 @@ fn built(node: u8, path: &PkgPath, packages: &Packages) -> Result<Event, Memory>
     })
 }
 
-/// A failed build of an equal path.
+/// The event of a failed build, with a copy of the path.
 fn failed(node: u8, path: &PkgPath) -> Result<Event, Memory>
     ensures { IfOk result (λ event. event_view event ≡ Failed node path.now) }
 {
@@ -148,7 +148,7 @@ fn failed(node: u8, path: &PkgPath) -> Result<Event, Memory>
     Ok(Event::Failed { node, path })
 }
 
-/// A question for an equal path.
+/// The event of a question, with a copy of the path.
 fn question(node: u8, path: &PkgPath) -> Result<Event, Memory>
     ensures { IfOk result (λ event. event_view event ≡ Ask node path.now) }
 {

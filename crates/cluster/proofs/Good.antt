@@ -1,4 +1,4 @@
--- What the values of a call are at most.
+-- Upper bounds of a call's values.
 use Rattle.std.proofs.Common.{List, Option, None, Some}
 use Rattle.clap.specs.Words.{Row, Text}
 use Rattle.cluster.specs.Stopped.{IsGood}

@@ -1,4 +1,4 @@
--- With which status a build ends.
+-- The exit status of a build.
 use Rattle.std.proofs.Common.{◌≡◌, ◌⊎◌, ◌&&◌, ◌==◌, ℕ, Bool, true, false, Option, None, Some, inl, inr}
 use Rattle.std.specs.Prelude.{if◌then◌else◌}
 use Rattle.dpbn_build.specs.Build.{IsBuildText, IsLineWith, letters_of}

@@ -1,4 +1,4 @@
-//! What `dpbn` does: the calls that its words make, each of which a crate of its own answers.
+//! What `dpbn` does: the calls that its arguments make. Each has a crate of its own.
 #![tactic(auto)]
 
 mod calls;

@@ -80,7 +80,7 @@ module _ {D P : Type 0} (c : ClusterState D P) (w : World) (is : IsWorldOf c w) 
     parts = has.text_is;
   }
 
-  -- and the events lead to it
+  -- the events lead to it
   pub shown : (members : ℕ) (text : Text) → length c.weights ≡ members
       → HasNodeLines w members text → IsShown c.division c.weights (taken c) text
   shown members text each has = record {

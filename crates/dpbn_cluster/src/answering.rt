@@ -1,4 +1,4 @@
-//! The answer of `dpbn cluster` to its words.
+//! The result of `dpbn cluster`.
 ghost use Rattle.std.specs.Prelude.{◌≡◌, ◌≤◌, ◌⊎◌, ◌++◌, ◌∷◌, [], IfErr, IfOk, length, map};
 ghost use Rattle.dpbn_cluster.specs.Cluster.{
   IsClusterRefusal,
@@ -37,17 +37,16 @@ use traces::{Trace, write_trace};
 use turns::Cluster;
 use udp::UdpPort;
 
-/// Runs all members' nodes for so many turns, and answers the line on each. What a turn refuses is
-/// told on `err`, and uses the turn up. The events that turns answered are written into the file of
-/// the trace, if one is named.
+/// Runs all members' nodes for the given number of turns, and returns the line of each. Why a turn
+/// is refused is printed on `err`; the turn counts. The turns' events are written to the trace
+/// file, if one is named.
 ///
-/// All that can be wrong is looked at before the first turn, in this order: the listing, the
-/// builds, the weights, the logs' files, whether run files stand beside them, the sockets, the
-/// logs.
+/// Everything that can be wrong is checked before the first turn, in this order: the listing, the
+/// builds, the weights, the logs' files, whether they have run files, the sockets, the logs.
 ///
 /// # Errors
 ///
-/// The first of these that is wrong; else that the trace can't be written.
+/// The first of these that is wrong; after the turns, that the trace can't be written.
 pub fn cluster_of_words<E: Write>(
     rt: &HostRuntime,
     files: &Files<'_>,
@@ -67,7 +66,7 @@ pub fn cluster_of_words<E: Write>(
     }
 }
 
-/// The lines of the nodes, after they ran on their logs.
+/// The lines of the nodes after they ran on their logs.
 fn run_on<E: Write>(
     rt: &HostRuntime,
     tree: &Tree,
@@ -162,7 +161,7 @@ fn logs_of_files(rt: &HostRuntime, folder: &str, members: u8) -> Result<Vec<File
     Ok(disks)
 }
 
-/// Refuses logs of which one has a run file beside it: a node runs on it, or did.
+/// Refuses logs if one has a run file: a node runs on it, or did.
 fn refuse_runs(rt: &HostRuntime, folder: &str, members: u8) -> Result<(), Refusal>
     ensures { IfErr result (λ r. IsSystemRefusal r ⊎ IsClusterRefusal r) }
 {
@@ -176,7 +175,7 @@ fn refuse_runs(rt: &HostRuntime, folder: &str, members: u8) -> Result<(), Refusa
     Ok(())
 }
 
-/// The port of all of them.
+/// The port of all nodes.
 fn port_of<'c>(rt: &'c HostRuntime, members: u8) -> Result<UdpPort<'c, HostRuntime>, Refusal>
     ensures { IfErr result (λ r. (r ≡ memory_refusal) ⊎ (r ≡ socket_refusal)) }
 {
@@ -186,7 +185,7 @@ fn port_of<'c>(rt: &'c HostRuntime, members: u8) -> Result<UdpPort<'c, HostRunti
     }
 }
 
-/// Writes the trace of the events into the file, if one is named.
+/// Writes the trace of the events to the file, if one is named.
 fn keep(
     rt: &HostRuntime,
     path: Option<&str>,
@@ -203,7 +202,7 @@ fn keep(
     Ok(())
 }
 
-/// The text of the trace of the events, with a line feed behind it.
+/// The trace of the events as text, with a line feed at the end.
 fn text_of(alloc: Global, weights: &Weights, events: Vec<Event>) -> Result<Vec<u8>, Memory>
     ensures { IfOk result (λ text. text.items
         ≡ trace_text (record { weights = weights.now; events = map event_view events.items })

@@ -1,4 +1,4 @@
-//! What `dpbn cluster` does: all members' nodes run in one process, each on its log.
+//! What `dpbn cluster` does: it runs all members' nodes in one process, each on its log.
 #![tactic(auto)]
 
 mod answering;

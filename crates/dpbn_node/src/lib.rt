@@ -1,4 +1,4 @@
-//! What `dpbn node` does: one member's node runs on its log, and hears its peers over UDP.
+//! What `dpbn node` does: it runs one member's node on its log, which reaches its peers over UDP.
 #![tactic(auto)]
 
 mod answering;

@@ -1,4 +1,4 @@
--- Faults that are counted.
+-- Counted faults.
 use Rattle.std.proofs.Common.{◌≡◌, ◌∙◌, ◌++◌, ◌==◌, ◌||◌, ◌+◌, ℕ, Bool, true, false, zero, suc, List, [], ◌∷◌, ap, arith, append-nil, append_assoc, cond, eq-eqb, eqb-true, filter, fold, length, length-append, map, refl, subst, sym, slice_index_or}
 use Rattle.std.proofs.lemmas.Grind.{common_steps}
 use Rattle.std.proofs.lemmas.List.Elements.{All-append, All-map, filter-append}
@@ -8,21 +8,21 @@ use Rattle.dpbn_run.specs.Repeats.{AreCounted, IsCounted, has_number, is_known, 
 use Rattle.program.specs.declared.refusal.Refusal.{Refusal}
 use Rattle.dpbn_run.specs.declared.repeats.Repeated.{Repeated}
 
--- nothing more
+-- `||` with false on the right side
 or_nothing : (b : Bool) → b ≡ (b || (false || false))
 or_nothing true = refl
 or_nothing false = refl
 
--- equal numbers are equal either way round
+-- equality of numbers is symmetric
 same_either_way : (a b : ℕ) → (a == b) ≡ (b == a)
 same_either_way a b = grind (arith, common_steps)
 
--- where none passes, none is left
+-- if no element passes, none is left
 filter_none : {X : Type 0} (p : X → Bool) (xs : List X) → list_any p xs ≡ false → filter p xs ≡ []
 filter_none p [] none = refl
 filter_none p (x ∷ xs) none = let more = filter_none p xs in grind (arith, more)
 
--- where none has the number, none came again
+-- if no fault has the number, no count changes
 once_more_none : (n : ℕ) (known : List Repeated) → is_known n known ≡ false → map (once_more n) known ≡ known
 once_more_none n [] none = refl
 once_more_none n (k ∷ known) none = let more = once_more_none n known in grind (arith, more)
@@ -32,14 +32,14 @@ once_more_known : (n m : ℕ) (known : List Repeated) → is_known m (map (once_
 once_more_known n m [] = refl
 once_more_known n m (k ∷ known) = let more = once_more_known n m known in grind (arith, more)
 
--- a number that is known is known of what came, too
+-- if a number is known, adding it changes no known number
 known_at : (n m : ℕ) (known : List Repeated) → is_known n known ≡ true → (b : Bool) → (n == m) ≡ b → is_known m known ≡ (is_known m known || (b || false))
 known_at n m known is true same =
     let here : is_known m known ≡ true = subst (λ x. is_known x known ≡ true) (eqb-true n m same) is in
     rw here refl
 known_at n m known is false same = or_nothing (is_known m known)
 
--- one more of its number came, or one of another
+-- one more fault with its number, or with another
 counted_at : (came : List Refusal) (fault : Refusal) (k : Repeated) → IsCounted came k → (b : Bool) → (fault.number == k.first.number) ≡ b → IsCounted (came ++ fault ∷ []) (cond b (record k { again = up_to_most (k.again + 1) }) k)
 counted_at came fault k it true same =
     let behind : List Refusal = it.0 in
@@ -61,13 +61,13 @@ counted_at came fault k it false same =
       it.2,
     )
 
--- so it is by the test that counts
+-- so this holds by the test that counts
 counted_once_more : (came : List Refusal) (fault : Refusal) (k : Repeated) → IsCounted came k → IsCounted (came ++ fault ∷ []) (once_more fault.number k)
 counted_once_more came fault k it =
     subst (λ (b : Bool). IsCounted (came ++ fault ∷ []) (cond b (record k { again = up_to_most (k.again + 1) }) k))
     (same_either_way fault.number k.first.number) (counted_at came fault k it (fault.number == k.first.number) refl)
 
--- all that are known
+-- all known faults
 all_once_more : (came : List Refusal) (known : List Repeated) (fault : Refusal) → All (λ k. IsCounted came k) known → All (λ k. IsCounted (came ++ fault ∷ []) k) (map (once_more fault.number) known)
 all_once_more came known fault all =
     All-map (λ (k : Repeated). IsCounted (came ++ fault ∷ []) k) (once_more fault.number) known
@@ -83,12 +83,12 @@ first_counted came fault none = (
   refl,
 )
 
--- what holds of it holds of a list of it alone
+-- what holds of an element holds of all of a list with only that one
 alone : {X : Type 0} (P : X → Type 0) (x : X) → P x → All P (x ∷ [])
 alone P x it zero d below = it
 alone P x it (suc k) d below = absurd (omega arith)
 
--- a number that is known, and one that isn't
+-- a number that is known, or isn't
 step_at : (came : List Refusal) (known : List Repeated) (fault : Refusal) → AreCounted came known → (b : Bool) → is_known fault.number known ≡ b → AreCounted (came ++ fault ∷ []) (cond b (map (once_more fault.number) known) (known ++ record { first = fault; again = 0 } ∷ []))
 step_at came known fault it true is = (
   (λ n. once_more_known fault.number n known ∙ known_at fault.number n known is (fault.number == n) refl
@@ -106,17 +106,17 @@ step_at came known fault it false is = (
       (first_counted came fault (sym (it.0 fault.number) ∙ is))),
 )
 
--- so what is noted of a fault is counted
+-- so the faults are counted after one more is noted
 counted_step : (came : List Refusal) (known : List Repeated) (fault : Refusal) → AreCounted came known → AreCounted (came ++ fault ∷ []) (noted known fault)
 counted_step came known fault it = step_at came known fault it (is_known fault.number known) refl
 
--- from there on
+-- and after more are noted
 pub counted_on : (came more : List Refusal) (known : List Repeated) → AreCounted came known → AreCounted (came ++ more) (fold noted known more)
 counted_on came [] known it = subst (λ c. AreCounted c known) (sym (append-nil came)) it
 counted_on came (fault ∷ more) known it =
     subst (λ c. AreCounted c (fold noted (noted known fault) more)) (append_assoc came (fault ∷ []) more)
     (counted_on (came ++ fault ∷ []) more (noted known fault) (counted_step came known fault it))
 
--- and from the first on
+-- and after all are noted
 pub faults_are_counted : (came : List Refusal) → AreCounted came (fold noted [] came)
 faults_are_counted came = counted_on [] came [] ((λ n. refl), (λ k d below. absurd (omega arith)))

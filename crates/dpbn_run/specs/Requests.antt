@@ -8,7 +8,7 @@ use Rattle.wire.specs.Spelling.{kind_of}
 use Rattle.wire.specs.declared.datagram.Datagram.{Datagram}
 use Rattle.wire.specs.declared.datagram.Datagram.TheVariants.{Whole, Piece}
 
--- what each of them begins with
+-- the bytes that each of them begins with
 abbrev pub request_front : Text
 request_front = codes "DPB1" ++ kind_of Ask ∷ []
 
@@ -17,7 +17,7 @@ abbrev pub body_asks : Body Value → Bool
 body_asks Ask = true
 body_asks _ = false
 
--- whether a datagram does
+-- whether a datagram asks for its unit
 abbrev pub asks : Datagram → Bool
 asks (Whole m) = body_asks m.body
 asks (Piece p) = false

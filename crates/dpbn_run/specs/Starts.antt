@@ -1,4 +1,4 @@
--- The log on which a node of a run starts.
+-- The log that a node of a run starts on.
 use Rattle.std.specs.Prelude.{◌≡◌, ℕ, Bool, List, Option}
 use Rattle.faults.specs.Bytes.{Text}
 use Rattle.listing.specs.Digest.{digest_text}
@@ -10,7 +10,7 @@ use Rattle.run_file.specs.declared.fault.StartFault.{StartFault}
 use Rattle.sha2.specs.Sha256.{sha256}
 use Rattle.stable_record.specs.declared.identity.Identity.{Identity}
 
--- whose log it is: that of this member, of members that weigh so, over the tree
+-- the owner of the log: this member, among members with these weights, over the tree
 abbrev pub owner : Tree → List ℕ → ℕ → Identity
 owner tree weights me = record {
   tree = sha256 (digest_text tree);
@@ -18,8 +18,8 @@ owner tree weights me = record {
   me = me;
 }
 
--- what is told where the owner's node doesn't start on the log and the run file that it finds, in a
--- run of whose key this is shown
+-- what is reported if the owner's node doesn't start on the log and the run file that it finds, in
+-- a run whose key is shown as this
 abbrev pub IsStartRefusal : Identity → Option Text → Bool → Refusal → Type 0
 IsStartRefusal i shown is_continued r =
     (f : StartFault) × RefusesStart i shown is_continued f

@@ -1,8 +1,8 @@
-//! What is known of faults that came.
+//! Laws of noted faults.
 ghost use Rattle.dpbn_run.specs.Repeats.{FaultsAreCounted};
 
-/// Law: whatever faults came, of each number just the first is known as told, with how often one of
-/// that number came behind it.
+/// Law: whatever the faults are, for each number exactly the first one is known, with the number of
+/// later ones.
 pub fn faults_are_counted()
     ensures { FaultsAreCounted }
 {}

@@ -1,5 +1,5 @@
-//! A node's run: its key, whom the node hears, the log on which it starts, and what it tells as it
-//! goes.
+//! A node's run: its key, whose datagrams it accepts, the log that it starts on, and what it prints
+//! while it runs.
 #![tactic(auto)]
 
 mod laws;

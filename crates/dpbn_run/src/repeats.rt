@@ -1,4 +1,4 @@
-//! The faults of turns, each number told once.
+//! The faults of turns, each number printed once.
 ghost use Rattle.std.specs.Prelude.{◌≡◌, [], IfOk, OnErr, OnOk, false, map, not};
 ghost use Rattle.dpbn_run.specs.Repeats.{is_known, noted, once_more};
 
@@ -6,22 +6,22 @@ use faults::Memory;
 use program::Refusal;
 use std::alloc::Global;
 
-/// The first fault of its number, and how often one of that number came again. The greatest count
-/// stays.
+/// The first fault of its number, and how many more with that number there were. The count
+/// saturates.
 #[derive(Clone, Copy)]
 pub struct Repeated {
     pub first: Refusal,
     pub again: u64,
 }
 
-/// The faults that came, by number, in the order in which the first of each came.
+/// The faults so far, by number, in the order in which the first of each occurred.
 #[derive(Drop)]
 pub struct Repeats {
     known: Vec<Repeated>,
 }
 
 impl Repeats {
-    /// None came yet.
+    /// No faults yet.
     pub fn new(alloc: Global) -> Repeats
         ensures { result.known.items ≡ [] }
     {
@@ -30,18 +30,18 @@ impl Repeats {
         }
     }
 
-    /// The first of each number, and how often one of that number came again.
+    /// The first fault of each number, and how many more with that number there were.
     pub fn known(&self) -> &[Repeated]
         ensures { result.now ≡ self.now.known.items }
     {
         self.known.as_slice()
     }
 
-    /// Notes a fault, and says whether it is the first of its number.
+    /// Notes a fault, and returns whether it is the first of its number.
     ///
     /// # Errors
     ///
-    /// `Memory`: it isn't noted.
+    /// `Memory`; the fault isn't noted.
     pub fn note(&mut self, fault: Refusal) -> Result<bool, Memory>
         ensures first { IfOk result
             (λ is_first. is_first ≡ not (is_known fault.number self.old.known.items)) }
@@ -61,14 +61,14 @@ impl Repeats {
         Ok(true)
     }
 
-    /// Whether one of this number came.
+    /// Whether a fault with this number is known.
     fn is_known(&self, number: u32) -> bool
         ensures { result ≡ is_known number self.now.known.items }
     {
         self.known.iter().any(|known| known.first.number == number)
     }
 
-    /// One of this number came again.
+    /// Counts one more fault with this number.
     fn count(&mut self, number: u32)
         ensures { self.new.known.items ≡ map (once_more number) self.old.known.items }
     {
@@ -78,7 +78,7 @@ impl Repeats {
     }
 }
 
-/// The known fault once one of this number came again.
+/// The known fault after one more with this number.
 fn counted(known: Repeated, number: u32) -> Repeated
     ensures { result ≡ once_more number known }
 {

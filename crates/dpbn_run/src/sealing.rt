@@ -1,4 +1,4 @@
-//! The key of a node's run, and what its port lets in.
+//! The key of a node's run, and which datagrams its port accepts.
 ghost use Rattle.std.specs.Prelude.{◌≡◌, ◌≢◌, IfErr, IfOk, None, Some, false, option_map, true};
 ghost use Rattle.wire.specs.declared.datagram.Datagram.{Datagram};
 ghost use Rattle.wire.specs.Spelling.{datagram_text};
@@ -14,23 +14,25 @@ use seals::{Seal, fingerprint};
 use udp::Guard;
 use wire::LONGEST_PIECE;
 
-/// What a datagram begins with that asks for a unit: as all that go out in whole, and its kind.
+/// The bytes that each request for a unit begins with: the start of every whole datagram, and the
+/// kind.
 const REQUEST_FRONT: [u8; 5] = [b'D', b'P', b'B', b'1', 6];
 
-/// Under which key a node seals what it sends, and whom it hears.
+/// The key that a node seals datagrams with, and whose datagrams it accepts.
 #[derive(Drop)]
 pub struct Sealing {
-    /// The key that the file has, where the run has one.
+    /// The key in the file, if the run has one.
     pub key: Option<[u8; 32]>,
-    /// Whether all who send are heard, where there is no key; else the members are.
+    /// Whether datagrams from any address are accepted if there is no key; otherwise only those of
+    /// members are.
     pub is_open: bool,
 }
 
-/// The key in the file, where one is named.
+/// The key in the file, if a file is named.
 ///
 /// # Errors
 ///
-/// What the system refused; else that the file is open to others; else that it has no key.
+/// The system's refusal; that others may read or write the file; that it has no key. In this order.
 pub fn key_of_words(rt: &HostRuntime, file: Option<&str>) -> Result<Option<[u8; 32]>, Refusal>
     ensures key { IfOk result (IsKeyOf (option_map (λ t. t.now) file.entry)) }
     ensures refused { IfErr result (RefusesKeyFile (option_map (λ t. t.now) file.entry)) }
@@ -45,9 +47,9 @@ pub fn key_of_words(rt: &HostRuntime, file: Option<&str>) -> Result<Option<[u8; 
 }
 
 impl Sealing {
-    /// What the node's port lets in, in the run over the tree among members that weigh so much:
-    /// where there is a key, what the members seal under it. A request that comes again at once
-    /// from the same member's address is dropped.
+    /// Which datagrams the node's port accepts, in the run over the tree, among members with these
+    /// weights. If there is a key, it accepts those that members seal with it. A request that is
+    /// repeated at once from the same member's address is dropped.
     pub fn guard(&self, tree: &Tree, weights: &Weights) -> Guard
         ensures sealed { result.seal ≡ seal_of tree.now weights.now self.now.key }
         ensures closed { self.now.key ≢ None → result.is_open ≡ false }
@@ -61,7 +63,8 @@ impl Sealing {
         guard.limiting(front_of_requests())
     }
 
-    /// Whether members alone are heard, so that what is seen of them tells something.
+    /// Whether only members' datagrams are accepted, so that the statistics about members mean
+    /// something.
     pub fn is_watched(&self) -> bool
         ensures closed { self.now.is_open ≡ false → result ≡ true }
         ensures sealed { self.now.key ≢ None → result ≡ true }
@@ -69,7 +72,7 @@ impl Sealing {
         !self.is_open || self.key.is_some()
     }
 
-    /// What the run's file shows of the key.
+    /// What the run file shows of the key.
     pub fn shown(&self) -> Option<[u8; 16]>
         ensures { result ≡ shown_of self.now.key }
     {
@@ -80,7 +83,7 @@ impl Sealing {
     }
 }
 
-/// What a datagram begins with if and only if it asks for a unit.
+/// The bytes that a datagram begins with if and only if it asks for a unit.
 pub fn front_of_requests() -> [u8; 5]
     ensures front { result ≡ request_front }
     ensures alone { (d : Datagram) → begins_with result (datagram_text d) ≡ asks d }
@@ -88,7 +91,7 @@ pub fn front_of_requests() -> [u8; 5]
     REQUEST_FRONT
 }
 
-/// What a port of a run without a key lets in.
+/// Which datagrams a port accepts in a run without a key.
 fn unsealed(is_open: bool) -> Guard
     ensures unsealed { result.seal ≡ None }
     ensures members { is_open ≡ false → result.is_open ≡ false }

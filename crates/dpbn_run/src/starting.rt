@@ -1,4 +1,4 @@
-//! How a node comes to its log.
+//! How a node finds its log.
 ghost use Rattle.std.specs.Prelude.{◌≡◌, IfErr, IfOk, option_map, string_bytes};
 ghost use Rattle.dpbn_run.specs.Keys.{shown_of};
 ghost use Rattle.dpbn_run.specs.Starts.{IsStartRefusal, owner};
@@ -13,13 +13,13 @@ use program::Refusal;
 use run_file::{Start, start_on, write_run};
 use stable_record::Identity;
 
-/// What the member's node starts on, in this folder, which has to be there. No byte of a file is
-/// written yet.
+/// Finds what the member's node starts on, in this folder, which must exist. Nothing is written to
+/// a file yet.
 ///
 /// # Errors
 ///
-/// What the system refused, also where the log is locked; that the log can't be read; that it is
-/// lost, another run's, or not there although the run is continued.
+/// The system's refusal, also if the log is locked; that the log can't be read; that it is lost,
+/// belongs to another run, or is missing although the run is continued.
 pub fn start_of(
     rt: &HostRuntime,
     folder: &str,
@@ -39,7 +39,7 @@ pub fn start_of(
     }
 }
 
-/// Whose log it is: that of this member, of members that weigh so, over the tree.
+/// The owner of the log: this member, among members with these weights, over the tree.
 pub fn identity_of(tree: &Tree, weights: &Weights, me: u8) -> Identity
     ensures { result ≡ owner tree.now weights.now me }
 {
@@ -57,7 +57,7 @@ pub fn identity_of(tree: &Tree, weights: &Weights, me: u8) -> Identity
 ///
 /// # Errors
 ///
-/// What the system refused.
+/// The system's refusal.
 pub fn write_unwritten(
     rt: &HostRuntime,
     folder: &str,

@@ -1,4 +1,4 @@
-//! What a node tells as it goes.
+//! What a node prints while it runs.
 ghost use Rattle.std.specs.Prelude.{◌≡◌, []};
 ghost use Rattle.dpbn_run.specs.Telling.{IsToldNow, is_due, left_after, seconds_since};
 
@@ -10,25 +10,26 @@ use std::io::Write;
 use std::time::Instant;
 use udp::{Tallies, Tally};
 
-/// What is told of a node, and what was.
+/// What is printed about a node, and what was printed before.
 #[derive(Drop)]
 pub struct Telling {
     /// The node's member.
     pub me: u8,
-    /// After each how many turns the node's line is told, if it is.
+    /// The node's line is printed after each N turns, if this is set.
     pub progress: Option<u32>,
-    /// In how many turns the next line is due.
+    /// The number of turns until the next line is due.
     pub left: u32,
-    /// Whether what is seen of the members is told, too, and of each number just the first fault.
+    /// Whether the statistics about members are printed, too, and only the first fault of each
+    /// number is.
     pub is_watching: bool,
-    /// The faults that came, where just the first of a number is told.
+    /// The faults so far, if only the first of each number is printed.
     pub repeats: Repeats,
-    /// Of which members it was told that they seal otherwise.
+    /// The members about which it was printed that they seal with another key.
     pub otherwise: [bool; 9],
 }
 
 impl Telling {
-    /// Of the member's node nothing was told yet.
+    /// Nothing was printed about the member's node yet.
     pub fn new(alloc: Global, me: u8, progress: Option<u32>, is_watching: bool) -> Telling
         ensures of { (result.me ≡ me) × (result.progress ≡ progress)
             × (result.is_watching ≡ is_watching) }
@@ -44,7 +45,7 @@ impl Telling {
         }
     }
 
-    /// Counts a turn, and says whether the node's line is due behind it.
+    /// Counts a turn, and returns whether the node's line is due after it.
     pub fn is_due(&mut self) -> bool
         ensures due { result ≡ is_due self.old.progress self.old.left }
         ensures left { self.new ≡ record self.old
@@ -62,16 +63,16 @@ impl Telling {
         }
     }
 
-    /// Tells why a turn was refused; or counts that, where members are watched and a fault of the
-    /// same number was told before.
+    /// Prints why a turn was refused. If members are watched and a fault of that number was printed
+    /// before, it is only counted.
     pub fn refused<E: Write>(&mut self, refusal: Refusal, err: &mut E) {
         if self.is_told_now(refusal) {
             let _ = writeln!(err, "dpbn: {refusal}");
         }
     }
 
-    /// Whether the fault is told at once. Where members are watched it is noted; one for which
-    /// there is no memory is told.
+    /// Whether the fault is printed now. If members are watched, the fault is noted; if there is no
+    /// memory for that, it is printed.
     fn is_told_now(&mut self, fault: Refusal) -> bool
         ensures told { IsToldNow fault self.old.is_watching self.old.repeats.known.items
             self.new.repeats.known.items result }
@@ -84,7 +85,7 @@ impl Telling {
         self.repeats.note(fault).unwrap_or(true)
     }
 
-    /// Tells of each member, once, that what comes from its address is sealed otherwise.
+    /// Prints, once for each member, that datagrams from its address are sealed with another key.
     pub fn tell_otherwise<E: Write>(&mut self, tallies: &Tallies, err: &mut E) {
         if !self.is_watching {
             return;
@@ -97,7 +98,7 @@ impl Telling {
         }
     }
 
-    /// Tells the node's line, and then of the members.
+    /// Prints the node's line, and then those about members.
     pub fn tell_line<E: Write>(
         &mut self,
         alloc: Global,
@@ -111,8 +112,8 @@ impl Telling {
         self.tell_members(tallies, err);
     }
 
-    /// Tells which faults came again, and how often so far, what was seen of each other member, and
-    /// how many datagrams came from strangers.
+    /// Prints the repeated faults with their counts so far, the statistics about each other member,
+    /// and the number of datagrams from strangers.
     pub fn tell_members<E: Write>(&mut self, tallies: &Tallies, err: &mut E) {
         if !self.is_watching {
             return;
@@ -127,7 +128,7 @@ impl Telling {
         let _ = writeln!(err, "dpbn: strangers: {strange}");
     }
 
-    /// Tells which faults came again, and how often so far.
+    /// Prints the repeated faults with their counts so far.
     fn tell_repeats<E: Write>(&self, err: &mut E) {
         for repeated in self.repeats.known() {
             let Repeated { first, again } = *repeated;
@@ -139,7 +140,7 @@ impl Telling {
     }
 }
 
-/// Tells that the member is none of this run.
+/// Prints that the member isn't in this run.
 fn tell_otherwise_sealed<E: Write>(member: usize, err: &mut E) {
     let _ = writeln!(
         err,
@@ -147,7 +148,7 @@ fn tell_otherwise_sealed<E: Write>(member: usize, err: &mut E) {
     );
 }
 
-/// Whether something came from the member's address that is sealed otherwise.
+/// Whether a datagram from the member's address was sealed with another key.
 fn is_otherwise(tallies: &Tallies, member: usize) -> bool {
     match tallies.members.get(member) {
         Some(tally) => tally.unsealed > 0,
@@ -155,7 +156,7 @@ fn is_otherwise(tallies: &Tallies, member: usize) -> bool {
     }
 }
 
-/// Tells what was seen of a member up to now.
+/// Prints the statistics about a member up to now.
 fn tell_member<E: Write>(member: usize, tally: Tally, now: Option<Instant>, err: &mut E) {
     let Tally {
         heard,
@@ -174,7 +175,7 @@ fn tell_member<E: Write>(member: usize, tally: Tally, now: Option<Instant>, err:
     );
 }
 
-/// How many whole seconds lie between the last time and now, where both are known.
+/// The whole seconds between the last time and now, if both are known.
 fn seconds_since(last: Option<Instant>, now: Option<Instant>) -> Option<u64>
     ensures { result ≡ seconds_since last now }
 {

@@ -1,4 +1,4 @@
--- What is told of a list of packages.
+-- What is reported about a list of packages.
 use Rattle.std.proofs.Common.{◌≡◌, ◌⊎◌, inl, inr, ap, refl}
 use Rattle.faults.specs.Bytes.{Text}
 use Rattle.listing.specs.Tree.{Tree}
@@ -9,7 +9,7 @@ use Rattle.lists.specs.declared.list.ListFault.{ListFault}
 use Rattle.lists.specs.declared.list.ListFault.TheVariants.{Memory}
 use Rattle.program.specs.Refusals.{memory_refusal}
 
--- want of memory, or the first bad line
+-- out of memory, or the first bad line
 pub list_told : (list : Text) (tree : Tree) (e : ListFault) → (e ≡ Memory) ⊎ IsFirstBadLine list e
     → (list_refusal e ≡ memory_refusal) ⊎ RefusesList list tree (list_refusal e)
 list_told list tree e (inl memory) = inl (ap list_refusal memory)

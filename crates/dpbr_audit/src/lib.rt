@@ -1,4 +1,4 @@
-//! What `dpbr audit` does: from a listing and a list of packages to the verdict on the list.
+//! What `dpbr audit` does: it finds the verdict on a list of packages, given a listing.
 #![tactic(auto)]
 
 mod files;

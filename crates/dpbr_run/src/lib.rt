@@ -1,5 +1,5 @@
-//! What `dpbr run` does: from a listing and a trace to what its run leaves of the nodes, and the
-//! list that is agreed then.
+//! What `dpbr run` does: it runs the events of a trace over a listing, and prints the state of the
+//! nodes and the agreed list afterwards.
 #![tactic(auto)]
 
 mod files;

@@ -1,4 +1,4 @@
-//! A text of held package paths, one a line.
+//! A text of held package paths, one in each line.
 ghost use Rattle.std.specs.Prelude.{◌≡◌, ◌⊎◌, IfErr, IfOk, false, length};
 ghost use Rattle.faults.specs.Bytes.{is_empty};
 ghost use Rattle.graph.specs.Marks.{has_mark};
@@ -16,7 +16,7 @@ use program::Refusal;
 use std::alloc::Global;
 use thiserror::Error;
 
-/// Why a text is read as naming no packages that can be held: want of memory, or else its first
+/// Why a text doesn't name packages that can be held: out of memory, or the number of its first
 /// faulty line, counted from 1.
 #[derive(Clone, Copy, Debug, PartialEq, Eq, Error)]
 pub enum HeldFault {

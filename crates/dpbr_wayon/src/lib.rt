@@ -1,5 +1,5 @@
-//! What `dpbr wayon` does: from a listing, a trace and files to a trace with further events, which
-//! lead to where a node holds the packages of a path.
+//! What `dpbr wayon` does: given a listing, a trace and files, it extends the trace with further
+//! events, which lead to a world where a node holds the packages of a path.
 #![tactic(auto)]
 
 mod files;

@@ -1,4 +1,4 @@
-//! The path among the words of `dpbr wayon`.
+//! The path among the arguments of `dpbr wayon`.
 ghost use Rattle.std.specs.Prelude.{◌≡◌, ◌⊎◌, IfErr, IfOk, Ok};
 ghost use Rattle.dpbr_wayon.specs.Refusals.{RefusesPath};
 ghost use Rattle.pkgpath.specs.PkgPath as paths;

@@ -25,13 +25,13 @@ use std::alloc::Global;
 use traces::{Trace, write_trace};
 use way::way_on;
 
-/// What is printed of a way to where the node holds the unit that the path names, for this host and
-/// these files, after the trace was run: the trace of its events and then the way's, and a line
-/// feed.
+/// What is printed after the trace was run: the trace of its events, followed by those of a way,
+/// and a line feed. The way leads to a world where the node holds the unit that the path names, and
+/// uses this host and these files.
 ///
 /// # Errors
 ///
-/// Memory; else that of the trace's first event that is refused; else why no way is told.
+/// Out of memory; that of the trace's first refused event; why no way is found. In this order.
 pub fn way_of_events(
     alloc: Global,
     tree: &Tree,
@@ -56,8 +56,8 @@ pub fn way_of_events(
     }
 }
 
-/// The same of the world that the trace led to. The way is told before the world goes for its
-/// events.
+/// What is printed of a way in the world that the trace led to. The way is computed before the
+/// world is consumed for its events.
 fn way_text(
     alloc: Global,
     world: World<'_>,

@@ -1,4 +1,4 @@
--- How long codes are.
+-- The length of codes.
 use Rattle.std.proofs.Common.{◌≡◌, ℕ, List, length, lit≤}
 use Rattle.std.proofs.lemmas.List.{length-take-le}
 use Rattle.sha2.proofs.Facts512.{length-sha512}

@@ -1,5 +1,5 @@
--- The cases of RFC 4231 for HMAC-SHA-512, and two keys about as long as a block, computed: with a
--- wrong step in the definition they don't check.
+-- The cases of RFC 4231 for HMAC-SHA-512, and two keys about as long as a block, computed. They
+-- don't check if a step of the definition is wrong.
 use Rattle.std.proofs.Common.{◌≡◌, ℕ, List, [], ◌∷◌, ◌++◌, codes, refl, replicate, take}
 use Rattle.sha2.specs.Sha512.{compress, digest_bytes, first_words, hash_after, rounds, schedule, sha512}
 use Rattle.hmac.specs.Hmac.{hmac}
@@ -42,7 +42,7 @@ pub hmac-case_4 : hmac from_1_to_25 (replicate 50 0xcd) ≡
 unfolding first_words schedule rounds compress hash_after digest_bytes sha512 hmac
 hmac-case_4 = refl
 
--- case 5, of which 16 bytes are told
+-- case 5, which gives 16 bytes
 pub hmac-case_5 : take 16 (hmac (replicate 20 0x0c) (codes "Test With Truncation")) ≡
     0x41 ∷ 0x5f ∷ 0xad ∷ 0x62 ∷ 0x71 ∷ 0x58 ∷ 0x0a ∷ 0x53 ∷ 0x1d ∷ 0x41 ∷ 0x79 ∷ 0xbc ∷ 0x89 ∷
     0x1d ∷ 0x87 ∷ 0xa6 ∷ []
@@ -77,7 +77,7 @@ pub hmac-key_of_a_block : hmac (replicate 128 97) [] ≡
 unfolding first_words schedule rounds compress hash_after digest_bytes sha512 hmac
 hmac-key_of_a_block = refl
 
--- a key of a byte more, likewise
+-- a key that is longer by a byte, by Python's `hmac`
 pub hmac-key_longer_by_1 : hmac (replicate 129 97) [] ≡
     0xf1 ∷ 0x0f ∷ 0x77 ∷ 0xd3 ∷ 0x4e ∷ 0xca ∷ 0x7a ∷ 0xa2 ∷ 0xfb ∷ 0xe0 ∷ 0xef ∷ 0x26 ∷ 0x2e ∷
     0x35 ∷ 0xde ∷ 0xdc ∷ 0xb4 ∷ 0x17 ∷ 0x8d ∷ 0xf4 ∷ 0xf0 ∷ 0x8c ∷ 0x43 ∷ 0xfa ∷ 0xa2 ∷ 0xae ∷

@@ -1,8 +1,8 @@
-//! Codes are compared whole.
+//! Comparison of whole codes.
 ghost use Rattle.std.specs.Prelude.{◌≡◌, ◌↔◌, IsTrue};
 
-/// Whether these are the same bytes. All of them are looked at, whatever the first ones are, so
-/// that the time it takes doesn't tell how much of a guess is right; no clause speaks of time.
+/// Whether these are the same bytes. All bytes are always compared, so that the time doesn't reveal
+/// how much of a guess is right. No contract speaks of time.
 pub fn is_same(ours: &[u8; 32], theirs: &[u8; 32]) -> bool
     ensures { IsTrue result ↔ (ours.now ≡ theirs.now) }
 {

@@ -5,16 +5,16 @@ ghost use Rattle.hmac.specs.Hmac.{block_of, hmac_under, with_zeros, xor_each};
 use sha2::{Digest, Sha512};
 use std::marker::Model;
 
-/// How many bytes SHA-512 takes in at once.
+/// The block length of SHA-512, in bytes.
 const BLOCK: usize = 128;
 
 const INNER_PAD: u8 = 0x36;
 
 const OUTER_PAD: u8 = 0x5c;
 
-/// A key, which contracts see as the block that it fills. Both hashes begin with a block that is
-/// the key's alone, and are begun once: so the code of a text of up to 111 bytes costs two blocks,
-/// and not four.
+/// A key. Contracts see it as its block. Both hashes begin with a block that depends only on the
+/// key, so these are hashed once. The code of a text of up to 111 bytes then costs two blocks
+/// instead of four.
 #[derive(Drop)]
 pub struct Key {
     block: [u8; BLOCK],
@@ -34,7 +34,7 @@ impl Model for Key {
 }
 
 impl Key {
-    /// These bytes, as many as they are, as a key.
+    /// A key of these bytes, which may have any length.
     pub fn new(key: &[u8]) -> Key
         ensures { result ≡ block_of key.now }
     {
@@ -46,7 +46,7 @@ impl Key {
         }
     }
 
-    /// The text's code under this key. It takes no memory, and hashes the text where it stands.
+    /// The text's code under this key. Does not allocate, and does not copy the text.
     pub fn hmac(&self, text: &[u8]) -> [u8; 32]
         ensures { result ≡ hmac_under self.now text.now }
     {
@@ -56,7 +56,7 @@ impl Key {
     }
 }
 
-/// The key's block: the key, or its digest where it is longer than a block, and then zeros.
+/// The key's block: the key, or its digest if it is longer than a block, followed by zeros.
 fn block_of(key: &[u8]) -> [u8; BLOCK]
     ensures { result ≡ block_of key.now }
 {
@@ -67,7 +67,7 @@ fn block_of(key: &[u8]) -> [u8; BLOCK]
     }
 }
 
-/// The bytes, and zeros up to a block.
+/// The bytes, followed by zeros up to a block.
 fn with_zeros(bytes: &[u8]) -> [u8; BLOCK]
     requires few { length bytes.now ≤ 128 }
     ensures { result ≡ with_zeros bytes.now }

@@ -1,4 +1,4 @@
--- What a turn chooses, a turn asks of a node.
+-- A turn asks of a node what it chooses.
 use Rattle.std.proofs.Common.{◌≡◌, ◌≤◌, ◌==◌, ℕ, Bool, true, false, List, [], ◌∷◌, Option, None, Some, if◌then◌else◌, refl, sym, subst, arith}
 use Rattle.std.specs.List.{range_with_len}
 use Rattle.std.specs.Prelude.{is_none, option_and_then, option_map}
@@ -58,7 +58,7 @@ job_asks s builds None input is =
     absurd (let no : ◌≡◌ {A = Option Input} None (Some input) = is in cc)
 job_asks s builds (Some o) input is = answer_asks s builds o o.progress input is
 
--- ---- what it does of itself
+-- ---- what it does on its own initiative
 
 own_asks : (s : State) → s.me ≤ 65535 → (o : Option OpenClaim) (above : Option ℕ) (barred : Barred)
     (input : Input) → IsOwnBy s o above barred (Some input) → IsOfATurn (Does input)
@@ -81,10 +81,10 @@ own_asks s small (Some o) above barred input is = by above is
         let same : input ≡ inputs.Claim (name_at s o.unit) s.me round = cc in
         subst (λ i. IsOfATurn (Does i)) (sym same) small
 
--- ---- the choice of a node that is alone here
+-- ---- the choice of a node that is the only one here
 
 module _ (n : NodeState) (small : n.member.me ≤ 65535) where
-  -- who is here is that node
+  -- the only node here is that node
   here_is : (k : ℕ) (s : State) → only n k ≡ Some s → s.me ≤ 65535
   here_is k s at = by (k == n.member.me) n.stopped at
     where
@@ -170,7 +170,7 @@ module _ (n : NodeState) (small : n.member.me ≤ 65535) where
           jobs_ask builds (range_with_len 0 count) x
           (subst (λ z. first_job (only n) count builds ≡ Some z) (sym same) job)
 
-  -- ---- the choice by what is made so far
+  -- ---- the choice by the progress so far
 
   wish_asks : (w : Wish) (s : State) → s.me ≤ 65535 → IsOfATurn (Does (asked_for w s))
   wish_asks (wishes.Claim path above) s small_me = small_me
@@ -209,7 +209,7 @@ module _ (n : NodeState) (small : n.member.me ≤ 65535) where
       absurd (let no : ◌≡◌ {A = Option Input} None (Some input) = is in cc)
   going_asks above s small_me (Some o) input is = goes_asks s small_me o o.progress above input is
 
-  -- what the first of these gives, a turn asks
+  -- a turn asks for the first input that these give
   each_asks : (f : ℕ → State → Option Input)
       → ((k : ℕ) (s : State) → s.me ≤ 65535 → (input : Input) → f k s ≡ Some input
       → IsOfATurn (Does input))

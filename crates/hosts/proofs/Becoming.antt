@@ -1,4 +1,4 @@
--- Whatever happens in a world becomes of nodes on hosts of their own, if these are its nodes.
+-- Whatever happens in a world may happen to hosts that have its nodes.
 use Rattle.std.proofs.Common.{◌≡◌, ◌++◌, ℕ, true, false, List, [], Some, Ok, slice_get, slice_set, refl, sym, ap, subst, ◌∙◌, inl, inr, ⊎_elim, true≢false}
 use Rattle.std.specs.Prelude.{◌↔◌, All, Contains}
 use Rattle.std.proofs.lemmas.Bool.{cases_eq}
@@ -29,13 +29,13 @@ use Rattle.world.specs.Local.{IsOfUnit}
 use Rattle.world.specs.Sent.{with_sends}
 use Rattle.world.specs.World.{IsMade, World, WorldNode, down_node, node_at, restarted_node, start, up_node, with_node}
 
--- The hosts' nodes are the world's, and each of the world's is one.
+-- The hosts' nodes are the world's, and each node of the world is on a host.
 pub record Mirrors (w : World) (h : Hosts) : Type 0 where
   pub are : AreNodesOf w h
   pub all : (k : ℕ) (x : WorldNode) → slice_get w.nodes k ≡ Some x
       → (y : Host) × (slice_get h.hosts k ≡ Some y)
 
--- what is put at a place stands where one stood
+-- if there was something at each place of the old list, there is in the new one
 some_there : (xs : List WorldNode) (old : List Host) (k : ℕ) (y : WorldNode) (new : Host)
     → ((j : ℕ) (x : WorldNode) → slice_get xs j ≡ Some x → (h : Host) × (slice_get old j ≡ Some h))
     → (before : Host) → slice_get old k ≡ Some before → (j : ℕ) (x : WorldNode)
@@ -50,7 +50,7 @@ some_there xs old k y new all before stood j x at = elim (cases_eq j k) [
 
 -- ---- a node that is up
 
--- The node of this number is this one on its host.
+-- The node of this number is up on its host, in this state.
 record IsUpThere (w : World) (h : Hosts) (k : ℕ) (x : WorldNode) : Type 0 where
   node : NodeState
   stands : slice_get h.hosts k ≡ Some (Up node)
@@ -84,7 +84,7 @@ offered_so w h are (Does input) came = tt
 
 -- ---- each event
 
--- From these hosts some become those of the world.
+-- These hosts may become hosts that have the world's nodes.
 abbrev pub Becomes : Division → List ℕ → Hosts → World → Type 0
 Becomes division weights h v =
     (g : Hosts) × ((first : Hosts) → Run division.tree weights first h
@@ -180,7 +180,7 @@ module _ (division : Division) (weights : List ℕ) (made : IsMade division weig
             (sends_come w.sent t.answer.sends text (subst (λ l. Contains l text) sent_is c))),
       )
 
-  -- a node that goes down, with these notes
+  -- a node goes down, with these notes
   down_becomes : (k : ℕ) (x : WorldNode) → slice_get w.nodes k ≡ Some x → x.up ≡ true
       → (y : WorldNode) → y.up ≡ false
       → ((n : NodeState) → n ≡ node_at w k x → IsLeft h.offered n (texts_of y.notes))
@@ -269,7 +269,7 @@ module _ (division : Division) (weights : List ℕ) (made : IsMade division weig
             ap (λ (z : NodeState). texts_of (with_note z.notes s.taken.answer.note)) (sym is),
           )) leaves
 
-  -- a node that starts again
+  -- a node starts again
   restart_becomes : (events : List Event) → Leads (start division weights) events w → (k : ℕ)
       → Restarts w k v → Becomes division weights h v
   restart_becomes events led k s =
@@ -352,7 +352,7 @@ module _ (division : Division) (weights : List ℕ) (made : IsMade division weig
             offered = refl;
           }
 
--- each
+-- each event
 pub event_becomes : (division : Division) (weights : List ℕ) → IsMade division weights
     → (events : List Event) (w v : World) → Leads (start division weights) events w → (h : Hosts)
     → Mirrors w h → (e : Event) → Happens w e v → Becomes division weights h v

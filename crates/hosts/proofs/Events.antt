@@ -1,4 +1,5 @@
--- What a turn asks of a node that is up in a world is an event; what an event asks, a turn asks.
+-- What a turn asks of a running node in a world is an event, and what an event asks, a turn may
+-- ask.
 use Rattle.std.proofs.Common.{◌≡◌, ℕ, Bool, true, false, not, ◌&&◌, nat_le, [], ◌∷◌, Option, None, Some, length, slice_get, refl, sym, ap, subst, ◌∙◌}
 use Rattle.std.proofs.lemmas.Bool.{lt-leb}
 use Rattle.std.proofs.lemmas.Option.{slice_get-get_or, slice_get_within}
@@ -13,7 +14,7 @@ use Rattle.world.specs.World.{World, WorldNode}
 use Rattle.world.specs.declared.fault.WorldFault.{WorldFault}
 use Rattle.world.specs.declared.fault.WorldFault.TheVariants as fault
 
--- The event is a step of node k, which is asked so by it; nothing but the node may refuse it.
+-- The event is a step of node k, which asks this of it, and only the node may refuse it.
 pub record IsEventOf (w : World) (k : ℕ) (asked : Asked) (e : Event) : Type 0 where
   pub of_node : node_of e ≡ k
   pub step : is_step e ≡ true
@@ -21,7 +22,7 @@ pub record IsEventOf (w : World) (k : ℕ) (asked : Asked) (e : Event) : Type 0 
   pub happens : (v : World) → Steps w e v → Happens w e v
   pub passes : fault_before w e ≡ None
 
--- it can be asked
+-- what a turn asks can be asked
 pub can_be : (asked : Asked) → IsOfATurn asked → IsAsked asked
 can_be (Comes text) is = tt
 can_be (Does (inputs.Claim path host above)) is = is
@@ -118,7 +119,7 @@ module _ (w : World) (k : ℕ) (x : WorldNode) (stands : slice_get w.nodes k ≡
 
 -- ---- what an event asks
 
--- a step asks for something of a turn
+-- what a step asks, a turn may ask
 pub asks_turn : (w : World) (e : Event) (asked : Asked) → is_step e ≡ true → Asks w e asked
     → IsAsked asked → IsOfATurn asked
 asks_turn w (Claim n path host above) asked step asks can =
@@ -133,7 +134,7 @@ asks_turn w (StopIn e l) asked step asks can =
     absurd (let no : false ≡ true = step in cc)
 asks_turn w (Restart n) asked step asks can = absurd asks
 
--- and what comes was sent
+-- bytes that arrive were sent
 pub asks_sent : (w : World) (e : Event) (asked : Asked) → is_step e ≡ true → Asks w e asked
     → WasOffered w.sent asked
 asks_sent w (Claim n path host above) asked step asks = subst (WasOffered w.sent) (sym asks) tt

@@ -24,14 +24,14 @@ use Rattle.world.specs.Happening.{Leads}
 use Rattle.world.specs.Headline.{HeldIsListed, HoldAlike, InstallableIsHeld, IsInRunClosure}
 use Rattle.world.specs.World.{IsMade, World, member_at, start, up_node}
 
--- what was sent is foreign to none
+-- no node takes what was sent for foreign
 pub nothing_is_foreign : NothingOfferedIsForeign
 nothing_is_foreign division weights h k n text f made run up came refuses =
     let r = a_world division weights h made run in
     not_foreign division weights made r.0 r.1 r.2.led h r.2.are k n up (Comes text) tt came f
     refuses
 
--- ---- what they hold
+-- ---- what nodes hold
 
 module _ (division : Division) (weights : List ℕ) (events : List Event) (w : World) (h : Hosts)
     (is : IsWorldOf division weights events w h) (k : ℕ) (n : NodeState)
@@ -40,13 +40,13 @@ module _ (division : Division) (weights : List ℕ) (events : List Event) (w : W
   pub member_is : n.member ≡ member_at w k (up_node n)
   member_is = ap (λ (m : NodeState). m.member) (is.are.nodes k (Up n) up).1
 
-  -- so it holds what that one holds
+  -- so it holds what that node holds
   pub held_there : (path : Text) (r : Content) → held_record n.member path ≡ Some r
       → held_record (member_at w k (up_node n)) path ≡ Some r
   held_there path r held =
       sym (ap (λ (s : State). held_record s path) member_is) ∙ held
 
--- and that is listed
+-- that is in the list
 listed_then : (division : Division) (weights : List ℕ) (events : List Event) (w : World)
     → IsMade division weights → Leads (start division weights) events w → HeldIsListed w
 listed_then division weights events w made led =
@@ -59,7 +59,7 @@ held_is_listed division weights events w h k n path r made is up held =
     (listed_then division weights events w made is.led).paths k (up_node n) path r
     (is.are.nodes k (Up n) up).0 (held_there division weights events w h is k n up path r held)
 
--- at the end of the first part of a run, and at its end, nodes hold alike
+-- nodes hold alike at the end of a run's first part and at its end
 alike_then : (division : Division) (weights : List ℕ) (events more : List Event) (v w : World)
     → IsMade division weights → Leads (start division weights) events v
     → Leads (start division weights) (events ++ more) w → HoldAlike v w
@@ -80,7 +80,7 @@ nodes_hold_alike division weights early late j k n m path r q made first run up 
     (held_there division weights a.0 a.1 early a.2 j n up path r held)
     (held_there division weights (a.0 ++ b.0) b.1 late b.3 k m then path q other)
 
--- ---- what they show
+-- ---- what nodes show
 
 -- at the end of a run
 installable_then : (division : Division) (weights : List ℕ) (events : List Event) (w : World)

@@ -1,4 +1,4 @@
--- Each run of a world is one of nodes on hosts of their own.
+-- Each run of a world is a run of nodes on separate hosts.
 use Rattle.std.proofs.Common.{◌≡◌, ◌≤◌, ◌<◌, ◌++◌, ℕ, zero, suc, List, [], ◌∷◌, Some, length, slice_get, slice_set, refl, sym, subst, ◌∙◌, arith, inl, inr}
 use Rattle.std.specs.Prelude.{Contains}
 use Rattle.std.proofs.lemmas.Bool.{cases_eq}
@@ -25,7 +25,7 @@ module _ (division : Division) (weights : List ℕ) (made : IsMade division weig
   abbrev first_node : ℕ → NodeState
   first_node k = opened_node division weights k []
 
-  -- So many of the nodes were opened.
+  -- This number of nodes were opened.
   record HaveOpened (count : ℕ) (h : Hosts) : Type 0 where
     run : Run division.tree weights (at_start weights) h
     up : (k : ℕ) → k < count → slice_get h.hosts k ≡ Some (Up (first_node k))
@@ -97,7 +97,7 @@ module _ (division : Division) (weights : List ℕ) (made : IsMade division weig
             offered = refl;
           }
 
-  -- all of them are the world's nodes at its start
+  -- once all are opened, they are the world's nodes at its start
   first_mirrors : (h : Hosts) → HaveOpened (length weights) h → Mirrors (start division weights) h
   first_mirrors h have = record {
     are = record {
@@ -116,7 +116,7 @@ module _ (division : Division) (weights : List ℕ) (made : IsMade division weig
         (Up (first_node k), have.up k (one_alike (length weights) fresh_node x k at).0);
   }
 
-  -- from hosts that are a world's, whatever happens there
+  -- hosts with a world's nodes can follow whatever happens in that world
   go_on : (before events : List Event) (w v : World) → Leads (start division weights) before w
       → (h : Hosts) → Mirrors w h → Leads w events v → Becomes division weights h v
   go_on before [] w v led h m same =
@@ -128,7 +128,7 @@ module _ (division : Division) (weights : List ℕ) (made : IsMade division weig
       one.2 leads in
       (rest.0, (λ first run. rest.1 first (one.1 first run)), rest.2)
 
--- each run of a world is one of such nodes
+-- each run of a world is a run of such nodes
 pub each_run_is_one : EachRunOfAWorldIsOne
 each_run_is_one division weights events w made led =
     let first = open_all division weights made (length weights) (omega arith) in

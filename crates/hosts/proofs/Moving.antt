@@ -1,4 +1,4 @@
--- What becomes of one node, in the world.
+-- What happens to one node, as events of the world.
 use Rattle.std.proofs.Common.{◌≡◌, ◌≢◌, ◌++◌, ℕ, List, [], ◌∷◌, Some, Ok, Err, slice_get, slice_set, refl, sym, ap, subst, ◌∙◌, inl, inr, ⊎_elim}
 use Rattle.std.specs.Prelude.{◌↔◌, Contains}
 use Rattle.std.proofs.lemmas.List.Elements.{All-weaker, Contains-append_cases, Contains-append_left, Contains-append_right}
@@ -36,7 +36,7 @@ use Rattle.world.specs.World.{IsMade, World, WorldNode, down_node, node_at, rest
 
 -- ---- a world in which one node changed
 
--- it is over the same units and weights, and one node of it is another
+-- the worlds differ only in this node
 pub record IsButOne (w v : World) (k : ℕ) (y : WorldNode) : Type 0 where
   pub division : v.division ≡ w.division
   pub weights : v.weights ≡ w.weights
@@ -56,7 +56,7 @@ other_stays w v k y but j (Down texts) other (x, stands, down, same) = (
   same,
 )
 
--- so all are, where that one is
+-- so all hosts' nodes are the world's, if the changed one is
 pub nodes_then : (w v : World) (old new : List Host) (k : ℕ) (before after : Host) (y : WorldNode)
     → ((j : ℕ) (x : Host) → slice_get old j ≡ Some x → IsNodeOf w j x)
     → slice_get old k ≡ Some before → new ≡ slice_set old k after → IsButOne w v k y
@@ -67,7 +67,7 @@ nodes_then w v old new k before after y are stood set but here =
 
 -- ---- more events
 
--- From these worlds some events lead to one whose nodes are those of the hosts then.
+-- Some events lead from this world to one with the nodes of these hosts.
 abbrev pub GoesOn : World → Hosts → Type 0
 GoesOn w new = (more : List Event) × (v : World) × Leads w more v × AreNodesOf v new
 
@@ -90,7 +90,7 @@ module _ (division : Division) (weights : List ℕ) (made : IsMade division weig
   was_sent (Comes text) came = (are.sent text).0 came
   was_sent (Does input) came = tt
 
-  -- where nothing more was offered, it is the same that was sent
+  -- if nothing more was offered, the same texts were sent
   same_sent : (v : World) (new : Hosts) → v.sent ≡ w.sent → new.offered ≡ old.offered
       → (text : Text) → Contains new.offered text ↔ Contains v.sent text
   same_sent v new sent offered text = (
@@ -106,7 +106,7 @@ module _ (division : Division) (weights : List ℕ) (made : IsMade division weig
     hosted : IsHosted w k n
     hosted = let is = are.nodes k (Up n) up in record { stands = is.0; is = is.1 }
 
-    -- it ended with its notes
+    -- it ended with its notes on the log
     ends : (new : Hosts) → new.hosts ≡ slice_set old.hosts k (Down (texts_of n.notes))
         → new.offered ≡ old.offered → GoesOn w new
     ends new hosts offered = (
@@ -187,7 +187,7 @@ module _ (division : Division) (weights : List ℕ) (made : IsMade division weig
                   (sends_come w.sent t.answer.sends text (subst (λ l. Contains l text) s.sent h)))),
             )
 
-      -- it took a step, for whose note there was room
+      -- it took a step, and there was room for its note
       takes_step : (t : Taken) → TakesStep old.offered n asked t → (new : Hosts)
           → new.hosts ≡ slice_set old.hosts k (Up (after n t))
           → new.offered ≡ old.offered ++ sends_of t → GoesOn w new
@@ -196,7 +196,7 @@ module _ (division : Division) (weights : List ℕ) (made : IsMade division weig
           (acts t step.takes) step.room in
           turns t step.takes s.0 s.1 new hosts offered
 
-      -- it ended inside that step, whose note was on the log then
+      -- it ended during that step, after its note was written
       ends_inside : (t : Taken) → TakesStep old.offered n asked t → (new : Hosts)
           → new.hosts ≡ slice_set old.hosts k (Down (texts_of (with_note n.notes t.answer.note)))
           → new.offered ≡ old.offered → GoesOn w new
@@ -240,13 +240,13 @@ module _ (division : Division) (weights : List ℕ) (made : IsMade division weig
 
       -- ---- it refused
 
-      -- then it is as it was: nothing that was sent is foreign
+      -- a refusal leaves it unchanged, since nothing that was sent is foreign
       stays : (f : NodeFault) → Takes n asked (Err f) → left_by n asked f ≡ n
       stays f refuses =
           (refused_there w event.0 n here made_there events led_there event.1.passes asked
           event.1.asks f refuses (left_by n asked f) refl).0
 
-      -- nor does it refuse as foreign what was sent
+      -- it refuses nothing that was sent as foreign
       pub not_foreign : (f : Foreign) → Takes n asked (Err (fault.Foreign f)) → ⊥
       not_foreign f refuses =
           none_is_foreign build_is_read each_run_is_acts w.division w.weights events w event.0 f
@@ -298,7 +298,7 @@ module _ (division : Division) (weights : List ℕ) (made : IsMade division weig
           v : World
           v = with_node w o.number (restarted_node x.notes)
 
-          -- what was noted can be written down, so that the notes are those with these texts
+          -- the notes can be encoded, so they are the ones with these texts
           noted : o.node.notes ≡ x.notes
           noted =
               let run = each_run_is_acts division weights events w made led in

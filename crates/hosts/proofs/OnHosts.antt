@@ -1,4 +1,4 @@
--- A turn, among all that becomes of hosts.
+-- A turn is one of the things that may happen to hosts.
 use Rattle.std.proofs.Common.{◌≡◌, ◌≢◌, ◌++◌, ℕ, List, [], Option, None, Some, Result, Ok, Err, slice_get, slice_set, refl, sym, ap, subst, ◌∙◌, inl, inr, ⊎_elim}
 use Rattle.choice.specs.Acts.{asked_by}
 use Rattle.choice.specs.declared.act.Act.{Act}
@@ -36,11 +36,11 @@ module _ {D P : Type 0} (is_kept : D → Type 0) (history : D → History) (fail
     (up : slice_get h.hosts k ≡ Some (Up old.node.node))
     (is_left : IsLeft h.offered old.node.node left) (logged : IsLogged old.node)
     (hears : HearsOffered given does vouches handed h.offered old new) where
-  -- what follows for an answer
+  -- what has to be shown of an answer
   abbrev Goes : Outcome → Type 0
   Goes answer = (g : Hosts) × Run tree weights first g × IsAfterTurn h g k old new left answer
 
-  -- nothing becomes of them where the node stays
+  -- nothing happens to the hosts if the node is unchanged
   stays : (answer : Outcome) → host_after new left answer ≡ Up new.node.node
       → HasOffered old answer h.offered h.offered → new.node.node ≡ old.node.node → Goes answer
   stays answer runs silent same = (
@@ -53,7 +53,7 @@ module _ {D P : Type 0} (is_kept : D → Type 0) (history : D → History) (fail
     },
   )
 
-  -- the hosts with another one in its place
+  -- the hosts with another one at its place
   abbrev with_host : Host → List Text → Hosts
   with_host x texts = record { hosts = slice_set h.hosts k x; offered = texts }
 
@@ -146,7 +146,7 @@ module _ {D P : Type 0} (is_kept : D → Type 0) (history : D → History) (fail
       goes_on is_kept history failures_of given offered does vouches tree weights first h k
       handed old new left before up is_left turn.log.logged hears answer turn
 
-  -- what came was vouched for, so it was offered
+  -- bytes that arrived were vouched for, so they were offered
   was_offered : (texts : List Text) (port : P) → VouchesForOffered vouches port texts
       → (asked : Asked) → IsHeard vouches port asked → WasOffered texts asked
   was_offered texts port all (Comes text) heard = all text heard

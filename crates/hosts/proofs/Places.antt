@@ -6,7 +6,7 @@ use Rattle.world.proofs.Hosting.{set_elsewhere, set_there}
 pub some_same : {X : Type 0} (x y : X) → Some x ≡ Some y → x ≡ y
 some_same x y e = cc
 
--- What holds of who was put at one place, and of all others, holds of all.
+-- What holds of the new element at one place, and of all others, holds of all.
 pub all_there : {X : Type 0} (P : ℕ → X → Type 0) (old new : List X) (k : ℕ) (before after : X)
     → slice_get old k ≡ Some before → new ≡ slice_set old k after → P k after
     → ((j : ℕ) (x : X) → j ≢ k → slice_get old j ≡ Some x → P j x)
@@ -20,7 +20,7 @@ all_there P old new k before after stood set here others j x at = elim (cases_eq
       (sym (set_elsewhere old k j after other) ∙ (ap (λ l. slice_get l j) (sym set) ∙ at))
 ]
 
--- where all are alike, each is
+-- each element of a list of equal ones is that one
 pub one_alike : {X : Type 0} (n : ℕ) (x y : X) (k : ℕ) → slice_get (replicate n x) k ≡ Some y
     → (k < n) × (x ≡ y)
 one_alike zero x y k at = absurd (let no : None ≡ Some y = at in cc)

@@ -1,4 +1,4 @@
--- What a crash in a turn leaves, and what that is opened as.
+-- What a crash during a turn leaves, and what it is opened as.
 use Rattle.std.proofs.Common.{◌≡◌, ◌++◌, ◌⊎◌, ℕ, List, [], ◌∷◌, Option, None, Some, Result, Ok, Err, IfErr, IfOk, length, sym, ap, subst, ◌∙◌, arith, length-append, inl, inr, ⊎_elim}
 use Rattle.std.specs.Prelude.{IfNone, IfSome, MatchResult}
 use Rattle.std.proofs.lemmas.List.{map-append}
@@ -34,7 +34,7 @@ use Rattle.wire.specs.Spelling.{note_text}
 
 -- ---- moments
 
--- where nothing was called there is one moment
+-- if nothing was called, there is only one moment
 one_moment : (old rest moment since : History) → old ≡ rest ++ moment → moment ≡ since ++ old
     → moment ≡ old
 one_moment old rest moment since before behind = by since behind
@@ -67,7 +67,7 @@ module _ {D : Type 0} (history : D → History) (n : LoggedNode D) (on : IsOnLog
   abbrev own : Identity
   own = identity_of n.node.member
 
-  -- a crash where nothing was called leaves the notes that are on the log
+  -- if nothing was called, a crash leaves the notes that are on the log
   notes_stay : (file : Text) → MayLeave (history n.log.disk) file
       → HasNotes own (texts_of n.node.notes) file
   notes_stay file may =
@@ -80,7 +80,7 @@ module _ {D : Type 0} (history : D → History) (n : LoggedNode D) (on : IsOnLog
         lengths = settled.lengths;
       })
 
-  -- where the log stayed, it has them at each moment
+  -- if the log is unchanged, a crash leaves its notes at each moment
   stays_at : (new : History) (file : Text) → new ≡ history n.log.disk
       → MayBeLeft (history n.log.disk) new file → HasNotes own (texts_of n.node.notes) file
   stays_at new file same gone = notes_stay file
@@ -88,7 +88,7 @@ module _ {D : Type 0} (history : D → History) (n : LoggedNode D) (on : IsOnLog
       (one_moment (history n.log.disk) gone.rest gone.moment gone.since (sym same ∙ gone.before)
       gone.behind) gone.may)
 
-  -- and a crash while a note is written leaves them, with this one or without
+  -- a crash while a note is written leaves the notes, with this one or without it
   note_at : (note : Option (Note Value)) (new : History) (file : Text)
       → LeavesOneMoreAtMost n.node note (history n.log.disk) new
       → MayBeLeft (history n.log.disk) new file
@@ -127,7 +127,7 @@ module _ {D P : Type 0} (is_kept : D → Type 0) (history : D → History)
   abbrev n : NodeState
   n = old.node.node
 
-  -- The log went through nothing, or a note was written, of this step.
+  -- Nothing was done to the log, or the note of this step was written.
   abbrev HasWritten : Type 0
   HasWritten =
       (history new.node.log.disk ≡ history old.node.log.disk)
@@ -183,7 +183,7 @@ module _ {D P : Type 0} (is_kept : D → Type 0) (history : D → History)
       fault))
       (λ same. inl (same kept (λ up. on))) untouched
 
-  -- what is opened again has the notes from before, or these and that of the step
+  -- the node that is opened again has the notes from before, or these and that of the step
   pub opened_again : (r : Result (Option Act) TurnFault)
       → IfOk r (λ o. IfSome o
       (λ act. HasTaken given offered does vouches old new handed (asked_by act)))
@@ -213,7 +213,7 @@ module _ {D P : Type 0} (is_kept : D → Type 0) (history : D → History)
           (λ has. inr (asked, t, step, with_these (texts_of (with_note n.notes t.answer.note)) has))
           (note_at history old.node on t.answer.note (history new.node.log.disk) file most gone)
 
--- a node that was opened so is that member's
+-- a node opened for this member has the member's identity
 pub identity_opened : (tree : Tree) (weights : List ℕ) (me : ℕ) (n : NodeState)
     → IsOpened tree weights me n → identity_of n.member ≡ identity tree weights me
 identity_opened tree weights me n opened =

@@ -1,4 +1,4 @@
--- Whatever becomes of the nodes is events of one world.
+-- Whatever happens to the nodes is a list of events of one world.
 use Rattle.std.proofs.Common.{◌++◌, ℕ, List, [], refl}
 use Rattle.engine.specs.Division.{Division}
 use Rattle.events.specs.Events.{Event}
@@ -27,7 +27,7 @@ module _ (division : Division) (weights : List ℕ) (made : IsMade division weig
       (leads_together (start division weights) v u events before led leads) are in
       (before ++ next.0, next.1, leads_together v u next.1 before next.0 leads next.2, next.3)
 
-  -- all that comes
+  -- a whole run
   pub all_go_on : AreNodesOf v first → (last : Hosts) → Run division.tree weights first last
       → GoesOn v last
   all_go_on are _ nothing_yet = ([], v, refl, are)
@@ -42,7 +42,7 @@ module _ (division : Division) (weights : List ℕ) (made : IsMade division weig
   all_go_on are _ (opened h g run step) = one_more h g (all_go_on are h run)
       (λ more u leads mid. opened_so division weights made more u leads h mid g step)
 
--- what becomes of them later leads on
+-- what happens later leads on
 pub later_events_lead_on : LaterEventsLeadOn
 later_events_lead_on division weights early late events v made is run =
     let next = all_go_on division weights made events v is.led early is.are late run in (
@@ -55,7 +55,7 @@ later_events_lead_on division weights early late events v made is run =
       },
     )
 
--- and all of it leads from the start
+-- all of it leads from the start
 pub a_world : LoneNodesMakeAWorld
 a_world division weights h made run =
     let first = starts division weights in

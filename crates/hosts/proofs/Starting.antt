@@ -1,4 +1,4 @@
--- At the start no node runs: the world's nodes, which are up then and noted nothing, all stop.
+-- At the start no node runs. The world's nodes, which are up then and have no notes, all stop.
 use Rattle.std.proofs.Common.{◌≡◌, ◌≤◌, ◌<◌, ℕ, zero, suc, List, [], ◌∷◌, ◌++◌, Some, length, slice_get, refl, sym, subst, ◌∙◌, arith, inl, inr}
 use Rattle.std.specs.Prelude.{Contains}
 use Rattle.std.proofs.lemmas.Bool.{cases_eq}
@@ -13,7 +13,7 @@ use Rattle.world.specs.Happening.{Leads, Stops}
 use Rattle.world.specs.World.{World, down_node, fresh_node, start, with_node}
 
 module _ (division : Division) (weights : List ℕ) where
-  -- So many of the nodes stopped, and the others are as at the start.
+  -- This number of nodes stopped, and the others are as at the start.
   record HaveStopped (count : ℕ) (events : List Event) (w : World) : Type 0 where
     led : Leads (start division weights) events w
     down : (k : ℕ) → k < count → slice_get w.nodes k ≡ Some (down_node [] [])

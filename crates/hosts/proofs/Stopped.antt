@@ -1,4 +1,4 @@
--- A turn of a node that went down does nothing.
+-- A turn of a stopped node does nothing.
 use Rattle.std.proofs.Common.{◌≡◌, ◌∙◌, ⊎_elim, ℕ, true, List, [], Option, None, Some, Result, Ok, Err, ap, refl, if◌then◌else◌}
 use Rattle.choice.specs.declared.fault.TurnFault.{TurnFault}
 use Rattle.choice.specs.declared.fault.TurnFault.TheVariants as refused
@@ -18,7 +18,7 @@ use Rattle.solo.specs.Turn.{LeavesAtMost}
 use Rattle.solo.specs.Turns.{IsTurn, Outcome}
 use Rattle.stable_record.specs.History.{History}
 
--- a node that is stopped says so, whatever it is asked
+-- a stopped node answers that it is stopped, whatever it is asked
 says_stopped : (n : NodeState) (asked : Asked) (r : Result Taken NodeFault) → n.stopped ≡ true
     → Takes n asked r → r ≡ Err fault.Stopped
 says_stopped n asked r down takes =

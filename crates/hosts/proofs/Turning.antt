@@ -1,4 +1,4 @@
--- What a turn that is answered so is on its host.
+-- What a turn with this answer does to its host.
 use Rattle.std.proofs.Common.{◌≡◌, List, [], Option, None, Some, Result, Ok, Err, IfErr, IfOk, ap, ◌∙◌, inl, inr, ⊎_elim}
 use Rattle.std.specs.Prelude.{IfNone, IfSome}
 use Rattle.ballots.specs.declared.message.Note.{Note}
@@ -26,7 +26,7 @@ use Rattle.world.proofs.Hosting.{lack_of_full}
 module _ {D P : Type 0} (given : P → Option (List Arrived)) (offered : P → Option (List Parcel))
     (does : P → Call → P → Type 0) (vouches : P → Text → Type 0) (handed : Handed)
     (leaves : Asked → Type 0) (old new : SoloState D P) (logged : IsLogged old.node) where
-  -- what was chosen, a turn asks
+  -- a turn asks what was chosen
   pub asks_so : (asked : Asked) (parcels : List Parcel)
       → IsChosen given does vouches old new handed parcels (Some (me_of old, asked))
       → IsOfATurn asked
@@ -34,7 +34,7 @@ module _ {D P : Type 0} (given : P → Option (List Arrived)) (offered : P → O
       chosen_asks old.node.node (number_is_small old.node.node logged.node.member) _ old.pending
       handed (me_of old) (came_by c.answer) (me_of old, asked) c.choice
 
-  -- a turn that answers what it did took that step
+  -- if a turn answers what the node did, the node took that step
   pub taken_so : (r : Result (Option Act) TurnFault)
       → IfOk r (λ o. IfSome o
       (λ act. HasTaken given offered does vouches old new handed (asked_by act)))
@@ -53,7 +53,7 @@ module _ {D P : Type 0} (given : P → Option (List Arrived)) (offered : P → O
   taken_so (Ok None) t = tt
   taken_so (Err f) t = tt
 
-  -- where there was nothing to do, the node stayed
+  -- if there was nothing to do, the node is unchanged
   pub stayed_so : (r : Result (Option Act) TurnFault)
       → IfOk r (λ o. IfNone o ((new.node ≡ old.node) × (new.pending ≡ old.pending)
       × OffersNothing offered old new))
@@ -62,13 +62,13 @@ module _ {D P : Type 0} (given : P → Option (List Arrived)) (offered : P → O
   stayed_so (Ok None) same = same.0
   stayed_so (Err f) same = tt
 
-  -- where there was room on the log, it is not lacking
+  -- if there was room on the log, room is not lacking
   pub has_room : (o : Option (Note Value)) → HasRoomForNote old.node.log o
       → ¬ IsFull old.node.node o
   has_room None room = absurd room
   has_room (Some note) room = λ full. room (lack_of_full old.node logged.end (Some note) full)
 
-  -- and what one that is refused is
+  -- what a refused turn does
   pub refused_so : (f : TurnFault) → IsTurnFault given does vouches old new handed leaves f
       → IsRefusedTurn old new f
   refused_so refused.Memory (chosen, is_chosen, same) = same

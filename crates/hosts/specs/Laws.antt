@@ -1,4 +1,4 @@
--- Nodes on hosts of their own are one world.
+-- Laws: nodes on separate hosts form one world.
 use Rattle.std.specs.Prelude.{◌≡◌, ◌++◌, ℕ, true, List, Some, Err, Contains, is_some, slice_get}
 use Rattle.engine.specs.Division.{Division}
 use Rattle.engine.specs.State as engine
@@ -20,14 +20,17 @@ use Rattle.world.specs.Headline.{HasOneList, IsInRunClosure}
 use Rattle.world.specs.MatchingLaws.{IsSafe}
 use Rattle.world.specs.World.{IsMade, World, start}
 
--- The premises are those that README.md lists: one tree and the same weights for all (`Run`); a
--- node for each number, which runs once at a time (`Host`); no note and nothing sent at the start
--- (`at_start`); what comes was sent by a node in this run, and is unaltered (`WasOffered`); a node
--- that starts opens its own log, which was left so (`HasOpened`, `IsLeft`); and a turn that is
--- refused is one that did not happen (`HasStayed`, `HasRefused`).
+-- The premises are those that README.md lists:
+-- - All nodes have one tree and the same weights (`Run`).
+-- - There is one node for each number, and it runs once at a time (`Host`).
+-- - At the start there is no note, and nothing was sent (`at_start`).
+-- - Bytes that arrive were sent by a node in this run, unaltered (`WasOffered`).
+-- - A node that starts opens its own log, as it was left (`HasOpened`, `IsLeft`).
+-- - A turn that is refused because memory or room on the log ran out has no effect (`HasStayed`).
+--   Another refusal leaves the node in the state after it (`HasRefused`).
 
--- Whatever becomes of them, it is events, which lead from the start to a world whose nodes they
--- are; so one list of packages stands at each moment.
+-- Whatever happens to the hosts is a list of events. It leads from the start to a world that has
+-- the hosts' nodes. So there is one list of packages at each moment.
 abbrev pub LoneNodesMakeAWorld : Type 0
 LoneNodesMakeAWorld =
     (division : Division) (weights : List ℕ) (h : Hosts) → IsMade division weights
@@ -35,7 +38,7 @@ LoneNodesMakeAWorld =
     → (events : List Event) × (w : World) × IsWorldOf division weights events w h
     × HasOneList division weights events w × IsSafe division weights events w
 
--- And what becomes of them later is more events, which lead on from that world.
+-- Whatever happens to the hosts later is a list of further events, which lead on from that world.
 abbrev pub LaterEventsLeadOn : Type 0
 LaterEventsLeadOn =
     (division : Division) (weights : List ℕ) (early late : Hosts) (events : List Event) (v : World)
@@ -44,15 +47,15 @@ LaterEventsLeadOn =
     → (more : List Event) × (w : World) × Leads v more w
     × IsWorldOf division weights (events ++ more) w late
 
--- Nor do the premises leave out, or contradict, any run of a world: whatever happens there may
--- become of such nodes.
+-- Conversely, the premises exclude no run of a world: whatever happens in a world may happen to
+-- such hosts.
 abbrev pub EachRunOfAWorldIsOne : Type 0
 EachRunOfAWorldIsOne =
     (division : Division) (weights : List ℕ) (events : List Event) (w : World)
     → IsMade division weights → Leads (start division weights) events w
     → (h : Hosts) × Run division.tree weights (at_start weights) h × AreNodesOf w h
 
--- What one of them sent none of them refuses as foreign.
+-- No node refuses as foreign what one of the nodes sent.
 abbrev pub NothingOfferedIsForeign : Type 0
 NothingOfferedIsForeign =
     (division : Division) (weights : List ℕ) (h : Hosts) (k : ℕ) (n : NodeState) (text : Text)
@@ -60,7 +63,7 @@ NothingOfferedIsForeign =
     → slice_get h.hosts k ≡ Some (Up n) → Contains h.offered text
     → Takes n (Comes text) (Err (fault.Foreign f)) → ⊥
 
--- Each holds only what is in that one list.
+-- Each node holds only packages that are in that one list.
 abbrev pub WhatNodesHoldIsListed : Type 0
 WhatNodesHoldIsListed =
     (division : Division) (weights : List ℕ) (events : List Event) (w : World) (h : Hosts) (k : ℕ)
@@ -68,7 +71,7 @@ WhatNodesHoldIsListed =
     → IsWorldOf division weights events w h → slice_get h.hosts k ≡ Some (Up n)
     → held_record n.member path ≡ Some r → (r.path ≡ path) × Contains w.agreed r
 
--- Two of them never hold different packages for one path, at one moment or at two.
+-- Two nodes never hold different packages for one path, at the same moment or at different ones.
 abbrev pub NodesHoldAlike : Type 0
 NodesHoldAlike =
     (division : Division) (weights : List ℕ) (early late : Hosts) (j k : ℕ) (n m : NodeState)
@@ -77,7 +80,7 @@ NodesHoldAlike =
     → slice_get early.hosts j ≡ Some (Up n) → slice_get late.hosts k ≡ Some (Up m)
     → held_record n.member path ≡ Some r → held_record m.member path ≡ Some q → r ≡ q
 
--- A path that one of them shows as installable has its run closure held there.
+-- If a node shows a path as installable, it holds the path's whole run closure.
 abbrev pub InstallableIsHeldThere : Type 0
 InstallableIsHeldThere =
     (division : Division) (weights : List ℕ) (h : Hosts) (k p : ℕ) (n : NodeState) (path q : Text)

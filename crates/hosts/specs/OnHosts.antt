@@ -1,5 +1,4 @@
--- Turns of crate `solo`, which a program takes one after the other, among all that becomes of
--- hosts.
+-- Laws: turns of crate `solo` are among the things that may happen to hosts.
 use Rattle.std.specs.Prelude.{◌≡◌, ◌≢◌, ◌++◌, ℕ, true, List, [], Option, None, Some, Ok, Err, Contains, IfOk, slice_get}
 use Rattle.choice.specs.Acts.{asked_by}
 use Rattle.choice.specs.Choice.{Chosen}
@@ -17,7 +16,7 @@ use Rattle.solo.specs.Turn.{IsChosen}
 use Rattle.solo.specs.Turns.{IsTurn, Outcome}
 use Rattle.stable_record.specs.History.{History}
 
--- Bytes that the turn's choice takes were offered before.
+-- If the turn's choice is to take bytes, those bytes were offered before.
 abbrev pub HearsOffered : {D P : Type 0} → (P → Option (List Arrived))
     → (P → Call → P → Type 0) → (P → Text → Type 0) → Handed → List Text → SoloState D P
     → SoloState D P → Type 0
@@ -26,12 +25,12 @@ HearsOffered given does vouches handed offered old new =
     → IsChosen given does vouches old new handed parcels (Some (me_of old, asked))
     → WasOffered offered asked
 
--- What the port vouches for was offered before: who heard it is sure that it was sent in this run.
+-- All texts that the port vouches for were offered before: they were sent in this run.
 abbrev pub VouchesForOffered : {P : Type 0} → (P → Text → Type 0) → P → List Text → Type 0
 VouchesForOffered vouches port offered = (text : Text) → vouches port text → Contains offered text
 
--- What runs on the host after a turn that was answered so: the node as the turn left it; or nothing
--- any more, with this left on its log, where its device failed.
+-- What runs on the host after a turn with this answer: the node as the turn left it, or nothing if
+-- its device failed. In that case its log has these texts.
 abbrev pub host_after : {D P : Type 0} → SoloState D P → List Text → Outcome → Host
 host_after new left (Ok act) = Up new.node.node
 host_after new left (Err refused.Memory) = Up new.node.node
@@ -40,24 +39,24 @@ host_after new left (Err (refused.Down k)) = Down left
 host_after new left (Err refused.NotSent) = Up new.node.node
 host_after new left (Err refused.NotFresh) = Up new.node.node
 
--- What was offered by it: what the step sends that the node took, if it took one.
+-- What the turn offers: what the node's step sends, if it took one.
 abbrev pub HasOffered : {D P : Type 0} → SoloState D P → Outcome → List Text → List Text → Type 0
 HasOffered state (Ok (Some act)) old new =
     (t : Taken) × Takes state.node.node (asked_by act) (Ok t) × (new ≡ old ++ sends_of t)
 HasOffered state (Ok None) old new = new ≡ old
 HasOffered state (Err f) old new = new ≡ old
 
--- The hosts after a turn of the node with this number: on its host that runs, all others are as
--- they were, and what it offered was offered.
+-- The hosts after a turn of the node with this number: its own host is as the turn left it, the
+-- others are unchanged, and what the turn offers is appended.
 pub record IsAfterTurn {D P : Type 0} (h g : Hosts) (k : ℕ) (old new : SoloState D P)
     (left : List Text) (answer : Outcome) : Type 0 where
   pub here : slice_get g.hosts k ≡ Some (host_after new left answer)
   pub others : (j : ℕ) → j ≢ k → slice_get g.hosts j ≡ slice_get h.hosts j
   pub offered : HasOffered old answer h.offered g.offered
 
--- Law: whatever became of the hosts, a turn of a node that runs on one of them is one thing more
--- that becomes of them, as long as bytes that it takes were offered before. Where its device failed
--- that is so for whatever a node that ends may leave on its log.
+-- Law: a turn of a running node is one of the things that may happen to hosts, if bytes that it
+-- takes were offered before. If its device failed, this holds for whatever a node that ends may
+-- leave on its log.
 abbrev pub TurnsAreOfARun : {D P : Type 0} → (D → Type 0) → (D → History) → (D → ℕ)
     → (P → Option (List Arrived)) → (P → Option (List Parcel)) → (P → Call → P → Type 0)
     → (P → Text → Type 0) → Type 0
@@ -69,7 +68,7 @@ TurnsAreOfARun {D} {P} is_kept history failures_of given offered does vouches =
     → HearsOffered given does vouches handed h.offered old new
     → (g : Hosts) × Run tree weights first g × IsAfterTurn h g k old new left answer
 
--- Law: so it is where all that the port vouches for was offered before.
+-- Law: this also holds if all texts that the port vouches for were offered before.
 abbrev pub VouchedTurnsAreOfARun : {D P : Type 0} → (D → Type 0) → (D → History) → (D → ℕ)
     → (P → Option (List Arrived)) → (P → Option (List Parcel)) → (P → Call → P → Type 0)
     → (P → Text → Type 0) → Type 0
@@ -81,8 +80,8 @@ VouchedTurnsAreOfARun {D} {P} is_kept history failures_of given offered does vou
     → VouchesForOffered vouches new.port h.offered
     → (g : Hosts) × Run tree weights first g × IsAfterTurn h g k old new left answer
 
--- Nothing became of the node in the turn: it took no step and is as it was, and its port was asked
--- as for a choice, whichever it is, and was offered nothing.
+-- The turn did nothing: the node took no step and is unchanged, and the port was only asked as for
+-- a choice and was offered nothing.
 pub record HasOnlyAsked {D P : Type 0} (given : P → Option (List Arrived))
     (does : P → Call → P → Type 0) (vouches : P → Text → Type 0) (handed : Handed)
     (old new : SoloState D P) (answer : Outcome) : Type 0 where
@@ -90,8 +89,7 @@ pub record HasOnlyAsked {D P : Type 0} (given : P → Option (List Arrived))
   pub node : new.node.node ≡ old.node.node
   pub asked : (chosen : Chosen) × IsChosen given does vouches old new handed [] chosen
 
--- Law: so it is in each turn of a node that went down. So its host stays as it is: down, with what
--- is left on its log.
+-- Law: a turn of a stopped node does nothing. So its host stays down, with the same log.
 abbrev pub StoppedNodesStay : {D P : Type 0} → (D → Type 0) → (D → History) → (D → ℕ)
     → (P → Option (List Arrived)) → (P → Option (List Parcel)) → (P → Call → P → Type 0)
     → (P → Text → Type 0) → Type 0

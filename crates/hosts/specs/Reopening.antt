@@ -12,7 +12,7 @@ use Rattle.stable_record.specs.Crash.{MayLeave}
 use Rattle.stable_record.specs.History.{History, seen}
 use Rattle.stable_record.specs.Opening.{Opens}
 
--- A crash at some moment from the old calls to the new ones may leave this file.
+-- A crash at some moment between the old history and the new one may leave this file.
 pub record MayBeLeft (old new : History) (file : Text) : Type 0 where
   pub moment : History
   pub since : History
@@ -21,8 +21,8 @@ pub record MayBeLeft (old new : History) (file : Text) : Type 0 where
   pub before : new ≡ rest ++ moment
   pub may : MayLeave moment file
 
--- The log was left with the node's notes; or with these and that of the step that it took in the
--- turn, as long as what came is among what was offered before.
+-- The log was left with the node's notes, or with these and that of a step that the node may take,
+-- provided that bytes it takes were offered.
 abbrev pub IsLeftInTurn : NodeState → List Text → Type 0
 IsLeftInTurn n left =
     (left ≡ texts_of n.notes)
@@ -30,9 +30,9 @@ IsLeftInTurn n left =
     × ((before : List Text) → WasOffered before asked → TakesStep before n asked t)
     × (left ≡ texts_of (with_note n.notes t.answer.note)))
 
--- A node was opened on its log, and took a turn, which left it as this; and one of its member was
--- opened over another disk. Where a crash at some moment of the turn may leave just that disk's
--- file, the second one has the notes of the first, or these and that of its step.
+-- A node was opened on its log and took a turn, which left it in this state. Then the same member's
+-- node was opened over another disk. Suppose a crash at some moment of the turn may leave that
+-- disk's file. Then the second node has the first one's notes, or these and that of its step.
 pub record ComesBack {D E P : Type 0} (is_kept : D → Type 0) (history : D → History)
     (left_kept : E → Type 0) (left_history : E → History) (tree : Tree) (weights : List ℕ) (me : ℕ)
     (disk : D) (left : E) (new : SoloState D P) (again : LoggedNode E) : Type 0 where

@@ -1,4 +1,4 @@
--- What may become of nodes on hosts of their own, one thing after the other.
+-- What may happen to nodes on separate hosts, one thing after the other.
 use Rattle.std.specs.Prelude.{◌≡◌, ◌++◌, ℕ, List, Some, Err, slice_get, slice_set}
 use Rattle.faults.specs.Bytes.{Text}
 use Rattle.hosts.specs.Hosts.{Down, Hosts, IsLeft, IsOfATurn, TakesStep, Up, WasOffered, sends_of}
@@ -9,8 +9,8 @@ use Rattle.node.specs.State.{NodeState}
 use Rattle.node.specs.Step.{Asked, Taken, Takes, after}
 use Rattle.node.specs.declared.fault.NodeFault.{NodeFault}
 
--- A node took its step in a turn, and what the step sends was offered. (Of one that ended while it
--- did so, this is said of all that it would have offered; and then that it ended.)
+-- A node took a step in a turn, and what the step sends was offered. (A node that ended while
+-- sending counts as having offered all of it, and then ended.)
 pub record HasTurned (old new : Hosts) : Type 0 where
   pub number : ℕ
   pub node : NodeState
@@ -21,7 +21,7 @@ pub record HasTurned (old new : Hosts) : Type 0 where
   pub hosts : new.hosts ≡ slice_set old.hosts number (Up (after node taken))
   pub offered : new.offered ≡ old.offered ++ sends_of taken
 
--- A node refused what a turn asked of it, and is left as that refusal leaves it.
+-- A node refused what a turn asked of it, and is left in the state after that refusal.
 pub record HasRefused (old new : Hosts) : Type 0 where
   pub number : ℕ
   pub node : NodeState
@@ -34,8 +34,8 @@ pub record HasRefused (old new : Hosts) : Type 0 where
   pub hosts : new.hosts ≡ slice_set old.hosts number (Up (left_by node asked fault))
   pub offered : new.offered ≡ old.offered
 
--- A node ended, between two turns or inside one; or its device failed, so that it takes no turn any
--- more.
+-- A node ended, between two turns or during one; or its device failed, so that it takes no further
+-- turns.
 pub record HasEnded (old new : Hosts) : Type 0 where
   pub number : ℕ
   pub node : NodeState
@@ -45,8 +45,8 @@ pub record HasEnded (old new : Hosts) : Type 0 where
   pub hosts : new.hosts ≡ slice_set old.hosts number (Down left)
   pub offered : new.offered ≡ old.offered
 
--- A node started on a host where none ran: it is that of the host's member, over the one listing
--- and weights, and opened its own log, which kept its notes.
+-- A node started on a host where none ran. It is that host's member, over the one tree and weights,
+-- and it opened its own log, which had its notes.
 pub record HasOpened (tree : Tree) (weights : List ℕ) (old new : Hosts) : Type 0 where
   pub number : ℕ
   pub texts : List Text
@@ -57,13 +57,12 @@ pub record HasOpened (tree : Tree) (weights : List ℕ) (old new : Hosts) : Type
   pub hosts : new.hosts ≡ slice_set old.hosts number (Up node)
   pub offered : new.offered ≡ old.offered
 
--- There was nothing to do in a turn; or it was refused for want of memory, or of room on the log,
--- and is one that did not happen.
+-- A turn found nothing to do, or was refused because memory or room on the log ran out. It has no
+-- effect.
 abbrev pub HasStayed : Hosts → Hosts → Type 0
 HasStayed old new = new ≡ old
 
--- All nodes run over one tree and the same weights, and this became of them, one thing after the
--- other.
+-- All nodes run over one tree and the same weights, and these things happened, one after the other.
 pub data Run (tree : Tree) (weights : List ℕ) (first : Hosts) : Hosts → Type 0 where
   nothing_yet : Run tree weights first first
   stayed : (h g : Hosts) → Run tree weights first h → HasStayed h g → Run tree weights first g

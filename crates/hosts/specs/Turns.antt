@@ -1,4 +1,4 @@
--- What a turn of crate `solo` is on its host.
+-- What a turn of crate `solo` does to its host.
 use Rattle.std.specs.Prelude.{◌≡◌, ◌⊎◌, true, List, Option, Err}
 use Rattle.choice.specs.declared.fault.TurnFault.{TurnFault}
 use Rattle.choice.specs.declared.fault.TurnFault.TheVariants.{Memory, Node, Down, NotSent, NotFresh}
@@ -12,8 +12,8 @@ use Rattle.parts.specs.Offered.{parcels_from}
 use Rattle.ports.specs.Kept.{GoesOnBy, Parcel}
 use Rattle.solo.specs.State.{SoloState, me_of}
 
--- The turn took a step, whatever was offered before, as long as what came is among it; and just
--- what the step sends was offered, as far as the port keeps it.
+-- The turn took a step that the node may take if bytes it takes were offered before. The port was
+-- offered just what the step sends, as far as it records this.
 pub record IsStepTaken {D P : Type 0} (offered : P → Option (List Parcel)) (old new : SoloState D P)
     (asked : Asked) : Type 0 where
   pub taken : Taken
@@ -23,15 +23,15 @@ pub record IsStepTaken {D P : Type 0} (offered : P → Option (List Parcel)) (ol
   pub offers : GoesOnBy (parcels_from (me_of old) (datagrams_to taken.answer.sends))
       (offered old.port) (offered new.port)
 
--- The node refused what the turn asked of it, and is left as that refusal leaves it.
+-- The node refused what the turn asked of it, and is left in the state after that refusal.
 pub record IsRefusal {D P : Type 0} (old new : SoloState D P) (f : NodeFault) : Type 0 where
   pub asked : Asked
   pub asks : IsOfATurn asked
   pub refuses : Takes old.node.node asked (Err f)
   pub left : new.node.node ≡ left_by old.node.node asked f
 
--- The device failed inside this step: the node is down, and its log is left with its notes, or with
--- these and that of the step, as long as what came is among what was offered before.
+-- The device failed during this step, and the node is down. The node may take the step if bytes it
+-- takes were offered before.
 pub record IsStepStopped {D P : Type 0} (old new : SoloState D P) : Type 0 where
   pub asked : Asked
   pub taken : Taken
@@ -39,7 +39,7 @@ pub record IsStepStopped {D P : Type 0} (old new : SoloState D P) : Type 0 where
       → TakesStep before old.node.node asked taken
   pub node : new.node.node ≡ record old.node.node { stopped = true }
 
--- What a refused turn is.
+-- What each refusal of a turn does to the node. `NotSent` and `NotFresh` don't occur.
 abbrev pub IsRefusedTurn : {D P : Type 0} → SoloState D P → SoloState D P → TurnFault → Type 0
 IsRefusedTurn old new Memory = new.node.node ≡ old.node.node
 IsRefusedTurn old new (Node f) = (new.node.node ≡ old.node.node) ⊎ IsRefusal old new f

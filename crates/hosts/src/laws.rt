@@ -1,4 +1,4 @@
-//! What becomes of nodes on hosts of their own.
+//! Laws of nodes on separate hosts.
 ghost use Rattle.hosts.specs.Laws.{
   EachRunOfAWorldIsOne,
   InstallableIsHeldThere,
@@ -9,12 +9,14 @@ ghost use Rattle.hosts.specs.Laws.{
   WhatNodesHoldIsListed,
 };
 
-/// Nodes that are started over one listing and the same weights, each on a host of its own and on
-/// its own log, which had no note at first: they take turns in any order; what comes to one was
-/// sent by one of them, unaltered, in any order, again or never; they end between turns and inside
-/// them, and are opened again on what their logs were left as. All that is events, which lead from
-/// the start to a world whose nodes they are, so that one list of packages stands at each moment;
-/// and none of them refuses as foreign what one of them sent. No run of a world is left out.
+/// Nodes are started over one listing and the same weights, each on a host of its own, with a log
+/// that is empty at first. They take turns in any order. What arrives was sent by one of them,
+/// unaltered; datagrams may be reordered, repeated or lost. Nodes end between turns or during one,
+/// and are opened again on what their logs were left as.
+///
+/// All that is a list of events, which lead from the start to a world that has these nodes. So
+/// there is one list of packages at each moment. No node refuses as foreign what another sent, and
+/// no run of a world is left out.
 pub fn lone_nodes_make_a_world()
     ensures world { LoneNodesMakeAWorld }
     ensures later { LaterEventsLeadOn }
@@ -22,9 +24,9 @@ pub fn lone_nodes_make_a_world()
     ensures foreign { NothingOfferedIsForeign }
 {}
 
-/// So each of them holds only what is in that list, two of them never hold different packages for
-/// one path, at one moment or at two, and a path that one of them shows as installable has its run
-/// closure held there.
+/// So each node holds only what is in that list. Two of them never hold different packages for one
+/// path, at the same moment or at different ones. If a node shows a path as installable, it holds
+/// the path's whole run closure.
 pub fn lone_nodes_hold_alike()
     ensures listed { WhatNodesHoldIsListed }
     ensures alike { NodesHoldAlike }

@@ -1,4 +1,4 @@
-//! Nodes that run on hosts of their own, over one listing, are one world.
+//! Nodes that run on separate hosts, over one listing, form one world.
 //!
 //! Functions with an empty body carry laws.
 #![tactic(auto)]

@@ -1,4 +1,4 @@
-//! A lone node that ends in a turn, and is opened again.
+//! A lone node that ends during a turn, and is opened again.
 ghost use Rattle.std.specs.Prelude.{◌≡◌, ◌<◌, IfSome, length};
 ghost use Rattle.hosts.specs.Reopening.{ComesBack, IsLeftInTurn, MayBeLeft};
 ghost use Rattle.node.specs.Calls.{IsOpened};
@@ -14,10 +14,9 @@ use solo::Solo;
 use stable_record::Disk;
 use std::alloc::Global;
 
-/// Opens the member's node on its log, takes a turn of it, and opens that member's node over the
-/// disk that is handed in. Where a crash at some moment of the turn may leave just the file of that
-/// disk, the node that is opened again has the notes of the one that took the turn, or these and
-/// that of its step.
+/// Opens the member's node on its log, takes a turn of it, and opens the same member's node over
+/// the disk `left`. Suppose a crash at some moment of the turn may leave the file of that disk.
+/// Then the second node has the notes of the first, or these and that of its step.
 pub fn open_turn_open<'a, D: Disk, P: Port, E: Disk>(
     alloc: Global,
     disk: D,
@@ -42,10 +41,9 @@ pub fn open_turn_open<'a, D: Disk, P: Port, E: Disk>(
     }
 }
 
-/// Takes a turn of the member's node, and opens that member's node over the disk that is handed in.
-/// Where the node was on its log, and a crash at some moment of the turn may leave just the file of
-/// that disk, the node that is opened has the notes of the one that took the turn, or these and
-/// that of its step.
+/// Takes a turn of the member's node, and opens the same member's node over the disk `left`.
+/// Suppose the first node was on its log, and a crash at some moment of the turn may leave the file
+/// of that disk. Then the second node has the notes of the first, or these and that of its step.
 pub fn turn_then_open<'a, D: Disk, P: Port, E: Disk>(
     alloc: Global,
     solo: &mut Solo<'_, D, P>,

@@ -1,4 +1,4 @@
-//! A lone node's turn, told as what becomes of its host, over what the contracts say and no more.
+//! What a lone node's turn does to its host, derived from the contracts alone.
 ghost use Rattle.std.specs.Prelude.{◌≡◌, [], IfErr, IfNone, IfOk, IfSome, None};
 ghost use Rattle.choice.specs.Acts.{asked_by};
 ghost use Rattle.hosts.specs.Turns.{IsRefusedTurn, IsStepTaken};
@@ -11,10 +11,10 @@ use protocol::Packages;
 use solo::Solo;
 use stable_record::Disk;
 
-/// Takes a turn. Where it answers what the node did, the node took that step, and offered just what
-/// the step sends; where there was nothing to do, or memory or room was wanting, the node is as it
-/// was; where it refused what it was asked, it is left as that refusal leaves it; and where it went
-/// down, that was inside a step.
+/// Takes a turn. If it returns what the node did, the node took that step and offered just what the
+/// step sends. If there was nothing to do, or memory or room ran out, the node is unchanged. If it
+/// refused what it was asked, it is in the state after that refusal. If it went down, it did so
+/// during a step.
 ///
 /// # Errors
 ///

@@ -1,4 +1,4 @@
--- Choices where builds are made while nodes run.
+-- The choice if builds are made while nodes run.
 use Rattle.std.proofs.Common.{◌≡◌, ◌⊎◌, ◌∙◌, ℕ, Bool, true, false, true≢false, List, [], ◌∷◌, Option, None, Some, ap, inl, inr, option_and_then, option_map, refl, sym}
 use Rattle.std.specs.List.{range_with_len}
 use Rattle.faults.specs.Answers.{first_given, option_or}
@@ -22,11 +22,11 @@ use Rattle.live_choice.specs.declared.wish.Wish.TheVariants.{Claim, Ask}
 pub all_made : AllMade
 all_made here count builds = refl
 
--- what the node is asked, with its number
+-- a node's number and the input that it handles
 abbrev does : ℕ → Input → ℕ × Asked
 does k input = (k, Does input)
 
--- a node gives no answer of nothing
+-- a node for which nothing is made gives no answer
 none_of : (k : ℕ) (h : Option State) → option_map (does k) (option_and_then (answer_if None) h) ≡ None
 none_of k None = refl
 none_of k (Some s) = refl
@@ -43,7 +43,7 @@ nothing_made here count = none_among here (range_with_len 0 count)
 
 -- ---- whose answer it is
 
--- which of four is chosen
+-- which of the four is chosen
 chosen_of : (first second third fourth : Chosen) (x : ℕ × Asked)
     → option_or first (option_or second (option_or third fourth)) ≡ Some x
     → (first ≡ Some x) ⊎ ((second ≡ Some x) ⊎ ((third ≡ Some x) ⊎ (fourth ≡ Some x)))
@@ -52,7 +52,7 @@ chosen_of None (Some y) third fourth x is = inr (inl is)
 chosen_of None None (Some y) fourth x is = inr (inr (inl is))
 chosen_of None None None fourth x is = inr (inr (inr is))
 
--- an item of which something is given
+-- an element for which something is given
 found : (f : ℕ → Chosen) (ks : List ℕ) (x : ℕ × Asked) → first_given f ks ≡ Some x → (k : ℕ) × (f k ≡ Some x)
 found f [] x is = absurd cc
 found f (k ∷ ks) x is = by (f k) refl (found f ks x) is
@@ -71,7 +71,7 @@ input_is i input is = cc
 none_comes : (text : Text) (input : Input) → Comes text ≡ Does input → ⊥
 none_comes text input is = cc
 
--- what a node does is of that node
+-- what a node does belongs to that node
 done_by : (o : Option Input) (k j : ℕ) (input : Input) → option_map (does k) o ≡ Some (does j input)
     → (o ≡ Some input) × (k ≡ j)
 done_by None k j input is = absurd cc
@@ -92,7 +92,7 @@ made_here here made k j input is =
     let builds = is_made (made k) (here k) input done.0 in
     (builds.0, ap made (sym done.1) ∙ builds.1)
 
--- ---- what is no answer
+-- ---- inputs that aren't answers
 
 abbrev comes : ℕ × Text → State → ℕ × Asked
 comes d s = (d.0, Comes d.1)

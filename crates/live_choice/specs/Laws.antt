@@ -1,4 +1,4 @@
--- What holds of choices where builds are made while nodes run.
+-- Laws of the choice if builds are made while nodes run.
 use Rattle.std.specs.Prelude.{◌≡◌, ℕ, Bool, true, false, Option, None, Some}
 use Rattle.node.specs.Step.{Does}
 use Rattle.ports.specs.Kept.{Arrived}
@@ -10,14 +10,14 @@ use Rattle.choice.specs.Pending.{Pending}
 use Rattle.live_choice.specs.Live.{Made, first_answer, live_choice}
 use Rattle.live_choice.specs.declared.wish.Wish.{Wish}
 
--- Where the same is made for each node, the first answer is the first job's of a turn that has all
+-- If the same builds are made for each node, the first answer is that of a turn which has all
 -- builds from its start.
 abbrev pub AllMade : Type 0
 AllMade =
     (here : Here) (count : ℕ) (builds : Given)
     → first_answer here count (λ k. Some builds) ≡ first_job here count builds
 
--- Where nothing is made there is no answer, whatever claims wait.
+-- If nothing is made, there is no answer, whatever claims are open.
 abbrev pub NothingMade : Type 0
 NothingMade = (here : Here) (count : ℕ) → first_answer here count (λ k. None) ≡ None
 
@@ -30,7 +30,7 @@ is_answer inputs.Nudge = false
 is_answer (inputs.Ask path) = false
 is_answer (inputs.Message m) = false
 
--- A node that answers a job has something made for it, whatever is wished and whatever came.
+-- If a node answers a job, something is made for it, whatever is wished or received.
 abbrev pub AnswersWhatIsMade : Type 0
 AnswersWhatIsMade =
     (here : Here) (count : ℕ) (p : Pending) (made : Made) (wish : Option (ℕ × Wish))

@@ -1,4 +1,4 @@
--- The turn's choice where builds are made while nodes run: the first of four cases that applies.
+-- A turn's choice if builds are made while nodes run: the first of four cases that applies.
 use Rattle.std.specs.Prelude.{ℕ, Option, None, Some, option_and_then, option_map}
 use Rattle.std.specs.List.{range_with_len}
 use Rattle.faults.specs.Answers.{first_given, option_or}
@@ -17,7 +17,7 @@ use Rattle.live_choice.specs.declared.wish.Wish.TheVariants.{Claim, Ask}
 
 -- ---- (1) a job whose build is made
 
--- by node, what is made for its job; none: it is not made yet
+-- by node, the files made for its job; `None` if they aren't made yet
 abbrev pub Made : Type 0
 Made = ℕ → Option Given
 
@@ -25,59 +25,65 @@ Made = ℕ → Option Given
 abbrev pub answer_if : Option Given → State → Option Input
 answer_if made s = option_and_then (answer_of s) made
 
--- that of the node, if it is up here
+-- the node's answer, if it is up here
 abbrev pub answer_at : Here → Made → ℕ → Chosen
 answer_at here made k =
     option_map (λ input. (k, Does input)) (option_and_then (answer_if (made k)) (here k))
 
--- that of the least node, of so many members
+-- the answer of the least node that has one, of this number of members
 abbrev pub first_answer : Here → ℕ → Made → Chosen
 first_answer here count made = first_given (answer_at here made) (range_with_len 0 count)
 
--- ---- (3) what a node is wished to do
+-- ---- (3) what the scheduler wishes
 
--- what the member is asked for it: it claims with its number as the host's
+-- the input that the wish asks the member to handle; it claims with its own number as the host
 abbrev pub asked_for : Wish → State → Input
 asked_for (Claim path above) s = inputs.Claim path s.me above
 asked_for (Ask path) s = inputs.Ask path
 
--- that of the node, if there is a wish and it is up here
+-- the wish for a node, if there is one and the node is up here
 abbrev pub wished : Here → Option (ℕ × Wish) → Chosen
 wished here None = None
 wished here (Some (k, w)) = option_map (λ s. (k, Does (asked_for w s))) (here k)
 
 -- ---- (4) what nodes do about their open claims, in turn
 
--- Nothing while it waits for its build. Where a greater claim stands in its way it gives way, as
--- long as it has no build; one that has is claimed anew, above that.
+-- What a member does about its open claim:
+-- - nothing while the claim waits for its build;
+-- - a nudge if no greater claim blocks it;
+-- - if a greater claim blocks it, nothing if it has no build yet, and otherwise a new claim above
+--   that.
 abbrev pub goes_on : State → OpenClaim → Progress → Option ℕ → Option Input
 goes_on s o (Gathering c joined k) None = Some inputs.Nudge
 goes_on s o (Gathering c joined k) (Some round) = None
 goes_on s o (Building c) above = None
 goes_on s o (Voting b joined) above = Some (renewed s o above)
 
--- the same of a member, if it has an open claim
+-- what the member does about its open claim, if it has one
 abbrev pub going_on : Option ℕ → State → Option Input
 going_on above s = option_and_then (λ o. goes_on s o o.progress above) s.claim
 
--- that of the node, if it is up here
+-- what the node does, if it is up here
 abbrev pub going_at : Here → Pending → ℕ → Chosen
 going_at here p k =
     option_map (λ input. (k, Does input)) (option_and_then (going_on (above_at p k)) (here k))
 
--- that of the first node, beginning behind the one that last did something of itself
+-- what the first node does that does anything, beginning with the one after the last
 abbrev pub first_going : Here → ℕ → Pending → Chosen
 first_going here count p = first_given (going_at here p) (in_turn p.next count)
 
 -- ---- the choice
 
--- what is done where nothing is answered and nothing came
+-- what is done if nothing is answered and nothing was received
 abbrev pub left_to_do : Here → ℕ → Pending → Option (ℕ × Wish) → Chosen
 left_to_do here count p wish = option_or (wished here wish) (first_going here count p)
 
--- The turn's choice among the nodes here, of so many members, where this is made and wished, and
--- this came: an answer to a job; or that a node takes what came; or what is wished; or what the
--- first node does about its open claim; or nothing.
+-- The turn's choice among the nodes here, of this number of members, with these builds and this
+-- wish, if this was received:
+-- 1. an answer to a job;
+-- 2. otherwise, that a node takes the received datagram;
+-- 3. otherwise, what is wished;
+-- 4. otherwise, what the first node does about its open claim, if anything.
 abbrev pub live_choice : Here → ℕ → Pending → Made → Option (ℕ × Wish) → Arrived → Chosen
 live_choice here count p made wish came =
     option_or (first_answer here count made)

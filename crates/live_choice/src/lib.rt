@@ -1,5 +1,5 @@
-//! What a turn is to do where builds are made while nodes run: definitions, and what holds of them.
-//! The turns of a lone node and of a cluster take this choice.
+//! A turn's choice if builds are made while nodes run: definitions and laws. The turns of a lone
+//! node and of a cluster make this choice.
 #![tactic(auto)]
 
 mod laws;

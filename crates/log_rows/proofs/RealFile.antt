@@ -1,4 +1,4 @@
--- What a crash leaves of a real file while a note is added.
+-- What a crash leaves of a real file while a note is appended.
 use Rattle.std.proofs.Common.{◌≡◌, inl, inr, ℕ, List, [], Result, Ok, Err, OnOk, ◌∙◌, subst}
 use Rattle.stable_record.specs.declared.identity.Identity.{Identity}
 use Rattle.stable_record.specs.Crash.{AllAlong, Leaves, and_then, at_first}
@@ -16,12 +16,12 @@ module _ (i : Identity) (start : History) (note : Note) where
   abbrev Either : List ℕ → Type 0
   Either = IsAsBeforeOrAfter i start note
 
-  -- while it is opened, from where the file is known
+  -- while it is opened, from the known history on
   pub opened_along : (known mid : History) → known ≡ start → AllAlong (OpensAsLeft i known) known mid → AllAlong Either start mid
   opened_along known mid same opened =
       along_so (OpensAsLeft i start) Either start mid (λ c is. inl is) (subst (λ h. AllAlong (OpensAsLeft i h) h mid) same opened)
 
-  -- and while the note is added
+  -- and while the note is appended
   pub appended_along : (mid new : History) (notes : List Note) → AllAlong Either start mid → Opens i (seen start) (Ok notes)
       → AllAlong (HasBeforeOrAfter i notes note) mid new → AllAlong Either start new
   appended_along mid new notes opened opens appended =

@@ -1,4 +1,4 @@
-//! The log of notes: its calls one after the other, and runs over disks that fail or crash.
+//! The log of notes: sequences of its calls, and runs over disks that fail or crash.
 #![tactic(auto)]
 
 mod chained;

@@ -1,4 +1,4 @@
-//! Calls on a real file, over what its past is and what the contracts say, and no more.
+//! Calls on a real file, derived from its past and the contracts alone.
 ghost use Rattle.std.specs.Prelude.{[], ◌∷◌, ◌++◌, List, length, IfOk, IfSome, OnOk, Ok};
 ghost use Rattle.stable_record.specs.Crash.{AllAlong, IsOnDisk, Leaves, Torn};
 ghost use Rattle.stable_record.specs.Events.{Past};
@@ -13,7 +13,7 @@ use stable_record::{Disk, DiskFault, FileDisk, Identity, Log, LogFault};
 use std::alloc::Global;
 use std::fs::File;
 
-/// Opens the log of a file with a past, adds a note, and gives the disk back with the answer.
+/// Opens the log in a file with a past, appends a note, and returns the disk and the answer.
 pub fn append_to_file(
     alloc: Global,
     file: File,
@@ -22,13 +22,13 @@ pub fn append_to_file(
 ) -> (FileDisk, Result<(), LogFault>)
     ghost past: { Past }
 
-    // A crash at any moment leaves what a crash could leave by the past, or the note added to what
-    // is read then.
+    // A crash at any moment leaves what a crash could leave by the past, or the notes that are read
+    // then, with this one or without it.
     ensures any_moment { file_agrees result.0
         → AllAlong (IsAsBeforeOrAfter identity.now past.calls note.now) past.calls
         (file_history result.0) }
 
-    // At `Ok` each crash leaves the note, behind those that were there.
+    // After `Ok` each crash leaves the note, after those that were there.
     ensures acknowledged { file_agrees result.0 → OnOk result.1
         ((notes : List Note) × Opens identity.now (seen past.calls) (Ok notes)
         × Leaves (HasNotes identity.now (notes ++ note.now ∷ [])) (file_history result.0)) }
@@ -43,15 +43,15 @@ pub fn append_to_file(
     }
 }
 
-/// Writes to a file. Where the device fails, it reads what is there now, on the same handle, and
-/// brings that to the disk; it gives how many bytes were read.
+/// Writes to a file. If the device fails, it reads what the file has now, on the same handle, and
+/// syncs that. Then it returns how many bytes were read.
 pub fn write_or_look(
     disk: &mut FileDisk,
     at: u64,
     bytes: &[u8],
     buf: &mut [u8],
 ) -> Result<Option<usize>, DiskFault>
-    // The write was torn, this is what was read of it, and each crash leaves just that.
+    // The write was torn, these bytes were read of the result, and each crash leaves exactly that.
     ensures { file_agrees disk.new → IfOk result (λ o. IfSome o (λ n.
         Torn at (length bytes.now) (seen (file_history disk.old)) (seen (file_history disk.new))
         × ReadsAt (seen (file_history disk.new)) at n buf.new

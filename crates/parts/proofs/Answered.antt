@@ -1,4 +1,4 @@
--- What a node does where it is told that the unit of its open claim was built, or could not be.
+-- What a node does if it is asked to handle a build, or a failed build, of its open claim's unit.
 use Rattle.std.proofs.Common.{◌≡◌, ℕ, true, false, not, [], ◌∷◌, Option, None, Some, Result, Ok, Err, IfErr, IfSome, inl, inr, refl, sym, ap, subst, ◌∙◌, if◌then◌else◌}
 use Rattle.std.specs.Prelude.{◌⊎◌, is_none, option_and_then, option_map}
 use Rattle.agreement.specs.Member as members
@@ -33,7 +33,7 @@ use Rattle.parts.specs.Readied.{IsReadied}
 use Rattle.parts.specs.declared.readied.Readied.{Readied}
 use Rattle.parts.specs.inside.Answering.{AreParts, IsWaiting, is_bad_files}
 
--- What the files make of it: the step is taken, or they are refused for this fault.
+-- The result with these files: the step is taken, or they are refused with this fault.
 abbrev pub Tells : Option RecordFault → Result Taken NodeFault → Type 0
 Tells None r = (t : Taken) × (r ≡ Ok t)
 Tells (Some f) r = r ≡ Err (fault.Refused (refusals.BadFiles f))
@@ -126,7 +126,7 @@ module _ (n : NodeState) (runs : n.stopped ≡ false) (is : IsMember n.member) (
         ∙ ap (taken n.pieces) (failed_is s is u w)),
   )
 
-  -- ---- what is answered
+  -- ---- the answer
 
   pub built_answers : (given : Given) → are_given (paths_at s u) given ≡ true → (t : Taken)
       → Takes n (Does (inputs.Built (name_at s u) given)) (Ok t)
@@ -156,7 +156,7 @@ module _ (n : NodeState) (runs : n.stopped ≡ false) (is : IsMember n.member) (
       by None (t, tells) = absurd (let no : Err f ≡ Ok t = tells in cc)
       by (Some g) tells = refl
 
-  -- nothing else is refused
+  -- the node refuses nothing else
   pub no_other : (given : Given) → are_given (paths_at s u) given ≡ true
       → (f : NodeFault) → is_bad_files f ≡ false
       → Takes n (Does (inputs.Built (name_at s u) given)) (Err f) → ⊥
@@ -176,12 +176,12 @@ module _ (n : NodeState) (runs : n.stopped ≡ false) (is : IsMember n.member) (
       let t = failed_tells (Err f) takes in
       let no : Err f ≡ Ok t.0 = t.1 in cc
 
--- ---- at a node over its log
+-- ---- the answer at a node over its log
 
 module _ {D : Type 0} (n : LoggedNode D) (up : n.node.stopped ≡ false) (u : ℕ)
     (w : IsWaiting n.node.member u) (name : Text) (given : Option Given)
     (parts : AreParts n.node.member u name given) where
-  -- what is answered
+  -- the answer
   abbrev right : Input
   right = built_of n.node.member u w.host w.claim given
 

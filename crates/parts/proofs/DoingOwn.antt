@@ -1,4 +1,4 @@
--- What a node does of itself.
+-- What a node does on its own initiative.
 use Rattle.std.proofs.Common.{◌≡◌, ◌<◌, ℕ, Option, None, Some, Err, length, refl, sym, ap, subst, ◌∙◌, inl, inr}
 use Rattle.std.specs.Prelude.{◌⊎◌}
 use Rattle.choice.proofs.SomeOwn.{some_own_by}
@@ -17,7 +17,7 @@ pub claim_within : (s : State) → IsMember s → (o : OpenClaim) → Some o ≡
     → o.unit < length s.division.units
 claim_within s is o e = (is.claim o (sym e)).unit
 
--- it claims the least that is free
+-- it claims the least free package
 pub claims_least : (s : State) → None ≡ s.claim → (above : Option ℕ) (barred : Barred) (p : ℕ)
     → IsLeastFree s barred (Some p) → (input : Input) → input ≡ claim_of s p
     → IsOwn s above barred (Some input)
@@ -33,20 +33,20 @@ renews_some s o is above barred = (
   subst (λ x. IsOwnBy s x above barred (Some (renewed s o above))) is refl,
 )
 
--- it claims something, if something is free
+-- it claims something if something is free
 pub claims_some : (s : State) → None ≡ s.claim → (above : Option ℕ) (barred : Barred) (p : ℕ)
     → IsLeastFree s barred (Some p) → (input : Input) × IsOwn s above barred (Some input)
 claims_some s none above barred p least =
     (claim_of s p, claims_least s none above barred p least (claim_of s p) refl)
 
--- that it does something is told of the same member
+-- an equal member does something, too
 pub some_of : (s m : State) → m ≡ s → (above : Option ℕ) (barred : Barred)
     → ((input : Input) × IsOwn m above barred (Some input))
     → (input : Input) × IsOwn s above barred (Some input)
 some_of s m same above barred (input, is) =
     (input, subst (λ x. IsOwn x above barred (Some input)) same is)
 
--- what it does is told of the same member
+-- an equal member does the same
 pub own_of : (s m : State) → m ≡ s → (above : Option ℕ) (barred : Barred) (own : Option Input)
     (input : Input) → own ≡ Some input → IsOwn m above barred own
     → IsOwn s above barred (Some input)
@@ -54,7 +54,7 @@ own_of s m same above barred own input some is =
     subst (λ x. IsOwn x above barred (Some input)) same
     (subst (IsOwn m above barred) some is)
 
--- where memory is wanting, it would have done something or nothing
+-- if memory runs out, there is something that it would have done, or nothing
 pub no_memory : {D : Type 0} (n : LoggedNode D) → IsMember n.node.member → (above : Option ℕ)
     (barred : Barred) (f : NodeFault) → f ≡ fault.Memory
     → (own : Option Input) × IsOwn n.node.member above barred own × IsNoPart n own f

@@ -1,4 +1,4 @@
--- The queued packages that are left where units failed.
+-- The queued packages whose units haven't failed.
 use Rattle.std.proofs.Common.{◌≡◌, ◌==◌, ◌||◌, ℕ, Bool, true, false, List, [], ◌∷◌, Option, None, Some, length, if◌then◌else◌, refl, sym, ap, subst, ◌∙◌, inl, inr, arith}
 use Rattle.std.specs.Prelude.{◌++◌}
 use Rattle.std.specs.List.{list_any}
@@ -26,22 +26,22 @@ use Rattle.parts.specs.Unfailed.{AllFailedBelow, notes_held}
 
 -- ---- below a position
 
--- there is no position below the first
+-- there is no position below 0
 pub none_below : (s : State) (p : Pending) → AllFailedBelow s p 0
 none_below s p k below free = absurd (omega (arith, below))
 
--- of either of two there is the first
+-- if `||` is false, so is its left side
 left_false : (a b : Bool) → (a || b) ≡ false → a ≡ false
 left_false true b e = e
 left_false false b e = refl
 
--- and of one that is false there is neither
+-- `||` with false on the right side keeps false
 still_false : (a : Bool) → a ≡ false → (a || false) ≡ false
 still_false true e = e
 still_false false e = refl
 
 module _ (s : State) (p : Pending) where
-  -- where more units are barred than those that failed, no more is free
+  -- if more units are barred than the failed ones, no more are free
   pub none_free_before : (elsewhere : List ℕ) (from : ℕ) → AllFailedBelow s p from
       → NoneFreeBefore s (λ u. has_failed p u || list_any (λ v. v == u) elsewhere) from
   none_free_before elsewhere from below k lt (queued, free) =
@@ -53,7 +53,7 @@ module _ (s : State) (p : Pending) where
       by None e = e
       by (Some u) e = left_false (has_failed p u) (list_any (λ v. v == u) elsewhere) e
 
-  -- the units that failed, and no others
+  -- the failed units, and no others
   abbrev Failed : Barred
   Failed = λ u. has_failed p u || false
 
@@ -71,7 +71,7 @@ module _ (s : State) (p : Pending) where
       by None e = e
       by (Some u) e = still_false (has_failed p u) e
 
-  -- the least that is left
+  -- the least one whose unit hasn't failed
   pub left_at : (position : ℕ) → IsLeastFree s Failed (Some position)
       → IsFree s (has_failed p) position
   left_at position least = free_so position least.1
@@ -80,11 +80,11 @@ module _ (s : State) (p : Pending) where
       → AllFailedBelow s p position
   failed_below position least k lt free = least.2 k lt (so_free k free)
 
-  -- or none is left
+  -- or there is none
   pub all_failed : IsLeastFree s Failed None → AllFailedBelow s p (length s.division.tree)
   all_failed none k lt free = none k lt (so_free k free)
 
--- ---- once a step is taken
+-- ---- after a step
 
 -- a unit that failed has failed still
 failed_with : (p : Pending) (claim : Option OpenClaim) (u : ℕ) → has_failed p u ≡ true
@@ -108,7 +108,7 @@ failed_then p k s (Does (inputs.Ask path)) u e = e
 failed_then p k s (Does (inputs.Message m)) u e = e
 failed_then p k s (Comes text) u e = e
 
--- so with what is kept then, nothing more is left
+-- so after the state between turns was updated, no more are free
 pub kept_below : (s : State) (p : Pending) (k : ℕ) (m : State) (asked : Asked) (from : ℕ)
     → AllFailedBelow s p from → AllFailedBelow s (kept_after p k m asked) from
 kept_below s p k m asked from below j lt (queued, free) =
@@ -122,7 +122,7 @@ kept_below s p k m asked from below j lt (queued, free) =
       | inr had_not ↦ had_not
     ]
 
--- what is held stays by a note that is of no build
+-- a note that isn't of a held build leaves the builds that are held
 engine_then : (d : Division) (facts : List (Facts Value)) (note : Option (Note Value))
     → length facts ≡ length d.units → notes_held note ≡ false
     → engine_with d (facts_then d facts note) ≡ engine_with d facts
@@ -136,7 +136,7 @@ engine_then d facts (Some n) each quiet = by (number_named d n.path) refl
         let there = (position-Some (λ x. bytes_eq x.name n.path) d.units u no_unit e).0 in
         engine_stays d facts u n (omega (arith, there, each)) quiet
 
--- so nothing more is queued then
+-- so no more are queued
 pub taken_below : (n : NodeState) → IsNode n → (r : ReadyStep) → notes_held (note_in r.step) ≡ false
     → (p : Pending) (from : ℕ) → AllFailedBelow n.member p from
     → AllFailedBelow (after n (taken_by n r)).member p from

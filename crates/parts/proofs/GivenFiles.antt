@@ -15,7 +15,7 @@ use Rattle.protocol.specs.Jobs.{are_given, files_for}
 
 -- ---- these paths with their files
 
--- what holds of each holds of each
+-- a test that follows from another holds of all that the other holds of
 all_weaken : (P Q : Text → Bool) (xs : List Text)
     → ((t : Text) → P t ≡ true → Q t ≡ true) → list_all P xs ≡ true → list_all Q xs ≡ true
 all_weaken P Q [] each e = refl
@@ -27,7 +27,7 @@ all_weaken P Q (x ∷ xs) each e =
     and_both true b e f = f
     and_both false b e f = e
 
--- each of them is one of them
+-- each element is among the elements
 among_selves : (xs : List Text) → list_all (is_among xs) xs ≡ true
 among_selves [] = refl
 among_selves (x ∷ xs) = first (bytes_eq x x) (eq_self x) (all_weaken (is_among xs)
@@ -76,7 +76,7 @@ module _ (builds : Given) where
 
   module _ {X : Type 0} (path_of : X → Text) (xs : List X) (i : ℕ) (d : X)
       (below : i < length xs) where
-    -- the next one
+    -- the next element
     abbrev next : X
     next = get_or xs i d
 
@@ -103,14 +103,14 @@ module _ (builds : Given) where
         ∙ (map-append pair (map path_of (take i xs)) (path_of next ∷ [])
         ∙ ap (λ ys. ys ++ pair (path_of next) ∷ []) (sym before))))
 
-    -- one without files is enough that none are given
+    -- if one path has no files, none are given
     pub some_lack : is_among (map (λ g. g.0) builds) (path_of next) ≡ false
         → given_for builds (map path_of xs) ≡ None
     some_lack lacks = ap (λ b. cond b (Some (map pair (map path_of xs))) None)
         (list_all-map (is_among (map (λ g. g.0) builds)) path_of xs
         ∙ list_all_at (λ y. is_among (map (λ g. g.0) builds) (path_of y)) xs i d below lacks)
 
-  -- what is given is given for all
+  -- what is given is given for all paths
   pub whole_given : (paths : List Text) (o : Option Given) → o ≡ given_for builds paths
       → IfSome o (λ g. are_given paths g ≡ true)
   whole_given paths None e = tt

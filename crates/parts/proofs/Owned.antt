@@ -7,14 +7,14 @@ use Rattle.protocol.specs.State.{State, engine_of}
 use Rattle.engine.specs.Division.{number_of}
 
 module _ (s : State) (barred : Barred) where
-  -- none before this position is free
+  -- no position before this one is free
   abbrev pub NoneFreeBefore : ℕ → Type 0
   NoneFreeBefore from = (k : ℕ) → k < from → IsFree s barred k → ⊥
 
   pub none_at_first : NoneFreeBefore 0
   none_at_first k below free = absurd (omega (arith, below))
 
-  -- the next queued one is barred
+  -- the next queued package is barred
   pub none_further : (from p : ℕ) → NoneFreeBefore from → IsQueuedFrom (engine_of s) from (Some p)
       → is_barred barred (number_of s.division p) ≡ true → NoneFreeBefore (p + 1)
   none_further from p none queued bars k below free = elim (cases_lt k from) [
@@ -28,7 +28,7 @@ module _ (s : State) (barred : Barred) where
     ]
   ]
 
-  -- it is free
+  -- the next queued package is free
   pub found_free : (from p : ℕ) → NoneFreeBefore from → IsQueuedFrom (engine_of s) from (Some p)
       → is_barred barred (number_of s.division p) ≡ false → IsLeastFree s barred (Some p)
   found_free from p none queued free = (
@@ -40,7 +40,7 @@ module _ (s : State) (barred : Barred) where
     ],
   )
 
-  -- none is queued any more
+  -- no more packages are queued
   pub none_free : (from : ℕ) → NoneFreeBefore from → IsQueuedFrom (engine_of s) from None
       → IsLeastFree s barred None
   none_free from none queued p below is = elim (cases_lt p from) [
@@ -48,7 +48,7 @@ module _ (s : State) (barred : Barred) where
     | inr behind ↦ queued p behind below is.0
   ]
 
-  -- all were looked at
+  -- all positions were searched
   pub none_left : (from : ℕ) → NoneFreeBefore from → length s.division.tree ≤ from
       → IsLeastFree s barred None
   none_left from none past p below is = none p (omega (arith, below, past)) is

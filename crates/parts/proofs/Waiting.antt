@@ -1,4 +1,4 @@
--- What a node is asked whose open claim waits for a build.
+-- A node whose open claim waits for a build.
 use Rattle.std.proofs.Common.{◌≡◌, ℕ, Option, Some, sym, ap, subst, ◌∙◌}
 use Rattle.std.specs.Prelude.{option_and_then}
 use Rattle.choice.specs.Answering.{answer_of, answer_to, built_of, given_for}
@@ -14,7 +14,7 @@ use Rattle.parts.specs.Readied.{IsPart, IsReadied}
 use Rattle.parts.specs.declared.readied.Readied.{Readied}
 use Rattle.parts.specs.inside.Answering.{AreParts, IsWaiting}
 
--- its name, and what is given for it
+-- its unit's name, and what is given for it
 pub parts_are : (s m : State) → m ≡ s → IsMember s → (u : ℕ) (name : Text) → name ≡ name_at m u
     → (builds : Given) (given : Option Given) → given ≡ given_for builds (paths_at m u)
     → AreParts s u name given
@@ -25,7 +25,7 @@ parts_are s m same is u name named builds given files = record {
       (files ∙ ap (λ x. given_for builds (paths_at x u)) same);
 }
 
--- its answer is its part
+-- its answer is its part in the turn
 pub answer_part : {D : Type 0} (n : LoggedNode D) (s m : State) → m ≡ s → (u : ℕ) (builds : Given)
     (given : Option Given) → given ≡ given_for builds (paths_at m u) → (r : Readied)
     → (w : IsWaiting s u)

@@ -1,4 +1,4 @@
--- A node's part in a turn, with its step ready.
+-- A node's part in a turn, with its step prepared.
 use Rattle.std.specs.Prelude.{◌≡◌, ◌⊎◌, Option, None, Some, Ok, Err}
 use Rattle.choice.specs.Acts.{asked_by}
 use Rattle.node.specs.State.{LoggedNode}
@@ -8,20 +8,20 @@ use Rattle.node.specs.declared.fault.NodeFault.TheVariants.{Memory}
 use Rattle.protocol.specs.declared.input.Input.{Input}
 use Rattle.parts.specs.declared.readied.Readied.{Readied}
 
--- The step on what the node is asked is ready.
+-- The step for what the node is asked is prepared.
 pub record IsReadied {D : Type 0} (n : LoggedNode D) (asked : Asked) (r : Readied) : Type 0 where
   pub asks : asked_by r.act ≡ asked
   pub takes : Takes n.node asked (Ok (taken_by n.node r.ready))
   pub may : IsReadyFor n.node r.ready
 
--- The node's part was made ready, if it has one; and else there is none.
+-- The node's part was prepared if it has one, and otherwise nothing was.
 abbrev pub IsPart : {D : Type 0} → LoggedNode D → Option Input → Option Readied → Type 0
 IsPart n None None = Prim.Unit {0}
 IsPart n None (Some r) = ⊥
 IsPart n (Some input) None = ⊥
 IsPart n (Some input) (Some r) = IsReadied n (Does input) r
 
--- Memory was wanting, or the node takes no step on its part.
+-- Memory ran out, or the node refuses its part.
 abbrev pub IsNoPart : {D : Type 0} → LoggedNode D → Option Input → NodeFault → Type 0
 IsNoPart n own f =
     (f ≡ Memory) ⊎ ((input : Input) × (own ≡ Some input) × Takes n.node (Does input) (Err f))

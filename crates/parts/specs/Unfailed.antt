@@ -1,4 +1,4 @@
--- The queued packages that are left where units failed.
+-- The queued packages whose units haven't failed.
 use Rattle.std.specs.Prelude.{◌<◌, ℕ, Bool, true, false, Option, None, Some}
 use Rattle.ballots.specs.declared.message.Fact.{Fact}
 use Rattle.ballots.specs.declared.message.Fact.TheVariants.{Opened, Promised, Voted, Held}
@@ -7,7 +7,7 @@ use Rattle.choice.specs.Own.{IsFree}
 use Rattle.choice.specs.Pending.{Pending, has_failed}
 use Rattle.protocol.specs.State.{State, Value}
 
--- Below the position no package is queued but those whose units failed.
+-- Below the position the only queued packages are those whose units failed.
 abbrev pub AllFailedBelow : State → Pending → ℕ → Type 0
 AllFailedBelow s p position = (k : ℕ) → k < position → ¬ IsFree s (has_failed p) k
 
@@ -18,7 +18,7 @@ tells_held (Promised c) = false
 tells_held (Voted c v) = false
 tells_held (Held v) = true
 
--- Whether a note, if there is one, is that a build is held.
+-- Whether there is a note, and it says that a build is held.
 abbrev pub notes_held : Option (Note Value) → Bool
 notes_held None = false
 notes_held (Some n) = tells_held n.fact

@@ -35,9 +35,12 @@ use protocol::ByPath;
 use stable_record::Disk;
 use std::alloc::Global;
 
-/// The answer to the node's job, if it has one: its build with the files that are given for all
-/// packages of the unit, or that there is no such build. It fails only for want of memory, where
-/// there is a job.
+/// The answer to the node's job, if it has one: its build from the given files, or that the build
+/// failed, if there aren't files for all packages of the unit.
+///
+/// # Errors
+///
+/// Out of memory, if there is a job.
 pub fn answer<D: Disk>(
     alloc: Global,
     node: &mut Node<'_, D>,
@@ -57,7 +60,7 @@ pub fn answer<D: Disk>(
     Ok(Some(answered(node, unit, name, given)?))
 }
 
-/// The unit whose claim waits for a build, if the open one does.
+/// The unit of the open claim, if that waits for a build.
 fn waiting(member: &Member<'_>) -> Option<u32>
     ensures { MatchOption result ((builds : Given) → answer_of member.now builds ≡ None)
         (IsWaiting member.now) }
@@ -69,7 +72,7 @@ fn waiting(member: &Member<'_>) -> Option<u32>
     }
 }
 
-/// The unit's name, and the files that are given for its packages, if some are given for each.
+/// The unit's name, and the files for its packages, if there are files for each.
 fn parts_of(
     alloc: Global,
     member: &Member<'_>,
@@ -87,7 +90,7 @@ fn parts_of(
     Ok((name, given))
 }
 
-/// These packages with their files, if some are given for each.
+/// These packages with their files, if there are files for each.
 fn given_to(
     alloc: Global,
     tree: &Tree,
@@ -105,7 +108,7 @@ fn given_to(
     found(alloc, tree, positions, &given)
 }
 
-/// The same, by looking through all that is handed in for each.
+/// The packages with their files, found by a search through `builds` for each package.
 fn looked_up(
     alloc: Global,
     tree: &Tree,
@@ -126,7 +129,7 @@ fn looked_up(
     Ok(Some(Packages::new(items)))
 }
 
-/// The same, of what is handed in by path.
+/// The packages with their files, found in an index by path.
 fn found(
     alloc: Global,
     tree: &Tree,
@@ -147,7 +150,7 @@ fn found(
     Ok(Some(Packages::new(items)))
 }
 
-/// An equal path with equal files.
+/// A copy of the path and the files.
 fn with_path(path: &PkgPath, files: &Files) -> Result<(PkgPath, Files), Memory>
     ensures { IfOk result (λ p. p ≡ (path.now, files.now)) }
 {
@@ -156,8 +159,8 @@ fn with_path(path: &PkgPath, files: &Files) -> Result<(PkgPath, Files), Memory>
     Ok((path, files))
 }
 
-/// The step by which the unit was built of these files, ready; or that by which it could not be,
-/// where there are none or no build is made of them.
+/// The prepared step that the unit was built from these files, or that its build failed, if there
+/// are none or they make no build.
 fn answered<D: Disk>(
     node: &mut Node<'_, D>,
     unit: u32,
@@ -184,7 +187,7 @@ fn answered<D: Disk>(
     }
 }
 
-/// Whether the node refuses files of which no build is made.
+/// Whether the node refuses these files because they make no build.
 fn is_bad_files(fault: NodeFault) -> bool
     ensures { result ≡ is_bad_files fault }
 {

@@ -1,4 +1,4 @@
-//! A node's part in a turn, with its step ready.
+//! A node's part in a turn, with its step prepared.
 #![tactic(auto)]
 
 mod answering;

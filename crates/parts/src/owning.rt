@@ -1,4 +1,4 @@
-//! What a node does of itself.
+//! What a node does on its own initiative.
 ghost use Rattle.std.specs.List.{list_any};
 ghost use Rattle.std.specs.Prelude.{◌≡◌, ◌<◌, ◌==◌, ◌||◌, IfErr, IfOk, OnErr, Option, Some, false, length};
 ghost use Rattle.choice.specs.Own.{IsLeastFree, IsOwn, claim_of, is_barred, renewed};
@@ -17,12 +17,12 @@ use member::{Input, Member};
 use node::{Node, NodeFault};
 use stable_record::Disk;
 
-/// What the node does of itself, if anything, where these units are claimed elsewhere, and greater
-/// claims with rounds up to this one stand in the way of its open one.
+/// What the node does on its own initiative, if anything. The units in `elsewhere` are claimed by
+/// other nodes, and `above` is the greatest round of the claims that block the node's open one.
 ///
 /// # Errors
 ///
-/// `Memory`, for what there is to do, or why the node opens no new claim.
+/// `Memory`, if there is something to do; or why the node refuses to open a new claim.
 pub fn own<D: Disk>(
     node: &mut Node<'_, D>,
     above: Option<u64>,
@@ -46,7 +46,8 @@ pub fn own<D: Disk>(
     own_from(node, above, pending, elsewhere, 0)
 }
 
-/// The same, where below this position no package is queued but those whose units failed.
+/// Like `own`, but searches only from this position on. Below it the only queued packages are those
+/// whose units failed.
 ///
 /// # Errors
 ///
@@ -79,7 +80,7 @@ pub fn own_from<D: Disk>(
     }
 }
 
-/// What the member does of itself, if anything.
+/// What the member does on its own initiative, if anything.
 fn input_of(
     member: &Member<'_>,
     above: Option<u64>,
@@ -102,8 +103,12 @@ fn input_of(
     }
 }
 
-/// A new claim for the unit above this round, where a greater claim stands in the way of the open
-/// one; and else a nudge. It fails only for want of memory.
+/// A new claim for the unit above this round if a greater claim blocks the open one, and otherwise
+/// a nudge.
+///
+/// # Errors
+///
+/// Out of memory.
 pub fn renewed(member: &Member<'_>, unit: u32, above: Option<u64>) -> Result<Input, Memory>
     requires { unit < length member.now.division.units }
     ensures { IfOk result (λ input. (o : members.OpenClaim) → o.unit ≡ unit
@@ -131,7 +136,7 @@ fn claim_of(member: &Member<'_>, position: u32) -> Result<Input, Memory>
     })
 }
 
-/// The least queued position whose unit may be claimed, looked for from this one on.
+/// The least queued position whose unit may be claimed. It is searched for from this position on.
 pub(crate) fn least_free(
     member: &Member<'_>,
     pending: &Pending,

@@ -1,4 +1,4 @@
-//! What a node does in a turn, and its step, ready.
+//! What a node does in a turn, with the prepared step.
 ghost use Rattle.std.specs.Prelude.{◌≡◌, ◌⊎◌, Err, IfErr, IfOk, false};
 ghost use Rattle.node.specs.Calls.{left_by};
 ghost use Rattle.node.specs.Ranges.{IsGoodInput};
@@ -11,18 +11,18 @@ use member::Input;
 use node::{Node, NodeFault, Ready};
 use stable_record::Disk;
 
-/// What a node does in a turn, and its step, ready.
+/// What a node does in a turn, with the prepared step.
 #[derive(Drop)]
 pub struct Readied {
     pub act: Act,
     pub ready: Ready,
 }
 
-/// The node's step on an input of its own, ready.
+/// Prepares the node's step on an input of its own.
 ///
 /// # Errors
 ///
-/// `Memory`, or why the node takes no step on it.
+/// `Memory`, or why the node refuses the input.
 pub fn make_ready<D: Disk>(node: &mut Node<'_, D>, input: Input) -> Result<Readied, NodeFault>
     requires up { node.old.node.stopped ≡ false }
     requires input { IsGoodInput input }
@@ -38,11 +38,12 @@ pub fn make_ready<D: Disk>(node: &mut Node<'_, D>, input: Input) -> Result<Readi
     })
 }
 
-/// The node's step on bytes that came, ready.
+/// Prepares the node's step on received bytes.
 ///
 /// # Errors
 ///
-/// `Memory`, or why the bytes are foreign to it: then pieces that join to no message are dropped.
+/// `Memory`, or why the node refuses the bytes as foreign. In that case, pieces that join to no
+/// message are dropped.
 pub fn take_in<D: Disk>(node: &mut Node<'_, D>, bytes: Vec<u8>) -> Result<Readied, NodeFault>
     requires up { node.old.node.stopped ≡ false }
     ensures log { node.new.log ≡ node.old.log }

@@ -1,4 +1,4 @@
-//! The queued packages that are left where units failed.
+//! The queued packages whose units haven't failed.
 ghost use Rattle.std.specs.Prelude.{◌≡◌, ◌<◌, ◌≤◌, if◌then◌else◌, length};
 ghost use Rattle.choice.specs.Own.{IsFree};
 ghost use Rattle.choice.specs.Pending.{Pending as Kept, has_failed};
@@ -12,8 +12,8 @@ use choice::Pending;
 use member::Member;
 use node::Ready;
 
-/// The least position of a queued package whose unit didn't fail, or else the number of packages.
-/// It looks from this position on, since there is none below it.
+/// The least position of a queued package whose unit hasn't failed, or the number of packages if
+/// there is none. The search begins at `from`, since there is none below.
 pub fn unfailed_from(member: &Member<'_>, pending: &Pending, from: u32) -> u32
     requires { AllFailedBelow member.now pending.now from }
     ensures below { AllFailedBelow member.now pending.now result }
@@ -27,8 +27,9 @@ pub fn unfailed_from(member: &Member<'_>, pending: &Pending, from: u32) -> u32
     }
 }
 
-/// A position below which there is none once a node takes the step, where there was none below this
-/// one. Only where a build comes to be held then, others may be queued than before.
+/// A position below which there is no queued package with an unfailed unit after a node takes this
+/// step, if there was none below `from`. More packages can be queued only if the step notes that a
+/// build is held.
 pub fn unfailed_after(ready: &Ready, from: u32) -> u32
     ensures value { result ≡ (if notes_held (note_in ready.now.step) then 0 else from) }
     ensures taken { (n : NodeState) (p : Kept) → IsNode n → AllFailedBelow n.member p from

@@ -1,10 +1,10 @@
--- What waits in a port in memory after its calls.
+-- The queue of a port in memory after calls.
 use Rattle.std.proofs.Common.{◌≡◌, ◌∙◌, ℕ, List, [], ◌∷◌, ◌++◌, drop, Ok, Err, refl, sym, ap}
 use Rattle.faults.specs.Bytes.{Text}
 use Rattle.ports.specs.Calls.{Call, Received, Sent, WentThrough}
 use Rattle.ports.specs.InMemory.{DoesInMemory, IsLeftWaiting, MemPortState, Orders, put_by, waiting_after}
 
--- a call, and then others, where the call leaves the orders
+-- a call that leaves the settings, and then others
 then_others : (old between new : MemPortState) (call : Call) (calls : List Call) (left : List (ℕ × Text)) → between.orders ≡ old.orders → between.waiting ≡ left → waiting_after old.orders (call ∷ calls) old.waiting ≡ waiting_after old.orders calls left → IsLeftWaiting between new calls → IsLeftWaiting old new (call ∷ calls)
 then_others old between new call calls left same now after others = record {
   orders = others.orders ∙ same;
@@ -13,7 +13,7 @@ then_others old between new call calls left same now after others = record {
       ∙ (ap (λ (w : List (ℕ × Text)). waiting_after old.orders calls w) now ∙ sym after));
 }
 
--- the calls say what waits
+-- the calls determine the queue
 pub left_waiting : (old new : MemPortState) (calls : List Call) → WentThrough DoesInMemory old calls new → IsLeftWaiting old new calls
 left_waiting old new [] same = record { orders = ap (λ (p : MemPortState). p.orders) same; waiting = ap (λ (p : MemPortState). p.waiting) same }
 left_waiting old new (Received (Ok arrived) ∷ calls) (between, (kept, hears, first, now, counted), others) =

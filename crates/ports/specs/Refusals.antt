@@ -3,7 +3,7 @@ use Rattle.std.specs.Prelude.{ℕ}
 use Rattle.ports.specs.declared.fault.PortFault.{PortFault}
 use Rattle.ports.specs.declared.fault.PortFault.TheVariants.{Memory, NoSocket, Failed}
 
--- the number by which each refusal is told
+-- the number that each refusal is reported with
 abbrev pub number_of : PortFault → ℕ
 number_of Memory = 1
 number_of Failed = 1205

@@ -1,4 +1,4 @@
-//! What a port refuses a call with.
+//! Why a port refuses a call.
 ghost use Rattle.std.specs.Prelude.{◌≡◌, None};
 ghost use Rattle.ports.specs.Refusals.{number_of};
 ghost use Rattle.ports.specs.declared.fault.PortFault.TheVariants.{Memory as out_of_memory};
@@ -14,7 +14,7 @@ pub enum PortFault {
     /// A socket can't be bound.
     #[error("a socket can't be bound")]
     NoSocket,
-    /// The port could not take a datagram, or give one.
+    /// The port couldn't take a datagram, or couldn't return one.
     #[error("the port failed")]
     Failed,
 }

@@ -1,5 +1,5 @@
-//! What the nodes of a run put behind each text that they send, and how they tell it from what
-//! others send. That others can't make it is believed of HMAC, and not proved.
+//! The seal that the nodes of a run append to each text that they send, and how they recognize it.
+//! That others can't make it is an assumption about HMAC, and not proved.
 #![tactic(auto)]
 
 mod key;

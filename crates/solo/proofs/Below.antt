@@ -1,4 +1,4 @@
--- Below a position no package is queued but those whose units failed.
+-- Below a position the only queued packages are those whose units failed.
 use Rattle.std.proofs.Common.{◌≡◌, ℕ, Bool, true, false, Option, if◌then◌else◌, sym, ap, subst}
 use Rattle.ballots.specs.declared.message.Note.{Note}
 use Rattle.choice.specs.Pending.{Pending, kept_after}
@@ -11,18 +11,18 @@ use Rattle.parts.specs.Unfailed.{AllFailedBelow}
 use Rattle.protocol.specs.State.{State, Value}
 use Rattle.solo.specs.inside.Turning.{IsTakingFault}
 
--- what is said of a member and of what is kept is said of the same
+-- this holds of an equal member and an equal state between turns
 pub still_below : (s t : State) (p q : Pending) (from : ℕ) → t ≡ s → q ≡ p
     → AllFailedBelow s p from → AllFailedBelow t q from
 still_below s t p q from member pending below =
     subst (λ x. AllFailedBelow x q from) (sym member)
     (subst (λ r. AllFailedBelow s r from) (sym pending) below)
 
--- the same node has the same member
+-- equal nodes have equal members
 pub same_member : {D : Type 0} (n m : LoggedNode D) → m ≡ n → m.node.member ≡ n.node.member
 same_member {D} n m same = ap (λ (x : LoggedNode D). x.node.member) same
 
--- the first position is as good as any
+-- it always holds of position 0
 pub lowered_below : (s : State) (p : Pending) (b : Bool) (from to : ℕ)
     → to ≡ (if b then 0 else from) → AllFailedBelow s p from → AllFailedBelow s p to
 lowered_below s p b from to is below = subst (AllFailedBelow s p) (sym is) (by b)
@@ -31,7 +31,7 @@ lowered_below s p b from to is below = subst (AllFailedBelow s p) (sym is) (by b
     by true = none_below s p
     by false = below
 
--- where a step was not taken the member is as it was
+-- if a step was not taken, the member is unchanged
 pub member_stays : {D : Type 0} (n m : LoggedNode D) (noted : Option (Note Value)) (f : TurnFault)
     → IsTakingFault n m noted f → m.node.member ≡ n.node.member
 member_stays n m noted refused.Memory same = ap (λ (x : NodeState). x.member) same
@@ -42,7 +42,7 @@ member_stays n m noted (refused.Down k) (me, room, stops) =
 member_stays n m noted refused.NotSent none = absurd none
 member_stays n m noted refused.NotFresh none = absurd none
 
--- where it was taken, so it is of what it leaves
+-- if a step was taken, it holds of what that leaves
 pub then_below : (m t : NodeState) (p q : Pending) (k : ℕ) (s : State) (asked : Asked) (to : ℕ)
     → q ≡ kept_after p k s asked → AllFailedBelow m.member p to → t ≡ m
     → AllFailedBelow t.member q to

@@ -18,12 +18,12 @@ use Rattle.solo.specs.State.{SoloState, only}
 use Rattle.solo.specs.Turn.{IsChosen, IsVouchedFor, looked_for, received_by}
 use Rattle.solo.specs.inside.Turning.{HasCome}
 
--- where nothing was asked, it goes on by nothing
+-- a record continues by nothing
 pub goes_nowhere : {X : Type 0} (o : Option (List X)) → GoesOnBy [] o o
 goes_nowhere None = tt
 goes_nowhere (Some xs) = sym (append-nil xs)
 
--- what goes on by nothing and then by these goes on by these
+-- appending nothing and then these is appending these
 pub goes_on : {X : Type 0} (more : List X) (a b c : Option (List X)) → GoesOnBy [] a b
     → GoesOnBy more b c → GoesOnBy more a c
 goes_on more a b None nothing goes = tt
@@ -52,7 +52,7 @@ module _ {D P : Type 0} (given : P → Option (List Arrived)) (does : P → Call
   abbrev pub Chooses : Chosen → Type 0
   Chooses = IsChosen given does vouches old new (AllBuilds builds) []
 
-  -- a job's answer
+  -- the answer to a job
   pub by_job : (x : ℕ × Asked) → first_job here count builds ≡ Some x
       → new.port ≡ old.port → Chooses (Some x)
   by_job x job still = record {
@@ -73,7 +73,7 @@ module _ {D P : Type 0} (given : P → Option (List Arrived)) (does : P → Call
 
   module _ (no_job : first_job here count builds ≡ None) (came : Arrived)
       (goes : HasCome given does vouches old.port new.port came) where
-    -- the choice where that came
+    -- the choice if this was received
     by_came : (c : Chosen) → IsChoice here count old.pending builds came c → Chooses c
     by_came c choice = record {
       answer = goes.answer;
@@ -89,13 +89,13 @@ module _ {D P : Type 0} (given : P → Option (List Arrived)) (does : P → Call
       choice = subst (λ a. IsChoice here count old.pending builds a c) (sym goes.gave) choice;
     }
 
-    -- what came is taken
+    -- the received datagram is taken
     pub by_arrival : (x : ℕ × Asked) → comes_to here came ≡ Some x → Chooses (Some x)
     by_arrival x comes = by_came (Some x) (subst (λ g. IsGivenOr g (Some x)
         (IsFirstOwn here count old.pending (in_turn old.pending.next count) (Some x)))
         (sym (ap (λ j. option_or j (comes_to here came)) no_job ∙ comes)) refl)
 
-    -- what the node does of itself
+    -- what the node does on its own initiative
     pub by_own : (c : Chosen) → comes_to here came ≡ None
         → IsFirstOwn here count old.pending (in_turn old.pending.next count) c → Chooses c
     by_own c comes own = by_came c (subst (λ g. IsGivenOr g c

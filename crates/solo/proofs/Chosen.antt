@@ -1,4 +1,4 @@
--- What was chosen is made ready, or why it is not.
+-- What was chosen is prepared, or there is a reason why it isn't.
 use Rattle.std.proofs.Common.{◌≡◌, ◌≢◌, ◌==◌, ℕ, Bool, true, false, List, [], Option, None, Some, Result, Ok, Err, IfErr, IfOk, Vec, length, if◌then◌else◌, refl, sym, ap, subst, ◌∙◌, inl, inr}
 use Rattle.std.specs.List.{range_with_len}
 use Rattle.std.specs.Prelude.{option_map}
@@ -29,7 +29,7 @@ use Rattle.solo.specs.State.{SoloState, member_up, only}
 use Rattle.solo.specs.Turn.{IsChosen}
 use Rattle.solo.specs.inside.Turning.{HasChosen, HasCome, IsMade, IsNotTaken, told}
 
--- the one that is here is a member
+-- the node here has a valid member
 pub members_here : (n : NodeState) → IsMember n.member → (k : ℕ) (s : State) → only n k ≡ Some s
     → IsMember s
 members_here n is k s at = by (k == n.member.me) n.stopped at
@@ -43,17 +43,17 @@ members_here n is k s at = by (k == n.member.me) n.stopped at
         subst IsMember same is
     by false c at = absurd (let no : ◌≡◌ {A = Option State} None (Some s) = at in cc)
 
--- what a receive gave
+-- what a receive returned
 abbrev pub came_of : Option (ℕ × Vec ℕ Global) → Arrived
 came_of o = option_map (λ d. (d.0, d.1.items)) o
 
--- where nothing is made ready of a choice, it was to do nothing
+-- if nothing was prepared, the choice was to do nothing
 pub nothing_taken : {D : Type 0} (m : LoggedNode D) (chosen : Chosen) → IsMade m chosen None
     → chosen ≡ None
 nothing_taken m None made = refl
 nothing_taken m (Some x) made = absurd made
 
--- what is told of a node that stayed is told of the node before
+-- what holds of an unchanged node holds of the node before
 module _ {D : Type 0} (m n : LoggedNode D) (stays : m ≡ n) (new : LoggedNode D)
     (came : Arrived) where
   pub taken_made : (o : Option Readied)
@@ -132,14 +132,14 @@ module _ {D P : Type 0} (given : P → Option (List Arrived)) (does : P → Call
 
   module _ (none : IsPart old.node (own_answer n builds) None) (came : Arrived)
       (goes : HasCome given does vouches old.port new.port came) where
-    -- memory was wanting, whatever is chosen
+    -- memory ran out, whatever the choice was
     wants : new.node.node ≡ old.node.node → (f : TurnFault) → f ≡ refused.Memory → IsFault f
     wants same f memory =
         let some = by_some given does vouches old new builds (no_job none) came goes
         (members_here n is) in
         subst IsFault (sym memory) (some.0, some.1, same)
 
-    -- ---- what came
+    -- ---- what was received
 
     pub arrival_made : new.node ≡ old.node → (r : Readied)
         → IsMade old.node (comes_to (only n) came) (Some r) → HasMade (Some r)
@@ -173,10 +173,10 @@ module _ {D P : Type 0} (given : P → Option (List Arrived)) (does : P → Call
         no_memory memory = wants (t.leaves ∙ ap (left_by n (Comes t.text)) memory) f
             (t.tells ∙ ap told memory)
 
-    -- ---- what it does of itself
+    -- ---- what it does on its own initiative
 
     module _ (nothing : IsMade old.node (comes_to (only n) came) None) where
-      -- It does this of itself, if anything.
+      -- The node does this on its own initiative, if anything.
       abbrev pub DoesOwn : Option Input → Type 0
       DoesOwn own = IsOwnIf (only n) count old.pending me (member_up n) own
 
@@ -222,9 +222,9 @@ module _ {D P : Type 0} (given : P → Option (List Arrived)) (does : P → Call
         )
       ]
 
-      -- ---- the same of an answer, told of a node and a number that are these
+      -- ---- the results for a node and a number that are equal to these
 
-      -- Node m does this of itself as number k, if anything.
+      -- Node m does this on its own initiative as number k, if anything.
       abbrev DoesOwnAs : LoggedNode D → ℕ → Option Input → Type 0
       DoesOwnAs m k own = IsOwnIf (only m.node) (length m.node.member.weights) old.pending k
           (member_up m.node) own

@@ -1,4 +1,4 @@
--- What a receive gave, and what is chosen of it.
+-- What a receive returned, and what is chosen because of it.
 use Rattle.std.proofs.Common.{◌≡◌, ℕ, List, [], ◌∷◌, Option, None, Some, Result, Ok, Err, IfOk, IfSome, Vec, length, refl, sym, subst}
 use Rattle.std.specs.List.{range_with_len}
 use Rattle.std.specs.Prelude.{option_and_then, option_map}
@@ -23,9 +23,9 @@ use Rattle.solo.specs.State.{SoloState, me_of, only}
 use Rattle.solo.specs.Turn.{IsChosen, IsHeard, IsVouchedFor}
 use Rattle.solo.specs.inside.Turning.{HasCome}
 
--- ---- what a receive gave
+-- ---- what a receive returned
 
--- what a call of receive answers
+-- the answer of a receive
 abbrev pub Answer : Type 0
 Answer = Result (Option (ℕ × Vec ℕ Global)) PortFault
 
@@ -54,7 +54,7 @@ module _ {P : Type 0} (given : P → Option (List Arrived)) (does : P → Call �
     vouched = vouched_is r vouched;
   }
 
-  -- where it answered so
+  -- it succeeded
   pub has_come : (r : Answer) (o : Option (ℕ × Vec ℕ Global)) → r ≡ Ok o
       → GoesOnBy (arrived r ∷ []) (given old) (given new) → does old (Received (told r)) new
       → IfOk r (λ o. IfSome o (λ d. vouches new d.1.items))
@@ -72,7 +72,7 @@ module _ {P : Type 0} (given : P → Option (List Arrived)) (does : P → Call �
   has_come (Err f) o is goes done vouched =
       absurd (let no : ◌≡◌ {A = Answer} (Err f) (Ok o) = is in cc)
 
-  -- or failed
+  -- it failed
   pub none_came : (r : Answer) (f : PortFault) → r ≡ Err f
       → GoesOnBy (arrived r ∷ []) (given old) (given new) → does old (Received (told r)) new
       → HasCome given does vouches old new None
@@ -82,7 +82,7 @@ module _ {P : Type 0} (given : P → Option (List Arrived)) (does : P → Call �
 
 -- ---- what is chosen
 
--- Bytes that a node is asked to take are those that came.
+-- The bytes that a node is asked to take are the received ones.
 abbrev pub FromCame : Arrived → Asked → Type 0
 FromCame came (Comes text) = (k : ℕ) × (came ≡ Some (k, text))
 FromCame came (Does input) = Prim.Unit {0}
@@ -96,7 +96,7 @@ is_heard vouches port came (Comes text) (k, is) vouched =
 is_heard vouches port came (Does input) is vouched = tt
 
 module _ (here : Here) (came : Arrived) where
-  -- what the first of these gives is an input of its own
+  -- what the first of these gives is an input of the node's own
   each_does : (f : ℕ → Option Input) (ks : List ℕ) (x : ℕ × Asked)
       → first_given (λ k. option_map (λ input. (k, Does input)) (f k)) ks ≡ Some x
       → FromCame came x.1
@@ -209,7 +209,7 @@ module _ (here : Here) (came : Arrived) where
         → FromCame came x.1
     live_from_came is = answers (first_answer here count (λ k. made)) refl is
 
--- what a turn chooses of bytes is vouched for
+-- the port vouches for bytes that a turn chooses
 pub choice_heard : {D P : Type 0} (given : P → Option (List Arrived))
     (does : P → Call → P → Type 0) (vouches : P → Text → Type 0) (old new : SoloState D P)
     (handed : Handed) (parcels : List Parcel) (asked : Asked)

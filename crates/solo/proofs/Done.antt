@@ -1,4 +1,4 @@
--- What the node does of itself, made ready.
+-- What the node does on its own initiative, prepared.
 use Rattle.std.proofs.Common.{◌≡◌, ◌||◌, ℕ, false, Option, length, sym, subst, ◌∙◌}
 use Rattle.choice.specs.Choice.{IsOwnIf}
 use Rattle.choice.specs.Own.{IsOwn}
@@ -16,7 +16,7 @@ use Rattle.solo.specs.inside.Turning.{told}
 module _ {D : Type 0} (n m : LoggedNode D) (same : m ≡ n) (p : Pending) (me : ℕ)
     (this : me ≡ n.node.member.me) (up : n.node.stopped ≡ false) (above : Option ℕ)
     (named : above ≡ above_at p me) where
-  -- It does this of itself, if anything.
+  -- The node does this on its own initiative, if anything.
   abbrev pub DoesOwn : Option Input → Type 0
   DoesOwn own =
       IsOwnIf (only n.node) (length n.node.member.weights) p me (member_up n.node) own
@@ -30,7 +30,7 @@ module _ {D : Type 0} (n m : LoggedNode D) (same : m ≡ n) (p : Pending) (me : 
       (subst (λ a. IsOwn n.node.member a (λ u. has_failed p u || false) own)
       (named ∙ (λ i. above_at p (this i))) is))
 
-  -- it is ready
+  -- it is prepared
   pub own_part : (r : Option Readied)
       → ((own : Option Input) × IsOwn n.node.member above (λ u. has_failed p u || false) own
       × IsPart m own r)
@@ -38,7 +38,7 @@ module _ {D : Type 0} (n m : LoggedNode D) (same : m ≡ n) (p : Pending) (me : 
   own_part r (own, is, part) =
       (own, does_own own is, subst (λ x. IsPart x own r) same part)
 
-  -- or refused
+  -- or it is refused
   pub own_refused : (f : TurnFault) (g : NodeFault) → f ≡ told g
       → ((own : Option Input) × IsOwn n.node.member above (λ u. has_failed p u || false) own
       × IsNoPart m own g)

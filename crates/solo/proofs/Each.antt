@@ -1,4 +1,4 @@
--- What the node that is here does, by what each would do.
+-- What the node here does, in terms of what each node would do.
 use Rattle.std.proofs.Common.{◌≡◌, ◌==◌, ◌||◌, ℕ, Bool, true, false, List, [], ◌∷◌, Option, None, Some, if◌then◌else◌, refl, sym, ap, subst, ◌∙◌, eqb-true}
 use Rattle.std.specs.Prelude.{option_and_then, option_map}
 use Rattle.choice.specs.Choice.{Chosen}
@@ -14,11 +14,11 @@ module _ (n : NodeState) (f : ℕ → State → Option Input) where
   abbrev me : ℕ
   me = n.member.me
 
-  -- what the node of this number does, if it is here and up and does anything
+  -- what the node with this number does, if it is here and up
   abbrev pub each : ℕ → Chosen
   each k = option_map (λ input. (k, Does input)) (option_and_then (f k) (only n k))
 
-  -- what the one that is here does
+  -- what the node here does
   abbrev pub its_own : Option Input
   its_own = option_and_then (f me) (member_up n)
 
@@ -28,12 +28,12 @@ module _ (n : NodeState) (f : ℕ → State → Option Input) where
   does_here k b e = ap (λ c. option_map (λ input. (k, Does input))
       (option_and_then (f k) (if c then member_up n else None))) e
 
-  -- what comes behind a node that does nothing
+  -- a node that does nothing is skipped
   behind : (k : ℕ) (ks : List ℕ) → each k ≡ None
       → first_given each (k ∷ ks) ≡ first_given each ks
   behind k ks none = ap (λ o. option_or o (first_given each ks)) none
 
-  -- where it does nothing, none does
+  -- if it does nothing, no node does
   pub none_does_so : its_own ≡ None → (ks : List ℕ) → first_given each ks ≡ None
   none_does_so none [] = refl
   none_does_so none (k ∷ ks) = behind k ks (by (k == me) refl) ∙ none_does_so none ks
@@ -43,7 +43,7 @@ module _ (n : NodeState) (f : ℕ → State → Option Input) where
           (subst (λ j. option_and_then (f j) (member_up n) ≡ None) (sym (eqb-true k me e)) none)
       by false e = does_here k false e
 
-  -- and else it is the first
+  -- otherwise it is the first that does something
   pub this_does_so : (input : Input) → its_own ≡ Some input → (ks : List ℕ)
       → is_in me ks ≡ true → first_given each ks ≡ Some (me, Does input)
   this_does_so input some [] among = absurd (let no : false ≡ true = among in cc)

@@ -1,4 +1,4 @@
--- What a turn that was refused before its step was taken leaves of a log.
+-- The log after a turn that was refused before its step was taken.
 use Rattle.std.proofs.Common.{◌≡◌, List, Option, refl, sym, ap, subst, ◌∙◌}
 use Rattle.choice.specs.declared.fault.TurnFault.{TurnFault}
 use Rattle.choice.specs.declared.fault.TurnFault.TheVariants as refused
@@ -18,7 +18,7 @@ use Rattle.stable_record.specs.History.{History}
 use Rattle.stable_record.specs.OpenLog.{Holds}
 use Rattle.stable_record.specs.declared.log_fault.LogFault.TheVariants as log
 
--- The member and the notes are the same.
+-- Both nodes have the same member and notes.
 pub record IsAlike (n m : NodeState) : Type 0 where
   pub member : m.member ≡ n.member
   pub notes : m.notes ≡ n.notes
@@ -29,7 +29,7 @@ same_is n m e = record {
   notes = ap (λ (x : NodeState). x.notes) e;
 }
 
--- so a refusal leaves a node
+-- a refusal leaves a node with the same member and notes
 left_is : (n : NodeState) (asked : Asked) (f : NodeFault) → IsAlike n (left_by n asked f)
 left_is n asked fault.Memory = record { member = refl; notes = refl }
 left_is n asked (fault.Refused r) = record { member = refl; notes = refl }
@@ -53,7 +53,7 @@ module _ {D P : Type 0} (given : P → Option (List Arrived)) (does : P → Call
   alike refused.NotSent none = absurd none
   alike refused.NotFresh none = absurd none
 
--- a node that was on its log is on it where log, member and notes are the same
+-- a node that was on its log still is if the log, the member and the notes are the same
 pub on_log_still : {D : Type 0} (history : D → History) (old new : LoggedNode D)
     → new.log ≡ old.log → IsAlike old.node new.node → IsOnLog history old → IsOnLog history new
 on_log_still history old new same is on = record {

@@ -1,4 +1,4 @@
--- The choice of a turn by what is made so far, by the case that applies.
+-- The choice with builds that are made while the node runs, by the case that applies.
 use Rattle.std.proofs.Common.{◌≡◌, ℕ, List, [], ◌∷◌, Option, None, Some, Ok, length, refl, sym, ap, subst, ◌∙◌}
 use Rattle.std.specs.Prelude.{is_some, option_map}
 use Rattle.choice.specs.Choice.{Chosen, Here, comes_to}
@@ -26,11 +26,11 @@ module _ {D P : Type 0} (given : P → Option (List Arrived)) (does : P → Call
   abbrev pub count : ℕ
   count = length old.node.node.member.weights
 
-  -- the wish, as one of the node that is here
+  -- the wish for the node here
   abbrev pub wish_here : Option (ℕ × Wish)
   wish_here = option_map (λ w. (me_of old, w)) wish
 
-  -- the first answer, if one is made
+  -- the first answer, if its files are made
   abbrev pub answer_here : Chosen
   answer_here = first_answer here count (λ k. made)
 
@@ -42,7 +42,7 @@ module _ {D P : Type 0} (given : P → Option (List Arrived)) (does : P → Call
   abbrev pub Chooses : Chosen → Type 0
   Chooses = IsChosen given does vouches old new (SoFar made wish) []
 
-  -- a job's answer
+  -- the answer to a job
   pub by_answer : (x : ℕ × Asked) → answer_here ≡ Some x → new.port ≡ old.port
       → Chooses (Some x)
   by_answer x job still = record {
@@ -61,7 +61,7 @@ module _ {D P : Type 0} (given : P → Option (List Arrived)) (does : P → Call
 
   module _ (no_answer : answer_here ≡ None) (came : Arrived)
       (goes : HasCome given does vouches old.port new.port came) where
-    -- the choice where that came
+    -- the choice if this was received
     by_came : (c : Chosen) → c ≡ live_choice here count old.pending (λ k. made) wish_here came
         → Chooses c
     by_came c choice = record {
@@ -80,7 +80,7 @@ module _ {D P : Type 0} (given : P → Option (List Arrived)) (does : P → Call
           (sym goes.gave) choice;
     }
 
-    -- what came is taken
+    -- the received datagram is taken
     pub by_arrival : (x : ℕ × Asked) → comes_to here came ≡ Some x → Chooses (Some x)
     by_arrival x comes = by_came (Some x)
         (sym (ap (λ j. option_or j (option_or (comes_to here came) left)) no_answer

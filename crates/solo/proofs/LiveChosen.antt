@@ -1,4 +1,5 @@
--- What was chosen of a turn by what is made so far is made ready, or why it is not.
+-- What was chosen with builds that are made while the node runs is prepared, or there is a reason
+-- why it isn't.
 use Rattle.std.proofs.Common.{◌≡◌, ◌≢◌, ℕ, Option, None, Some, Result, Ok, Err, IfErr, IfOk, [], length, if◌then◌else◌, refl, sym, ap, subst, ◌∙◌, inl, inr, eq-eqb}
 use Rattle.std.specs.List.{range_with_len}
 use Rattle.std.specs.Prelude.{List, option_and_then, option_map}
@@ -35,7 +36,7 @@ use Rattle.solo.specs.Turn.{IsChosen}
 use Rattle.solo.specs.inside.Live.{left_here}
 use Rattle.solo.specs.inside.Turning.{HasChosen, HasCome, IsMade, IsNotTaken, told}
 
--- its answer to its job, if it is up and there is one yet
+-- the node's answer to its job, if it is up and there is one yet
 abbrev pub live_answer : NodeState → Option Given → Option Input
 live_answer n made = option_and_then (answer_if made) (member_up n)
 
@@ -64,7 +65,7 @@ module _ (n : NodeState) (is : IsMember n.member) (p : Pending) where
   does_wish w None e = goes None (ap (option_and_then (going_on (above_at p its))) e)
   does_wish w (Some s) e = refl
 
-  -- what is left to do is left to the node that is here
+  -- only the node here has something left to do
   pub left_is : (v : Option Wish)
       → left_to_do (only n) members p (option_map (λ w. (its, w)) v)
       ≡ option_map (λ input. (its, Does input)) (left_here (member_up n) (above_at p its) v)
@@ -92,7 +93,7 @@ module _ {D P : Type 0} (given : P → Option (List Arrived)) (does : P → Call
   abbrev IsFault : TurnFault → Type 0
   IsFault = IsTurnFault given does vouches old new (SoFar made wish) (λ asked. ⊥)
 
-  -- the first answer, if one is made
+  -- the first answer, if its files are made
   abbrev First : Chosen
   First = answer_here given does vouches old new made wish
 
@@ -140,13 +141,13 @@ module _ {D P : Type 0} (given : P → Option (List Arrived)) (does : P → Call
 
   module _ (none : IsPart old.node (live_answer n made) None) (came : Arrived)
       (goes : HasCome given does vouches old.port new.port came) where
-    -- memory was wanting, whatever is chosen
+    -- memory ran out, whatever the choice was
     wants : new.node.node ≡ old.node.node → (f : TurnFault) → f ≡ refused.Memory → IsFault f
     wants same f memory =
         let some = by_some given does vouches old new made wish (no_answer none) came goes in
         subst IsFault (sym memory) (some.0, some.1, same)
 
-    -- ---- what came
+    -- ---- what was received
 
     pub arrival_made : new.node ≡ old.node → (r : Readied)
         → IsMade old.node (comes_to (only n) came) (Some r) → HasMade (Some r)
@@ -181,10 +182,10 @@ module _ {D P : Type 0} (given : P → Option (List Arrived)) (does : P → Call
         no_memory memory = wants (t.leaves ∙ ap (left_by n (Comes t.text)) memory) f
             (t.tells ∙ ap told memory)
 
-    -- ---- what is left
+    -- ---- what is left to do
 
     module _ (nothing : IsMade old.node (comes_to (only n) came) None) where
-      -- what is left to do, if anything is
+      -- what is left to do, if anything
       abbrev Left : Option Input
       Left = left_here (member_up n) (above_at old.pending me) wish
 
@@ -229,7 +230,7 @@ module _ {D P : Type 0} (given : P → Option (List Arrived)) (does : P → Call
         )
       ]
 
-      -- ---- the same of an answer, told of a node and a number that are these
+      -- ---- the results for a node and a number that are equal to these
 
       -- what is left to do for node m, as number k
       abbrev LeftAs : LoggedNode D → ℕ → Option Input

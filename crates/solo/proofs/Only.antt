@@ -1,4 +1,4 @@
--- One node is here, and no other.
+-- Only one node is here.
 use Rattle.std.proofs.Common.{◌≡◌, ◌<◌, ◌+◌, ◌==◌, ◌&&◌, ◌||◌, ℕ, Bool, true, false, not, List, [], ◌∷◌, Option, None, Some, drop, take, if◌then◌else◌, refl, sym, ap, subst, ◌∙◌, arith, eq-eqb, eqb-true}
 use Rattle.std.proofs.lemmas.List.{take-append-drop}
 use Rattle.std.proofs.lemmas.List.Folds.{list_any-append, list_any_at}
@@ -16,13 +16,13 @@ use Rattle.protocol.specs.Given.{Given}
 use Rattle.protocol.specs.declared.input.Input.{Input}
 use Rattle.solo.specs.State.{member_up, only}
 
--- ---- numbers in a row
+-- ---- ranges of numbers
 
 -- Whether the number is among these.
 abbrev pub is_in : ℕ → List ℕ → Bool
 is_in me ks = list_any (λ k. k == me) ks
 
--- a number that is below the count is among all numbers
+-- a number below the count is in the range
 pub in_range : (me count : ℕ) → me < count → is_in me (range_with_len 0 count) ≡ true
 in_range me count below =
     list_any_at (λ k. k == me) (range_with_len 0 count) me 0
@@ -30,14 +30,14 @@ in_range me count below =
     (ap (λ k. k == me) (get_or-range_with_len 0 count me 0 below)
     ∙ eq-eqb (0 + me) me (omega arith))
 
--- two tests in another order
+-- `||` in another order
 or_flip : (a b : Bool) → (a || b) ≡ true → (b || a) ≡ true
 or_flip true true e = refl
 or_flip true false e = refl
 or_flip false true e = refl
 or_flip false false e = e
 
--- and among them in turn
+-- a number below the count is in the range in turn
 pub in_turns : (me next count : ℕ) → me < count → is_in me (in_turn next count) ≡ true
 in_turns me next count below =
     list_any-append (λ k. k == me) (drop next (range_with_len 0 count))
@@ -50,14 +50,14 @@ in_turns me next count below =
     ∙ in_range me count below))
 
 module _ (n : NodeState) where
-  -- the number of the node
+  -- the node's number
   abbrev me : ℕ
   me = n.member.me
 
   -- ---- its job
 
   module _ (builds : Given) where
-    -- its answer to its job, if it is up and has one
+    -- the node's answer to its job, if it is up and has one
     abbrev pub own_answer : Option Input
     own_answer = option_and_then (λ s. answer_of s builds) (member_up n)
 
@@ -67,13 +67,13 @@ module _ (n : NodeState) where
     job_here k b e = ap (λ c. option_map (λ input. (k, Does input))
         (option_and_then (λ s. answer_of s builds) (if c then member_up n else None))) e
 
-    -- what comes behind a node without a job
+    -- a node without a job is skipped
     without_job : (k : ℕ) (ks : List ℕ) → job_at (only n) builds k ≡ None
         → first_given (job_at (only n) builds) (k ∷ ks)
         ≡ first_given (job_at (only n) builds) ks
     without_job k ks none = ap (λ o. option_or o (first_given (job_at (only n) builds) ks)) none
 
-    -- where it has none there is none
+    -- if it has no job, there is none
     pub none_among : own_answer ≡ None → (ks : List ℕ)
         → first_given (job_at (only n) builds) ks ≡ None
     none_among none [] = refl
@@ -83,7 +83,7 @@ module _ (n : NodeState) where
         by true e = job_here k true e ∙ ap (option_map (λ input. (k, Does input))) none
         by false e = job_here k false e
 
-    -- and else it is the first
+    -- otherwise it is the first
     pub some_among : (input : Input) → own_answer ≡ Some input → (ks : List ℕ)
         → is_in me ks ≡ true
         → first_given (job_at (only n) builds) ks ≡ Some (me, Does input)
@@ -102,7 +102,7 @@ module _ (n : NodeState) where
         by later false e = without_job k ks (job_here k false e)
             ∙ later (sym (ap (λ b. b || is_in me ks) e) ∙ among)
 
-  -- ---- what it does of itself
+  -- ---- what it does on its own initiative
 
   -- no unit is claimed elsewhere
   pub nothing_elsewhere : (u : ℕ) (ks : List ℕ)
@@ -119,7 +119,7 @@ module _ (n : NodeState) where
       by false = refl
 
   module _ (count : ℕ) (p : Pending) where
-    -- what it does, where only units of failed builds are barred
+    -- what it does if only units with failed builds are barred
     pub own_is : (own : Option Input) → n.stopped ≡ false
         → IsOwn n.member (above_at p me) (λ u. has_failed p u || false) own
         → IsOwnIf (only n) count p me (member_up n) own
@@ -141,7 +141,7 @@ module _ (n : NodeState) where
         subst (λ b. IsOwnIf (only n) count p k (if b then member_up n else None) own) (sym this)
         (subst (λ j. IsOwnIf (only n) count p j (member_up n) own) (sym (eqb-true k me this)) is)
 
-    -- where it does nothing, none does
+    -- if it does nothing, no node does
     pub none_does : IsOwnIf (only n) count p me (member_up n) None → (ks : List ℕ)
         → IsFirstOwn (only n) count p ks None
     none_does is [] = refl
@@ -151,7 +151,7 @@ module _ (n : NodeState) where
         by true e = this_does k None e is
         by false e = other_does k e
 
-    -- and else it is the first that does something
+    -- otherwise it is the first that does something
     pub this_one_does : (input : Input)
         → IsOwnIf (only n) count p me (member_up n) (Some input) → (ks : List ℕ)
         → is_in me ks ≡ true → IsFirstOwn (only n) count p ks (Some (me, Does input))

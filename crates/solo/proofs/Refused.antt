@@ -15,7 +15,7 @@ use Rattle.protocol.specs.declared.input.Input.{Input}
 use Rattle.protocol.specs.declared.refusal.Refusal.{Refusal}
 use Rattle.solo.specs.inside.Turning.{told}
 
--- A refusal is told as want of memory, which it is, or as the node's.
+-- A refusal is reported as out of memory or as the node's own.
 pub told_is : (f : NodeFault) → (f ≡ fault.Memory) ⊎ (told f ≡ refused.Node f)
 told_is fault.Memory = inl refl
 told_is (fault.Refused r) = inr refl
@@ -23,7 +23,7 @@ told_is (fault.Log f) = inr refl
 told_is fault.Stopped = inr refl
 told_is (fault.Foreign f) = inr refl
 
--- what is left of a node that refused something of its own: all
+-- a node that refused an input of its own is unchanged
 pub stays : (n : NodeState) (input : Input) (f : NodeFault) → Takes n (Does input) (Err f)
     → left_by n (Does input) f ≡ n
 stays n input f takes = by n.stopped takes.right_is
@@ -49,11 +49,11 @@ stays n input f takes = by n.stopped takes.right_is
     by true e = same fault.Stopped e refl
     by false e = answered (answer n.member takes.letter input) e
 
--- a node that stopped doesn't run
+-- a stopped node doesn't run
 pub stops_or_runs : (n m : NodeState) → m ≡ record n { stopped = true } → m.stopped ≡ false → ⊥
 stops_or_runs n m stops runs = true≢false (sym (ap (λ (x : NodeState). x.stopped) stops) ∙ runs)
 
--- A refusal says that the node went down, or it says something else, whatever else is known.
+-- A refusal says that the node went down, or something else, whatever else holds.
 pub down_or_else : {A B C : Type 0} (f : TurnFault)
     → (A → B → ((k : ℕ) × (f ≡ refused.Down k)) ⊎ C)
     → ((k : ℕ) × (f ≡ refused.Down k)) ⊎ (A → B → C)

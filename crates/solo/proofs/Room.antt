@@ -1,4 +1,4 @@
--- Where a log has room for the note of a step, the node's notes say so.
+-- Whether a log has room for a step's note follows from the node's notes.
 use Rattle.std.proofs.Common.{◌≡◌, Option, None, Some, subst, arith}
 use Rattle.ballots.specs.declared.message.Note.{Note}
 use Rattle.node.proofs.Finishing.{note_is}
@@ -8,14 +8,14 @@ use Rattle.node.specs.Step.{ReadyStep, note_in, taken_by}
 use Rattle.protocol.specs.State.{Value}
 use Rattle.stable_record.specs.Log.{gate_place}
 
--- a log that ends behind the node's notes lacks room where the notes say so
+-- a log that ends after the node's notes lacks room if the notes imply it
 lack_of_full : {D : Type 0} (n : LoggedNode D)
     → n.log.end ≡ gate_place (identity_of n.node.member) (texts_of n.node.notes)
     → (o : Option (Note Value)) → IsFull n.node o → LacksRoom n.log o
 lack_of_full n end None full = full
 lack_of_full n end (Some note) full = omega (arith, full, end)
 
--- so where it has room for the note of a step, it isn't full
+-- so if it has room for a step's note, it isn't full
 pub not_full : {D : Type 0} (n : LoggedNode D) → IsLogged n → (r : ReadyStep)
     → ¬ LacksRoom n.log (note_in r.step) → ¬ IsFull n.node (taken_by n.node r).answer.note
 not_full n logged r room full = room (subst (LacksRoom n.log) (note_is n.node.member r.step)

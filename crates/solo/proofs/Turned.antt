@@ -1,4 +1,4 @@
--- What was chosen is taken.
+-- The choice is carried out.
 use Rattle.std.proofs.Common.{◌≡◌, ◌⊎◌, ℕ, true, false, List, [], ◌∷◌, Option, None, Some, Ok, map, refl, sym, ap, subst, ◌∙◌, inr}
 use Rattle.choice.specs.Acts.{asked_by}
 use Rattle.choice.specs.Choice.{Chosen}
@@ -27,18 +27,18 @@ use Rattle.solo.specs.Turn.{HasTaken, IsChosen, IsUntouched, IsVouchedFor, Leave
 use Rattle.solo.specs.inside.Turning.{HasChosen, IsMade, IsTakingFault, TookStep}
 
 module _ {D : Type 0} (n : LoggedNode D) (r : Readied) where
-  -- what was made ready is what was chosen
+  -- what was prepared is what was chosen
   pub chosen_is : (c : Chosen) → IsMade n c (Some r)
       → c ≡ Some (n.node.member.me, asked_by r.act)
   chosen_is None made = absurd made
   chosen_is (Some x) made = λ i. Some (made.0 i, sym (made.1).asks i)
 
-  -- and its step is ready
+  -- its step is prepared
   pub readied_is : (c : Chosen) → IsMade n c (Some r) → IsReadied n (asked_by r.act) r
   readied_is None made = absurd made
   readied_is (Some x) made = subst (λ asked. IsReadied n asked r) (sym (made.1).asks) made.1
 
--- what was made ready of this node was made ready of the same node
+-- what was prepared for this node was prepared for an equal one
 pub has_now : {D P : Type 0} (given : P → Option (List Arrived)) (does : P → Call → P → Type 0)
     (vouches : P → Text → Type 0) (old now mid : SoloState D P) (handed : Handed) → old ≡ now
     → (o : Option Readied) (r : Readied) → o ≡ Some r
@@ -48,7 +48,7 @@ has_now given does vouches old now mid handed same o r is has =
     subst (λ x. HasChosen given does vouches x mid handed (Some r)) same
     (subst (HasChosen given does vouches old mid handed) is has)
 
--- where that is the turn's choice, and the node stayed
+-- if that is the turn's choice and the node is unchanged
 pub readied_so : {D P : Type 0} (given : P → Option (List Arrived)) (does : P → Call → P → Type 0)
     (vouches : P → Text → Type 0) (old mid : SoloState D P) (handed : Handed) (r : Readied)
     → HasChosen given does vouches old mid handed (Some r) → IsReadied mid.node (asked_by r.act) r
@@ -63,7 +63,7 @@ moments_so is_kept history old mid new same asked = subst
     (λ n. is_kept new.node.log.disk → IsOnLog history n → LeavesItsNoteAtMost n.node asked
     (history n.log.disk) (history new.node.log.disk)) same
 
--- and what that leaves untouched was untouched before
+-- what is untouched afterwards was untouched before
 pub untouched_so : {D P : Type 0} (is_kept : D → Type 0) (history : D → History)
     (old mid new : SoloState D P) → mid.node ≡ old.node → (f : TurnFault)
     → ((k : ℕ) × (f ≡ refused.Down k)) ⊎ IsUntouched is_kept history mid new
@@ -73,7 +73,7 @@ untouched_so is_kept history old mid new same f = subst
     ⊎ (is_kept new.node.log.disk → (n.node.stopped ≡ false → IsOnLog history n)
     → history new.node.log.disk ≡ history n.log.disk)) same
 
--- what was offered nothing went through no call
+-- a port that was offered nothing went through no call
 none_sent : {P : Type 0} (does : P → Call → P → Type 0) (old new : P) → WasOffered does old [] new
     → new ≡ old
 none_sent does old new ([], are, same) = same
@@ -115,7 +115,7 @@ module _ {D P : Type 0} (given : P → Option (List Arrived)) (does : P → Call
         (chosen_is old.node r has.chosen has.made)
         (chosen_then has.chosen parcels has.is_chosen nothing sent keeps)
 
-    -- the step that was ready was taken
+    -- the prepared step was taken
     pub taken_so : (offered : P → Option (List Parcel)) → mid.pending ≡ old.pending
         → GoesOnBy [] (offered old.port) (offered mid.port)
         → TookStep offered does mid new (asked_by r.act)
@@ -154,7 +154,7 @@ module _ {D P : Type 0} (given : P → Option (List Arrived)) (does : P → Call
           (subst (λ n. HasRoomForNote n.log (note_in r.ready.step)) has.same room);
     }
 
-    -- or it was not
+    -- or it wasn't
     chosen_still : new.port ≡ mid.port
         → IsChosen given does vouches old new handed [] (Some (me_of old, asked_by r.act))
     chosen_still still = chosen_so [] ([], refl, still)

@@ -1,4 +1,4 @@
--- Turns, one after the other.
+-- Sequences of turns.
 use Rattle.std.proofs.Common.{◌+◌, ◌++◌, ◌∙◌, ℕ, List, [], ◌∷◌, Option, refl, ap, subst, length-append}
 use Rattle.faults.specs.Bytes.{Text}
 use Rattle.ports.specs.Calls.{Call}
@@ -21,7 +21,7 @@ module _ {D P : Type 0} (is_kept : D → Type 0) (history : D → History) (fail
     abbrev Have : ℕ → SoloState D P → SoloState D P → Type 0
     Have = HaveTurned is_kept history failures_of given offered does vouches handed
 
-    -- one more turn behind these
+    -- one more turn at the end
     pub TurnsLead-append : (old between new : SoloState D P) (answers : List Outcome)
         (answer : Outcome) → Lead old answers between → Turn between new answer
         → Lead old (answers ++ answer ∷ []) new
@@ -34,7 +34,7 @@ module _ {D P : Type 0} (is_kept : D → Type 0) (history : D → History) (fail
     pub none_yet : (state : SoloState D P) → Have 0 state state
     none_yet state = record { answers = []; counted = refl; led = refl }
 
-    -- one more
+    -- one more turn
     pub one_more : (count : ℕ) (old between new : SoloState D P) → Have count old between
         → ((answer : Outcome) × Turn between new answer) → Have (count + 1) old new
     one_more count old between new so (answer, turn) = record {

@@ -1,4 +1,4 @@
--- Why a turn did nothing, and what that leaves.
+-- Why a turn is refused, and what state that leaves.
 use Rattle.std.specs.Prelude.{◌≡◌, ◌⊎◌, ℕ, true, List, [], Option, Some, Err}
 use Rattle.choice.specs.Choice.{Chosen}
 use Rattle.choice.specs.declared.fault.TurnFault.{TurnFault}
@@ -16,14 +16,14 @@ use Rattle.stable_record.specs.declared.log_fault.LogFault.TheVariants as log
 use Rattle.solo.specs.State.{SoloState, me_of}
 use Rattle.solo.specs.Turn.{IsChosen}
 
--- The node takes no step on what was chosen, or its log has no room for the step's note; and it is
--- left as such a refusal leaves it.
+-- The node refuses what was chosen, or its log has no room for the step's note. It is left in the
+-- state after such a refusal.
 pub record IsRefusedBy {D : Type 0} (old new : LoggedNode D) (asked : Asked) (f : NodeFault)
     : Type 0 where
   pub cause : Takes old.node asked (Err f) ⊎ ((f ≡ fault.Log log.Full) × HasFilled old asked)
   pub leaves : new.node ≡ left_by old.node asked f
 
--- Memory was wanting, whatever is chosen, and the node stayed.
+-- Memory ran out, whatever the choice was, and the node is unchanged.
 abbrev pub WantsMemory : {D P : Type 0} → (P → Option (List Arrived)) → (P → Call → P → Type 0)
     → (P → Text → Type 0) → SoloState D P → SoloState D P → Handed → Type 0
 WantsMemory given does vouches old new handed =
@@ -37,8 +37,8 @@ RefusesChoice given does vouches old new handed f =
     (asked : Asked) × IsChosen given does vouches old new handed [] (Some (me_of old, asked))
     × IsRefusedBy old.node new.node asked f
 
--- The node went down: the note of its step on what was chosen went to the device, and this is what
--- that leaves of what the node was asked.
+-- The node went down. The note of its step went to the device, and `leaves` holds of what the node
+-- was asked.
 abbrev pub GoesDown : {D P : Type 0} → (P → Option (List Arrived)) → (P → Call → P → Type 0)
     → (P → Text → Type 0) → SoloState D P → SoloState D P → Handed → (Asked → Type 0) → ℕ → Type 0
 GoesDown given does vouches old new handed leaves k =
@@ -46,8 +46,8 @@ GoesDown given does vouches old new handed leaves k =
     × (k ≡ me_of old) × HasTried old.node asked
     × (new.node.node ≡ record old.node.node { stopped = true }) × leaves asked
 
--- Each refusal has its cause, want of memory aside, which leaves the node; and the port was asked
--- as for a choice, whichever it is, and was offered nothing.
+-- The cause of each refusal, and the state that it leaves. The port was asked only as for a choice,
+-- and was offered nothing. `NotSent` and `NotFresh` don't occur.
 abbrev pub IsTurnFault : {D P : Type 0} → (P → Option (List Arrived)) → (P → Call → P → Type 0)
     → (P → Text → Type 0) → SoloState D P → SoloState D P → Handed → (Asked → Type 0) → TurnFault
     → Type 0

@@ -1,4 +1,4 @@
--- One turn of a node whose peers are elsewhere.
+-- One turn of a node whose peers run elsewhere.
 use Rattle.std.specs.Prelude.{◌≡◌, ⊤, Bool, false, List, [], ◌∷◌, Option, None, Some, Result, Ok, if◌then◌else◌, length}
 use Rattle.choice.specs.Choice.{Chosen}
 use Rattle.choice.specs.Pending.{kept_after}
@@ -16,26 +16,25 @@ use Rattle.stable_record.specs.History.{History}
 use Rattle.solo.specs.Handed.{Handed, IsChoiceBy, answers_first}
 use Rattle.solo.specs.State.{SoloState, me_of, only}
 
--- whether a job of the node is answered before all else
+-- whether a job of the node is answered before anything else
 abbrev pub has_work : {D P : Type 0} → SoloState D P → Handed → Bool
 has_work s handed = answers_first handed (only s.node.node) (length s.node.node.member.weights)
 
--- What receives gave in the turn: nothing was asked of the port where a job waited for its answer,
--- and else it was asked once.
+-- What receives returned in the turn. The port is asked once, unless a job waited for its answer.
 abbrev pub looked_for : Bool → Arrived → List Arrived
 looked_for has_job came = if has_job then [] else came ∷ []
 
--- the calls by which it was asked
+-- the receive calls of the turn
 abbrev pub received_by : Bool → Result Arrived PortFault → List Call
 received_by has_job answer = if has_job then [] else Received answer ∷ []
 
--- The port vouches for what came, if it is bytes.
+-- If bytes were received, the port vouches for them.
 abbrev pub IsVouchedFor : {P : Type 0} → (P → Text → Type 0) → P → Arrived → Type 0
 IsVouchedFor vouches port None = ⊤
 IsVouchedFor vouches port (Some d) = vouches port d.1
 
--- It is the turn's choice, by what the port gave in the turn, for which it vouches. The port went
--- through just these calls, in order: it was asked once, or never, and then these were offered.
+-- It is the turn's choice, given what the port returned, which it vouches for. The port went
+-- through exactly these calls: one receive or none, and then the sends of these datagrams.
 pub record IsChosen {D P : Type 0} (given : P → Option (List Arrived))
     (does : P → Call → P → Type 0) (vouches : P → Text → Type 0) (old new : SoloState D P)
     (handed : Handed) (parcels : List Parcel) (chosen : Chosen) : Type 0 where
@@ -49,8 +48,8 @@ pub record IsChosen {D P : Type 0} (given : P → Option (List Arrived))
   pub choice : IsChoiceBy handed (only old.node.node) (length old.node.node.member.weights)
       old.pending (me_of old) (came_by answer) chosen
 
--- The node took its step on what it was asked, for whose note its log had room, what follows is
--- kept, and just the step's sends were offered.
+-- The node took its step on what it was asked, and its log had room for the note. The state between
+-- turns was updated, and exactly the step's sends were offered.
 pub record HasTaken {D P : Type 0} (given : P → Option (List Arrived))
     (offered : P → Option (List Parcel)) (does : P → Call → P → Type 0)
     (vouches : P → Text → Type 0) (old new : SoloState D P) (handed : Handed) (asked : Asked)
@@ -65,7 +64,7 @@ pub record HasTaken {D P : Type 0} (given : P → Option (List Arrived))
   pub chosen : IsChosen given does vouches old new handed
       (parcels_from (me_of old) (datagrams_to taken.answer.sends)) (Some (me_of old, asked))
 
--- What the node is asked, if it is to take bytes, the port vouches for.
+-- If the node is asked to take bytes, the port vouches for them.
 abbrev pub IsHeard : {P : Type 0} → (P → Text → Type 0) → P → Asked → Type 0
 IsHeard vouches port (Comes text) = vouches port text
 IsHeard vouches port (Does input) = ⊤
@@ -75,7 +74,8 @@ abbrev pub OffersNothing : {D P : Type 0} → (P → Option (List Parcel)) → S
     → SoloState D P → Type 0
 OffersNothing offered old new = GoesOnBy [] (offered old.port) (offered new.port)
 
--- A crash at any moment of it leaves the notes, with that of the step on what was asked or without.
+-- A crash at any moment of the turn leaves the notes, with that of the step on what was asked, or
+-- without it.
 abbrev pub LeavesAtMost : {D P : Type 0} → (D → Type 0) → (D → History) → SoloState D P
     → SoloState D P → Asked → Type 0
 LeavesAtMost is_kept history old new asked =
@@ -83,8 +83,8 @@ LeavesAtMost is_kept history old new asked =
     → LeavesItsNoteAtMost old.node.node asked (history old.node.log.disk)
     (history new.node.log.disk)
 
--- The disk went through nothing, if a node that was up was on its log: no write or cut that did
--- anything, and no sync that succeeded.
+-- If the disk keeps to the disk model, and the node, unless it was stopped, was on its log, then
+-- nothing was done to the disk: no write or cut had an effect, and no sync succeeded.
 abbrev pub IsUntouched : {D P : Type 0} → (D → Type 0) → (D → History) → SoloState D P
     → SoloState D P → Type 0
 IsUntouched is_kept history old new =

@@ -1,4 +1,4 @@
--- Turns of a node, one after the other.
+-- Sequences of turns of a node.
 use Rattle.std.specs.Prelude.{◌≡◌, ◌⊎◌, ℕ, false, List, [], ◌∷◌, Option, None, Result, IfErr, IfNone, IfOk, IfSome, MatchResult, length}
 use Rattle.choice.specs.Acts.{asked_by}
 use Rattle.choice.specs.declared.act.Act.{Act}
@@ -15,14 +15,15 @@ use Rattle.solo.specs.Faults.{IsTurnFault}
 use Rattle.solo.specs.State.{SoloState}
 use Rattle.solo.specs.Turn.{HasTaken, IsChosen, IsHeard, IsUntouched, LeavesAtMost, OffersNothing}
 
--- what a turn answers
+-- what a turn returns
 abbrev pub Outcome : Type 0
 Outcome = Result (Option Act) TurnFault
 
--- What it answers was done. The node took its step on the turn's choice; and the port went through
--- just these calls, in order: it was asked once, unless a job waited for its answer, and then the
--- step's sends were offered. What the node took for a datagram the port vouches for. Or there was
--- nothing to do, and nothing changed but the port, which was asked the same.
+-- What a successful turn did:
+-- - It took the node's step on the turn's choice. The port went through exactly one receive, unless
+--   a job waited for its answer, and then the step's sends. It vouches for bytes that the node
+--   took.
+-- - Or there was nothing to do, and only the port changed, which was asked in the same way.
 pub record HasDone {D P : Type 0} (given : P → Option (List Arrived))
     (offered : P → Option (List Parcel)) (does : P → Call → P → Type 0)
     (vouches : P → Text → Type 0) (handed : Handed) (old new : SoloState D P) (answer : Outcome)
@@ -34,8 +35,8 @@ pub record HasDone {D P : Type 0} (given : P → Option (List Arrived))
   pub same : IfOk answer (λ o. IfNone o
       ((new.node ≡ old.node) × (new.pending ≡ old.pending) × OffersNothing offered old new))
 
--- Why it is refused, if it is, and what that leaves; the port was asked the same, and was offered
--- nothing.
+-- Why a turn was refused, and what state that leaves. The port was asked in the same way, and was
+-- offered nothing.
 pub record RefusesSo {D P : Type 0} (is_kept : D → Type 0) (history : D → History)
     (failures_of : D → ℕ) (given : P → Option (List Arrived)) (offered : P → Option (List Parcel))
     (does : P → Call → P → Type 0) (vouches : P → Text → Type 0) (handed : Handed)
@@ -46,7 +47,7 @@ pub record RefusesSo {D P : Type 0} (is_kept : D → Type 0) (history : D → Hi
   pub device : IfErr answer (λ f. (k : ℕ) → f ≡ Down k
       → HasRisen (failures_of old.node.log.disk) (failures_of new.node.log.disk))
 
--- The log: before and after the turn, and at each moment of it.
+-- The log before and after the turn, and at each moment of it.
 pub record KeepsLog {D P : Type 0} (is_kept : D → Type 0) (history : D → History)
     (old new : SoloState D P) (answer : Outcome) : Type 0 where
   pub logged : IsLogged old.node
@@ -58,7 +59,7 @@ pub record KeepsLog {D P : Type 0} (is_kept : D → Type 0) (history : D → His
       (λ f. ((k : ℕ) × (f ≡ Down k)) ⊎ IsUntouched is_kept history old new)
   pub kept : is_kept new.node.log.disk → is_kept old.node.log.disk
 
--- A turn that was answered so. What the port vouched for it still vouches for.
+-- A turn with this answer. The port still vouches for whatever it vouched for.
 pub record IsTurn {D P : Type 0} (is_kept : D → Type 0) (history : D → History)
     (failures_of : D → ℕ) (given : P → Option (List Arrived)) (offered : P → Option (List Parcel))
     (does : P → Call → P → Type 0) (vouches : P → Text → Type 0) (handed : Handed)
@@ -69,8 +70,8 @@ pub record IsTurn {D P : Type 0} (is_kept : D → Type 0) (history : D → Histo
   pub log : KeepsLog is_kept history old new answer
   pub vouches_on : KeepsVouching vouches old.port new.port
 
--- Turns that were answered so, one after the other, lead from one state to the other: each is one
--- of the state that the one before left, and nothing else happened in between.
+-- Turns with these answers lead from one state to the other. Each begins in the state that the one
+-- before left, and nothing else happens in between.
 abbrev pub TurnsLead : {D P : Type 0} → (D → Type 0) → (D → History) → (D → ℕ)
     → (P → Option (List Arrived)) → (P → Option (List Parcel)) → (P → Call → P → Type 0)
     → (P → Text → Type 0) → Handed → SoloState D P → List Outcome → SoloState D P → Type 0
@@ -80,7 +81,7 @@ TurnsLead is_kept history failures_of given offered does vouches handed old (ans
     × IsTurn is_kept history failures_of given offered does vouches handed old between answer
     × TurnsLead is_kept history failures_of given offered does vouches handed between more new
 
--- So many turns led from one state to the other.
+-- This number of turns led from one state to the other.
 pub record HaveTurned {D P : Type 0} (is_kept : D → Type 0) (history : D → History)
     (failures_of : D → ℕ) (given : P → Option (List Arrived)) (offered : P → Option (List Parcel))
     (does : P → Call → P → Type 0) (vouches : P → Text → Type 0) (handed : Handed) (count : ℕ)

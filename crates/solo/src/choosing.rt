@@ -37,14 +37,18 @@ use ports::Port;
 use protocol::Packages;
 use stable_record::Disk;
 
-/// What the node does in the turn, if anything, with its step ready. The first of these that
-/// applies: it answers its job; it takes what came for it, for which the port is asked once; it
-/// does something of itself. Below `unfailed` no package is queued but those whose units failed.
+/// What the node does in the turn, if anything, with its step prepared. It does the first of these
+/// that applies:
+/// 1. It answers its job.
+/// 2. It takes a received datagram that is for it; the port is asked once.
+/// 3. It does something on its own initiative.
+///
+/// Below `unfailed` the only queued packages are those whose units failed.
 ///
 /// # Errors
 ///
-/// `Memory`; `Node`, why the node takes no step on that: of bytes that mean nothing to it the
-/// pieces that join to no message are dropped.
+/// `Memory`; `Node`, why the node refuses the choice. If it refuses bytes as foreign, pieces that
+/// join to no message are dropped.
 pub(crate) fn choose<D: Disk, P: Port>(
     node: &mut Node<'_, D>,
     port: &mut P,
@@ -96,7 +100,7 @@ fn answered<D: Disk>(
     }
 }
 
-/// What came. A receive that fails gave nothing.
+/// Receives a datagram. A receive that fails counts as one that returned nothing.
 pub(crate) fn received<P: Port>(port: &mut P) -> Option<(u8, Vec<u8>)>
     ensures came { HasCome P.given P.does P.vouches port.old port.new
         (option_map (λ d. (d.0, d.1.items)) result) }
@@ -109,7 +113,8 @@ pub(crate) fn received<P: Port>(port: &mut P) -> Option<(u8, Vec<u8>)>
     }
 }
 
-/// That the node, which has this number, takes what came, if that came for it and it is up.
+/// Prepares the step on the received datagram, if that is for the node and the node is up. `me` is
+/// the node's number.
 pub(crate) fn taken_in<D: Disk>(
     node: &mut Node<'_, D>,
     me: u8,
@@ -131,8 +136,8 @@ pub(crate) fn taken_in<D: Disk>(
     }
 }
 
-/// What the node, which has this number, does of itself, if it is up and does anything. No unit is
-/// claimed elsewhere as far as it knows.
+/// What the node does on its own initiative, if it is up and does anything. No unit is claimed by
+/// another node here. `me` is the node's number.
 fn done<D: Disk>(
     node: &mut Node<'_, D>,
     me: u8,
@@ -163,7 +168,7 @@ fn done<D: Disk>(
     }
 }
 
-/// The node's refusal, as one of a turn.
+/// The node's refusal as that of a turn.
 pub(crate) fn told(fault: NodeFault) -> TurnFault
     ensures { result ≡ told fault }
 {

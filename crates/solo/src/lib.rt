@@ -1,4 +1,4 @@
-//! One node of a cluster whose other nodes are elsewhere, turn by turn.
+//! One node of a cluster whose other nodes run elsewhere, turn by turn.
 #![tactic(auto)]
 
 mod choosing;

@@ -1,4 +1,4 @@
-//! What a node does in a turn where builds are made while it runs.
+//! What a node does in a turn if builds are made while it runs.
 ghost use Rattle.std.specs.Prelude.{
   ◌≡◌,
   ◌≢◌,
@@ -47,14 +47,13 @@ use protocol::Packages;
 use stable_record::Disk;
 
 impl<'a, D: Disk, P: Port> Solo<'a, D, P> {
-    /// Takes one turn where builds are made while the node runs, and answers what the node did, if
-    /// there was anything to do. What is made answers the node's job, if it has one; where nothing
-    /// is made yet the job waits. Where nothing else is to be done the node does what it is wished
-    /// to, or goes on with its open claim.
+    /// Takes one turn if builds are made while the node runs, and returns what the node did, if
+    /// anything. `made` has the files for the node's job; while it is `None`, the job waits. If
+    /// there is nothing else to do, the node does what is wished, or continues with its open claim.
     ///
     /// # Errors
     ///
-    /// `Memory`; `Down`, where the node's device failed; else what the node refuses.
+    /// `Memory`; `Down` if the node's device failed; otherwise the node's refusal.
     pub fn turn_live(
         &mut self,
         made: Option<&Packages>,
@@ -66,7 +65,7 @@ impl<'a, D: Disk, P: Port> Solo<'a, D, P> {
         self.take_live_turn(made, wish)
     }
 
-    /// Whether a greater claim stands in the way of the open one, as far as nays told.
+    /// Whether a greater claim blocks the open one, according to the nays so far.
     pub fn is_in_the_way(&self) -> bool
         ensures { result ≡ is_some (above_at self.now.pending (me_of self.now)) }
     {
@@ -74,15 +73,15 @@ impl<'a, D: Disk, P: Port> Solo<'a, D, P> {
         self.pending.above(me).is_some()
     }
 
-    /// The same of a turn where builds are made, clause by clause.
+    /// Takes the turn; its clauses are those of `IsTurn`, one by one.
     fn take_live_turn(
         &mut self,
         made: Option<&Packages>,
         wish: Option<Wish>,
     ) -> Result<Option<Act>, TurnFault>
-        // The choice, whose step the node took; and the port went through just these calls, in
-        // order: it was asked once, unless a job was answered, and then the step's sends were
-        // offered. What the node takes for a datagram the port vouches for.
+        // The node took its step on the turn's choice. The port went through exactly these calls:
+        // one receive, unless a job was answered, and then the step's sends. It vouches for bytes
+        // that the node took.
         ensures taken { IfOk result (λ o. IfSome o (λ act. HasTaken P.given P.offered P.does
             P.vouches self.old self.new (SoFar (option_map (λ b. b.now) made.entry) wish)
             (asked_by act))) }
@@ -97,7 +96,7 @@ impl<'a, D: Disk, P: Port> Solo<'a, D, P> {
             ((self.new.node ≡ self.old.node) × (self.new.pending ≡ self.old.pending)
             × OffersNothing P.offered self.old self.new)) }
 
-        // Refusals, and what they leave.
+        // Refusals, and the state that they leave.
         ensures refused { IfErr result (IsTurnFault P.given P.does P.vouches self.old self.new
             (SoFar (option_map (λ b. b.now) made.entry) wish)
             (LeavesAtMost D.is_kept D.history self.old self.new)) }
@@ -107,7 +106,7 @@ impl<'a, D: Disk, P: Port> Solo<'a, D, P> {
             → HasRisen (D.failures_of self.old.node.log.disk)
             (D.failures_of self.new.node.log.disk)) }
 
-        // The log: before and after each turn, and at each moment of one.
+        // The log before and after each turn, and at each moment of it.
         ensures logged { IsLogged self.old.node }
         ensures on_log { D.is_kept self.new.node.log.disk → IsOnLog D.history self.old.node
             → self.new.node.node.stopped ≡ false → IsOnLog D.history self.new.node }
@@ -136,13 +135,16 @@ impl<'a, D: Disk, P: Port> Solo<'a, D, P> {
     }
 }
 
-/// What the node does in the turn, if anything, with its step ready. The first of these that
-/// applies: it answers its job, if that is made; it takes what came for it, for which the port is
-/// asked once; it does what it is wished to; it goes on with its open claim.
+/// What the node does in the turn, if anything, with its step prepared. It does the first of these
+/// that applies:
+/// 1. It answers its job, if the files for it are made.
+/// 2. It takes a received datagram that is for it; the port is asked once.
+/// 3. It does what is wished.
+/// 4. It continues with its open claim.
 ///
 /// # Errors
 ///
-/// `Memory`; `Node`, why the node takes no step on that.
+/// `Memory`; `Node`, why the node refuses the choice.
 pub(crate) fn choose_live<D: Disk, P: Port>(
     node: &mut Node<'_, D>,
     port: &mut P,
@@ -194,8 +196,8 @@ fn answered_if<D: Disk>(
     }
 }
 
-/// What the node, which has this number, is wished to do, or else what it does about its open
-/// claim, if it is up.
+/// What is wished of the node, or else what it does about its open claim, if it is up. `me` is the
+/// node's number.
 fn left_to_do<D: Disk>(
     node: &mut Node<'_, D>,
     me: u8,
@@ -219,8 +221,8 @@ fn left_to_do<D: Disk>(
     }
 }
 
-/// The same of a node that is up, where greater claims with rounds up to this one stand in the way
-/// of its open one.
+/// Like `left_to_do`, for a node that is up. `above` is the greatest round of the claims that block
+/// its open one.
 fn done<D: Disk>(
     node: &mut Node<'_, D>,
     above: Option<u64>,

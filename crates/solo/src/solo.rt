@@ -1,4 +1,4 @@
-//! One node, its port, and what it keeps between turns.
+//! One node, its port, and its state between turns.
 ghost use Rattle.std.specs.Prelude.{
   ◌≡◌,
   ◌⊎◌,
@@ -37,14 +37,14 @@ use protocol::Packages;
 use stable_record::Disk;
 use std::marker::Model;
 
-/// One node, whose peers are elsewhere, and the port by which they hear each other.
+/// One node whose peers run elsewhere, and the port that it reaches them through.
 #[derive(Drop)]
 pub struct Solo<'a, D: Disk, P: Port> {
     pub(crate) node: Node<'a, D>,
     pub(crate) pending: Pending,
     pub(crate) port: P,
-    /// Below this position no package is queued but those whose units failed, so that no turn looks
-    /// at these again.
+    /// Below this position the only queued packages are those whose units failed. Turns needn't
+    /// search there again.
     pub(crate) unfailed: u32,
 }
 
@@ -65,7 +65,7 @@ impl<'a, D: Disk, P: Port> Solo<'a, D, P> {
     ghost use Rattle.solo.specs.contracts.solo.Solo.{the_row};
     ghost use mir.Syntax.{named};
 
-    /// The node and the port as they are handed in; nothing is kept yet.
+    /// A new `Solo` of this node and port.
     pub fn new(node: Node<'a, D>, port: P) -> Solo<'a, D, P>
         requires no_claim { node.node.member.claim ≡ None }
         requires runs { node.node.stopped ≡ false }
@@ -82,12 +82,12 @@ impl<'a, D: Disk, P: Port> Solo<'a, D, P> {
         }
     }
 
-    /// Takes one turn, and answers what the node did, if there was anything to do. What a send
-    /// refuses is lost, and a receive that fails gave nothing.
+    /// Takes one turn, and returns what the node did, if anything. A datagram that a send refuses
+    /// is lost, and a receive that fails counts as one that returned nothing.
     ///
     /// # Errors
     ///
-    /// `Memory`; `Down`, where the node's device failed; else what the node refuses.
+    /// `Memory`; `Down` if the node's device failed; otherwise the node's refusal.
     pub fn turn(&mut self, builds: &Packages) -> Result<Option<Act>, TurnFault>
         ensures { IsTurn D.is_kept D.history D.failures_of P.given P.offered P.does P.vouches
             (AllBuilds builds.now) self.old self.new result }
@@ -95,7 +95,7 @@ impl<'a, D: Disk, P: Port> Solo<'a, D, P> {
         self.take_turn(builds)
     }
 
-    /// How many packages have each letter at the node, as long as it is up.
+    /// The number of packages with each letter at the node, if it is up.
     pub fn counts(&self) -> Option<Counts>
         ensures { MatchOption result (self.now.node.node.stopped ≡ true)
             (λ counts. (self.now.node.node.stopped ≡ false)
@@ -107,14 +107,14 @@ impl<'a, D: Disk, P: Port> Solo<'a, D, P> {
         Some(self.node.counts())
     }
 
-    /// The node, to be read.
+    /// The node.
     pub fn node(&self) -> &Node<'a, D>
         ensures { result.now ≡ self.now.node }
     {
         &self.node
     }
 
-    /// The node and the port, as they are.
+    /// Returns the node and the port.
     pub fn into_parts(self) -> (Node<'a, D>, P)
         ensures node { result.0 ≡ self.entry.node }
         ensures port { result.1 ≡ self.entry.port }
@@ -123,7 +123,7 @@ impl<'a, D: Disk, P: Port> Solo<'a, D, P> {
         (node, port)
     }
 
-    /// The port, lent.
+    /// The port.
     pub fn port(&mut self) -> &mut P
         ensures value { result.now ≡ self.old.port }
         ensures* lends { sem 𝓛 (follows
@@ -133,11 +133,11 @@ impl<'a, D: Disk, P: Port> Solo<'a, D, P> {
         &mut self.port
     }
 
-    /// The same, clause by clause.
+    /// Takes the turn; its clauses are those of `IsTurn`, one by one.
     fn take_turn(&mut self, builds: &Packages) -> Result<Option<Act>, TurnFault>
-        // The choice, whose step the node took; and the port went through just these calls, in
-        // order: it was asked once, unless a job waited for its answer, and then the step's sends
-        // were offered. What the node takes for a datagram the port vouches for.
+        // The node took its step on the turn's choice. The port went through exactly these calls:
+        // one receive, unless a job waited for its answer, and then the step's sends. It vouches
+        // for bytes that the node took.
         ensures taken { IfOk result (λ o. IfSome o (λ act. HasTaken P.given P.offered P.does
             P.vouches self.old self.new (AllBuilds builds.now) (asked_by act))) }
         ensures heard { IfOk result (λ o. IfSome o
@@ -151,7 +151,7 @@ impl<'a, D: Disk, P: Port> Solo<'a, D, P> {
             ((self.new.node ≡ self.old.node) × (self.new.pending ≡ self.old.pending)
             × OffersNothing P.offered self.old self.new)) }
 
-        // Refusals, and what they leave.
+        // Refusals, and the state that they leave.
         ensures refused { IfErr result (IsTurnFault P.given P.does P.vouches self.old self.new
             (AllBuilds builds.now) (LeavesAtMost D.is_kept D.history self.old self.new)) }
         ensures left { IfErr result (λ f. (self.new.pending ≡ self.old.pending)
@@ -160,7 +160,7 @@ impl<'a, D: Disk, P: Port> Solo<'a, D, P> {
             → HasRisen (D.failures_of self.old.node.log.disk)
             (D.failures_of self.new.node.log.disk)) }
 
-        // The log: before and after each turn, and at each moment of one.
+        // The log before and after each turn, and at each moment of it.
         ensures logged { IsLogged self.old.node }
         ensures on_log { D.is_kept self.new.node.log.disk → IsOnLog D.history self.old.node
             → self.new.node.node.stopped ≡ false → IsOnLog D.history self.new.node }

@@ -1,4 +1,4 @@
-//! What was chosen is done.
+//! The choice is carried out.
 ghost use Rattle.std.specs.Prelude.{◌≡◌, ◌⊎◌, [], IfErr, IfOk, OnOk, OnErr, false};
 ghost use Rattle.choice.specs.Acts.{asked_by};
 ghost use Rattle.choice.specs.declared.fault.TurnFault.TheVariants as refused;
@@ -20,13 +20,13 @@ use parts::{Readied, offer, unfailed_after};
 use ports::Port;
 use stable_record::{Disk, LogFault};
 
-/// The node takes the step that is ready: what follows for later turns is kept; the step's note
-/// goes to the log; and then its sends are offered to the port. Where it is refused nothing is
-/// kept or offered. Below `unfailed` no package is queued but those whose units failed.
+/// Takes the prepared step: updates the state between turns, writes the step's note to the log, and
+/// then offers its sends to the port. If the step is refused, nothing is updated or offered. Below
+/// `unfailed` the only queued packages are those whose units failed.
 ///
 /// # Errors
 ///
-/// `Memory`; `Down`, where the node's device failed; `Node` where its log has no room.
+/// `Memory`; `Down` if the node's device failed; `Node` if its log has no room.
 pub(crate) fn take<D: Disk, P: Port>(
     node: &mut Node<'_, D>,
     pending: &mut Pending,
@@ -78,7 +78,7 @@ pub(crate) fn take<D: Disk, P: Port>(
     }
 }
 
-/// The node, which has this number, takes the step, and what the step sends is offered to the port.
+/// Takes the step, and offers what it sends to the port. `me` is the node's number.
 fn finish<D: Disk, P: Port>(
     node: &mut Node<'_, D>,
     port: &mut P,

@@ -1,4 +1,4 @@
--- A port in memory that is handed from one node to another.
+-- A port in memory that is passed from one node to another.
 use Rattle.std.proofs.Common.{◌≡◌, ◌==◌, ◌++◌, ◌∙◌, ℕ, Bool, true, false, List, [], ◌∷◌, Option, None, Some, Result, Ok, Err, length, if◌then◌else◌, refl, sym, ap, subst, eq-eqb}
 use Rattle.std.proofs.lemmas.Bool.{true≢false}
 use Rattle.std.specs.List.{range_with_len}
@@ -47,7 +47,7 @@ module _ {D : Type 0} (is_kept : D → Type 0) (history : D → History) (failur
     abbrev count : ℕ
     count = length n.member.weights
 
-    -- ---- what a step sends waits
+    -- ---- what a step sends is queued
 
     pub puts : (answer : Outcome) → Turn answer → PutsItsSends old new answer
     puts (Ok None) t = tt
@@ -70,7 +70,7 @@ module _ {D : Type 0} (is_kept : D → Type 0) (history : D → History) (failur
           },
         )
 
-    -- ---- what waits first is heard
+    -- ---- the first datagram in the queue is received
 
     module _ (no_claim : n.member.claim ≡ None) (runs : n.stopped ≡ false) (text : Text)
         (first : first_of old.port.waiting ≡ Some (me_of old, text))
@@ -88,7 +88,7 @@ module _ {D : Type 0} (is_kept : D → Type 0) (history : D → History) (failur
       no_job : first_job (only n) count builds ≡ None
       no_job = none_among n builds no_answer (range_with_len 0 count)
 
-      -- what the one receive gave
+      -- what the one receive returned
       gave : (answer : Result Arrived PortFault) (between : MemPortState)
           → WentThrough DoesInMemory old.port (Received answer ∷ []) between
           → came_by answer ≡ Some (n.member.me, text)

@@ -1,4 +1,4 @@
--- Two turns, one after the other.
+-- Two turns.
 use Rattle.std.proofs.Common.{◌≡◌, ◌++◌, ◌∙◌, ℕ, List, Option, None, Some, Ok, Err, ap, subst, append_assoc}
 use Rattle.choice.specs.Acts.{asked_by}
 use Rattle.choice.specs.declared.act.Act.{Act}
@@ -16,7 +16,7 @@ use Rattle.solo.specs.Turns.{IsTurn, Outcome}
 use Rattle.solo_rows.specs.Two.{HasTakenTwo, TookTwo, sent_by}
 use Rattle.stable_record.specs.History.{History}
 
--- what goes on by these and then by those
+-- two appends to a record are one
 goes_then : {X : Type 0} (xs ys : List X) (a b c : Option (List X)) → GoesOnBy xs a b
     → GoesOnBy ys b c → GoesOnBy (xs ++ ys) a c
 goes_then xs ys a b None first next = tt

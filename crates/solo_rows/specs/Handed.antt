@@ -1,4 +1,4 @@
--- A port in memory that is handed from one node to another.
+-- A port in memory that is passed from one node to another.
 use Rattle.std.specs.Prelude.{◌≡◌, ◌++◌, Bool, false, List, Option, None, Some, Result, Ok, Err, IfOk, IfSome, map}
 use Rattle.choice.specs.Acts.{asked_by}
 use Rattle.choice.specs.Pending.{nothing_kept}
@@ -19,8 +19,8 @@ use Rattle.solo.specs.Turn.{received_by}
 use Rattle.solo.specs.Turns.{Outcome}
 use Rattle.solo_rows.specs.Two.{sent_by}
 
--- The turn that was answered so was about just these bytes: the node took its step on them, or
--- refused them, or went down inside that step, or memory was wanting.
+-- The turn with this answer was about exactly these bytes: the node took its step on them, refused
+-- them, or went down during that step, or memory ran out.
 abbrev pub IsAbout : {D : Type 0} → LoggedNode D → LoggedNode D → Text → Outcome → Type 0
 IsAbout old new text (Ok None) = ⊥
 IsAbout old new text (Ok (Some act)) = asked_by act ≡ Comes text
@@ -30,8 +30,8 @@ IsAbout old new text (Err (Down k)) = HasTried old (Comes text)
 IsAbout old new text (Err NotSent) = ⊥
 IsAbout old new text (Err NotFresh) = ⊥
 
--- What waits in the port after the step: what waited before, or all but the first of that, and
--- behind it what the port took of just the step's sends, in order.
+-- The queue after the step: what was queued before, or all but the first of that, followed by what
+-- the port took of exactly the step's sends, in order.
 pub record PutsBehind {D : Type 0} (old new : SoloState D MemPortState) (step : Taken) : Type 0
   where
     pub looked : Bool
@@ -40,23 +40,24 @@ pub record PutsBehind {D : Type 0} (old new : SoloState D MemPortState) (step : 
     pub sends : map (λ a. a.0) answers ≡ sent_by old step
     pub left : IsLeftWaiting old.port new.port (received_by looked came ++ sends_of answers)
 
--- So it is of the step that the turn took, if it took one.
+-- This is the queue after the step that the turn took, if it took one.
 abbrev pub PutsItsSends : {D : Type 0} → SoloState D MemPortState → SoloState D MemPortState
     → Outcome → Type 0
 PutsItsSends old new answer =
     IfOk answer (λ o. IfSome o (λ act. (step : Taken)
     × Takes old.node.node (asked_by act) (Ok step) × PutsBehind old new step))
 
--- What waits first in the port for the node, its turn is about, unless receives are to fail.
+-- The turn is about the first datagram in the queue, if that is for the node, unless receives are
+-- set to fail.
 abbrev pub HearsTheFirst : {D : Type 0} → SoloState D MemPortState → SoloState D MemPortState
     → Outcome → Type 0
 HearsTheFirst old new answer =
     (text : Text) → first_of old.port.waiting ≡ Some (me_of old, text)
     → old.port.orders.is_deaf ≡ false → IsAbout old.node new.node text answer
 
--- One node took a turn, and the other one then a turn over the port as the first one left it: what
--- the first one's step sent waits there, and what waits there first, if it is for the second one,
--- that one hears.
+-- One node took a turn, and then the other took a turn over the port as the first left it. What the
+-- first one's step sent is queued, and the second node receives the first datagram in the queue, if
+-- that is for it.
 pub record HandsOn {D E : Type 0} (first : SoloState D MemPortState) (second : LoggedNode E)
     (one other : Outcome) : Type 0 where
   pub between : SoloState D MemPortState

@@ -1,4 +1,4 @@
--- Two turns, one after the other.
+-- Two turns.
 use Rattle.std.specs.Prelude.{◌≡◌, ◌++◌, List, Option, Ok, IfOk, IfSome}
 use Rattle.choice.specs.Acts.{asked_by}
 use Rattle.node.specs.Parcels.{datagrams_to}
@@ -8,12 +8,12 @@ use Rattle.ports.specs.Kept.{GoesOnBy, Parcel}
 use Rattle.solo.specs.State.{SoloState, me_of}
 use Rattle.solo.specs.Turns.{Outcome}
 
--- what the node sends by its step
+-- what the node's step sends
 abbrev pub sent_by : {D P : Type 0} → SoloState D P → Taken → List Parcel
 sent_by s t = parcels_from (me_of s) (datagrams_to t.answer.sends)
 
--- The node took a step on the one, and then, as that left it, a step on the other; and just what
--- they send was offered, in that order.
+-- The node took a step on the first, and then, from the state after that, a step on the second.
+-- Exactly what they send was offered, in that order.
 pub record HasTakenTwo {D P : Type 0} (offered : P → Option (List Parcel)) (old new : SoloState D P)
     (first second : Asked) : Type 0 where
   pub one : Taken
@@ -24,7 +24,7 @@ pub record HasTakenTwo {D P : Type 0} (offered : P → Option (List Parcel)) (ol
   pub offers : GoesOnBy (sent_by old one ++ sent_by old other) (offered old.port)
       (offered new.port)
 
--- So it is where both turns answer what the node did.
+-- This is so if both turns return what the node did.
 abbrev pub TookTwo : {D P : Type 0} → (P → Option (List Parcel)) → SoloState D P → SoloState D P
     → Outcome → Outcome → Type 0
 TookTwo offered old new first second =

@@ -1,4 +1,4 @@
-//! A port that is handed from one node to another.
+//! A port that is passed from one node to another.
 ghost use Rattle.std.specs.Prelude.{◌≡◌, None, false};
 ghost use Rattle.solo_rows.specs.Handed.{HandsOn};
 
@@ -9,9 +9,9 @@ use protocol::Packages;
 use solo::Solo;
 use stable_record::Disk;
 
-/// Takes a turn of a node over a port in memory, and then one of another node over that port: what
-/// the first one's step sends waits there then, and what waits there first, if it is for the second
-/// node, that one's turn is about.
+/// Takes a turn of a node over a port in memory, and then one of another node over that port. What
+/// the first one's step sends is queued. The second node's turn is about the first datagram in the
+/// queue, if that is for it.
 pub fn hand_on<D: Disk, E: Disk>(
     first: Solo<'_, D, MemPort>,
     second: Node<'_, E>,

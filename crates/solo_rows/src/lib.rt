@@ -1,5 +1,5 @@
-//! Turns of one node, one after the other, over what their contracts say and no more; and tests of
-//! a node that is alone.
+//! Sequences of one node's turns, derived from the contracts alone; and tests of the only node of a
+//! cluster.
 #![tactic(auto)]
 
 mod handing;

@@ -1,4 +1,4 @@
-//! A node that is alone in its cluster.
+//! The only node of a cluster.
 use ballots::Weights;
 use choice::{Act, TurnFault};
 use engine::Counts;
@@ -27,7 +27,7 @@ fn builds(alloc: Global) -> Result<Packages, Fail> {
     Ok(Packages::new(items))
 }
 
-/// The node over the disk, whose port gives what it sends.
+/// The node over the disk, with a port that returns what the node sends.
 fn opened<D: Disk>(alloc: Global, tree: &Tree, disk: D) -> Result<Solo<'_, D, MemPort>, Fail> {
     match Node::open(alloc, disk, tree, &Weights::new(&[1])?, 0) {
         Ok(node) => Ok(Solo::new(node, MemPort::new(alloc))),
@@ -35,8 +35,8 @@ fn opened<D: Disk>(alloc: Global, tree: &Tree, disk: D) -> Result<Solo<'_, D, Me
     }
 }
 
-/// What a turn did: a letter for what the member was asked, D for a datagram, `.` for nothing, and
-/// ! where the node went down.
+/// What a turn did: a letter for the node's own input, D for a datagram, `.` for nothing, and ! if
+/// the node went down.
 fn letter<D: Disk>(solo: &mut Solo<'_, D, MemPort>, builds: &Packages) -> u8 {
     match solo.turn(builds) {
         Ok(Some(Act::Own(Input::Claim { .. }))) => b'C',

@@ -1,4 +1,4 @@
-//! Two turns in a row.
+//! Two turns.
 ghost use Rattle.std.specs.Prelude.{[], ◌∷◌};
 ghost use Rattle.solo.specs.Handed.{AllBuilds};
 ghost use Rattle.solo.specs.Turns.{TurnsLead};
@@ -10,11 +10,11 @@ use protocol::Packages;
 use solo::Solo;
 use stable_record::Disk;
 
-/// What a turn answers.
+/// What a turn returns.
 pub type Outcome = Result<Option<Act>, TurnFault>;
 
-/// Takes two turns. Where both answer what the node did, it took a step on the one, and then, as
-/// that left it, a step on the other; and just what these send was offered, in that order.
+/// Takes two turns. If both return what the node did, it took a step on the first, and then, from
+/// the state after that, a step on the second. Exactly what these send was offered, in that order.
 pub fn two_turns<D: Disk, P: Port>(
     solo: &mut Solo<'_, D, P>,
     builds: &Packages,

@@ -1,4 +1,4 @@
--- What builds are read from, whatever name it has.
+-- Reading builds, whatever the name is.
 use Rattle.std.proofs.Common.{inl, inr}
 use Rattle.faults.specs.Bytes.{Text}
 use Rattle.program.specs.Files.{RefusesAt}
@@ -7,11 +7,11 @@ use Rattle.protocol.specs.Given.{Given}
 use Rattle.trace_files.specs.Builds.{AreBuilds, AreSpelledAt, RefusesBuilds, RefusesBuildsFile}
 
 module _ (Gave : Text → Text → Type 0) (name : Text) where
-  -- what a read of the name gave names the builds
+  -- what a read of the name gave has the builds
   pub are_builds : (given : Given) → AreSpelledAt Gave name given → AreBuilds given
   are_builds given (builds, gave, are) = (builds, are)
 
-  -- and so is it told that it names none
+  -- the report that it has none
   pub refused : (r : Refusal) → RefusesAt Gave name RefusesBuilds r → RefusesBuildsFile r
   refused r (inl system) = inl system
   refused r (inr (builds, gave, told)) = inr (builds, told)

@@ -1,4 +1,4 @@
--- What builds are read from, and what is told of a text that has none.
+-- Reading builds from texts and files, and what is reported about bad ones.
 use Rattle.std.specs.Prelude.{◌≡◌, ◌⊎◌, None, Some}
 use Rattle.faults.specs.Bytes.{Text}
 use Rattle.program.specs.Refusals.{IsSystemRefusal}
@@ -6,22 +6,22 @@ use Rattle.program.specs.declared.refusal.Refusal.{Refusal}
 use Rattle.protocol.specs.Given.{Given}
 use Rattle.traces.specs.Builds.{builds_of}
 
--- these builds stand in some text
+-- some text has these builds
 abbrev pub AreBuilds : Given → Type 0
 AreBuilds builds = (text : Text) × (builds_of text ≡ Some builds)
 
--- a read of this name gave a text that has these files for paths
+-- a read of this name gave a text with these files for paths
 abbrev pub AreSpelledAt : (Text → Text → Type 0) → Text → Given → Type 0
 AreSpelledAt Gave name given = (builds : Text) × Gave name builds × (builds_of builds ≡ Some given)
 
--- how a text is told that gives no files for paths: as a trace that is bad outside its events
+-- how a text without files for paths is reported: as a trace that is bad outside its events
 abbrev pub builds_refusal : Refusal
 builds_refusal = record { number = 1305; place = Some 0 }
 
--- what is told of a text that gives no files for paths
+-- what is reported about a text without files for paths
 abbrev pub RefusesBuilds : Text → Refusal → Type 0
 RefusesBuilds builds r = (builds_of builds ≡ None) × (r ≡ builds_refusal)
 
--- what is told of a file that can't be read, or whose text names no builds
+-- what is reported about a file that can't be read, or whose text has no builds
 abbrev pub RefusesBuildsFile : Refusal → Type 0
 RefusesBuildsFile r = IsSystemRefusal r ⊎ ((text : Text) × RefusesBuilds text r)

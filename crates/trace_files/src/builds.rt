@@ -1,4 +1,4 @@
-//! The builds that a text names.
+//! The builds in a text.
 ghost use Rattle.std.specs.Prelude.{◌≡◌, ◌⊎◌, IfErr, IfOk, Some};
 ghost use Rattle.program.specs.Files.{RefusesAt};
 ghost use Rattle.program.specs.Refusals.{memory_refusal};
@@ -16,7 +16,7 @@ use std::alloc::Global;
 use std::rt::Files;
 use traces::read_builds;
 
-/// The files that the text gives for paths.
+/// The files for paths in the text.
 pub fn builds_of_text(alloc: Global, builds: &[u8]) -> Result<Packages, Refusal>
     ensures ok { IfOk result (λ given. builds_of builds.now ≡ Some given) }
     ensures refused { IfErr result (λ r. (r ≡ memory_refusal) ⊎ RefusesBuilds builds.now r) }
@@ -27,11 +27,11 @@ pub fn builds_of_text(alloc: Global, builds: &[u8]) -> Result<Packages, Refusal>
     }
 }
 
-/// The files for paths that the text of this name gives.
+/// The files for paths in the text with this name.
 ///
 /// # Errors
 ///
-/// What the system refused; else the text's fault.
+/// The system's refusal, and then the text's fault.
 pub fn builds_of_name<T: NamedTexts>(
     texts: &T,
     alloc: Global,
@@ -44,11 +44,11 @@ pub fn builds_of_name<T: NamedTexts>(
     builds_of_text(alloc, text.as_slice())
 }
 
-/// The files for package paths, which stand as JSON in a file of this name.
+/// The files for package paths, in JSON, in the file with this name.
 ///
 /// # Errors
 ///
-/// What the system refused; else the text's fault.
+/// The system's refusal, and then the text's fault.
 pub fn builds_of_file<R: Files + AllocGlobal>(rt: &R, builds: &str) -> Result<Packages, Refusal>
     ensures ok { IfOk result AreBuilds }
     ensures refused { IfErr result RefusesBuildsFile }

@@ -1,4 +1,4 @@
-//! A trace, and builds, of the texts and files that have them.
+//! Reading traces and builds from texts and files.
 #![tactic(auto)]
 
 mod builds;

@@ -1,4 +1,4 @@
-//! The trace that a text is.
+//! The trace in a text.
 ghost use Rattle.std.specs.Prelude.{◌≡◌, IfErr, IfOk, Ok};
 ghost use Rattle.trace_files.specs.Traces.{IsSpelledAt, RefusesText, RefusesTraceAt};
 ghost use Rattle.traces.specs.Faults.{trace_view};
@@ -8,7 +8,7 @@ use program::{NamedTexts, Refusal};
 use std::alloc::Global;
 use traces::{Trace, read_trace};
 
-/// The trace that the text is.
+/// The trace in the text.
 pub fn trace_of_text(alloc: Global, trace: &[u8]) -> Result<Trace, Refusal>
     ensures ok { IfOk result (λ read. trace_of trace.now ≡ Ok (trace_view read)) }
     ensures refused { IfErr result (RefusesText trace.now) }
@@ -19,11 +19,11 @@ pub fn trace_of_text(alloc: Global, trace: &[u8]) -> Result<Trace, Refusal>
     }
 }
 
-/// The trace of this name. Its text is let go of before the trace is run.
+/// The trace in the text with this name. The text is dropped before the trace is run.
 ///
 /// # Errors
 ///
-/// What the system refused; else the trace's fault.
+/// The system's refusal, and then the trace's fault.
 pub fn trace_of_name<T: NamedTexts>(texts: &T, alloc: Global, trace: &str) -> Result<Trace, Refusal>
     ensures ok { IfOk result
         (λ read. IsSpelledAt (T.gave texts.now) trace.now (trace_view read)) }

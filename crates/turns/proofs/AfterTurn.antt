@@ -1,4 +1,4 @@
--- What holds of a cluster after a turn, whatever that answers.
+-- What holds of a cluster after a turn, whatever its result.
 use Rattle.std.proofs.Common.{◌≡◌, ◌++◌, ◌⊎◌, ◌+◌, ◌<◌, ℕ, Bool, true, false, List, [], ◌∷◌, Option, None, Some, Result, Ok, Err, length, refl, ap, ◌∙◌, arith, inl, inr, ⊎_elim, if◌then◌else◌}
 use Rattle.std.proofs.lemmas.List.{length-set}
 use Rattle.std.proofs.lemmas.Option.{slice_get_within}
@@ -43,7 +43,7 @@ next_after p k s (Does inputs.Nudge) = inr refl
 next_after p k s (Does (inputs.Ask path)) = inl refl
 next_after p k s (Does (inputs.Message m)) = inl refl
 
--- What holds of the cluster then.
+-- What holds of the cluster after the turn.
 pub record StandsThen {D P : Type 0} (is_kept : D → Type 0) (history : D → History)
     (old new : ClusterState D P) : Type 0 where
   pub world : World

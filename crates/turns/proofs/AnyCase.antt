@@ -1,4 +1,4 @@
--- Whatever was left of each step inside which a node went down.
+-- Whatever was left of each step during which a node went down.
 use Rattle.std.proofs.Common.{◌≡◌, ◌++◌, ℕ, true, false, List, [], ◌∷◌, Option, None, Some, Ok, map, slice_get, slice_set, refl, sym, ap, subst, ◌∙◌, inl, inr}
 use Rattle.std.proofs.lemmas.Option.{slice_get-map}
 use Rattle.std.specs.Prelude.{option_map}
@@ -24,9 +24,9 @@ use Rattle.world.specs.Happening.{Acts, Leads, StopsIn, left_node}
 use Rattle.world.specs.Sent.{with_sends}
 use Rattle.world.specs.World.{IsMade, World, node_at, start, up_node}
 
--- ---- events, and others left so
+-- ---- events that differ in what stops left
 
--- what stands for events and one more
+-- events and one more, taken apart
 pub left_apart : (es : List Event) (e : Event) (fs : List Event) → AreLeftAs (es ++ e ∷ []) fs
     → (gs : List Event) × (g : Event) × (fs ≡ gs ++ g ∷ []) × AreLeftAs es gs × IsLeftAs e g
 left_apart [] e [] are = absurd are
@@ -37,13 +37,13 @@ left_apart (d ∷ es) e (f ∷ fs) are =
     let rest = left_apart es e fs are.1 in
     (f ∷ rest.0, rest.1, ap (λ l. f ∷ l) rest.2, (are.0, rest.3), rest.4)
 
--- a step was left in no other way
+-- a step is the same event
 step_stays : (e f : Event) → is_step e ≡ true → IsLeftAs e f → f ≡ e
 step_stays e f step (inl same) = same
 step_stays e f step (inr (input, l, stop, other)) =
     absurd (let no : false ≡ true = sym (ap is_step stop) ∙ step in cc)
 
--- a stop inside it, in each
+-- a stop is the same stop, with anything left
 stop_stays : (e f : Event) → IsLeftAs (StopIn e left.None) f → (l : Left) × (f ≡ StopIn e l)
 stop_stays e f (inl same) = (left.None, same)
 stop_stays e f (inr (input, l, stop, other)) =
@@ -54,7 +54,7 @@ stop_stays e f (inr (input, l, stop, other)) =
 -- ---- at the start
 
 module _ {D P : Type 0} (c : ClusterState D P) (w : World) (is : IsWorldOf c w) where
-  -- the world that the cluster is, is such a world
+  -- the world that the cluster is is such a world
   its_own : LeadsToUp c (taken c) w
   its_own = record {
     led = is.led;
@@ -63,7 +63,7 @@ module _ {D P : Type 0} (c : ClusterState D P) (w : World) (is : IsWorldOf c w) 
     know = λ k n at up. (hosted c w is k n at up).is;
   }
 
-  -- and at the start there is no other
+  -- at the start there is no other
   pub starts_in_any : taken c ≡ [] → StandsInAnyCase c
   starts_in_any none [] are = (w, subst (λ es. LeadsToUp c es w) none its_own)
   starts_in_any none (e ∷ es) are =
@@ -71,7 +71,7 @@ module _ {D P : Type 0} (c : ClusterState D P) (w : World) (is : IsWorldOf c w) 
 
 -- ---- nothing more
 
--- what is seen is seen of something
+-- a value that a function returns is that of something
 seen_of : {X Y : Type 0} (f : X → Y) (o : Option X) (y : Y) → option_map f o ≡ Some y
     → (x : X) × (o ≡ Some x) × (f x ≡ y)
 seen_of {Y = Y} f None y is = absurd (let no : ◌≡◌ {A = Option Y} None (Some y) = is in cc)
@@ -105,13 +105,13 @@ module _ {D P : Type 0} (old new : ClusterState D P) (division : new.division �
         (so.know k m.0 m.1 (ap (λ (x : NodeState). x.stopped) m.2 ∙ up));
   }
 
-  -- where all stays, it stands so still
+  -- if nothing changed, it still holds
   pub still_in_any : StandsInAnyCase old → StandsInAnyCase new
   still_in_any any es are =
       let before = any es (subst (λ l. AreLeftAs l es) (ap (map event_view) same.events) are) in
       (before.0, same_so es before.0 before.1)
 
--- ---- one event more
+-- ---- one more event
 
 module _ {D P : Type 0} (old : ClusterState D P) (k : ℕ) (n : LoggedNode D)
     (stands : slice_get old.nodes k ≡ Some n) (up : n.node.stopped ≡ false) (asked : Asked)
@@ -186,7 +186,7 @@ module _ {D P : Type 0} (old : ClusterState D P) (k : ℕ) (n : LoggedNode D)
                     ∙ (ap (λ l. slice_get l j) (sym moved.nodes) ∙ at)) runs)
               ]
 
-    -- ---- a stop inside it
+    -- ---- a stop during it
 
     module _ (new : ClusterState D P) (later : LoggedNode D)
         (nodes : new.nodes ≡ slice_set old.nodes k later) (down : later.node.stopped ≡ true)
@@ -236,7 +236,7 @@ module _ {D P : Type 0} (old : ClusterState D P) (k : ℕ) (n : LoggedNode D)
                     }
               ]
 
-  -- ---- so it stands in any case still
+  -- ---- so it still holds in any case
 
   module _ (any : StandsInAnyCase old) (new : ClusterState D P) where
     -- after the step
@@ -249,7 +249,7 @@ module _ {D P : Type 0} (old : ClusterState D P) (k : ℕ) (n : LoggedNode D)
         subst (λ l. (v : World) × LeadsToUp new l v)
         (sym (part.2 ∙ ap (λ g. part.0 ++ g ∷ []) same)) next
 
-    -- after a stop inside it
+    -- after a stop during it
     pub stopped_in_any : new.division ≡ old.division → new.weights ≡ old.weights
         → (later : LoggedNode D) → new.nodes ≡ slice_set old.nodes k later → later.node.stopped ≡ true
         → new.sent ≡ old.sent → taken new ≡ taken old ++ StopIn e left.None ∷ []
@@ -266,7 +266,7 @@ module _ {D P : Type 0} (old : ClusterState D P) (k : ℕ) (n : LoggedNode D)
 
 -- ---- the headline
 
--- and all that holds of each run holds there
+-- what holds of each run holds there
 pub listed_in_any : {D P : Type 0} (c : ClusterState D P) → IsMade c.division c.weights
     → StandsInAnyCase c → IsListedInAnyCase c
 listed_in_any c made any es are =

@@ -1,5 +1,5 @@
--- Below the position of each node no package is queued there but those whose units failed, and so
--- it is once a step was taken, or was not.
+-- Below its position, each node's only queued packages are those whose units failed. This still
+-- holds after a step was taken, or was not.
 use Rattle.std.proofs.Common.{◌≡◌, ℕ, Bool, List, Some, get_or, slice_get, slice_set, if◌then◌else◌, refl, sym, ap, subst, ◌∙◌, inl, inr}
 use Rattle.std.proofs.lemmas.Bool.{cases_eq}
 use Rattle.std.proofs.lemmas.List.{get_or-set_other}
@@ -18,7 +18,7 @@ use Rattle.stable_record.specs.declared.log_fault.LogFault.TheVariants as log
 use Rattle.turns.proofs.Still.{at_place, off_place}
 use Rattle.turns.specs.inside.Turning.{HasNotTaken}
 
--- where a step was not taken the member is as it was
+-- if a step was not taken, the member is unchanged
 pub member_stays : {D : Type 0} (is_kept : D → Type 0) (history : D → History) (failures : D → ℕ)
     (old new : LoggedNode D) (ready : ReadyStep) (f : NodeFault)
     → HasNotTaken is_kept history failures old new ready f → new.node.member ≡ old.node.member
@@ -39,7 +39,7 @@ member_stays is_kept history failures old new ready (fault.Foreign g) t = absurd
 module _ {D : Type 0} (nodes : List (LoggedNode D)) (p : Pending) (unfailed : List ℕ)
     (each : EachFailedBelow nodes p unfailed) (k : ℕ) (n : LoggedNode D)
     (stands : slice_get nodes k ≡ Some n) where
-  -- one node is another, and what is kept more tells of no fewer that failed
+  -- one node changes, and at least the same units have failed in the updated state
   module _ (later : LoggedNode D) (q : Pending)
       (keeps : (s : State) (from : ℕ) → AllFailedBelow s p from → AllFailedBelow s q from)
       (x : ℕ) (below : AllFailedBelow later.node.member q x) where
@@ -73,7 +73,7 @@ module _ {D : Type 0} (nodes : List (LoggedNode D)) (p : Pending) (unfailed : Li
       so s from failed = subst (λ r. AllFailedBelow s r from) (sym kept)
           (kept_below s p k n.node.member asked from failed)
 
-  -- or it did not, and all else was put back
+  -- or it did not, and the rest was restored
   pub not_taken_each : (later : LoggedNode D) (q : Pending) (b : Bool) (x : ℕ)
       → later.node.member ≡ n.node.member → q ≡ p
       → x ≡ (if b then 0 else get_or unfailed k 0)

@@ -15,7 +15,7 @@ use Rattle.turns.specs.State.{AreOnLogs, ClusterState, IsWorldOf}
 use Rattle.turns.specs.inside.Turning.{IsTurn, IsTurnByCalls, turning_of}
 use Rattle.world.specs.World.{World}
 
--- receives alone are the calls of a turn that sent nothing
+-- receives only are the calls of a turn that sent nothing
 pub receives_alone : {P : Type 0} (does : P → Call → P → Type 0) (old new : P)
     (received : List (Result Arrived PortFault))
     → WentThrough does old (map Received received) new
@@ -23,7 +23,7 @@ pub receives_alone : {P : Type 0} (does : P → Call → P → Type 0) (old new 
 receives_alone does old new received went =
     WentThrough-append does old new new (map Received received) [] went refl
 
--- it is the world that it was
+-- it is the same world
 pub world_with : {D P : Type 0} (c : ClusterState D P) (calls : TurnCalls) (w : World)
     → IsWorldOf c w → IsWorldOf (with_calls c calls) w
 world_with c calls w is = record {
@@ -50,7 +50,7 @@ module _ {D P : Type 0} (is_kept : D → Type 0) (history : D → History) (fail
       IsTurn is_kept history failures given_in offered_in (turning_of first) (turning_of last)
       handed result
 
-  -- what it promises, by its calls
+  -- what it promises, seen by its calls
   there : (result : Result (Option declared.Event) TurnFault) → IsTurnThere result
       → Promises is_kept history failures given_in offered_in first last handed result
   there result t =
@@ -63,7 +63,7 @@ module _ {D P : Type 0} (is_kept : D → Type 0) (history : D → History) (fail
   seen_by (Ok (Some e)) t = let p = there (Ok (Some e)) t in (p.chosen, p.offers)
   seen_by (Err f) t = let p = there (Err f) t in (p.faults, p.offers)
 
--- these are its calls
+-- these are the turn's calls
 pub has_called : {D P : Type 0} (is_kept : D → Type 0) (history : D → History) (failures : D → ℕ)
     (does : P → Call → P → Type 0) (old new : ClusterState D P) (handed : Handed)
     → new.division ≡ old.division → new.weights ≡ old.weights

@@ -31,7 +31,7 @@ module _ {D : Type 0} (is_kept : D → Type 0) (history : D → History) (failur
       (Ok (texts_of n.node.notes)))
       (logged : IsLogged n) (len fresh : ℕ) (is : len ≡ n.log.end + 1)
       (at : fresh ≡ gate_place (identity tree weights me) [] + 1) where
-    -- the node is fresh where its log is as long as one without notes
+    -- the node is fresh if its log is as long as one without notes
     pub fresh_of : (is_kept n.log.disk → IsOnLog history n)
         → (is_kept n.log.disk → AllAlong (OpensAsLeft (identity_of n.node.member) (history disk))
         (history disk) (history n.log.disk))
@@ -51,7 +51,7 @@ module _ {D : Type 0} (is_kept : D → Type 0) (history : D → History) (failur
           };
         }
 
-    -- and its file has notes where it is not
+    -- otherwise its file has notes
     pub not_fresh_of : len ≢ fresh
         → IsOpeningFault is_kept history failures tree weights me disk refused.NotFresh
     not_fresh_of other =
@@ -65,7 +65,7 @@ module _ {D : Type 0} (is_kept : D → Type 0) (history : D → History) (failur
               (notes k)),
         )
 
-  -- a refusal is told with its cause
+  -- a refusal is reported with its cause
   pub told_of : (after : D) (f : NodeFault)
       → (is_kept after → IsOpenFault tree weights me (seen (history disk)) f)
       → (f ≡ fault.Log log.Device → HasRisen (failures disk) (failures after))
@@ -90,7 +90,7 @@ one_node (z ∷ zs) y x zero e = inl e
 one_node (z ∷ zs) y x (suc k) e = ⊎_elim (λ old. inl old) (λ new. inr (ap suc new.0, new.1))
     (one_node zs y x k e)
 
--- what stands at each place of lists that are as long
+-- elements at the same places of lists of the same length
 zipped : {X Y : Type 0} (R : X → Y → Type 0) (xs : List X) (ys : List Y) → length xs ≡ length ys
     → ((k : ℕ) (x : X) → slice_get xs k ≡ Some x → (y : Y) × (slice_get ys k ≡ Some y) × R x y)
     → AllZip R xs ys
@@ -111,7 +111,7 @@ module _ {D : Type 0} (is_kept : D → Type 0) (history : D → History) (failur
 
   module _ (nodes : List (LoggedNode D))
       (are : AreFresh is_kept history tree weights disks nodes) where
-    -- one node more
+    -- one more node
     pub one_more : (me : ℕ) → me ≡ length nodes → (disk : D) → slice_get disks me ≡ Some disk
         → (n : LoggedNode D) → IsFresh is_kept history tree weights me disk n
         → (now : List (LoggedNode D)) → now ≡ nodes ++ n ∷ []
@@ -146,7 +146,7 @@ module _ {D : Type 0} (is_kept : D → Type 0) (history : D → History) (failur
               stands = subst (StandsFresh is_kept history n) one own.2.stands;
             }
 
-    -- and the next one is the first that fails
+    -- and the next disk is the first that fails
     pub fails_at : (me : ℕ) → me ≡ length nodes → (disk : D) → slice_get disks me ≡ Some disk
         → (f : TurnFault) → IsOpeningFault is_kept history failures tree weights me disk f
         → IsNewFault is_kept history failures tree weights disks f

@@ -1,4 +1,4 @@
--- The event by which a node is asked something.
+-- The event of what a node is asked.
 use Rattle.std.proofs.Common.{◌≡◌, ◌<◌, ℕ, Bool, true, false, not, ◌&&◌, nat_le, List, [], ◌∷◌, Option, None, Some, get_or, length, slice_get, refl, sym, ap, subst, ◌∙◌}
 use Rattle.std.proofs.lemmas.Bool.{lt-leb}
 use Rattle.std.proofs.lemmas.List.Quantifiers.{position-Some}
@@ -19,15 +19,15 @@ use Rattle.world.specs.World.{World, WorldNode}
 use Rattle.world.specs.declared.fault.WorldFault.{WorldFault}
 use Rattle.world.specs.declared.fault.WorldFault.TheVariants as fault
 
--- Node k is up in the world, in which these were sent.
+-- Node k is up in the world, in which these texts were sent.
 pub record IsUpAt (sent : List Text) (k : ℕ) (w : World) : Type 0 where
   pub node : WorldNode
   pub stands : slice_get w.nodes k ≡ Some node
   pub up : node.up ≡ true
   pub sent_is : w.sent ≡ sent
 
--- The event is a step of this node, which is asked so by it; and where the node is up, nothing but
--- the node may refuse it.
+-- The event is a step of this node, which it asks this. If the node is up, only the node may refuse
+-- it.
 pub record IsEventOf (sent : List Text) (k : ℕ) (asked : Asked) (e : Event) : Type 0 where
   pub of_node : node_of e ≡ k
   pub step : is_step e ≡ true
@@ -144,13 +144,13 @@ module _ (sent : List Text) (k : ℕ) where
       there = slice_get-get_or sent d text found.0
           ∙ ap (λ t. Some t) (sym (same_bytes text (get_or sent d text) found.1))
 
-  -- what holds of the event that the node is asked so
+  -- what holds of the event of what the node is asked
   pub event_is : (asked : Asked) (e : Event) → event_of sent (k, asked) ≡ Some e
       → IsEventOf sent k asked e
   event_is (Does input) e is = by_input input e is
   event_is (Comes text) e is = by_bytes text (position (bytes_eq text) sent) refl e is
 
--- an event is of one node, which is asked one thing by it
+-- an event is of one node, which it asks one thing
 pub one_chosen : (w : World) (sent : List Text) → w.sent ≡ sent → (a b : ℕ × Asked) (e : Event)
     → event_of sent a ≡ Some e → event_of sent b ≡ Some e → a ≡ b
 one_chosen w sent s a b e first second =

@@ -10,7 +10,7 @@ use Rattle.stable_record.specs.Log as log
 use Rattle.stable_record.specs.Magic.{are_ones, plain_magic, weighted_magic}
 use Rattle.stable_record.specs.declared.identity.Identity.{Identity}
 
--- how many bytes stand before a tree's digest, the numbers and the weights, and with them
+-- the length of the header before the tree's digest, the numbers and the weights, and with them
 magic_len : (b : Bool) → length (if b then plain_magic else weighted_magic) ≡ 8
 magic_len true = refl
 magic_len false = refl
@@ -29,7 +29,7 @@ header_len i size =
       length-append magic i.tree,
     )
 
--- behind more notes the gate stands farther on
+-- more notes move the gate farther on
 no_texts : (i : Identity) (texts : List log.Note) → gate_place i texts ≡ gate_place i []
     → texts ≡ []
 no_texts i [] e = refl
@@ -39,7 +39,7 @@ module _ (tree : Tree) (weights : List ℕ) (me : ℕ) where
   abbrev whose : Identity
   whose = identity tree weights me
 
-  -- how long a log without notes is
+  -- the length of a log without notes
   pub fresh_place : gate_place whose [] + 1
       ≡ (if are_ones weights then 44 else 44 + length weights)
   fresh_place = by (are_ones weights) (header_len whose (length-sha256 _))
@@ -49,7 +49,7 @@ module _ (tree : Tree) (weights : List ℕ) (me : ℕ) where
       by true long = omega (arith, long)
       by false long = omega (arith, long)
 
-  -- where it is so long, the node has none
+  -- if the log is as long, the node has no notes
   pub no_notes : (notes : List (Note Value))
       → gate_place whose (texts_of notes) ≡ gate_place whose [] → notes ≡ []
   no_notes [] e = refl

@@ -1,4 +1,4 @@
--- A node of the cluster went down inside its step: that is a stop inside it, in the world.
+-- A node of the cluster went down during its step. In the world this is a stop during the step.
 use Rattle.std.proofs.Common.{◌≡◌, ◌++◌, ℕ, true, false, [], ◌∷◌, Option, Some, Ok, map, slice_get, slice_set, refl, sym, ap, subst, ◌∙◌, inl, inr, true≢false, if◌then◌else◌}
 use Rattle.std.proofs.lemmas.Bool.{cases_eq}
 use Rattle.events.specs.Events.{Event, StopIn, node_of}
@@ -17,7 +17,7 @@ use Rattle.world.proofs.Leading.{leads_together}
 use Rattle.world.specs.Happening.{Leads, StopsIn}
 use Rattle.world.specs.World.{IsMade, World, down_node, node_at, start, up_node}
 
--- The cluster after node k went down inside the step that is the event.
+-- The cluster after node k went down during the step of the event.
 pub record HasDropped {D P : Type 0} (old new : ClusterState D P) (k : ℕ) (e : Event)
     (n later : LoggedNode D) : Type 0 where
   pub division : new.division ≡ old.division
@@ -31,7 +31,7 @@ module _ {D P : Type 0} (old : ClusterState D P) (k : ℕ) (n : LoggedNode D)
     (stands : slice_get old.nodes k ≡ Some n) (up : n.node.stopped ≡ false) (asked : Asked)
     (can : IsAsked asked) (e : Event) (event : IsEventOf old.sent k asked e) (t : Taken)
     (takes : Takes n.node asked (Ok t)) (room : ¬ IsFull n.node t.answer.note) where
-  -- whatever the log is left with
+  -- whatever is left on the log
   pub stops : (w : World) (l : Left) → IsWorldOf old w → (v : World) × StopsIn w e l v
   stops w l is =
       stops_there w e n.node (hosted_here old k n stands up asked can e event t takes w is)
@@ -46,7 +46,7 @@ module _ {D P : Type 0} (old : ClusterState D P) (k : ℕ) (n : LoggedNode D)
     then_seen =
         ap (λ (x : NodeState). if x.stopped then down_node x.notes [] else up_node x) dropped.down
 
-    -- the world that the stop leaves is the cluster then
+    -- the world after the stop is the cluster after it
     is_world : (w v : World) → IsWorldOf old w → StopsIn w e left.None v
         → v ≡ record w { nodes = slice_set w.nodes (node_of e) (down_node n.node.notes []) }
         → IsWorldOf new v

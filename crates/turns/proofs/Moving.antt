@@ -1,4 +1,4 @@
--- What was chosen was taken, or its node went down: what that is in the world.
+-- What was chosen was taken, or its node went down, as events of the world.
 use Rattle.std.proofs.Common.{◌≡◌, ◌++◌, ℕ, false, List, [], ◌∷◌, Option, None, Some, Ok, slice_get, slice_set, refl, sym, ap, subst, ◌∙◌, inl, inr, true≢false, if◌then◌else◌}
 use Rattle.std.proofs.lemmas.Bool.{cases_eq}
 use Rattle.choice.specs.Acts.{asked_by}
@@ -43,13 +43,13 @@ pub here_at : {D : Type 0} (nodes : List (LoggedNode D)) (k : ℕ) (n : LoggedNo
 here_at nodes k n stands up =
     ap member_up stands ∙ ap (λ b. if b then None else Some n.node.member) up
 
--- where there is room, it is not lacking
+-- if there is room, it is not lacking
 has_room : {D : Type 0} (l : Log D) (o : Option (Note Value)) → HasRoomForNote l o
     → ¬ LacksRoom l o
 has_room l None room = absurd room
 has_room l (Some note) room = room
 
--- the last of two equal lists, which begin alike
+-- the last elements of two equal lists are equal
 last_same : {X : Type 0} (xs : List X) (a b : X) → xs ++ a ∷ [] ≡ xs ++ b ∷ [] → a ≡ b
 last_same [] a b e = cc
 last_same (x ∷ xs) a b e =
@@ -66,7 +66,7 @@ module _ {D P : Type 0} (old : ClusterState D P) (r : Ready) (e : Event)
   abbrev n : LoggedNode D
   n = due.at.node
 
-  -- the step that is ready
+  -- the prepared step
   abbrev pub step_of : Taken
   step_of = taken_by n.node r.readied.ready
 
@@ -82,11 +82,11 @@ module _ {D P : Type 0} (old : ClusterState D P) (r : Ready) (e : Event)
   pub sends_are : step_of.answer.sends ≡ sends_in r.readied.ready.step
   sends_are = sends_answered n.node.member r.readied.ready.step
 
-  -- it is the event's in the world
+  -- it is the event's step in the world
   pub acts_so : (w : World) → IsWorldOf old w → Acts w e (up_node n.node) step_of
   acts_so w is = acts old k n due.at.stands due.at.up asked due.can e event step_of takes w is
 
-  -- and there is no other
+  -- it is the only one
   pub only_step : (w : World) (x : WorldNode) (t : Taken) → IsWorldOf old w → Acts w e x t
       → t ≡ step_of
   only_step w x t is other =
@@ -103,7 +103,7 @@ module _ {D P : Type 0} (old : ClusterState D P) (r : Ready) (e : Event)
         sent_is = is.sent;
       }
 
-  -- where the log lacks room for its note, so do the notes
+  -- if the log has room for the note, it isn't full
   no_room : ¬ LacksRoom n.log (note_in r.readied.ready.step) → ¬ IsFull n.node step_of.answer.note
   no_room room full = room (subst (LacksRoom n.log) note_is
       (lack_of_full n due.logged.end step_of.answer.note full))
@@ -120,7 +120,7 @@ module _ {D P : Type 0} (old : ClusterState D P) (r : Ready) (e : Event)
     is_after m at = at_place old.nodes new.nodes k n later m due.at.stands nodes at
 
     module _ (is_kept : D → Type 0) (kept : is_kept later.log.disk → is_kept n.log.disk) where
-      -- each disk that keeps the disk model kept it before
+      -- each disk that keeps to the disk model did so before
       were_kept : WereKept is_kept old new
       were_kept j before after stood stands is = elim (cases_eq j k) [
         | inl same ↦
@@ -134,7 +134,7 @@ module _ {D P : Type 0} (old : ClusterState D P) (r : Ready) (e : Event)
             subst (λ (m : LoggedNode D). is_kept m.log.disk) (sym stays) is
       ]
 
-      -- a crash at any moment leaves the node's notes, with that of the step or without
+      -- a crash at any moment leaves the node's notes, with that of the step or without it
       step_leaves : (history : D → History) → AreOnLogs is_kept history old
           → (is_kept later.log.disk → IsOnLog history n
           → LeavesOneMoreAtMost n.node (note_in r.readied.ready.step) (history n.log.disk)
@@ -155,7 +155,7 @@ module _ {D P : Type 0} (old : ClusterState D P) (r : Ready) (e : Event)
           (subst (λ o. LeavesOneMoreAtMost n.node o (history n.log.disk)
           (history later.log.disk)) note (any_moment kept_then on)))
 
-  -- ---- refused for want of room
+  -- ---- refused because the log has no room
 
   pub full_there : LacksRoom n.log (note_in r.readied.ready.step) → (w : World) → IsWorldOf old w
       → IsRefused w e (worlds.Node (fault.Log log.Full))
@@ -223,7 +223,7 @@ module _ {D P : Type 0} (is_kept : D → Type 0) (history : D → History)
       ∙ there) in
       took.pending ∙ (λ i. kept_after old.pending (back i).0 (member i) (back i).1)
 
-  -- so it is whatever was left of earlier stops
+  -- this holds whatever was left of earlier stops
   pub taken_in_any : IsMade old.division old.weights → StandsInAnyCase old → StandsInAnyCase new
   taken_in_any made any =
       moved_in_any old r.node step_due.at.node step_due.at.stands step_due.at.up
@@ -245,12 +245,12 @@ module _ {D P : Type 0} (is_kept : D → Type 0) (history : D → History)
         on_logs j m (off_place old.nodes new.nodes r.node j took.after m other took.nodes at) up kept
   ]
 
-  -- each disk that keeps the disk model kept it before
+  -- each disk that keeps to the disk model did so before
   pub taken_were_kept : WereKept is_kept old new
   taken_were_kept =
       were_kept old r e step_due new took.after took.nodes is_kept took.took.kept
 
-  -- and a crash at any moment leaves the notes of the event's node, with the step's or without
+  -- a crash at any moment leaves the notes of the event's node, with that of the step or without it
   pub taken_leaves : AreOnLogs is_kept history old
       → LeavesItsNotes is_kept history old new e (node_of e)
   taken_leaves on_logs =
@@ -308,7 +308,7 @@ module _ {D P : Type 0} (is_kept : D → Type 0) (history : D → History) (fail
         stop_due.can e (event old r e stop_due) (step_of old r e stop_due) (takes old r e stop_due) has_place w l is;
   }
 
-  -- so it is whatever was left of this stop and of earlier ones
+  -- this holds whatever was left of this stop and of earlier ones
   pub down_in_any : IsMade old.division old.weights → StandsInAnyCase old → StandsInAnyCase new
   down_in_any made any =
       stopped_in_any old r.node stopping stop_due.at.stands stop_due.at.up
@@ -338,7 +338,7 @@ module _ {D P : Type 0} (is_kept : D → Type 0) (history : D → History) (fail
       (step_leaves old r e stop_due new goes.after goes.nodes is_kept goes.failed.kept history
       on_logs goes.failed.any_moment)
 
-  -- each disk that keeps the disk model kept it before
+  -- each disk that keeps to the disk model did so before
   pub down_were_kept : WereKept is_kept old new
   down_were_kept =
       were_kept old r e stop_due new goes.after goes.nodes is_kept goes.failed.kept

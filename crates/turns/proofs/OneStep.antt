@@ -26,7 +26,7 @@ one_asked w (Stop n) a b x y = absurd x
 one_asked w (StopIn e l) a b x y = one_asked w e a b x y
 one_asked w (Restart n) a b x y = absurd x
 
--- a node of the world answers it in one way
+-- a node of the world has only one answer to it
 steps_alike : (w : World) (k : ℕ) (x : WorldNode) (asked : Asked) (l m : Letter)
     → IsLetterOf (member_at w k x) (unit_asked (node_at w k x) asked) l
     → IsLetterOf (member_at w k x) (unit_asked (node_at w k x) asked) m
@@ -49,7 +49,7 @@ one_right w k x asked a b first second =
 took_same : (a b : Taken) → ◌≡◌ {A = Result Taken NodeFault} (Ok a) (Ok b) → a ≡ b
 took_same a b e = cc
 
--- so the steps of an event are one
+-- so an event has only one step
 pub one_act : (w : World) (e : Event) (x y : WorldNode) (t u : Taken) → Acts w e x t
     → Acts w e y u → t ≡ u
 one_act w e x y t u a b =

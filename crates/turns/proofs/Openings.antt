@@ -25,7 +25,7 @@ use Rattle.world.specs.World.{IsMade, down_node, fresh_node, node_at, start, up_
 
 module _ {D : Type 0} (tree : Tree) (weights : List ℕ) (me : ℕ) (n : LoggedNode D)
     (opened : IsOpened tree weights me n.node) where
-  -- whose log it is
+  -- the log's identity is that of the member
   pub whose_is : identity_of n.node.member ≡ identity tree weights me
   whose_is =
       ap (λ (x : NodeState). identity_of x.member) opened.node
@@ -36,11 +36,11 @@ module _ {D : Type 0} (tree : Tree) (weights : List ℕ) (me : ℕ) (n : LoggedN
     stands : n.log.end ≡ gate_place (identity tree weights me) (texts_of n.node.notes)
     stands = logged.end ∙ ap (λ i. gate_place i (texts_of n.node.notes)) whose_is
 
-    -- a log that is as long as one without notes has none
+    -- a log that is as long as one without notes has no notes
     pub is_empty : len ≡ fresh → n.node.notes ≡ []
     is_empty same = no_notes tree weights me n.node.notes (omega (arith, same, is, at, stands))
 
-    -- and another has some
+    -- any other log has some
     pub has_some : len ≢ fresh
         → (note : log.Note) × (notes : List log.Note) × (texts_of n.node.notes ≡ note ∷ notes)
     has_some other = by n.node.notes refl
@@ -56,7 +56,7 @@ module _ {D : Type 0} (tree : Tree) (weights : List ℕ) (me : ℕ) (n : LoggedN
 
 -- ---- the world at the start
 
--- elements that all show as one
+-- elements that all map to the same value
 alike : {X Y : Type 0} (f : X → Y) (y : Y) (xs : List X)
     → ((k : ℕ) (x : X) → slice_get xs k ≡ Some x → f x ≡ y) → map f xs ≡ replicate (length xs) y
 alike f y [] same = refl
@@ -114,7 +114,7 @@ module _ {D P : Type 0} (is_kept : D → Type 0) (history : D → History) (tree
     (fresh : AreFresh is_kept history tree weights disks c.nodes.items) (sent : c.sent ≡ [])
     (events : c.events.items ≡ []) (pending : c.pending ≡ nothing_kept)
     (unfailed : c.unfailed ≡ replicate 9 0) where
-  -- it is one
+  -- the invariant holds
   pub is_cluster : IsCluster c
   is_cluster = record {
     tree = of_tree ∙ sym own;

@@ -1,4 +1,4 @@
--- What a node of a cluster refuses, its world refuses, and no node refuses what was sent.
+-- The world refuses what a node of the cluster refuses, and no node refuses what was sent.
 use Rattle.std.proofs.Common.{◌≡◌, ◌≤◌, ℕ, true, false, List, Option, None, Some, Result, Ok, Err, length, refl, sym, ap, subst, ◌∙◌, arith, inr, true≢false, if◌then◌else◌}
 use Rattle.std.specs.Prelude.{is_some}
 use Rattle.choosing.proofs.Eventful.{sent_is}
@@ -41,7 +41,7 @@ never f t e = cc
 faults_same : (f g : NodeFault) → ◌≡◌ {A = Result Taken NodeFault} (Err f) (Err g) → f ≡ g
 faults_same f g e = cc
 
--- a node that runs refuses bytes as foreign alone
+-- a node that is up refuses bytes only as foreign
 heard_foreign : (pieces : List Piece) (r : Result Answer Refusal) (f : NodeFault)
     → Err f ≡ heard pieces r → (g : Foreign) × (f ≡ fault.Foreign g)
 heard_foreign pieces (Ok a) f is = absurd (never f (record { answer = a; pieces = pieces }) is)

@@ -1,4 +1,4 @@
--- The step that was chosen: it is taken, or not, and what follows is kept, or put back.
+-- The chosen step is taken, or it isn't, and what it changes is kept or undone.
 use Rattle.std.proofs.Common.{◌≡◌, ◌++◌, ◌⊎◌, ℕ, true, List, [], ◌∷◌, Option, None, Some, Result, Ok, Err, get_or, length, map, slice_get, slice_set, refl, sym, ap, subst, ◌∙◌, inl, inr, ⊎_elim}
 use Rattle.std.proofs.lemmas.List.{append-nil}
 use Rattle.std.proofs.lemmas.Option.{slice_get-get_or, slice_get_within}
@@ -34,21 +34,21 @@ use Rattle.turns.proofs.OneStep.{some_same}
 use Rattle.turns.specs.inside.Turning.{HasFailed, HasNotTaken, HasStayed, HasTaken, IsDue, IsMadeReady, IsTakenAs, IsTurn, StandsStill, StopsAs, TakesStep, Turning}
 use Rattle.world.specs.Sent.{with_sends}
 
--- what an index reads is what stands there
+-- what an index reads is the element at that place
 pub index_is : {X : Type 0} (xs : List X) (k : ℕ) (n x : X) → slice_get xs k ≡ Some n
     → x ≡ get_or xs k x → n ≡ x
 index_is xs k n x stands is =
     some_same n x (sym stands ∙ slice_get-get_or xs k x (slice_get_within xs k n stands)
     ∙ ap (λ y. Some y) (sym is))
 
--- ---- what a port keeps
+-- ---- a port's records
 
--- where nothing was asked, it goes on by nothing
+-- a record continues by nothing
 pub goes_on : {X : Type 0} (o : Option (List X)) → GoesOnBy [] o o
 goes_on None = tt
 goes_on (Some xs) = sym (append-nil xs)
 
--- and nothing after something is that, as is something after nothing
+-- continuing by these and then by nothing is continuing by these
 pub goes_on_then : {X : Type 0} (more : List X) (a b c : Option (List X)) → GoesOnBy more a b
     → GoesOnBy [] b c → GoesOnBy more a c
 goes_on_then more a b None first then = tt
@@ -69,7 +69,7 @@ then_goes_on more (Some xs) (Some ys) (Some zs) first then =
 module _ {D : Type 0} (is_kept : D → Type 0) (history : D → History) (failures : D → ℕ)
     (old new : LoggedNode D) (ready : ReadyStep)
     (kept : is_kept new.log.disk → is_kept old.log.disk) where
-  -- the node stays, unless its device failed
+  -- the node is unchanged, unless its device failed
   stayed : (f : NodeFault) → (f ≡ fault.Log log.Device → ⊥)
       → (f ≡ fault.Log log.Device) ⊎ (new.node ≡ old.node)
       → (is_kept new.log.disk → IsOnLog history old → (f ≡ fault.Log log.Device)
@@ -115,7 +115,7 @@ module _ {D : Type 0} (is_kept : D → Type 0) (history : D → History) (failur
 module _ {D P : Type 0} (is_kept : D → Type 0) (history : D → History) (failures : D → ℕ)
     (offered : P → Option (List Parcel)) (old new : Turning D P) (r : Ready)
     (at : IsReadiedAt old.nodes r.node (asked_by r.readied.act) r.readied) where
-  -- all stands still
+  -- nothing changed
   pub all_still : new.nodes ≡ old.nodes → new.sent ≡ old.sent → new.events ≡ old.events
       → new.pending ≡ old.pending → GoesOnBy [] (offered old.port) (offered new.port)
       → StandsStill is_kept history offered old new
@@ -127,7 +127,7 @@ module _ {D P : Type 0} (is_kept : D → Type 0) (history : D → History) (fail
     offers = offers;
   }
 
-  -- the event that is recorded is the step
+  -- the recorded event is the step
   abbrev due_as : (recorded : Recorded)
       → IsRecorded old.sent (r.node, asked_by r.readied.act) r.readied.ready recorded
       → IsAsked (asked_by r.readied.act) → IsLogged at.node
@@ -167,7 +167,7 @@ module _ {D P : Type 0} (is_kept : D → Type 0) (history : D → History) (fail
           offers = offers;
         })
 
-    -- the node stayed as it was
+    -- the node is unchanged
     still : HasStayed is_kept history at.node after → new.sent ≡ old.sent
         → new.events ≡ old.events → new.pending ≡ old.pending
         → GoesOnBy [] (offered old.port) (offered new.port)
@@ -253,7 +253,7 @@ module _ {D P : Type 0} (is_kept : D → Type 0) (history : D → History) (fail
 
 -- ---- after what was chosen
 
--- what was chosen is ready
+-- what was chosen is prepared
 pub ready_as : {D : Type 0} (nodes : List (LoggedNode D)) (sent : List Text) (p : Pending)
     (handed : Handed) (a b : Option (List Arrived)) (r : Ready)
     → HasChosen nodes sent p handed a b (Some r)
@@ -287,7 +287,7 @@ made_later nodes sent p handed a b c o made goes = record {
 module _ {D P : Type 0} (is_kept : D → Type 0) (history : D → History) (failures : D → ℕ)
     (given : P → Option (List Arrived)) (offered : P → Option (List Parcel)) (old new : Turning D P)
     (p : P) (silent : GoesOnBy [] (offered p) (offered old.port)) (r : Ready) where
-  -- the same, where the port was that before, to which nothing was offered since
+  -- the parts with an earlier port, to which nothing was offered since
   abbrev before : Turning D P
   before = record old { port = p }
 
@@ -367,7 +367,7 @@ module _ {D P : Type 0} (is_kept : D → Type 0) (history : D → History) (fail
         → IsTurn is_kept history failures given offered (at_first nodes) new handed (Err f)
     turned_not f t = inr (r, made_first, taken_first (Err f) t)
 
--- ---- how it is told
+-- ---- how it is reported
 
 pub stops_else : (k : ℕ) (stop : Option declared.Event) (old new : List declared.Event)
     (why : NodeFault) (f : TurnFault) → (why ≡ fault.Log log.Device → ⊥) → f ≡ told why → new ≡ old

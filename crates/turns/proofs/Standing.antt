@@ -1,4 +1,4 @@
--- A cluster that is a world: its nodes stand there.
+-- A cluster that is a world has the world's nodes.
 use Rattle.std.proofs.Common.{◌≡◌, ℕ, zero, suc, false, List, [], ◌∷◌, None, Some, map, slice_get, slice_set, refl, sym, ap, subst, ◌∙◌, if◌then◌else◌}
 use Rattle.std.proofs.lemmas.Option.{slice_get-map}
 use Rattle.std.specs.Prelude.{option_map}
@@ -42,7 +42,7 @@ module _ {D P : Type 0} (c : ClusterState D P) (w : World) (is : IsWorldOf c w) 
     seen_up : node_view n ≡ up_node n.node
     seen_up = ap (λ b. if b then down_node n.node.notes [] else up_node n.node) up
 
-    -- it is the world's
+    -- it is the world's node
     pub hosted : IsHosted w k n.node
     hosted = record {
       stands = ap (λ l. slice_get l k) is.nodes
@@ -51,7 +51,7 @@ module _ {D P : Type 0} (c : ClusterState D P) (w : World) (is : IsWorldOf c w) 
       is = is.know k n stands up ∙ ap (node_at w k) seen_up;
     }
 
-    -- and its member is one
+    -- and its member is valid
     pub member_there : IsMember n.node.member
     member_there =
         let run = each_run_is_acts c.division c.weights (taken c) w is.made is.led in

@@ -1,4 +1,4 @@
--- A node of the cluster took its step: the event happened in the world.
+-- A node of the cluster took its step. In the world the event happened.
 use Rattle.std.proofs.Common.{◌≡◌, ◌≢◌, ◌++◌, ℕ, false, [], ◌∷◌, Option, Some, Ok, map, slice_get, slice_set, refl, sym, ap, subst, ◌∙◌, inl, inr, if◌then◌else◌}
 use Rattle.std.proofs.lemmas.Bool.{cases_eq}
 use Rattle.events.specs.Events.{Event, node_of}
@@ -48,7 +48,7 @@ module _ {D P : Type 0} (old : ClusterState D P) (k : ℕ) (n : LoggedNode D)
         ap (λ b. if b then down_node later.node.notes [] else up_node later.node) then_up
         ∙ ap up_node moved.state
 
-    -- what the world's step leaves is the cluster then
+    -- the world after the step is the cluster after it
     leads_here : (w v : World) → IsWorldOf old w → HasStepped w e n.node t v → IsWorldOf new v
     leads_here w v is s = record {
       made = subst (λ d. IsMade d new.weights) (sym moved.division)

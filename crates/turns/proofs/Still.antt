@@ -1,4 +1,4 @@
--- A cluster in which nothing changed but room on a disk.
+-- A cluster in which nothing changed except room on a disk.
 use Rattle.std.proofs.Common.{◌≡◌, ◌≢◌, ℕ, zero, suc, false, List, [], ◌∷◌, Option, None, Some, length, map, slice_get, slice_set, refl, sym, ap, subst, ◌∙◌, inl, inr, ⊎_elim, if◌then◌else◌}
 use Rattle.std.proofs.lemmas.Bool.{cases_eq}
 use Rattle.std.proofs.lemmas.List.{length-set}
@@ -15,7 +15,7 @@ use Rattle.turns.specs.inside.Turning.{AllStay, OneStays, StandsStill, turning_o
 use Rattle.world.specs.Happening.{Leads}
 use Rattle.world.specs.World.{IsMade, World, WorldNode, down_node, node_at, start, up_node}
 
--- what stands at one place of a list that has another there
+-- the element at the place where a list was changed
 pub at_place : {X : Type 0} (xs ys : List X) (k : ℕ) (x y z : X) → slice_get xs k ≡ Some x
     → ys ≡ slice_set xs k y → slice_get ys k ≡ Some z → y ≡ z
 at_place {X} xs ys k x y z stood set at =
@@ -23,13 +23,13 @@ at_place {X} xs ys k x y z stood set at =
     sym (set_there xs k x y stood) ∙ ap (λ l. slice_get l k) (sym set) ∙ at in
     cc
 
--- and elsewhere
+-- the elements at other places
 pub off_place : {X : Type 0} (xs ys : List X) (k j : ℕ) (y z : X) → j ≢ k
     → ys ≡ slice_set xs k y → slice_get ys j ≡ Some z → slice_get xs j ≡ Some z
 off_place xs ys k j y z other set at =
     sym (set_elsewhere xs k j y other) ∙ ap (λ l. slice_get l j) (sym set) ∙ at
 
--- what is put again where it stands
+-- setting an element to itself changes nothing
 pub set_again : {X : Type 0} (xs : List X) (k : ℕ) (x : X) → slice_get xs k ≡ Some x
     → slice_set xs k x ≡ xs
 set_again [] k x at = refl
@@ -53,7 +53,7 @@ abbrev view_of : NodeState → WorldNode
 view_of x = if x.stopped then down_node x.notes [] else up_node x
 
 module _ {D : Type 0} where
-  -- a node of the world is what the node's state shows
+  -- a node of the world depends only on the node's state
   pub views : (xs : List (LoggedNode D)) → map node_view xs ≡ map view_of (map state xs)
   views [] = refl
   views (n ∷ ns) = ap (λ l. node_view n ∷ l) (views ns)
@@ -92,7 +92,7 @@ module _ {D : Type 0} where
         ])
         stay
 
-    -- The disks went through nothing.
+    -- Nothing was done to the disks.
     pub still_there : (on_logs : (k : ℕ) (n : LoggedNode D) → slice_get old k ≡ Some n
         → n.node.stopped ≡ false → is_kept n.log.disk → IsOnLog history n)
         → (k : ℕ) (before after : LoggedNode D)
@@ -142,7 +142,7 @@ module _ {D : Type 0} where
                   ∙ same ∙ ap (λ (n : LoggedNode D). history n.log.disk) (sym first),
             )
 
-    -- Each node that is up is on its log as before.
+    -- Each node that is up is on its log, as before.
     pub on_logs_still : (on_logs : (k : ℕ) (n : LoggedNode D) → slice_get old k ≡ Some n
         → n.node.stopped ≡ false → is_kept n.log.disk → IsOnLog history n)
         → (k : ℕ) (n : LoggedNode D) → slice_get new k ≡ Some n → n.node.stopped ≡ false

@@ -1,4 +1,4 @@
--- A turn, by what it answers: what that is in the world, and what it leaves.
+-- A turn, by its result: the event in the world, and what the turn leaves.
 use Rattle.std.proofs.Common.{◌≡◌, ◌++◌, ◌⊎◌, ℕ, List, [], ◌∷◌, Option, None, Some, Result, Ok, Err, length, refl, sym, subst, inl, inr, ⊎_elim}
 use Rattle.std.specs.Prelude.{IfErr, IfNone, IfOk, IfSome}
 use Rattle.choice.specs.Acts.{asked_by}
@@ -27,7 +27,7 @@ use Rattle.world.specs.Happening.{IsRefused}
 use Rattle.world.specs.World.{World}
 use Rattle.world.specs.declared.fault.WorldFault.TheVariants as worlds
 
--- What a turn promises where it answers this.
+-- What a turn with this result promises.
 pub record Promises {D P : Type 0} (is_kept : D → Type 0) (history : D → History)
     (failures : D → ℕ) (given : P → Option (List Arrived)) (offered : P → Option (List Parcel))
     (old new : ClusterState D P) (handed : Handed)
@@ -99,7 +99,7 @@ module _ {D P : Type 0} (is_kept : D → Type 0) (history : D → History) (fail
     event = due.event;
   }
 
-  -- ---- where all stands still
+  -- ---- nothing changed
 
   still_same : StandsStillHere → IsSame old new
   still_same still = is_same is_kept history offered old new division weights still
@@ -146,7 +146,7 @@ module _ {D P : Type 0} (is_kept : D → Type 0) (history : D → History) (fail
   fault_is refused.NotFresh (inl t) = absurd t.0
   fault_is refused.NotFresh (inr t) = absurd t.2
 
-  -- a refusal leaves all as it was, unless a node went down
+  -- a refusal leaves everything unchanged, unless a node went down
   abbrev IsStillOrDown : TurnFault → Type 0
   IsStillOrDown f =
       StandsStillHere
@@ -184,7 +184,7 @@ module _ {D P : Type 0} (is_kept : D → Type 0) (history : D → History) (fail
       subst (HasFailedAt failures old new) (sym t.2.0)
       (has_failed_at is_kept history failures offered old new division weights t.0 t.2.1.0 t.2.1.1)
 
-  -- and where it is refused nothing was offered
+  -- a refused turn offered nothing
   offers_none : (f : TurnFault) → IsTurnOf (Err f) → OffersNothing offered old new
   offers_none f (inl t) = t.1.offers
   offers_none refused.Memory (inr t) = t.2.offers
@@ -193,7 +193,7 @@ module _ {D P : Type 0} (is_kept : D → Type 0) (history : D → History) (fail
   offers_none refused.NotSent (inr t) = absurd t.2
   offers_none refused.NotFresh (inr t) = absurd t.2
 
-  -- ---- by what it answers
+  -- ---- by the result
 
   pub promises : (result : Result (Option declared.Event) TurnFault) → IsTurnOf result
       → Promises is_kept history failures given offered old new handed result

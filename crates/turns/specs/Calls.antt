@@ -1,4 +1,4 @@
--- What a turn asks of the port, by its calls.
+-- A turn, seen by the calls that it makes to the port.
 use Rattle.std.specs.Prelude.{Option, None, Some, Result, Ok, Err}
 use Rattle.choice.specs.declared.fault.TurnFault.{TurnFault}
 use Rattle.choosing.specs.Handed.{AllBuilds, Handed}
@@ -11,7 +11,7 @@ use Rattle.turns.specs.Faults.{IsTurnFaultFor}
 use Rattle.turns.specs.State.{ClusterState}
 use Rattle.turns.specs.Turn.{IsChosenFor, IsEventChosenFor, OffersItsSends, OffersNothing}
 
--- the cluster, with these calls of its port in the place of it
+-- the cluster, with these calls in place of its port
 abbrev pub with_calls : {D P : Type 0} → ClusterState D P → TurnCalls → ClusterState D TurnCalls
 with_calls c calls = record {
   division = c.division;
@@ -23,8 +23,8 @@ with_calls c calls = record {
   port = calls;
 }
 
--- Seen by its calls, the turn is this: its choice is by what they gave, and just what its step
--- sends was offered by them, where it took one, and else nothing.
+-- The turn, seen by its calls: the choice depends on what they returned, and they offered exactly
+-- what the turn's step sends, or nothing if it took none.
 abbrev pub IsByCallsFor : {D : Type 0} → ClusterState D TurnCalls → ClusterState D TurnCalls
     → Handed → Result (Option declared.Event) TurnFault → Type 0
 IsByCallsFor old new handed (Ok None) =
@@ -35,21 +35,21 @@ IsByCallsFor old new handed (Ok (Some e)) =
 IsByCallsFor old new handed (Err f) =
     IsTurnFaultFor given_in old new handed f × OffersNothing offered_in old new
 
--- that where all builds are there from the start
+-- the turn seen by its calls, if all builds are there from the start
 abbrev pub IsByCalls : {D : Type 0} → ClusterState D TurnCalls → ClusterState D TurnCalls → Given
     → Result (Option declared.Event) TurnFault → Type 0
 IsByCalls old new builds result = IsByCallsFor old new (AllBuilds builds) result
 
--- The port went through just these calls in the turn, and seen by them it is this turn: so it was
--- asked to receive once, or not at all where a job waited for its answer, and then to send each of
--- the datagrams that the step sends, once and in order.
+-- The port went through exactly these calls in the turn, and seen by them it is this turn. So it
+-- was asked to receive once, or not at all if a job waited for its answer, and then to send each
+-- datagram that the step sends, once and in order.
 pub record HasCalledFor {D P : Type 0} (does : P → Call → P → Type 0) (old new : ClusterState D P)
     (handed : Handed) (result : Result (Option declared.Event) TurnFault) : Type 0 where
   pub calls : TurnCalls
   pub went : WentThrough does old.port (calls_of calls) new.port
   pub by_calls : IsByCallsFor (with_calls old no_calls) (with_calls new calls) handed result
 
--- that where all builds are there from the start
+-- the calls of the turn, if all builds are there from the start
 abbrev pub HasCalled : {D P : Type 0} → (P → Call → P → Type 0) → ClusterState D P
     → ClusterState D P → Given → Result (Option declared.Event) TurnFault → Type 0
 HasCalled does old new builds result = HasCalledFor does old new (AllBuilds builds) result

@@ -1,4 +1,4 @@
--- What a turn leaves of disks, by what it answers.
+-- What a turn does to disks, by its result.
 use Rattle.std.specs.Prelude.{◌≡◌, ◌⊎◌, ◌++◌, ℕ, [], ◌∷◌, Option, Result, IfErr, IfNone, IfOk, IfSome}
 use Rattle.choice.specs.declared.fault.TurnFault.{TurnFault}
 use Rattle.choice.specs.declared.fault.TurnFault.TheVariants.{Down}
@@ -9,9 +9,12 @@ use Rattle.stable_record.specs.History.{History}
 use Rattle.turns.specs.State.{ClusterState, taken}
 use Rattle.turns.specs.Turn.{AreUntouched, HasFailedAt, LeavesItsNotes, WereKept}
 
--- A crash at any moment of the turn, or later, leaves the log of the event's node with its notes,
--- and with that of its step or without, also where the node went down in it, for which its device
--- failed. Else each disk went through nothing. And a disk that keeps the disk model kept it before.
+-- What the turn did to the disks:
+-- - A crash at any moment of the turn, or later, leaves the log of the event's node with its notes,
+--   with that of its step or without it. This also holds if the node went down in the step because
+--   its device failed.
+-- - If no event was taken and no node went down, nothing was done to any disk.
+-- - A disk that keeps to the disk model did so before.
 pub record LeavesDisks {D P : Type 0} (is_kept : D → Type 0) (history : D → History)
     (failures_of : D → ℕ) (old new : ClusterState D P)
     (answer : Result (Option declared.Event) TurnFault) : Type 0 where

@@ -1,13 +1,13 @@
--- What holds of a cluster at each moment, as of each run.
+-- What holds of a cluster at each moment.
 use Rattle.turns.specs.AnyCase.{IsListedInAnyCase}
 use Rattle.turns.specs.State.{ClusterState, IsWorldOf, taken}
 use Rattle.world.specs.Headline.{HasOneList}
 use Rattle.world.specs.MatchingLaws.{IsSafe}
 use Rattle.world.specs.World.{World}
 
--- It is a world, to which its events lead from the start, and so all holds of it that holds of each
--- run; and so it is, of the nodes that are up, whatever was left of the steps inside which nodes
--- went down.
+-- The cluster is a world, to which its events lead from the start. So what holds of each run holds
+-- of it. This also holds, for the nodes that are up, whatever was left of the steps during which
+-- nodes went down.
 pub record HasHeadline {D P : Type 0} (c : ClusterState D P) : Type 0 where
   pub world : (w : World) × IsWorldOf c w
   pub one_list : (w : World) → IsWorldOf c w → HasOneList c.division c.weights (taken c) w

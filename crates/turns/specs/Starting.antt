@@ -1,4 +1,4 @@
--- What a cluster is made of, and why none is made.
+-- What a cluster is made of, and why none can be made.
 use Rattle.std.specs.Prelude.{◌≡◌, ◌≢◌, ◌<◌, ◌⊎◌, ℕ, List, [], ◌∷◌, Some, Ok, slice_get}
 use Rattle.choice.specs.declared.fault.TurnFault.{TurnFault}
 use Rattle.choice.specs.declared.fault.TurnFault.TheVariants.{Memory, Node, Down, NotSent, NotFresh}
@@ -14,8 +14,8 @@ use Rattle.stable_record.specs.Log.{Note}
 use Rattle.stable_record.specs.Opening.{Opens, OpensAsLeft}
 use Rattle.stable_record.specs.declared.log_fault.LogFault.TheVariants as log
 
--- The node stands on the disk that was handed in for it, which had no notes; and at each moment a
--- crash left what it could leave before.
+-- The node is on the disk that was passed for it, which had no notes. At each moment, a crash left
+-- only what it could have left before.
 pub record StandsFresh {D : Type 0} (is_kept : D → Type 0) (history : D → History)
     (n : LoggedNode D) (disk : D) : Type 0 where
   pub kept : is_kept n.log.disk → is_kept disk
@@ -24,7 +24,8 @@ pub record StandsFresh {D : Type 0} (is_kept : D → Type 0) (history : D → Hi
       → AllAlong (OpensAsLeft (identity_of n.node.member) (history disk)) (history disk)
       (history n.log.disk)
 
--- Why no node is opened over the disk, want of memory aside: its log can't be opened, or has notes.
+-- Why no node can be opened over the disk: memory ran out, its log can't be opened, or it has
+-- notes.
 abbrev pub IsOpeningFault : {D : Type 0} → (D → Type 0) → (D → History) → (D → ℕ) → Tree → List ℕ
     → ℕ → D → TurnFault → Type 0
 IsOpeningFault is_kept history failures tree weights k disk Memory = Prim.Unit {0}
@@ -45,8 +46,8 @@ pub record IsOpenedFresh {D : Type 0} (is_kept : D → Type 0) (history : D → 
   pub opened : IsOpened tree weights k node.node
   pub stands : StandsFresh is_kept history node disk
 
--- The first disk of which this holds is the one: nodes were opened over those before it, and none
--- is opened over it.
+-- It fails first at one disk: nodes were opened over those before it, and none can be opened over
+-- it.
 pub record FailsFirstAt {D : Type 0} (is_kept : D → Type 0) (history : D → History)
     (failures : D → ℕ) (tree : Tree) (weights : List ℕ) (disks : List D) (f : TurnFault) : Type 0
   where
@@ -57,7 +58,7 @@ pub record FailsFirstAt {D : Type 0} (is_kept : D → Type 0) (history : D → H
         → IsOpenedFresh is_kept history tree weights j earlier
     pub refused : IsOpeningFault is_kept history failures tree weights place disk f
 
--- Why no cluster is made: memory was wanting, or no node is opened over one of the disks.
+-- Why no cluster can be made: memory ran out, or no node can be opened over one of the disks.
 abbrev pub IsNewFault : {D : Type 0} → (D → Type 0) → (D → History) → (D → ℕ) → Tree → List ℕ
     → List D → TurnFault → Type 0
 IsNewFault is_kept history failures tree weights disks f =

@@ -1,4 +1,4 @@
--- A cluster: what stands between its turns, and the world that it is.
+-- A cluster: its state between turns, and the world that it is.
 use Rattle.std.specs.Prelude.{◌≡◌, ℕ, false, List, [], Some, map, slice_get, if◌then◌else◌}
 use Rattle.choice.specs.Choice.{Here}
 use Rattle.choice.specs.Pending.{Pending}
@@ -17,23 +17,23 @@ use Rattle.world.specs.World.{IsMade, World, WorldNode, down_node, node_at, star
 pub record ClusterState (D P : Type 0) : Type 0 where
   -- the tree, and its units
   pub division : Division
-  -- what each member weighs: one node for each
+  -- the weight of each member, which has one node
   pub weights : List ℕ
-  -- by number; one whose device failed is down
+  -- by number; a node whose device failed is down
   pub nodes : List (LoggedNode D)
-  -- the different datagrams that were sent, in order of first sending
+  -- the different datagrams that were sent, in the order in which they were first sent
   pub sent : List Text
-  -- what turns answered, with a stop inside the step for each device that failed
+  -- what turns returned, with a stop during the step for each device that failed
   pub events : List declared.Event
-  -- what is kept between turns
+  -- the state that is kept between turns
   pub pending : Pending
   pub port : P
 
--- the events, in turn
+-- the events, in order
 abbrev pub taken : {D P : Type 0} → ClusterState D P → List Event
 taken c = map event_view c.events
 
--- the node, as one of a world
+-- the node as one of a world
 abbrev pub node_view : {D : Type 0} → LoggedNode D → WorldNode
 node_view n = if n.node.stopped then down_node n.node.notes [] else up_node n.node
 
@@ -41,19 +41,19 @@ node_view n = if n.node.stopped then down_node n.node.notes [] else up_node n.no
 abbrev pub here_of : {D P : Type 0} → ClusterState D P → Here
 here_of c = here_in c.nodes
 
--- The world is the one to which the cluster's events lead from the start: it has the cluster's
--- nodes, up and down, and its datagrams. (Which list is agreed there follows from the events; no
--- cluster keeps it.)
+-- The world is the one to which the cluster's events lead from the start. It has the cluster's
+-- nodes, up and down, and its datagrams. (The list that is agreed there follows from the events; no
+-- cluster stores it.)
 pub record IsWorldOf {D P : Type 0} (c : ClusterState D P) (w : World) : Type 0 where
   pub made : IsMade c.division c.weights
   pub led : Leads (start c.division c.weights) (taken c) w
   pub nodes : w.nodes ≡ map node_view c.nodes
   pub sent : w.sent ≡ c.sent
-  -- what a node that is up knows is what the world's node knows
+  -- a node that is up knows exactly what the world's node knows
   pub know : (k : ℕ) (n : LoggedNode D) → slice_get c.nodes k ≡ Some n → n.node.stopped ≡ false
       → n.node ≡ node_at w k (node_view n)
 
--- Each node that is up has its notes on its log, as long as its disk keeps the disk model.
+-- Each node that is up has its notes on its log, if its disk keeps to the disk model.
 abbrev pub AreOnLogs : {D P : Type 0} → (D → Type 0) → (D → History) → ClusterState D P → Type 0
 AreOnLogs {D} is_kept history c =
     (k : ℕ) (n : LoggedNode D) → slice_get c.nodes k ≡ Some n → n.node.stopped ≡ false

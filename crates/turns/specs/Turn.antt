@@ -24,9 +24,9 @@ use Rattle.turns.specs.State.{ClusterState, IsWorldOf, here_of, taken}
 use Rattle.world.specs.Happening.{Acts, Happens, StopsIn}
 use Rattle.world.specs.World.{World, WorldNode}
 
--- ---- what was chosen
+-- ---- the choice
 
--- It is the turn's choice, for what is handed in, by what the port gave in the turn.
+-- It is the turn's choice for what is passed to the turn, given what the port returned in the turn.
 pub record IsChosenFor {D P : Type 0} (given : P → Option (List Arrived))
     (old new : ClusterState D P) (handed : Handed) (chosen : Chosen) : Type 0 where
   pub came : Arrived
@@ -34,32 +34,32 @@ pub record IsChosenFor {D P : Type 0} (given : P → Option (List Arrived))
       (given old.port) (given new.port)
   pub choice : IsChoiceBy handed (here_of old) (length old.weights) old.pending came chosen
 
--- that where all builds are there from the start
+-- the choice if all builds are there from the start
 abbrev pub IsChosen : {D P : Type 0} → (P → Option (List Arrived)) → ClusterState D P
     → ClusterState D P → Given → Chosen → Type 0
 IsChosen given old new builds chosen = IsChosenFor given old new (AllBuilds builds) chosen
 
--- The event is the turn's choice, for what is handed in.
+-- The event is the turn's choice for what is passed to the turn.
 pub record IsEventChosenFor {D P : Type 0} (given : P → Option (List Arrived))
     (old new : ClusterState D P) (handed : Handed) (e : Event) : Type 0 where
   pub chosen : ℕ × Asked
   pub is_chosen : IsChosenFor given old new handed (Some chosen)
   pub event : event_of old.sent chosen ≡ Some e
 
--- that where all builds are there from the start
+-- the chosen event if all builds are there from the start
 abbrev pub IsEventChosen : {D P : Type 0} → (P → Option (List Arrived)) → ClusterState D P
     → ClusterState D P → Given → Event → Type 0
 IsEventChosen given old new builds e = IsEventChosenFor given old new (AllBuilds builds) e
 
--- ---- what a turn leaves
+-- ---- what a turn changes
 
--- The event happened: from each world that the cluster was, to one that it is.
+-- The event happened: it leads from each world that the cluster was to one that it is.
 abbrev pub HasHappened : {D P : Type 0} → ClusterState D P → ClusterState D P → Event → Type 0
 HasHappened old new e =
     (w : World) → IsWorldOf old w → (v : World) × Happens w e v × IsWorldOf new v
 
--- Just what the event's step sends was offered to the port, each once and in order, as far as the
--- port keeps it.
+-- Exactly what the event's step sends was offered to the port, each once and in order, as far as
+-- the port records it.
 abbrev pub OffersItsSends : {D P : Type 0} → (P → Option (List Parcel)) → ClusterState D P
     → ClusterState D P → Event → Type 0
 OffersItsSends offered old new e =
@@ -72,29 +72,29 @@ abbrev pub OffersNothing : {D P : Type 0} → (P → Option (List Parcel)) → C
     → ClusterState D P → Type 0
 OffersNothing offered old new = GoesOnBy [] (offered old.port) (offered new.port)
 
--- A turn offers what its event's step sends, and else nothing.
+-- A turn offers what its event's step sends, or nothing if it has no event.
 abbrev pub Offers : {D P : Type 0} → (P → Option (List Parcel)) → ClusterState D P
     → ClusterState D P → Result (Option declared.Event) TurnFault → Type 0
 Offers offered old new (Ok None) = OffersNothing offered old new
 Offers offered old new (Ok (Some e)) = OffersItsSends offered old new (event_view e)
 Offers offered old new (Err f) = OffersNothing offered old new
 
--- What is kept between turns is what it was, with what the event's node did.
+-- The state between turns was updated for what the event's node did.
 abbrev pub KeepsWith : {D P : Type 0} → ClusterState D P → ClusterState D P → Event → Type 0
 KeepsWith old new e =
     (chosen : ℕ × Asked) (s : State) → event_of old.sent chosen ≡ Some e
     → here_of old chosen.0 ≡ Some s
     → new.pending ≡ kept_after old.pending chosen.0 s chosen.1
 
--- Everything but the port is as it was. (What a disk has room for may have grown.)
+-- Everything but the port is unchanged. (Disks may have more room.)
 pub record IsSame {D P : Type 0} (old new : ClusterState D P) : Type 0 where
   pub nodes : map (λ n. n.node) new.nodes ≡ map (λ n. n.node) old.nodes
   pub sent : new.sent ≡ old.sent
   pub events : new.events ≡ old.events
   pub pending : new.pending ≡ old.pending
 
--- Each disk that keeps the disk model went through nothing: no write or cut that did anything, and
--- no sync that succeeded.
+-- Nothing was done to any disk that keeps to the disk model: no write or cut had an effect, and no
+-- sync succeeded. It kept to the model before.
 abbrev pub AreUntouched : {D P : Type 0} → (D → Type 0) → (D → History) → ClusterState D P
     → ClusterState D P → Type 0
 AreUntouched {D} is_kept history old new =
@@ -102,21 +102,21 @@ AreUntouched {D} is_kept history old new =
     → slice_get new.nodes k ≡ Some after → is_kept after.log.disk
     → is_kept before.log.disk × (history after.log.disk ≡ history before.log.disk)
 
--- Each disk that keeps the disk model kept it before.
+-- Each disk that keeps to the disk model did so before.
 abbrev pub WereKept : {D P : Type 0} → (D → Type 0) → ClusterState D P → ClusterState D P → Type 0
 WereKept {D} is_kept old new =
     (k : ℕ) (before after : LoggedNode D) → slice_get old.nodes k ≡ Some before
     → slice_get new.nodes k ≡ Some after → is_kept after.log.disk → is_kept before.log.disk
 
--- All nodes but one are as they were.
+-- All nodes but one are unchanged.
 pub record OthersStay {D P : Type 0} (old new : ClusterState D P) (k : ℕ) : Type 0 where
   pub node : LoggedNode D
   pub nodes : new.nodes ≡ slice_set old.nodes k node
 
--- ---- a crash inside a turn
+-- ---- a crash during a turn
 
--- A crash at any moment of it, or later, leaves the log of node k with its notes, and with that of
--- the event's step or without.
+-- A crash at any moment of the turn, or later, leaves the log of node k with its notes, with that
+-- of the event's step or without it.
 abbrev pub LeavesItsNotes : {D P : Type 0} → (D → Type 0) → (D → History) → ClusterState D P
     → ClusterState D P → Event → ℕ → Type 0
 LeavesItsNotes {D} is_kept history old new e k =
@@ -128,8 +128,8 @@ LeavesItsNotes {D} is_kept history old new e k =
 
 -- ---- a device that failed
 
--- Node k went down inside the event's step: it notes nothing more, the others and what was sent
--- stay, and whatever its log was left with, that is a stop inside the step.
+-- Node k went down during the event's step. It notes nothing more; the other nodes and the sent
+-- datagrams are unchanged. Whatever was left on its log, that is a stop during the step.
 pub record WentDown {D P : Type 0} (old new : ClusterState D P) (e : Event) (k : ℕ) : Type 0 where
   pub of_node : node_of e ≡ k
   pub before : LoggedNode D

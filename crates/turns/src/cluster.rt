@@ -1,5 +1,4 @@
-//! A cluster, which contracts see as its nodes, its datagrams, its events, and what it keeps
-//! between turns.
+//! A cluster. Contracts see its nodes, its datagrams, its events, and its state between turns.
 ghost use Rattle.std.specs.Prelude.{◌≡◌, [], IfErr, IfOk, MatchOption, None, Some, length, map};
 ghost use Rattle.choice.specs.Pending.{nothing_kept};
 ghost use Rattle.engine.specs.State as engines;
@@ -28,22 +27,22 @@ use stable_record::Disk;
 use std::alloc::Global;
 use std::marker::Model;
 
-/// All members' nodes, in one process, each over a disk of its own, and the port by which they hear
-/// each other.
+/// All members' nodes in one process, each over its own disk, and the port that they reach each
+/// other through.
 #[derive(Drop)]
 pub struct Cluster<'a, D: Disk, P: Port> {
     pub(crate) alloc: Global,
     pub(crate) tree: &'a Tree,
     pub(crate) units: Units<'a>,
     pub(crate) weights: Weights,
-    /// By number. One whose device failed stays here, stopped.
+    /// By number. A node whose device failed stays here, stopped.
     pub(crate) nodes: Vec<Node<'a, D>>,
-    /// The different datagrams, in order of first sending.
+    /// The different datagrams, in the order in which they were first sent.
     pub(crate) sent: Datagrams,
     pub(crate) events: Vec<Event>,
     pub(crate) pending: Pending,
-    /// By number, a position below which no package is queued at the node but those whose units
-    /// failed, so that no turn looks at these again.
+    /// By number, a position below which the node's only queued packages are those whose units
+    /// failed, so that turns needn't search there again.
     pub(crate) unfailed: [u32; 9],
     pub(crate) port: P,
 }
@@ -73,12 +72,12 @@ impl<'a, D: Disk, P: Port> Cluster<'a, D, P> {
     ghost use mir.Syntax.{named};
 
     /// The cluster at its start: all nodes are up, nothing is noted, and nothing was sent. `disks`
-    /// has one for each member, and so has `weights`.
+    /// and `weights` have one element for each member.
     ///
     /// # Errors
     ///
-    /// `Memory`; else that of the first disk over which no node is opened: why its log can't be
-    /// opened, or `NotFresh`, where its log has notes.
+    /// `Memory`; otherwise the fault of the first disk over which no node can be opened: why its
+    /// log can't be opened, or `NotFresh` if its log has notes.
     pub fn new(
         alloc: Global,
         tree: &'a Tree,
@@ -100,7 +99,8 @@ impl<'a, D: Disk, P: Port> Cluster<'a, D, P> {
             tree.entry.now weights.now disks.items) }
     {
         let units = Units::new(alloc, tree)?;
-        // These say that the units divide the tree, and what weights may be.
+        // These calls are for their contracts: the units divide the tree, and the weights are
+        // valid.
         let _count = units.len();
         let _weights = weights.as_slice();
         let nodes = fresh_nodes(alloc, tree, weights, disks)?;
@@ -118,11 +118,10 @@ impl<'a, D: Disk, P: Port> Cluster<'a, D, P> {
         })
     }
 
-    /// All events so far: what turns answered, with a stop inside the step for each node that went
-    /// down. They led from the start to a world with these nodes and these datagrams, so that all
-    /// holds of it that holds of each run; and so it is, of the nodes that are up, whatever was
-    /// left of the steps inside which nodes went down. Each node that is up has its notes on its
-    /// log.
+    /// All events so far: what turns returned, with a stop during the step for each node that went
+    /// down. They lead from the start to a world with these nodes and datagrams, so what holds of
+    /// each run holds of it. This also holds, for the nodes that are up, whatever was left of the
+    /// steps during which nodes went down. Each node that is up has its notes on its log.
     pub fn events(&self) -> &[Event]
         ensures events { result.now ≡ self.now.events }
         ensures on_logs { AreOnLogs D.is_kept D.history self.now }
@@ -136,7 +135,7 @@ impl<'a, D: Disk, P: Port> Cluster<'a, D, P> {
         self.events.as_slice()
     }
 
-    /// The events, for which the cluster goes.
+    /// Consumes the cluster, and returns its events.
     pub fn into_events(self) -> Vec<Event>
         ensures { result.items ≡ self.entry.events }
     {
@@ -144,7 +143,7 @@ impl<'a, D: Disk, P: Port> Cluster<'a, D, P> {
         events
     }
 
-    /// The nodes, by number, each over its disk, and the port, for which the cluster goes.
+    /// Consumes the cluster, and returns its nodes, by number, each over its disk, and its port.
     pub fn into_parts(self) -> (Vec<Node<'a, D>>, P)
         ensures nodes { result.0.items ≡ self.entry.nodes }
         ensures port { result.1 ≡ self.entry.port }
@@ -153,8 +152,11 @@ impl<'a, D: Disk, P: Port> Cluster<'a, D, P> {
         (nodes, port)
     }
 
-    /// The disks, by number, for which the cluster goes. Where memory for a list of them is wanting
-    /// they go, too.
+    /// Consumes the cluster, and returns its disks, by number.
+    ///
+    /// # Errors
+    ///
+    /// Out of memory. Then the disks are dropped, too.
     pub fn into_disks(self) -> Result<Vec<D>, Memory>
         ensures { IfOk result (λ disks.
             disks.items ≡ map (λ n. n.log.disk) self.entry.nodes) }
@@ -163,7 +165,7 @@ impl<'a, D: Disk, P: Port> Cluster<'a, D, P> {
         disks_of(alloc, nodes)
     }
 
-    /// How many packages have each letter at the node, as long as it is up.
+    /// The number of packages with each letter at the node, if it is up.
     pub fn counts(&self, node: u8) -> Option<Counts>
         ensures { MatchOption result (here_of self.now node ≡ None)
             (λ counts. (s : members.State) × (here_of self.now node ≡ Some s)
@@ -176,7 +178,7 @@ impl<'a, D: Disk, P: Port> Cluster<'a, D, P> {
         Some(node.counts())
     }
 
-    /// The port, lent.
+    /// The port.
     pub fn port(&mut self) -> &mut P
         ensures value { result.now ≡ self.old.port }
         ensures* lends { sem 𝓛 (follows
@@ -187,7 +189,7 @@ impl<'a, D: Disk, P: Port> Cluster<'a, D, P> {
     }
 }
 
-/// The disks on which these nodes stand.
+/// The disks of these nodes.
 fn disks_of<D: Disk>(alloc: Global, nodes: Vec<Node<'_, D>>) -> Result<Vec<D>, Memory>
     ensures { IfOk result (λ disks. disks.items ≡ map (λ n. n.log.disk) nodes.entry.items) }
 {

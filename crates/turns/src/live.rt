@@ -1,4 +1,4 @@
-//! The turns of a cluster where builds are made while its nodes run.
+//! The turns of a cluster if builds are made while its nodes run.
 ghost use Rattle.std.specs.Prelude.{◌≡◌, ◌≤◌, ◌++◌, ◌∷◌, [], IfErr, IfNone, IfOk, IfSome, None, length, map, option_map};
 ghost use Rattle.choosing.specs.Choosing.{NoneIsForeign};
 ghost use Rattle.choosing.specs.Handed.{SoFar, made_of};
@@ -26,23 +26,23 @@ use stable_record::Disk;
 use std::alloc::Global;
 
 impl<'a, D: Disk, P: Port> Cluster<'a, D, P> {
-    /// Takes one turn where builds are made while the nodes run, and answers the event that it was,
-    /// if there was anything to do. `made` has by node what is made so far for its job; where
-    /// nothing is made yet the job waits. Where nothing else is to be done the node of the wish, if
-    /// there is one and it is up, does what it is wished to, or else a node goes on with its open
-    /// claim. What a send refuses is lost, and a receive that fails gave nothing.
+    /// Takes one turn if builds are made while the nodes run, and returns its event, if there was
+    /// anything to do. `made` has, by node, the files made so far for its job; a job without an
+    /// entry waits. If there is nothing else to do, the node of the wish, if it is up, does what is
+    /// wished; otherwise a node continues with its open claim. A datagram that a send refuses is
+    /// lost, and a receive that fails counts as one that returned nothing.
     ///
     /// # Errors
     ///
-    /// `Memory`; `NotSent`, where bytes came, for a node that is up, that none of the nodes sent;
-    /// `Down`, where the device of the event's node failed; else what that node refuses.
+    /// `Memory`; `NotSent` if bytes were received for a node that is up and no node sent them;
+    /// `Down` if the device of the event's node failed; otherwise the refusal of that node.
     pub fn turn_live(
         &mut self,
         made: &[Option<&Packages>],
         wish: Option<(u8, Wish)>,
     ) -> Result<Option<Event>, TurnFault>
-        // The choice: as far as the port keeps what it gave, it was asked once, unless a job waited
-        // for its answer.
+        // The choice. As far as the port records its receives, it was asked once, unless a job
+        // waited for its answer.
         ensures chosen { IfOk result (λ o. IfSome o
             (λ e. IsEventChosenFor P.given self.old self.new
             (SoFar (made_of (map (option_map (λ b. b.now)) made.now)) wish) (event_view e))) }
@@ -50,7 +50,7 @@ impl<'a, D: Disk, P: Port> Cluster<'a, D, P> {
             (IsChosenFor P.given self.old self.new
             (SoFar (made_of (map (option_map (λ b. b.now)) made.now)) wish) None)) }
 
-        // What was chosen happened; or nothing changed but the port; or why it is refused.
+        // What was chosen happened; or only the port changed; or there is a refusal.
         ensures happened { IfOk result (λ o. IfSome o
             (λ e. HasHappened self.old self.new (event_view e))) }
         ensures others { IfOk result (λ o. IfSome o
@@ -64,12 +64,12 @@ impl<'a, D: Disk, P: Port> Cluster<'a, D, P> {
             (SoFar (made_of (map (option_map (λ b. b.now)) made.now)) wish)) }
         ensures left { IfErr result (IsLeftBy self.old self.new) }
 
-        // The port's sends; and all of its calls, whatever it keeps of them.
+        // What was offered; and all calls of the port, even if it doesn't record them.
         ensures offers { Offers P.offered self.old self.new result }
         ensures calls { HasCalledFor P.does self.old self.new
             (SoFar (made_of (map (option_map (λ b. b.now)) made.now)) wish) result }
 
-        // The disks, at each moment; and what holds, whichever it was.
+        // The disks at each moment, and what holds of the cluster whatever the result is.
         ensures disks { LeavesDisks D.is_kept D.history D.failures_of self.old self.new result }
         ensures on_logs { AreOnLogs D.is_kept D.history self.new }
         ensures fixed { (self.new.division ≡ self.old.division)
@@ -90,8 +90,8 @@ impl<'a, D: Disk, P: Port> Cluster<'a, D, P> {
     }
 }
 
-/// The same of these nodes: what is chosen happens. Below the position of each node in `unfailed`
-/// no package is queued there but those whose units failed.
+/// One turn of these nodes: what is chosen happens. Below its position in `unfailed`, each node's
+/// only queued packages are those whose units failed.
 fn take_live_turn<D: Disk, P: Port>(
     alloc: Global,
     nodes: &mut Vec<Node<'_, D>>,

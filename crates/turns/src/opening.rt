@@ -1,4 +1,4 @@
-//! Nodes on logs that have no notes yet.
+//! Nodes on new logs, which have no notes.
 ghost use Rattle.std.specs.Prelude.{◌≡◌, ◌≤◌, ◌<◌, ◌+◌, [], IfErr, IfOk, length};
 ghost use Rattle.node.specs.OnLog.{identity};
 ghost use Rattle.protocol.specs.Answers.{tree_digest};
@@ -40,7 +40,7 @@ pub(crate) fn fresh_nodes<'a, D: Disk>(
     Ok(nodes)
 }
 
-/// The member's node over the disk, of a tree with this digest.
+/// The member's node over the disk, for a tree with this digest.
 fn fresh_node<'a, D: Disk>(
     alloc: Global,
     tree: &'a Tree,
@@ -71,8 +71,8 @@ fn fresh_node<'a, D: Disk>(
     }
 }
 
-/// How long a log without notes is: it tells the tree, the members and the member's number, and
-/// what members weigh unless that is 1 each.
+/// The length in bytes of a log without notes. It has the tree's digest, the number of members, the
+/// member's number, and the weights unless all are 1.
 fn fresh_len(weights: &Weights) -> u64
     ensures { (tree : _) (me : _)
         → result ≡ gate_place (identity tree weights.now me) [] + 1 }

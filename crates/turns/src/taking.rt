@@ -1,4 +1,4 @@
-//! What was chosen happens.
+//! The choice is carried out.
 ghost use Rattle.std.specs.Prelude.{
   ◌≡◌,
   ◌≤◌,
@@ -55,8 +55,8 @@ use ports::Port;
 use stable_record::{Disk, LogFault};
 use std::alloc::Global;
 
-/// What was grown for a step: its events; and, to put all back, what was kept before and how many
-/// datagrams there were.
+/// What was added for a step: its events; and, to undo the rest, the state between turns from
+/// before and the number of datagrams.
 #[derive(Drop)]
 struct Grown {
     recorded: Recorded,
@@ -64,9 +64,10 @@ struct Grown {
     count: usize,
 }
 
-/// What was chosen happens: all that its step needs is grown; then the node takes it; then its
-/// sends are offered to the port. It is refused before that, or the node goes down. Below the
-/// position of each node in `unfailed` no package is queued there but those whose units failed.
+/// Carries out the choice. First everything that its step needs is allocated and entered; then the
+/// node takes the step; then the step's sends are offered to the port. If it is refused, this
+/// happens before the step is taken, or the node goes down. Below its position in `unfailed`, each
+/// node's only queued packages are those whose units failed.
 pub(crate) fn take<D: Disk, P: Port>(
     alloc: Global,
     nodes: &mut Vec<Node<'_, D>>,
@@ -119,8 +120,8 @@ pub(crate) fn take<D: Disk, P: Port>(
     }
 }
 
-/// All that the step needs of the cluster, or nothing but room: its events, with room for one more;
-/// what it sends, entered; and what follows for later turns, kept.
+/// Makes everything that the step needs: its events, with room for one more; an entry for each
+/// datagram that it sends; and the updated state between turns. If that fails, only room was added.
 fn grown_for<D: Disk>(
     alloc: Global,
     nodes: &[Node<'_, D>],
@@ -176,7 +177,7 @@ fn grown_for<D: Disk>(
     }
 }
 
-/// A host that it names has a number of 16 bits.
+/// A host number in the act has 16 bits.
 fn host_fits(act: &Act)
     ensures { IsAsked (asked_by act.now) }
 {
@@ -185,8 +186,8 @@ fn host_fits(act: &Act)
     }
 }
 
-/// Makes room for one event more, enters what the step sends, and keeps what follows for later
-/// turns; or changes nothing but the room.
+/// Makes room for one more event, enters what the step sends, and updates the state between turns.
+/// If that fails, only room was added.
 fn grow<D: Disk>(
     pending: &mut Pending,
     sent: &mut Datagrams,
@@ -221,7 +222,7 @@ fn grow<D: Disk>(
     }
 }
 
-/// Enters what the step sends, or nothing.
+/// Enters what the step sends, or changes nothing.
 fn enter(sent: &mut Datagrams, ready: &Ready) -> Result<(), Memory>
     ensures sent { OnOk result
         (sent.new ≡ with_sends sent.old (sends_in ready.now.step)) }
@@ -238,8 +239,7 @@ fn enter(sent: &mut Datagrams, ready: &Ready) -> Result<(), Memory>
     }
 }
 
-/// The node takes the step, and what it sends is offered to the port; or it does not, and nothing
-/// is.
+/// The node takes the step, and what it sends is offered to the port; or neither happens.
 fn finish<D: Disk, P: Port>(
     node: &mut Node<'_, D>,
     port: &mut P,
@@ -264,7 +264,7 @@ fn finish<D: Disk, P: Port>(
     Ok(())
 }
 
-/// Keeps the event of the step, for which there is room, and answers it.
+/// Appends the event of the step, for which there is room, and returns a copy.
 fn keep(events: &mut Vec<Event>, recorded: Recorded) -> Event
     requires { vec_len events.old < vec_capacity events.old }
     ensures kept { events.new.items ≡ events.old.items ++ recorded.kept ∷ [] }
@@ -280,7 +280,7 @@ fn keep(events: &mut Vec<Event>, recorded: Recorded) -> Event
     answered
 }
 
-/// Why the step was not taken. Where the device failed, the stop inside it is kept.
+/// Why the step was not taken. If the device failed, the stop during the step is appended.
 fn stopped(events: &mut Vec<Event>, number: u8, recorded: Recorded, fault: NodeFault) -> TurnFault
     requires { vec_len events.old < vec_capacity events.old }
     ensures { StopsAs number recorded.stop events.old.items events.new.items fault result }
@@ -295,7 +295,7 @@ fn stopped(events: &mut Vec<Event>, number: u8, recorded: Recorded, fault: NodeF
     }
 }
 
-/// The same, where it was the log that refused.
+/// Why the step was not taken, if the log refused it.
 fn log_failed(
     events: &mut Vec<Event>,
     number: u8,
@@ -314,8 +314,8 @@ fn log_failed(
     }
 }
 
-/// Keeps the stop inside the step, for which there is room: the node went down. (A step without a
-/// note asks nothing of the device.)
+/// Appends the stop during the step, for which there is room: the node went down. (A step without a
+/// note doesn't use the device.)
 fn keep_stop(events: &mut Vec<Event>, number: u8, stop: Option<Event>) -> TurnFault
     requires { vec_len events.old < vec_capacity events.old }
     ensures { KeepsStop number stop events.old.items events.new.items result }
@@ -329,7 +329,7 @@ fn keep_stop(events: &mut Vec<Event>, number: u8, stop: Option<Event>) -> TurnFa
     }
 }
 
-/// The stop inside the step.
+/// The stop during the step.
 fn stop_of(recorded: Recorded) -> Option<Event>
     ensures { result ≡ recorded.stop }
 {

@@ -25,22 +25,22 @@ use stable_record::Disk;
 use std::alloc::Global;
 
 impl<'a, D: Disk, P: Port> Cluster<'a, D, P> {
-    /// Takes one turn, and answers the event that it was, if there was anything to do. What a send
-    /// refuses is lost, and a receive that fails gave nothing.
+    /// Takes one turn, and returns its event, if there was anything to do. A datagram that a send
+    /// refuses is lost, and a receive that fails counts as one that returned nothing.
     ///
     /// # Errors
     ///
-    /// `Memory`; `NotSent`, where bytes came, for a node that is up, that none of the nodes sent;
-    /// `Down`, where the device of the event's node failed; else what that node refuses.
+    /// `Memory`; `NotSent` if bytes were received for a node that is up and no node sent them;
+    /// `Down` if the device of the event's node failed; otherwise the refusal of that node.
     pub fn turn(&mut self, builds: &Packages) -> Result<Option<Event>, TurnFault>
-        // The choice: as far as the port keeps what it gave, it was asked once, unless a job waited
-        // for its answer.
+        // The choice. As far as the port records its receives, it was asked once, unless a job
+        // waited for its answer.
         ensures chosen { IfOk result (λ o. IfSome o
             (λ e. IsEventChosen P.given self.old self.new builds.now (event_view e))) }
         ensures nothing { IfOk result (λ o. IfNone o
             (IsChosen P.given self.old self.new builds.now None)) }
 
-        // What was chosen happened; or nothing changed but the port; or why it is refused.
+        // What was chosen happened; or only the port changed; or there is a refusal.
         ensures happened { IfOk result (λ o. IfSome o
             (λ e. HasHappened self.old self.new (event_view e))) }
         ensures others { IfOk result (λ o. IfSome o
@@ -53,11 +53,11 @@ impl<'a, D: Disk, P: Port> Cluster<'a, D, P> {
         ensures refused { IfErr result (IsTurnFault P.given self.old self.new builds.now) }
         ensures left { IfErr result (IsLeftBy self.old self.new) }
 
-        // The port's sends; and all of its calls, whatever it keeps of them.
+        // What was offered; and all calls of the port, even if it doesn't record them.
         ensures offers { Offers P.offered self.old self.new result }
         ensures calls { HasCalled P.does self.old self.new builds.now result }
 
-        // The disks, at each moment; and what holds, whichever it was.
+        // The disks at each moment, and what holds of the cluster whatever the result is.
         ensures disks { LeavesDisks D.is_kept D.history D.failures_of self.old self.new result }
         ensures on_logs { AreOnLogs D.is_kept D.history self.new }
         ensures fixed { (self.new.division ≡ self.old.division)
@@ -77,8 +77,8 @@ impl<'a, D: Disk, P: Port> Cluster<'a, D, P> {
     }
 }
 
-/// One turn of these nodes: what is chosen happens. Below the position of each node in `unfailed`
-/// no package is queued there but those whose units failed.
+/// One turn of these nodes: what is chosen happens. Below its position in `unfailed`, each node's
+/// only queued packages are those whose units failed.
 fn take_turn<D: Disk, P: Port>(
     alloc: Global,
     nodes: &mut Vec<Node<'_, D>>,

@@ -1,4 +1,4 @@
--- What a turn answered is its choice.
+-- What a turn returned is its choice.
 use Rattle.std.proofs.Common.{List, Option, None, Some}
 use Rattle.std.specs.Prelude.{IfNone, IfSome}
 use Rattle.choosing.specs.Handed.{Handed}

@@ -35,7 +35,7 @@ module _ {P : Type 0} (given : P → Option (List Arrived)) where
   pub never : (port : P) → WasAskedAtMost 0 given port port
   never port = ([], (let none : 0 ≤ 0 = omega arith in none), stays (given port))
 
-  -- so often, and then so often
+  -- the counts of two parts add up
   pub and_then : (m n : ℕ) (x y z : P) → WasAskedAtMost m given x y → WasAskedAtMost n given y z
       → WasAskedAtMost (m + n) given x z
   and_then m n x y z (came, at_most, on) (more, at_most_more, on_more) = (
@@ -65,7 +65,7 @@ module _ {P : Type 0} (given : P → Option (List Arrived)) where
     once_refused refused.NotSent (k, text, is, why) = once (Some (k, Comes text)) is
     once_refused refused.NotFresh why = absurd why
 
-    -- a turn asks once at most, whatever it answers
+    -- a turn asks at most once, whatever its result
     pub in_a_turn : (r : Result (Option declared.Event) TurnFault)
         → IfOk r (λ o. IfSome o (λ e. IsEventChosen given old new builds (event_view e)))
         → IfOk r (λ o. IfNone o (IsChosen given old new builds None))

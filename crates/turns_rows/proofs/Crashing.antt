@@ -15,7 +15,7 @@ use Rattle.turns.specs.State.{ClusterState}
 use Rattle.turns.specs.Turn.{WentDown}
 use Rattle.turns_rows.specs.Reopened.{IsLeftOf}
 
--- a crash may leave what the disk is told to leave
+-- a crash may leave what the disk is set to leave
 pub left_in_memory : {P : Type 0} (old new : ClusterState FaultDisk P) (e : Event) (k : ℕ)
     → WentDown old new e k → (n : LoggedNode FaultDisk) → n ≡ slice_index_or new.nodes k n
     → k < length new.nodes → (inner : MemDisk) → inner ≡ n.log.disk.inner → (left : Left)

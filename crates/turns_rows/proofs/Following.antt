@@ -1,4 +1,4 @@
--- What is heard after an event.
+-- What is received after an event.
 use Rattle.std.proofs.Common.{◌≡◌, ◌++◌, List, [], ◌∷◌, Option, None, Result, IfErr, IfOk}
 use Rattle.std.specs.Prelude.{IfNone, IfSome}
 use Rattle.choice.specs.declared.fault.TurnFault.{TurnFault}

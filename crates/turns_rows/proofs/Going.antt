@@ -1,4 +1,4 @@
--- How a cluster goes on.
+-- How turns change a cluster.
 use Rattle.std.proofs.Common.{◌≡◌, ◌∙◌, ◌++◌, ℕ, false, List, [], ◌∷◌, Option, None, Some, Result, Ok, Err, IfErr, IfOk, map, slice_get, ap, append_assoc, refl, subst, sym, append-nil, if◌then◌else◌}
 use Rattle.std.proofs.lemmas.Option.{slice_get-map}
 use Rattle.std.specs.Prelude.{IfNone, IfSome, option_map}
@@ -19,7 +19,7 @@ use Rattle.world.proofs.Leading.{leads_together}
 use Rattle.world.specs.Happening.{Leads}
 use Rattle.world.specs.World.{IsMade, World, WorldNode, down_node, node_at, start, up_node}
 
--- ---- nodes and what they are in a world
+-- ---- nodes, and what they are in a world
 
 -- a node as its own contracts see it
 abbrev pub state : {D : Type 0} → LoggedNode D → NodeState
@@ -40,7 +40,7 @@ found {X} {Y} f (Some x) y e =
     let both : ◌≡◌ {A = Option Y} (Some (f x)) (Some y) = e in
     let same : f x ≡ y = cc in (x, refl, sym same)
 
--- what stands at a place of a list stands there in one whose elements show the same
+-- elements of two lists with equal images have equal images at the same places
 pub shown_there : {X Y : Type 0} (f : X → Y) (xs ys : List X) → map f ys ≡ map f xs → (k : ℕ) (y : X)
     → slice_get ys k ≡ Some y → (x : X) × (slice_get xs k ≡ Some x) × (f y ≡ f x)
 shown_there f xs ys same k y at =
@@ -68,7 +68,7 @@ module _ {D P : Type 0} (old new : ClusterState D P) (same : IsSame old new)
       subst (λ (d : Division). IsMade d new.weights) (sym division)
       (subst (λ (ws : List ℕ). IsMade old.division ws) (sym weights) made)
 
-  -- it is the worlds that it was
+  -- it is the same worlds
   pub same_world : (w : World) → IsWorldOf old w → IsWorldOf new w
   same_world w is = record {
     made = same_made is.made;
@@ -102,7 +102,7 @@ module _ {D P : Type 0} (old new : ClusterState D P) (division : new.division �
     weights = weights;
   }
 
-  -- where it answered
+  -- if it succeeded
   pub answered : (o : Option declared.Event)
       → IfSome o (λ e. HasHappened old new (event_view e))
       → IfSome o (λ e. taken new ≡ taken old ++ event_view e ∷ [])
@@ -110,7 +110,7 @@ module _ {D P : Type 0} (old new : ClusterState D P) (division : new.division �
   answered None happened kept same = none_happened old new same division weights
   answered (Some e) happened kept same = one_happened (event_view e) kept happened
 
-  -- and where it was refused
+  -- if it was refused
   pub went_on : (given : P → Option (List Arrived)) (builds : Given) (f : TurnFault)
       → IsTurnFault given old new builds f → IsLeftBy old new f → GoesOn old new
   went_on given builds refused.Memory why same =
@@ -123,7 +123,7 @@ module _ {D P : Type 0} (old new : ClusterState D P) (division : new.division �
       ([], none_happened old new same division weights)
   went_on given builds refused.NotFresh why same = absurd why
 
-  -- whichever it was
+  -- whatever its result
   pub any_turn : (given : P → Option (List Arrived)) (builds : Given)
       (r : Result (Option declared.Event) TurnFault)
       → IfOk r (λ o. IfSome o (λ e. HasHappened old new (event_view e)))

@@ -1,4 +1,4 @@
--- What a turn does of what the port gave.
+-- What a turn does with what the port returned.
 use Rattle.std.proofs.Common.{◌≡◌, ◌∙◌, ◌++◌, ℕ, Bool, true, false, List, [], ◌∷◌, Option, None, Some, Result, Ok, Err, IfErr, IfOk, ap, get_or, is_some, length, refl, slice_get, subst, sym}
 use Rattle.std.proofs.lemmas.List.{append_cancel_left}
 use Rattle.std.proofs.lemmas.List.Quantifiers.{position-Some}
@@ -24,7 +24,7 @@ use Rattle.turns.specs.Turn.{IsChosen, IsEventChosen}
 use Rattle.turns_rows.specs.Heard.{GaveJust, HearsIt}
 use Rattle.engine.proofs.Places.{same_bytes}
 
--- what the port gave was looked for, and there was no job
+-- what the port returned was asked for, and there was no job
 looked : (job : Bool) (came c : Arrived) → looked_for job came ≡ c ∷ [] → (job ≡ false) × (came ≡ c)
 looked true came c is = absurd (let no : ◌≡◌ {A = List Arrived} [] (c ∷ []) = is in cc)
 looked false came c is =
@@ -38,7 +38,7 @@ gave more before c x y first last on =
     (subst (λ (z : Option (List Arrived)). GoesOnBy more z y) first on) in
     sym (append_cancel_left before (c ∷ []) more here)
 
--- without a job what came for a node that is up is chosen
+-- without a job, a datagram for a node that is up is chosen
 no_job : (o : Chosen) → is_some o ≡ false → o ≡ None
 no_job None none = refl
 no_job (Some x) none = absurd (let no : true ≡ false = none in cc)
@@ -112,7 +112,7 @@ module _ {D P : Type 0} (given : P → Option (List Arrived)) (old new : Cluster
       let no : true ≡ false = sym sent ∙ ap (is_among old.sent) (sym texts) ∙ strange in cc
   was_sent refused.NotFresh why e = absurd why
 
-  -- so the turn hears it
+  -- so the turn receives it
   pub hears : (r : Result (Option declared.Event) TurnFault)
       → IfOk r (λ o. IfSome o (λ e. IsEventChosen given old new builds (event_view e)))
       → IfOk r (λ o. IfNone o (IsChosen given old new builds None))

@@ -1,4 +1,4 @@
--- Where a turn has nothing to do no claim is open.
+-- If a turn has nothing to do, no claim is open.
 use Rattle.std.proofs.Common.{◌≡◌, ◌∙◌, ◌<◌, ◌+◌, ◌++◌, ℕ, List, [], ◌∷◌, Option, None, Some, ap, arith, drop, is_some, length, refl, slice_get, subst, sym, take, true, false, ⊎_elim, if◌then◌else◌}
 use Rattle.std.proofs.lemmas.List.{length-map, length-replicate, take-append-drop}
 use Rattle.std.proofs.lemmas.List.Elements.{Contains-append_cases, Contains-append_left, Contains-append_right, Contains-push_cases}
@@ -27,7 +27,7 @@ use Rattle.world.specs.World.{World, fresh_node, start}
 
 -- ---- whose turn it is
 
--- each number below is in the row
+-- each number below the count is in the range
 in_row : (count k : ℕ) → k < count → Contains (range_with_len 0 count) k
 in_row count k below = (
   k,
@@ -35,7 +35,7 @@ in_row count k below = (
   get_or-range_with_len 0 count k k below ∙ (let none_more : 0 + k ≡ k = omega arith in none_more),
 )
 
--- and comes in turn
+-- and in the range in turn
 in_turn_too : (next count k : ℕ) → k < count → Contains (in_turn next count) k
 in_turn_too next count k below =
     let row = range_with_len 0 count in
@@ -46,7 +46,7 @@ in_turn_too next count k below =
     (Contains-append_cases (take next row) (drop next row) k parts)
 
 module _ (here : Here) (count : ℕ) (p : Pending) where
-  -- where the first of these that does anything is none, each does nothing
+  -- if no node does anything, each does nothing
   does_nothing : (ks : List ℕ) → IsFirstOwn here count p ks None → (k : ℕ) → Contains ks k
       → IsOwnIf here count p k (here k) None
   does_nothing [] none k at =
@@ -69,19 +69,19 @@ module _ (here : Here) (count : ℕ) (p : Pending) where
           (λ there. later rest there)
           (Contains-append_cases (j ∷ []) js k at)
 
--- who does nothing has no claim
+-- a member that does nothing has no claim
 no_claim : (s : State) (o : Option OpenClaim) (above : Option ℕ) (barred : Barred)
     → IsOwnBy s o above barred None → o ≡ None
 no_claim s None above barred none = refl
 no_claim s (Some o) above barred does =
     absurd (let no : ◌≡◌ {A = Option Input} None (Some (renewed s o above)) = does in cc)
 
--- nothing is chosen where nobody does anything
+-- if nothing is chosen, nothing was given before
 nobody : (o : Chosen) (later : Type 0) → IsGivenOr o None later → later
 nobody None later is = is
 nobody (Some x) later done = absurd (let no : ◌≡◌ {A = Chosen} None (Some x) = done in cc)
 
--- the member of a node, while that is up
+-- the member of a node, if that is up
 abbrev up_state : NodeState → Option State
 up_state x = if x.stopped then None else Some x.member
 
@@ -121,7 +121,7 @@ module _ {D P : Type 0} (old new : ClusterState D P) (same : IsSame old new)
       no_claim s s.claim (above_at old.pending k) (barred_at here count old.pending k)
       (subst (λ (o : Option State). IsOwnIf here count old.pending k o None) up does)
 
-  -- and it stays so
+  -- it is still so
   idle_then : HasNoClaims old → HasNoClaims new
   idle_then none k s up = by (slice_get new.nodes k) refl up
     where
@@ -136,7 +136,7 @@ module _ {D P : Type 0} (old new : ClusterState D P) (same : IsSame old new)
       → IsChosen given old new builds None → HasNoClaims new
   nothing_left given builds chosen = idle_then (idle given builds chosen)
 
--- where it answered nothing
+-- if the turn returned nothing
 pub if_nothing : {D P : Type 0} (old new : ClusterState D P) (weights : new.weights ≡ old.weights)
     (w : World) → IsWorldOf new w → (given : P → Option (List Arrived)) (builds : Given)
     → (o : Option declared.Event) → IfNone o (IsChosen given old new builds None)

@@ -1,4 +1,4 @@
--- A turn over a port in memory: what it leaves waiting, and what it hears.
+-- A turn over a port in memory: the queue that it leaves, and what it receives.
 use Rattle.std.proofs.Common.{◌≡◌, ◌∙◌, ◌++◌, ℕ, Bool, true, false, List, [], ◌∷◌, Option, None, Some, Result, Ok, Err, IfErr, IfOk, ap, map, refl, subst, sym}
 use Rattle.std.specs.Prelude.{All, IfNone, IfSome, OnErr}
 use Rattle.choice.specs.Choice.{Chosen}
@@ -27,14 +27,14 @@ use Rattle.turns_rows.proofs.Waiting.{after_both, after_receives, after_sends, g
 use Rattle.turns_rows.specs.Heard.{GaveJust}
 use Rattle.turns_rows.specs.InMemory.{AreItsSends, HearsFirst, IsAnswered, TurnsInMemory, left_by, put_by_all, waits_for_answer}
 
--- what a turn answers
+-- what a turn returns
 abbrev Outcome : Type 0
 Outcome = Result (Option declared.Event) TurnFault
 
 -- ---- a turn, by its calls
 
 module _ {D : Type 0} (old new : ClusterState D TurnCalls) (builds : Given) where
-  -- each has its choice
+  -- each result has its choice
   choice_in : (r : Outcome) → IsByCalls old new builds r
       → (chosen : Chosen) × IsChosen given_in old new builds chosen
   choice_in (Ok None) t = (None, t.0)
@@ -85,7 +85,7 @@ module _ {D : Type 0} (old new : ClusterState D MemPortState) (builds : Given) (
   abbrev orders : Orders
   orders = old.port.orders
 
-  -- what it gave was looked for
+  -- what it returned was asked for
   looked : (came : Arrived) × (map came_by c.calls.received ≡ looked_for job came)
   looked = let is = choice_in first last builds answer c.by_calls in (is.1.came, is.1.looked)
 
@@ -97,7 +97,7 @@ module _ {D : Type 0} (old new : ClusterState D MemPortState) (builds : Given) (
       WentThrough DoesInMemory old.port (map Received l ++ sends_of c.calls.offered) new.port) is
       c.went
 
-  -- what receives left of what waited
+  -- what receives left of the queue
   abbrev left_after : List (Result Arrived PortFault) → List (ℕ × Text)
   left_after received = waiting_after orders (map Received received) old.port.waiting
 
@@ -130,7 +130,7 @@ module _ {D : Type 0} (old new : ClusterState D MemPortState) (builds : Given) (
       subst (λ (o : Orders). All (IsAnswered o.lost_to) c.calls.offered) r.1
       (sends_answered r.0 new.port c.calls.offered r.2)
 
-  -- what waits first is heard
+  -- the first datagram in the queue is received
   hears_so : HearsFirst old builds answer
   hears_so k text s waits listens idle sent up =
       let is : map came_by c.calls.received ≡ looked.0 ∷ [] =

@@ -1,4 +1,4 @@
--- What one turn's step was offered, and the next turn hears.
+-- What one turn's step offered, and the next turn receives.
 use Rattle.std.proofs.Common.{◌≡◌, ◌∙◌, ◌++◌, ℕ, Bool, true, false, List, [], ◌∷◌, Option, None, Some, Result, Ok, Err, ap, drop, map, refl, subst}
 use Rattle.std.proofs.lemmas.List.Elements.{Contains-append_left, Contains-append_right, Contains-push}
 use Rattle.std.specs.Prelude.{Contains}
@@ -21,7 +21,7 @@ use Rattle.world.specs.World.{World}
 abbrev texts_in : List Answered → List Text
 texts_in offered = map (λ (p : Parcel). p.text) (map (λ (a : Answered). a.0) offered)
 
--- what a send put there was offered
+-- what a send appended was offered
 put_was_offered : (is_twice : Bool) (offered : List Answered) (k : ℕ) (text : Text)
     → first_of (put_by_all is_twice offered) ≡ Some (k, text) → Contains (texts_in offered) text
 put_was_offered is_twice [] k text is =
@@ -49,13 +49,13 @@ texts_from : (k : ℕ) (sends : List (ℕ × Text))
 texts_from k [] = refl
 texts_from k (s ∷ rest) = ap (λ (l : List Text). s.1 ∷ l) (texts_from k rest)
 
--- where nothing waited, nothing is left
+-- nothing is left of an empty queue
 none_left : (job is_deaf : Bool) → left_by job is_deaf [] ≡ []
 none_left true is_deaf = refl
 none_left false true = refl
 none_left false false = refl
 
--- what is put twice waits again
+-- what is appended twice is queued again
 waits_again : (is_twice : Bool) (offered : List Answered) (d : ℕ × Text) (more : List (ℕ × Text))
     → is_twice ≡ true → first_of (put_by_all is_twice offered) ≡ Some d
     → first_of (drop 1 (put_by_all is_twice offered) ++ more) ≡ Some d

@@ -1,4 +1,4 @@
--- A node that went down, and its notes where it is opened again.
+-- A node that went down, and its notes when it is opened again.
 use Rattle.std.proofs.Common.{◌≡◌, ◌⊎◌, ◌∙◌, ◌++◌, ◌∷◌, ℕ, false, List, [], Option, None, Some, Ok, ap, inl, inr, refl, slice_get, subst, sym, ⊎_elim}
 use Rattle.std.proofs.lemmas.List.{map-append}
 use Rattle.std.specs.Prelude.{option_map}
@@ -106,11 +106,11 @@ module _ {D P : Type 0} (is_kept : D → Type 0) (history : D → History)
   abbrev before : LoggedNode D
   before = gone.before
 
-  -- the stop inside the step
+  -- the stop during the step
   stop : (v : World) × StopsIn w e left.None v × IsWorldOf new v
   stop = down.stopped w is
 
-  -- the node stood in the world, and was up
+  -- the node was in the world, and was up
   view : stop.1.node ≡ node_view before
   view =
       let both : ◌≡◌ {A = Option WorldNode} (Some stop.1.node) (Some (node_view before)) =
@@ -125,7 +125,7 @@ module _ {D P : Type 0} (is_kept : D → Type 0) (history : D → History)
   knows : before.node ≡ node_at w k (node_view before)
   knows = is.know k before gone.stood was_up
 
-  -- it was the member's of this number
+  -- it was the node of the member with this number
   own : (tree : Tree) (weights : List ℕ) → old.division.tree ≡ tree → old.weights ≡ weights
       → identity_of before.node.member ≡ identity tree weights k
   own tree weights over weigh =
@@ -138,7 +138,7 @@ module _ {D P : Type 0} (is_kept : D → Type 0) (history : D → History)
   on_log : IsOnLog history before
   on_log = on_logs k before gone.stood was_up gone.kept_before
 
-  -- so the node that is opened has those notes
+  -- so the opened node has those notes
   pub across : (tree : Tree) (weights : List ℕ) → old.division.tree ≡ tree → old.weights ≡ weights
       → HasOneAnswer (identity tree weights k) → (m : NodeState) → IsOpened tree weights k m
       → Opens (identity_of m.member) file (Ok (texts_of m.notes)) → HasNotesAcross old new k m

@@ -1,4 +1,4 @@
--- What an event's step sends was sent then.
+-- What an event's step sends counts as sent afterwards.
 use Rattle.std.proofs.Common.{◌≡◌, ◌∙◌, ℕ, true, false, List, Option, None, Some, ap, refl, subst, sym}
 use Rattle.std.specs.Prelude.{Contains, option_map, position}
 use Rattle.std.specs.Str.{bytes_eq}
@@ -25,7 +25,7 @@ same_event e f is step =
     let both : ◌≡◌ {A = Option Event} (Some f) (Some e) = is in
     let same : f ≡ e = cc in ap is_step (sym same) ∙ step
 
--- the event that a node is asked so is a step
+-- the event of a node's own input is a step
 own_step : (k : ℕ) (input : Input) (e : Event) → event_of_input k input ≡ Some e → is_step e ≡ true
 own_step k (inputs.Claim path host above) e is = same_event e (Claim k path host above) is refl
 own_step k (inputs.Built path given) e is = same_event e (Built k path given) is refl
@@ -44,7 +44,7 @@ pub event_steps : (sent : List Text) (k : ℕ) (asked : Asked) (e : Event)
 event_steps sent k (Does input) e is = own_step k input e is
 event_steps sent k (Comes text) e is = came_step k (position (bytes_eq text) sent) e is
 
--- so that it is one where it happens
+-- so it happens as a step
 steps : (w v : World) (e : Event) → is_step e ≡ true → Happens w e v → Steps w e v
 steps w v (Claim n path host above) step happens = happens
 steps w v (Built n path files) step happens = happens

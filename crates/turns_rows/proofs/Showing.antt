@@ -70,7 +70,7 @@ module _ {D P : Type 0} (c : ClusterState D P) (w : World) (is : IsWorldOf c w) 
       by false running some =
           absurd (let no : ◌≡◌ {A = Option State} (Some n.node.member) None = some in cc)
 
--- what is counted at a node is what the world's node shows
+-- the counts at a node are those of the world's node
 pub shows : {D P : Type 0} (c : ClusterState D P) (k : ℕ) (o : Option Counts)
     → MatchOption o (here_of c k ≡ None)
     (λ counts. (s : State) × (here_of c k ≡ Some s) × AreCounts (engine_of s) counts)

@@ -1,4 +1,4 @@
--- What calls of a port in memory leave waiting in it, and what its receives gave.
+-- What calls of a port in memory leave in its queue, and what its receives returned.
 use Rattle.std.proofs.Common.{◌≡◌, ◌∙◌, ◌++◌, ℕ, Bool, true, false, List, [], ◌∷◌, Option, None, Some, Result, Ok, Err, append-nil, append_assoc, ap, drop, map, refl, subst, sym}
 use Rattle.std.proofs.lemmas.List.Elements.{All-cons, All-nil}
 use Rattle.std.specs.Prelude.{All}
@@ -11,7 +11,7 @@ use Rattle.ports.specs.Kept.{Arrived}
 use Rattle.ports.specs.declared.fault.PortFault.{PortFault}
 use Rattle.turns_rows.specs.InMemory.{IsAnswered, left_by, put_by_all}
 
--- ---- what waits
+-- ---- the queue
 
 pub after_both : (o : Orders) (first then : List Call) (w : List (ℕ × Text))
     → waiting_after o (first ++ then) w ≡ waiting_after o then (waiting_after o first w)
@@ -22,7 +22,7 @@ after_both o (Sent p (Ok u) ∷ first) then w =
     after_both o first then (w ++ put_by o.is_twice p.to p.text)
 after_both o (Sent p (Err f) ∷ first) then w = after_both o first then w
 
--- sends put theirs behind
+-- sends append to it
 pub after_sends : (o : Orders) (offered : List Answered) (w : List (ℕ × Text))
     → waiting_after o (sends_of offered) w ≡ w ++ put_by_all o.is_twice offered
 after_sends o [] w = sym (append-nil w)
@@ -31,7 +31,7 @@ after_sends o ((p, Ok u) ∷ rest) w =
     ∙ append_assoc w (put_by o.is_twice p.to p.text) (put_by_all o.is_twice rest)
 after_sends o ((p, Err f) ∷ rest) w = after_sends o rest w
 
--- receives leave the orders
+-- receives leave the settings
 pub after_receives : (old new : MemPortState) (received : List (Result Arrived PortFault))
     (calls : List Call) → WentThrough DoesInMemory old (map Received received ++ calls) new
     → (mid : MemPortState) × (mid.orders ≡ old.orders) × WentThrough DoesInMemory mid calls new
@@ -55,7 +55,7 @@ sends_answered old new ((p, Err f) ∷ rest) (between, (kept, lost, now, counted
     (subst (λ (o : Orders). All (IsAnswered o.lost_to) rest) kept.orders
     (sends_answered between new rest others))
 
--- one receive takes the first, unless it is to fail
+-- one receive removes the first datagram, unless receives are set to fail
 pub left_one : (old new : MemPortState) (answer : Result Arrived PortFault) (calls : List Call)
     → WentThrough DoesInMemory old (Received answer ∷ calls) new
     → waiting_after old.orders (Received answer ∷ []) old.waiting
@@ -65,7 +65,7 @@ left_one old new (Ok a) calls (between, (gives, hears, is, now, counted), others
 left_one old new (Err f) calls (between, (gives, deaf, is, now, counted), others) =
     ap (λ (d : Bool). left_by false d old.waiting) (sym deaf)
 
--- and gives it
+-- and returns it
 pub gave_first : (old new : MemPortState) (answer : Result Arrived PortFault) (calls : List Call)
     (d : ℕ × Text) → WentThrough DoesInMemory old (Received answer ∷ calls) new
     → first_of old.waiting ≡ Some d → old.orders.is_deaf ≡ false → came_by answer ≡ Some d

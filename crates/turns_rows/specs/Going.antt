@@ -1,4 +1,4 @@
--- How a cluster goes on by its turns.
+-- How turns change a cluster.
 use Rattle.std.specs.Prelude.{◌≡◌, ◌≤◌, ◌⊎◌, ◌++◌, ℕ, List, [], ◌∷◌, Option, None, Some, length}
 use Rattle.choice.specs.declared.fault.TurnFault.{TurnFault}
 use Rattle.events.specs.Events.{Event, event_view}
@@ -10,19 +10,19 @@ use Rattle.turns.specs.State.{ClusterState, IsWorldOf, taken}
 use Rattle.world.specs.Happening.{Leads}
 use Rattle.world.specs.World.{World}
 
--- the event that a turn answered, if it did
+-- the event that a turn returned, if it did
 abbrev pub event_in : Option declared.Event → List Event
 event_in None = []
 event_in (Some e) = event_view e ∷ []
 
--- The events happened in turn: from each world that the cluster was, to one that it is.
+-- The events happened in order: they lead from each world that the cluster was to one that it is.
 abbrev pub HaveHappened : {D P : Type 0} → ClusterState D P → ClusterState D P → List Event
     → Type 0
 HaveHappened old new events =
     (w : World) → IsWorldOf old w → (v : World) × Leads w events v × IsWorldOf new v
 
--- The cluster's events went on by just these, which happened in turn; the tree and the weights
--- stay.
+-- Exactly these events were appended to the cluster's, and happened in order. The tree and the
+-- weights are unchanged.
 pub record GoesOnWith {D P : Type 0} (old new : ClusterState D P) (events : List Event) : Type 0
   where
     pub kept : taken new ≡ taken old ++ events
@@ -30,11 +30,11 @@ pub record GoesOnWith {D P : Type 0} (old new : ClusterState D P) (events : List
     pub division : new.division ≡ old.division
     pub weights : new.weights ≡ old.weights
 
--- It went on with some events.
+-- Some events were appended.
 abbrev pub GoesOn : {D P : Type 0} → ClusterState D P → ClusterState D P → Type 0
 GoesOn old new = (events : List Event) × GoesOnWith old new events
 
--- The port was asked so often at most, as far as it keeps what it gave.
+-- The port was asked at most `count` times, as far as it records its receives.
 abbrev pub WasAskedAtMost : {P : Type 0} → ℕ → (P → Option (List Arrived)) → P → P → Type 0
 WasAskedAtMost count given old new =
     (came : List Arrived) × (length came ≤ count) × GoesOnBy came (given old) (given new)

@@ -17,17 +17,17 @@ use Rattle.turns_rows.specs.Heard.{HearsIt}
 use Rattle.world.specs.Happening.{Acts}
 use Rattle.world.specs.World.{World, WorldNode}
 
--- what a send that was answered so put behind what waits
+-- what a send with this answer appended to the queue
 abbrev pub put_on : Bool → Answered → List (ℕ × Text)
 put_on is_twice (parcel, Ok u) = put_by is_twice parcel.to parcel.text
 put_on is_twice (parcel, Err f) = []
 
--- what all of these put there
+-- what all of these sends appended
 abbrev pub put_by_all : Bool → List Answered → List (ℕ × Text)
 put_by_all is_twice offered = flat_map (put_on is_twice) offered
 
--- what is left of what waited: all where a job waits for its answer, or where receives are to fail,
--- and else all but the first
+-- what is left of the queue: all if a job waits for its answer or receives are set to fail, and
+-- otherwise all but the first
 abbrev pub left_by : Bool → Bool → List (ℕ × Text) → List (ℕ × Text)
 left_by true is_deaf waiting = waiting
 left_by false true waiting = waiting
@@ -37,20 +37,20 @@ left_by false false waiting = drop 1 waiting
 abbrev pub waits_for_answer : {D P : Type 0} → ClusterState D P → Given → Bool
 waits_for_answer c builds = has_job (here_of c) (length c.weights) builds
 
--- Just what the event's step sends was offered, in order.
+-- Exactly what the event's step sends was offered, in order.
 abbrev pub AreItsSends : {D P : Type 0} → ClusterState D P → declared.Event → List Answered → Type 0
 AreItsSends old e offered =
     (w : World) (x : WorldNode) (t : Taken) → IsWorldOf old w → Acts w (event_view e) x t
     → map (λ a. a.0) offered ≡ parcels_from (node_of (event_view e)) (datagrams_to t.answer.sends)
 
--- A send to a member to which sends are to fail failed, and another was taken, or memory for it was
--- wanting.
+-- A send failed if sends to the member are set to fail. Otherwise it was taken, or memory for it
+-- ran out.
 abbrev pub IsAnswered : Option ℕ → Answered → Type 0
 IsAnswered lost_to (parcel, Ok u) = is_one lost_to parcel.to ≡ false
 IsAnswered lost_to (parcel, Err f) = f ≡ lost_by (is_one lost_to parcel.to)
 
--- What waits first, if it was sent, and for a node that is up, the turn hears, unless a job waits
--- for its answer or receives are to fail.
+-- The turn receives the first datagram in the queue, if that was sent and is for a node that is up.
+-- The exceptions are that a job waits for its answer, or receives are set to fail.
 abbrev pub HearsFirst : {D : Type 0} → ClusterState D MemPortState → Given
     → Result (Option declared.Event) TurnFault → Type 0
 HearsFirst old builds answer =
@@ -58,8 +58,8 @@ HearsFirst old builds answer =
     → old.port.orders.is_deaf ≡ false → waits_for_answer old builds ≡ false
     → is_among old.sent text ≡ true → here_of old k ≡ Some s → HearsIt old k text answer
 
--- A turn, with its sends, as they were answered: what waits then is what was left, and behind it
--- what the sends put there.
+-- A turn with its sends and their answers. Afterwards the queue is what was left of it, followed by
+-- what the sends appended.
 pub record TurnsInMemory {D : Type 0} (old new : ClusterState D MemPortState) (builds : Given)
     (answer : Result (Option declared.Event) TurnFault) : Type 0 where
   pub offered : List Answered
@@ -73,14 +73,14 @@ pub record TurnsInMemory {D : Type 0} (old new : ClusterState D MemPortState) (b
       ++ put_by_all old.port.orders.is_twice offered
   pub hears : HearsFirst old builds answer
 
--- Of these the port took this datagram first, and receives from it are not to fail.
+-- Of these sends the port took this datagram first, and receives are not set to fail.
 abbrev pub TookFirst : MemPortState → List Answered → ℕ → Text → Type 0
 TookFirst port offered k text =
     (first_of (put_by_all port.orders.is_twice offered) ≡ Some (k, text))
     × (port.orders.is_deaf ≡ false)
 
--- Of what the first turn's step was offered, where nothing waited before, the first that the port
--- took the second turn hears; and it waits again, where each datagram is given twice.
+-- If the queue was empty before, the second turn receives the first datagram that the port took of
+-- what the first turn's step sent. It is queued again if each datagram is received twice.
 pub record HearsOffered {D : Type 0} (old new : ClusterState D MemPortState) (second : Given)
     (first : declared.Event) (answer : Result (Option declared.Event) TurnFault) : Type 0 where
   pub between : ClusterState D MemPortState

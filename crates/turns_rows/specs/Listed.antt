@@ -1,4 +1,4 @@
--- What a run of turns leads to.
+-- What the turns of a run lead to.
 use Rattle.std.specs.Prelude.{◌≡◌, ℕ, List, None, Some}
 use Rattle.events.specs.Events.{Event}
 use Rattle.listing.specs.Tree.{Tree}
@@ -9,8 +9,8 @@ use Rattle.world.specs.Happening.{Leads}
 use Rattle.world.specs.Headline.{HasOneAPath}
 use Rattle.world.specs.World.{IsMade, World, start}
 
--- From the start of members that weigh so, over the tree, the events lead to a world whose agreed
--- list has at most one package a path.
+-- The events lead from the start, among members with these weights, over the tree, to a world whose
+-- agreed list has at most one package for each path.
 pub record LeadToOneList (tree : Tree) (weights : List ℕ) (events : List Event) : Type 0 where
   pub division : Division
   pub of_tree : division.tree ≡ tree

@@ -1,4 +1,4 @@
--- A turn with all builds, and then one where builds are made while the nodes run.
+-- A turn with all builds, and then one with builds that are made while the nodes run.
 use Rattle.std.specs.Prelude.{List, Option, None, Some}
 use Rattle.choosing.specs.Handed.{Handed}
 use Rattle.events.specs.Events.{event_view}
@@ -8,14 +8,14 @@ use Rattle.turns.specs.State.{ClusterState}
 use Rattle.turns.specs.Turn.{IsChosenFor, IsEventChosenFor}
 use Rattle.turns_rows.specs.Going.{GoesOnWith, event_in}
 
--- What the turn answered is its choice: an event, or that there was nothing to do.
+-- The turn returned its choice: an event, or that there was nothing to do.
 abbrev pub IsAnsweredFor : {D P : Type 0} → (P → Option (List Arrived)) → ClusterState D P
     → ClusterState D P → Handed → Option declared.Event → Type 0
 IsAnsweredFor given old new handed None = IsChosenFor given old new handed None
 IsAnsweredFor given old new handed (Some e) = IsEventChosenFor given old new handed (event_view e)
 
--- The second turn, which began where the first one's event had led, answered its choice for what
--- was handed in.
+-- The second turn, which began in the state after the first one's event, returned its choice for
+-- what was passed to it.
 pub record IsChosenThen {D P : Type 0} (given : P → Option (List Arrived))
     (old new : ClusterState D P) (handed : Handed) (first second : Option declared.Event)
     : Type 0 where

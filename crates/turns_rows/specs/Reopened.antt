@@ -12,8 +12,8 @@ use Rattle.turns.specs.Turn.{WentDown}
 use Rattle.world.specs.Happening.{Acts}
 use Rattle.world.specs.World.{World, WorldNode}
 
--- A crash after the turn may leave this file of node k's disk, which keeps the disk model then, and
--- did so before.
+-- A crash after the turn may leave this file of node k's disk, which keeps to the disk model then,
+-- and did so before.
 pub record IsLeftOf {D P : Type 0} (is_kept : D → Type 0) (history : D → History)
     (old new : ClusterState D P) (k : ℕ) (file : Text) : Type 0 where
   pub before : LoggedNode D
@@ -24,7 +24,7 @@ pub record IsLeftOf {D P : Type 0} (is_kept : D → Type 0) (history : D → His
   pub kept : is_kept after.log.disk
   pub may : MayLeave (history after.log.disk) file
 
--- Node k went down inside an event, and the opened node has the notes that it had before, or these
+-- Node k went down during an event, and the opened node has the notes that it had before, or these
 -- and that of the event's step.
 pub record HasNotesAcross {D P : Type 0} (old new : ClusterState D P) (k : ℕ) (opened : NodeState)
     : Type 0 where
@@ -38,6 +38,6 @@ pub record HasNotesAcross {D P : Type 0} (old new : ClusterState D P) (k : ℕ) 
   pub notes : (texts_of opened.notes ≡ texts_of node.notes)
       ⊎ (texts_of opened.notes ≡ texts_of (with_note node.notes step.answer.note))
 
--- Node k went down in a turn from this state of the cluster, and it has those notes.
+-- Node k went down in a turn from this state of the cluster, and the opened node has those notes.
 abbrev pub HasNotesOfDown : {D P : Type 0} → ClusterState D P → ℕ → NodeState → Type 0
 HasNotesOfDown {D} {P} old k opened = (new : ClusterState D P) × HasNotesAcross old new k opened

@@ -13,6 +13,6 @@ AreCountsAt c k counts =
     (w : World) → IsWorldOf c w → (x : WorldNode) × (slice_get w.nodes k ≡ Some x)
     × (x.up ≡ true) × AreCounts (engine_of (member_at w k x)) counts
 
--- In each world that the cluster is, the node is down, or there is none.
+-- In each world that the cluster is, the node is down or doesn't exist.
 abbrev pub IsDownAt : {D P : Type 0} → ClusterState D P → ℕ → Type 0
 IsDownAt c k = (w : World) → IsWorldOf c w → is_up w k ≡ false

@@ -1,4 +1,4 @@
-//! What a turn sends, at the next one.
+//! What the next turn receives of what a turn sends.
 ghost use Rattle.std.specs.Prelude.{IfNone, IfOk, IfSome};
 ghost use Rattle.turns_rows.specs.Heard.{HearsNext};
 ghost use Rattle.turns_rows.specs.Listed.{HasNoClaims};
@@ -10,17 +10,17 @@ use protocol::Packages;
 use stable_record::Disk;
 use turns::Cluster;
 
-/// What two turns answered, of which the first was an event.
+/// The results of two turns, the first of which had an event.
 #[derive(Drop)]
 pub struct Heard {
     pub event: Event,
     pub next: Result<Option<Event>, TurnFault>,
 }
 
-/// Takes a turn, and where that was an event, another one; where it had nothing to do, no node that
-/// is up has an open claim. What the first one sent counts as sent then; and where the port gives
-/// one text that was sent, by then or before, for a node that is up, the second turn doesn't refuse
-/// it as not sent, and its event is the delivery of that text.
+/// Takes a turn, and a second one if the first had an event. If the first had nothing to do, no
+/// node that is up has an open claim. What the first turn sent counts as sent afterwards. Suppose
+/// the port returns one text that was sent, by then or before, for a node that is up. Then the
+/// second turn doesn't refuse it as not sent, and its event is the delivery of that text.
 pub fn hear_next<D: Disk, P: Port>(
     cluster: &mut Cluster<'_, D, P>,
     first: &Packages,

@@ -10,9 +10,9 @@ use protocol::Packages;
 use stable_record::Disk;
 use turns::Cluster;
 
-/// Takes a turn. What waits first is heard, if it was sent, and nothing but what the step sends
-/// waits behind the others then. Sends to a member to which they are to fail failed, and nothing of
-/// them waits.
+/// Takes a turn. It receives the first datagram in the queue, if that was sent, and only what the
+/// step sends is appended to the queue. Sends to a member to which they are set to fail fail, and
+/// append nothing.
 pub fn turn_in_memory<D: Disk>(
     cluster: &mut Cluster<'_, D, MemPort>,
     builds: &Packages,
@@ -22,9 +22,9 @@ pub fn turn_in_memory<D: Disk>(
     cluster.turn(builds)
 }
 
-/// Takes a turn, and where that was an event, another one. Where nothing waited, the first datagram
-/// of those that the first turn's step sent, and the port took, is heard in the second turn, by the
-/// node that it goes to; and it waits again, where each is given twice.
+/// Takes a turn, and a second one if the first had an event. If the queue was empty, the second
+/// turn receives the first datagram that the port took of what the first turn's step sent, at the
+/// node that it is for. It is queued again if each datagram is received twice.
 pub fn hear_what_was_offered<D: Disk>(
     cluster: &mut Cluster<'_, D, MemPort>,
     first: &Packages,

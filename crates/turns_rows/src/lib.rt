@@ -1,4 +1,4 @@
-//! A cluster's turns one after the other, over what their contracts say and no more.
+//! Sequences of a cluster's turns, derived from the contracts alone.
 #![tactic(auto)]
 
 mod heard;

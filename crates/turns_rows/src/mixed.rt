@@ -1,4 +1,4 @@
-//! Turns of both kinds in a row.
+//! Turns of both kinds.
 ghost use Rattle.std.specs.Prelude.{◌++◌, IfOk, map, option_map};
 ghost use Rattle.choosing.specs.Handed.{SoFar, made_of};
 ghost use Rattle.turns.specs.Headline.{HasHeadline};
@@ -13,11 +13,11 @@ use protocol::Packages;
 use stable_record::Disk;
 use turns::Cluster;
 
-/// Takes a turn with all builds, and one where builds are made while the nodes run, and answers the
-/// event of each, if it was one. From each world that the cluster was the events lead, the first
-/// one and then the second, to a world that it is, and they are all that its events went on by; and
-/// the second is the choice by what is made and wished. Whatever is handed in, and whichever turn
-/// is refused, the headline holds of all events so far.
+/// Takes a turn with all builds, and one with builds that are made while the nodes run, and returns
+/// the event of each, if it had one. The events lead, in order, from each world that the cluster
+/// was to a world that it is, and are all that were appended. The second turn's choice is by what
+/// is made and wished. Whatever is passed, and whichever turn is refused, the headline holds of all
+/// events so far.
 pub fn turn_then_live<D: Disk, P: Port>(
     cluster: &mut Cluster<'_, D, P>,
     builds: &Packages,

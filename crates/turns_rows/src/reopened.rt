@@ -15,9 +15,9 @@ use std::alloc::Global;
 use turns::Cluster;
 use world::events_lead_to_later_worlds;
 
-/// Takes a turn; where the node of this number goes down in it, opens that member's node over the
-/// disk that is handed in. If a crash of the failed disk may leave just that disk's file, the node
-/// that is opened has the notes of the one that went down, or these and that of the event's step.
+/// Takes a turn. If the node with this number goes down in it, opens that member's node over the
+/// disk `left`. Suppose a crash of the failed disk may leave the file of that disk. Then the opened
+/// node has the notes of the one that went down, or these and that of the event's step.
 pub fn turn_then_reopen<'a, D: Disk, P: Port, E: Disk>(
     alloc: Global,
     cluster: &mut Cluster<'_, D, P>,
@@ -56,8 +56,8 @@ pub struct Reopened<'a> {
     pub node: Node<'a, MemDisk>,
 }
 
-/// Takes a turn; where a node goes down in it, takes the cluster apart, has a crash leave that
-/// node's disk as told, and opens the member's node over what is left. It has the notes of the one
+/// Takes a turn. If a node goes down in it, takes the cluster apart, lets a crash leave of that
+/// node's disk what `left` says, and opens the member's node over that. It has the notes of the one
 /// that went down, or these and that of the event's step.
 pub fn turn_then_crash<'a, P: Port>(
     alloc: Global,

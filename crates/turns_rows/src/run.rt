@@ -15,9 +15,9 @@ use stable_record::Disk;
 use std::alloc::Global;
 use turns::Cluster;
 
-/// Makes a cluster over these disks, and takes turns until one has nothing to do, or so many.
-/// Whatever was refused, and whichever nodes went down, the events that are answered lead from the
-/// start to a world whose agreed list has at most one package a path.
+/// Makes a cluster over these disks, and takes turns until one has nothing to do, at most `most`.
+/// Whatever was refused, and whichever nodes went down, the returned events lead from the start to
+/// a world whose agreed list has at most one package for each path.
 pub fn run_until_nothing<'a, D: Disk, P: Port>(
     alloc: Global,
     tree: &'a Tree,
@@ -35,13 +35,14 @@ pub fn run_until_nothing<'a, D: Disk, P: Port>(
 {
     let mut cluster = Cluster::new(alloc, tree, weights, disks, port)?;
     let _ended = take_turns(&mut cluster, builds, most);
-    // They led to a world with one list.
+    // This call is for its contract: the events lead to a world with one list.
     let _events = cluster.events();
     Ok(cluster.into_events())
 }
 
-/// Takes turns until one has nothing to do, or so many, and tells whether one had. Refused turns go
-/// on. Where one had nothing to do, no node that is up has an open claim.
+/// Takes turns until one has nothing to do, at most `most`, and returns whether one had. It
+/// continues after refused turns. If a turn had nothing to do, no node that is up has an open
+/// claim.
 pub fn take_turns<D: Disk, P: Port>(
     cluster: &mut Cluster<'_, D, P>,
     builds: &Packages,
@@ -59,7 +60,7 @@ pub fn take_turns<D: Disk, P: Port>(
     false
 }
 
-/// Takes a turn, and tells whether it had nothing to do.
+/// Takes a turn, and returns whether it had nothing to do.
 fn has_nothing<D: Disk, P: Port>(cluster: &mut Cluster<'_, D, P>, builds: &Packages) -> bool
     ensures goes_on { GoesOn cluster.old cluster.new }
     ensures asked { WasAskedAtMost 1 P.given cluster.old.port cluster.new.port }

@@ -8,8 +8,8 @@ use protocol::Packages;
 use stable_record::Disk;
 use turns::Cluster;
 
-/// Takes a turn, and tells how many packages have each letter at the node then, as long as it is
-/// up: just those of the world's node.
+/// Takes a turn, and returns how many packages have each letter at the node afterwards, if it is
+/// up. These are the counts of the world's node.
 pub fn turn_then_count<D: Disk, P: Port>(
     cluster: &mut Cluster<'_, D, P>,
     builds: &Packages,

@@ -1,4 +1,4 @@
-//! Two turns in a row.
+//! Two turns.
 ghost use Rattle.std.specs.Prelude.{◌≡◌, ◌++◌, IfErr, IfOk, None};
 ghost use Rattle.turns_rows.specs.Going.{GoesOnWith, IsRefusedInTwo, WasAskedAtMost, event_in};
 ghost use Rattle.turns_rows.specs.Listed.{HasNoClaims};
@@ -10,10 +10,10 @@ use protocol::Packages;
 use stable_record::Disk;
 use turns::Cluster;
 
-/// Takes two turns, and answers the event of each, if it was one. From each world that the cluster
-/// was the events lead, the first one and then the second, to a world that it is, and they are all
-/// that its events went on by. Where the second turn had nothing to do, no node that is up has an
-/// open claim. The port was asked once a turn at most, whatever is answered.
+/// Takes two turns, and returns the event of each, if it had one. The events lead, in order, from
+/// each world that the cluster was to a world that it is, and are all that were appended. If the
+/// second turn had nothing to do, no node that is up has an open claim. The port was asked at most
+/// once in each turn, whatever the results are.
 pub fn two_turns<D: Disk, P: Port>(
     cluster: &mut Cluster<'_, D, P>,
     first: &Packages,

@@ -1,4 +1,4 @@
--- What is made ready in each case of the choice, and why nothing is.
+-- What is prepared in each case of the choice, and why nothing is.
 use Rattle.std.specs.Prelude.{◌≡◌, ◌⊎◌, ℕ, Vec, true, false, List, [], ◌∷◌, Option, Some, Result, is_some, length, option_and_then, option_map}
 use Rattle.std.specs.declared.alloc.Global.{Global}
 use Rattle.choice.specs.Answering.{answer_of}
@@ -28,17 +28,17 @@ use Rattle.choosing.specs.declared.chosen.Chosen.{Chosen as Ready}
 abbrev pub answer_here : {D : Type 0} → List (LoggedNode D) → Given → ℕ → Option Input
 answer_here nodes builds k = option_and_then (λ s. answer_of s builds) (here_in nodes k)
 
--- Memory was wanting for what there is to do.
+-- Memory ran out, and there is something to do.
 abbrev pub IsWantFor : {X : Type 0} → Option X → TurnFault → Type 0
 IsWantFor x f = (f ≡ Memory) × (is_some x ≡ true)
 
--- ---- (2) what came
+-- ---- (2) what was received
 
--- what came, as a list of bytes
+-- what was received, with its bytes as a list
 abbrev pub arrived : Option (ℕ × Vec ℕ Global) → Arrived
 arrived = option_map (λ d. (d.0, d.1.items))
 
--- The port answered one receive, which gave this, and nothing else was asked of it.
+-- The port answered one receive, which returned this, and no other calls.
 abbrev pub WasReceived : {P : Type 0} → (P → Call → P → Type 0) → P → Arrived → P → Type 0
 WasReceived does old came new =
     (answer : Result Arrived PortFault) × (came ≡ came_by answer)
@@ -50,7 +50,7 @@ WasSent nodes sent came =
     (k : ℕ) (text : Text) → comes_to (here_in nodes) came ≡ Some (k, Comes text)
     → is_among sent text ≡ true
 
--- Memory was wanting for what there is to take, or it came for a node that is up and was not sent.
+-- Memory ran out and there is something to take, or it is for a node that is up and was not sent.
 abbrev pub IsNotTaken : {D : Type 0} → List (LoggedNode D) → List Text → Arrived → TurnFault
     → Type 0
 IsNotTaken nodes sent came f =
@@ -58,15 +58,15 @@ IsNotTaken nodes sent came f =
     × ((k : ℕ) × (text : Text) × (comes_to (here_in nodes) came ≡ Some (k, Comes text))
     × (is_among sent text ≡ false)))
 
--- ---- (3) what nodes do of themselves
+-- ---- (3) what nodes do on their own initiative
 
--- What node k does of itself was made ready, if it does anything.
+-- What node k does on its own initiative, if anything, was prepared.
 abbrev pub IsOwnPart : {D : Type 0} → List (LoggedNode D) → Pending → ℕ → Option Readied → Type 0
 IsOwnPart nodes p k r =
     (own : Option Input) × IsOwnIf (here_in nodes) (length nodes) p k (here_in nodes k) own
     × IsPartAt nodes k own r
 
--- Memory was wanting for what node k would do of itself, or it takes no step on that.
+-- Memory ran out and node k would do something on its own initiative, or it refuses that.
 abbrev pub IsOwnFault : {D : Type 0} → List (LoggedNode D) → Pending → ℕ → TurnFault → Type 0
 IsOwnFault nodes p k f =
     ((f ≡ Memory) × ((input : Input)
@@ -75,15 +75,15 @@ IsOwnFault nodes p k f =
     × IsOwnIf (here_in nodes) (length nodes) p k (here_in nodes k) (Some input)
     × RefusesAt nodes k (Does input) g)
 
--- What the first of these nodes does of itself was made ready, if any does anything.
+-- What the first of these nodes that does anything does on its own initiative was prepared.
 abbrev pub IsFirstPart : {D : Type 0} → List (LoggedNode D) → Pending → List ℕ → Option Ready
     → Type 0
 IsFirstPart nodes p ks r =
     (chosen : Chosen) × IsFirstOwn (here_in nodes) (length nodes) p ks chosen
     × IsChosenAs nodes chosen r
 
--- Memory was wanting for what the first of these nodes would do that would do anything, or it takes
--- no step on that.
+-- Memory ran out and one of these nodes would do something on its own initiative, or the first that
+-- would refuses that.
 abbrev pub IsFirstFault : {D : Type 0} → List (LoggedNode D) → Pending → List ℕ → TurnFault
     → Type 0
 IsFirstFault nodes p ks f =
@@ -93,14 +93,14 @@ IsFirstFault nodes p ks f =
     × IsFirstOwn (here_in nodes) (length nodes) p ks (Some (k, Does input))
     × RefusesAt nodes k (Does input) g)
 
--- What is left to do was made ready, if anything is.
+-- What is left to do, if anything, was prepared.
 abbrev pub IsLeftPart : {D : Type 0} → List (LoggedNode D) → Pending → Handed → Option Ready
     → Type 0
 IsLeftPart nodes p handed r =
     (chosen : Chosen) × IsLeftToDo handed (here_in nodes) (length nodes) p chosen
     × IsChosenAs nodes chosen r
 
--- Memory was wanting for what is left to do, or the chosen node takes no step on that.
+-- Memory ran out and something is left to do, or the chosen node refuses that.
 abbrev pub IsLeftFault : {D : Type 0} → List (LoggedNode D) → Pending → Handed → TurnFault
     → Type 0
 IsLeftFault nodes p handed f =
@@ -110,9 +110,9 @@ IsLeftFault nodes p handed f =
     × IsLeftToDo handed (here_in nodes) (length nodes) p (Some (k, Does input))
     × RefusesAt nodes k (Does input) g)
 
--- ---- where builds are made while nodes run
+-- ---- if builds are made while nodes run
 
--- Memory was wanting for what a node is to do, or it takes no step on that.
+-- Memory ran out and a node is to do something, or it refuses that.
 abbrev pub IsNotDone : {D : Type 0} → List (LoggedNode D) → Chosen → TurnFault → Type 0
 IsNotDone nodes chosen f =
     ((f ≡ Memory) × ((k : ℕ) × (input : Input) × (chosen ≡ Some (k, Does input))))

@@ -1,4 +1,4 @@
--- A claim that waits for a build, and what answers it.
+-- A claim that waits for a build, and its answer.
 use Rattle.std.specs.Prelude.{◌≡◌, ◌<◌, ℕ, Bool, true, false, IfSome, Option, Some, length}
 use Rattle.agreement.specs.declared.claim.Claim.{Claim}
 use Rattle.faults.specs.Bytes.{Text}
@@ -17,13 +17,13 @@ pub record IsWaiting (s : State) (u : ℕ) : Type 0 where
   pub is_open : s.claim ≡ Some (record { unit = u; host = host; progress = Building claim })
   pub there : u < length s.division.units
 
--- It is the unit's name, and files for just its packages, if some are given.
+-- `name` is the unit's name, and `given`, if any, has files for exactly its packages.
 pub record AreParts (s : State) (u : ℕ) (name : Text) (given : Option Given) : Type 0 where
   pub member : IsMember s
   pub named : name ≡ name_at s u
   pub whole : IfSome given (λ g. are_given (paths_at s u) g ≡ true)
 
--- Whether the node refuses files of which no build is made.
+-- Whether the node refuses these files because they make no build.
 abbrev pub is_bad_files : NodeFault → Bool
 is_bad_files (fault.Refused (refusals.BadFiles f)) = true
 is_bad_files _ = false

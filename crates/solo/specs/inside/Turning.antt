@@ -1,4 +1,4 @@
--- A turn by its parts: what is chosen is made ready, and then taken.
+-- The parts of a turn: what is chosen is prepared, and then taken.
 use Rattle.std.specs.Prelude.{◌≡◌, ◌⊎◌, true, List, [], ◌∷◌, Option, None, Some, Result, Ok, Err}
 use Rattle.ballots.specs.declared.message.Note.{Note}
 use Rattle.choice.specs.Choice.{Chosen}
@@ -26,18 +26,18 @@ use Rattle.stable_record.specs.declared.log_fault.LogFault.TheVariants as log
 use Rattle.solo.specs.State.{SoloState, me_of}
 use Rattle.solo.specs.Turn.{IsChosen, IsVouchedFor}
 
--- these, as one
+-- the state with these parts
 abbrev pub solo_of : {D P : Type 0} → LoggedNode D → Pending → P → SoloState D P
 solo_of node pending port = record { node = node; pending = pending; port = port }
 
--- What the node is chosen to do was made ready, if anything is chosen; and else nothing was.
+-- What was chosen for the node was prepared, or nothing was if nothing was chosen.
 abbrev pub IsMade : {D : Type 0} → LoggedNode D → Chosen → Option Readied → Type 0
 IsMade n None None = Prim.Unit {0}
 IsMade n None (Some r) = ⊥
 IsMade n (Some x) None = ⊥
 IsMade n (Some x) (Some r) = (x.0 ≡ n.node.member.me) × IsReadied n x.1 r
 
--- This came, by the answer to a receive.
+-- A receive returned this.
 pub record HasCome {P : Type 0} (given : P → Option (List Arrived)) (does : P → Call → P → Type 0)
     (vouches : P → Text → Type 0) (old new : P) (came : Arrived) : Type 0 where
   pub answer : Result Arrived PortFault
@@ -46,7 +46,7 @@ pub record HasCome {P : Type 0} (given : P → Option (List Arrived)) (does : P 
   pub call : does old (Received answer) new
   pub vouched : IsVouchedFor vouches new came
 
--- What was made ready is the turn's choice, nothing was offered yet, and the node stays.
+-- The turn's choice was prepared. Nothing was offered yet, and the node is unchanged.
 pub record HasChosen {D P : Type 0} (given : P → Option (List Arrived))
     (does : P → Call → P → Type 0) (vouches : P → Text → Type 0) (old new : SoloState D P)
     (handed : Handed) (r : Option Readied) : Type 0 where
@@ -55,7 +55,7 @@ pub record HasChosen {D P : Type 0} (given : P → Option (List Arrived))
   pub made : IsMade old.node chosen r
   pub same : new.node ≡ old.node
 
--- the node's refusal, as one of a turn
+-- the node's refusal as that of a turn
 abbrev pub told : NodeFault → TurnFault
 told fault.Memory = Memory
 told (fault.Refused r) = Node (fault.Refused r)
@@ -63,8 +63,8 @@ told (fault.Log f) = Node (fault.Log f)
 told fault.Stopped = Node fault.Stopped
 told (fault.Foreign f) = Node (fault.Foreign f)
 
--- It is chosen that the node takes bytes that came, and memory was wanting, or the node takes no
--- step on them; and it is left as that refusal leaves it.
+-- The choice is that the node takes received bytes. Memory ran out, or the node refuses them, and
+-- the node is left in the state after that refusal.
 pub record IsNotTaken {D : Type 0} (old new : LoggedNode D) (chosen : Chosen) (f : TurnFault)
     : Type 0 where
   pub text : Text
@@ -74,7 +74,7 @@ pub record IsNotTaken {D : Type 0} (old new : LoggedNode D) (chosen : Chosen) (f
   pub cause : (refusal ≡ fault.Memory) ⊎ Takes old.node (Comes text) (Err refusal)
   pub leaves : new.node ≡ left_by old.node (Comes text) refusal
 
--- The step that was ready was taken, and just its sends were offered.
+-- The prepared step was taken, and exactly its sends were offered.
 pub record TookStep {D P : Type 0} (offered : P → Option (List Parcel))
     (does : P → Call → P → Type 0) (old new : SoloState D P) (asked : Asked) : Type 0 where
   pub taken : Taken
@@ -87,7 +87,7 @@ pub record TookStep {D P : Type 0} (offered : P → Option (List Parcel))
   pub calls : WasOffered does old.port
       (parcels_from (me_of old) (datagrams_to taken.answer.sends)) new.port
 
--- Why a step with this note, which is ready, was not taken, and what that leaves of the node.
+-- Why a prepared step with this note was not taken, and what state that leaves the node in.
 abbrev pub IsTakingFault : {D : Type 0} → LoggedNode D → LoggedNode D → Option (Note Value)
     → TurnFault → Type 0
 IsTakingFault old new noted Memory = new.node ≡ old.node

@@ -1,4 +1,4 @@
--- What a contract sees of a cluster's fields, and what holds of them.
+-- How contracts see a cluster's fields, and the invariant of these.
 use Rattle.std.specs.Prelude.{◌≡◌, ◌+◌, ◌<◌, length}
 use Rattle.choosing.specs.Unfailed.{EachFailedBelow}
 use Rattle.turns.specs.AnyCase.{StandsInAnyCase}
@@ -19,9 +19,8 @@ cluster_of c = record {
   port = c.port;
 }
 
--- What holds of each cluster: it is some world, and so it is whatever was left of each step inside
--- which a node went down; and below the position of each node no package is queued there but those
--- whose units failed.
+-- The invariant of a cluster. It is some world, whatever was left of each step during which a node
+-- went down. Below its position, each node's only queued packages are those whose units failed.
 pub record IsCluster {D P : Type 0} (c : Inside D P) : Type 0 where
   pub tree : c.units.tree ≡ c.tree.now
   pub divided : IsDivision c.units

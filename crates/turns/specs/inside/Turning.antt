@@ -37,7 +37,7 @@ pub record Turning (D P : Type 0) : Type 0 where
   pub pending : Pending
   pub port : P
 
--- these, as that
+-- a record of these parts
 abbrev pub as_turning : {D P : Type 0} → List (LoggedNode D) → List Text → List declared.Event
     → Pending → P → Turning D P
 as_turning nodes sent events pending port = record {
@@ -48,7 +48,7 @@ as_turning nodes sent events pending port = record {
   port = port;
 }
 
--- that of the cluster
+-- these parts of the cluster
 abbrev pub turning_of : {D P : Type 0} → ClusterState D P → Turning D P
 turning_of c = record {
   nodes = c.nodes;
@@ -60,8 +60,8 @@ turning_of c = record {
 
 -- ---- one node
 
--- The node took the step that was ready: its log had room for the note, which stands there; and at
--- each moment a crash left its notes, with this one or without.
+-- The node took the prepared step. Its log had room for the note, which is on it; and at each
+-- moment a crash left its notes, with this one or without it.
 pub record HasTaken {D : Type 0} (is_kept : D → Type 0) (history : D → History)
     (old new : LoggedNode D) (ready : ReadyStep) : Type 0 where
   pub state : new.node ≡ after old.node (taken_by old.node ready)
@@ -72,7 +72,7 @@ pub record HasTaken {D : Type 0} (is_kept : D → Type 0) (history : D → Histo
       → LeavesOneMoreAtMost old.node (note_in ready.step) (history old.log.disk)
       (history new.log.disk)
 
--- The node stands as it did, and its disk went through nothing.
+-- The node is unchanged, and nothing was done to its disk.
 pub record HasStayed {D : Type 0} (is_kept : D → Type 0) (history : D → History)
     (old new : LoggedNode D) : Type 0 where
   pub state : new.node ≡ old.node
@@ -80,8 +80,8 @@ pub record HasStayed {D : Type 0} (is_kept : D → Type 0) (history : D → Hist
   pub on_log : is_kept new.log.disk → IsOnLog history old
       → IsOnLog history new × (history new.log.disk ≡ history old.log.disk)
 
--- The device failed at the note of the step, for which the log had room: the node stopped, and a
--- crash leaves its notes, with this one or without.
+-- The device failed at the note of the step, for which the log had room. The node stopped, and a
+-- crash leaves its notes, with this one or without it.
 pub record HasFailed {D : Type 0} (is_kept : D → Type 0) (history : D → History)
     (failures : D → ℕ) (old new : LoggedNode D) (ready : ReadyStep) : Type 0 where
   pub state : new.node ≡ record old.node { stopped = true }
@@ -92,7 +92,7 @@ pub record HasFailed {D : Type 0} (is_kept : D → Type 0) (history : D → Hist
       (history new.log.disk)
   pub kept : is_kept new.log.disk → is_kept old.log.disk
 
--- Why the node did not take the step, and what that left of it.
+-- Why the node did not take the step, and what state that left.
 abbrev pub HasNotTaken : {D : Type 0} → (D → Type 0) → (D → History) → (D → ℕ) → LoggedNode D
     → LoggedNode D → ReadyStep → NodeFault → Type 0
 HasNotTaken is_kept history failures old new ready fault.Memory =
@@ -109,14 +109,14 @@ HasNotTaken is_kept history failures old new ready (fault.Log log.OtherCluster) 
 HasNotTaken is_kept history failures old new ready fault.Stopped = ⊥
 HasNotTaken is_kept history failures old new ready (fault.Foreign f) = ⊥
 
--- The device failed. Where the step has a note, the stop inside it is one event more, and the node
--- is told to be down.
+-- The device failed. If the step has a note, the stop during it is one more event, and the turn
+-- reports that the node is down.
 abbrev pub KeepsStop : ℕ → Option declared.Event → List declared.Event → List declared.Event
     → TurnFault → Type 0
 KeepsStop k None old new f = (f ≡ refused.Node (fault.Log log.Device)) × (new ≡ old)
 KeepsStop k (Some stop) old new f = (f ≡ refused.Down k) × (new ≡ old ++ stop ∷ [])
 
--- How the turn tells why the step was not taken.
+-- How the turn reports why the step was not taken.
 abbrev pub StopsAs : ℕ → Option declared.Event → List declared.Event → List declared.Event
     → NodeFault → TurnFault → Type 0
 StopsAs k stop old new (fault.Log log.Device) f = KeepsStop k stop old new f
@@ -124,7 +124,7 @@ StopsAs k stop old new why f = (f ≡ told why) × (new ≡ old)
 
 -- ---- all nodes
 
--- One of the nodes, which is up, stands as it did, over a disk that may have more room.
+-- One node, which is up, is unchanged, over a disk that may have more room.
 pub record OneStays {D : Type 0} (is_kept : D → Type 0) (history : D → History)
     (old new : List (LoggedNode D)) : Type 0 where
   pub number : ℕ
@@ -135,14 +135,14 @@ pub record OneStays {D : Type 0} (is_kept : D → Type 0) (history : D → Histo
   pub nodes : new ≡ slice_set old number after
   pub stays : HasStayed is_kept history before after
 
--- All nodes are as they were, but for room on the disk of one that is up.
+-- All nodes are unchanged, except that one that is up may have more room on its disk.
 abbrev pub AllStay : {D : Type 0} → (D → Type 0) → (D → History) → List (LoggedNode D)
     → List (LoggedNode D) → Type 0
 AllStay is_kept history old new = (new ≡ old) ⊎ OneStays is_kept history old new
 
 -- ---- the turn
 
--- The event is the step of the node on what was chosen, which is ready.
+-- The event is the prepared step of the node on what was chosen.
 pub record IsDue {D : Type 0} (nodes : List (LoggedNode D)) (sent : List Text) (r : Ready)
     (e : Event) : Type 0 where
   pub at : IsReadiedAt nodes r.node (asked_by r.readied.act) r.readied
@@ -150,8 +150,8 @@ pub record IsDue {D : Type 0} (nodes : List (LoggedNode D)) (sent : List Text) (
   pub logged : IsLogged at.node
   pub event : event_of sent (r.node, asked_by r.readied.act) ≡ Some e
 
--- The event was taken: the node took its step, all that follows is kept, and just what it sends was
--- offered.
+-- The event was taken: the node took its step, the cluster was updated, and exactly what the step
+-- sends was offered.
 pub record TakesStep {D P : Type 0} (is_kept : D → Type 0) (history : D → History)
     (offered : P → Option (List Parcel)) (old new : Turning D P) (r : Ready) (e : Event)
     : Type 0 where
@@ -167,7 +167,7 @@ pub record TakesStep {D P : Type 0} (is_kept : D → Type 0) (history : D → Hi
       (parcels_from r.node (datagrams_to (sends_in r.readied.ready.step)))
       (offered old.port) (offered new.port)
 
--- All is as it was, but for room on a disk; and nothing was offered.
+-- Nothing changed, except for room on a disk, and nothing was offered.
 pub record StandsStill {D P : Type 0} (is_kept : D → Type 0) (history : D → History)
     (offered : P → Option (List Parcel)) (old new : Turning D P) : Type 0 where
   pub nodes : AllStay is_kept history old.nodes new.nodes
@@ -176,7 +176,7 @@ pub record StandsStill {D P : Type 0} (is_kept : D → Type 0) (history : D → 
   pub pending : new.pending ≡ old.pending
   pub offers : GoesOnBy [] (offered old.port) (offered new.port)
 
--- The node went down inside the step of the event, and nothing else changed.
+-- The node went down during the step of the event, and nothing else changed.
 pub record GoesDown {D P : Type 0} (is_kept : D → Type 0) (history : D → History)
     (failures : D → ℕ) (offered : P → Option (List Parcel)) (old new : Turning D P) (r : Ready)
     (e : Event) : Type 0 where
@@ -196,7 +196,7 @@ pub record HasNoRoom {D : Type 0} (nodes : List (LoggedNode D)) (sent : List Tex
   pub due : IsDue nodes sent r event
   pub lacks : LacksRoom due.at.node.log (note_in r.readied.ready.step)
 
--- What became of what was chosen.
+-- The result of what was chosen.
 abbrev pub IsTakenAs : {D P : Type 0} → (D → Type 0) → (D → History) → (D → ℕ)
     → (P → Option (List Parcel)) → Turning D P → Turning D P → Ready
     → Result declared.Event TurnFault → Type 0
@@ -212,20 +212,20 @@ IsTakenAs is_kept history failures offered old new r (Err (refused.Down k)) =
 IsTakenAs is_kept history failures offered old new r (Err refused.NotSent) = ⊥
 IsTakenAs is_kept history failures offered old new r (Err refused.NotFresh) = ⊥
 
--- This was made ready, as the turn's choice.
+-- This was prepared, as the turn's choice.
 abbrev pub IsMadeReady : {D P : Type 0} → (P → Option (List Arrived)) → Turning D P → Turning D P
     → Handed → Option Ready → Type 0
 IsMadeReady given old new handed r =
     HasChosen old.nodes old.sent old.pending handed (given old.port) (given new.port) r
 
--- Nothing was made ready.
+-- Nothing was prepared, for this reason.
 abbrev pub IsNotMadeReady : {D P : Type 0} → (P → Option (List Arrived)) → Turning D P → Turning D P
     → Handed → TurnFault → Type 0
 IsNotMadeReady given old new handed f =
     IsChoosingFault old.nodes old.sent old.pending handed (given old.port) (given new.port) f
 
--- What a turn is: nothing was made ready, and all stands still; there was nothing to do; or what
--- was chosen was taken, or was not.
+-- What a turn is. Either nothing was prepared and nothing changed; or there was nothing to do; or
+-- what was chosen was taken, or was not.
 abbrev pub IsTurn : {D P : Type 0} → (D → Type 0) → (D → History) → (D → ℕ)
     → (P → Option (List Arrived)) → (P → Option (List Parcel)) → Turning D P → Turning D P
     → Handed → Result (Option declared.Event) TurnFault → Type 0
@@ -239,9 +239,9 @@ IsTurn is_kept history failures given offered old new handed (Err f) =
     ⊎ ((r : Ready) × IsMadeReady given old new handed (Some r)
     × IsTakenAs is_kept history failures offered old new r (Err f))
 
--- ---- by the calls of the port
+-- ---- by the port's calls
 
--- the same, with these calls in the place of the port
+-- these parts, with the calls in place of the port
 abbrev pub by_calls : {D P : Type 0} → Turning D P → TurnCalls → Turning D TurnCalls
 by_calls t calls = record {
   nodes = t.nodes;
@@ -251,8 +251,8 @@ by_calls t calls = record {
   port = calls;
 }
 
--- The port answered these sends, and nothing else was asked of it; and seen by them, whatever was
--- received before, that became of what was chosen.
+-- The port answered these sends, and no other calls. Seen by them, whatever was received before,
+-- this is the result of what was chosen.
 pub record IsTakenByCalls {D P : Type 0} (is_kept : D → Type 0) (history : D → History)
     (failures : D → ℕ) (does : P → Call → P → Type 0) (old new : Turning D P) (r : Ready)
     (result : Result declared.Event TurnFault) : Type 0 where
@@ -263,7 +263,7 @@ pub record IsTakenByCalls {D P : Type 0} (is_kept : D → Type 0) (history : D �
       (by_calls old (record { received = received; offered = [] }))
       (by_calls new (record { received = received; offered = offered })) r result
 
--- The port answered these calls, and nothing else was asked of it; and seen by them it is the turn.
+-- The port answered these calls, and no others. Seen by them, it is the turn.
 pub record IsTurnByCalls {D P : Type 0} (is_kept : D → Type 0) (history : D → History)
     (failures : D → ℕ) (does : P → Call → P → Type 0) (old new : Turning D P) (handed : Handed)
     (result : Result (Option declared.Event) TurnFault) : Type 0 where

@@ -73,7 +73,7 @@ returns-clause-refused g c =
     c.in_ok-chosen-2.field-0 c.in_ok-chosen-2.ensures.chosen c.in_default-2.is)
     c.own_in_turn.ensures.refused
 
--- ---- the same, by the calls of the port
+-- ---- the results by the port's calls
 
 pub returns-in_err-chosen-clause-calls_refused : goal.returns-in_err-chosen-clause-calls_refused
 returns-in_err-chosen-clause-calls_refused g c =

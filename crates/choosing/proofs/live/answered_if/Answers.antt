@@ -58,7 +58,7 @@ loop-node-preserved g c =
           c.in_ok-readied.field-0) c.made_for.ensures c.in_ok-readied.ensures.part),
     )
 
--- none of no nodes
+-- no nodes, so no answer
 pub returns-clause-chosen : goal.returns-clause-chosen
 returns-clause-chosen g c =
     let nodes = c.args.nodes.now.items in

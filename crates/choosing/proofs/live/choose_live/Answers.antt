@@ -80,7 +80,7 @@ returns-clause-refused g c =
     (made_of (map (option_map (λ b. b.now)) c.args.made.now)) c.args.wish f fault))
     c.left_to_do.ensures.refused
 
--- ---- the same, by the calls of the port
+-- ---- the results by the port's calls
 
 pub returns-in_err-chosen-clause-calls_refused : goal.returns-in_err-chosen-clause-calls_refused
 returns-in_err-chosen-clause-calls_refused g c =

@@ -71,7 +71,7 @@ returns-in_ok-event-in-Some-clause-turn g c =
     c.args.nodes.now.items c.choose_live.ensures.same made c.take.ensures.given
     c.in_ok-event-in-Some.event c.in_ok-event-in-Some.ensures.taken
 
--- ---- the same, by the calls of the port
+-- ---- the results by the port's calls
 
 pub returns-in_err-event-in-Some-clause-calls : goal.returns-in_err-event-in-Some-clause-calls
 returns-in_err-event-in-Some-clause-calls g c =
@@ -179,7 +179,7 @@ returns-in-None-clause-calls g c =
       );
     }
 
--- ---- below the position of each node all failed
+-- ---- below its position, all of each node's queued units failed
 
 pub take-requires-clause-below : goal.take-requires-clause-below
 take-requires-clause-below g c =

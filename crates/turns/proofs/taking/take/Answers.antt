@@ -32,7 +32,7 @@ index_mut-requires g c =
     let there = slice_get_within c.args.nodes.now.items c.args.chosen.node at.node at.stands in
     omega (arith, there, c.args.nodes.now.ok.0)
 
--- ---- what becomes of its step
+-- ---- the result of its step
 
 pub finish-requires : goal.finish-requires
 finish-requires g c =
@@ -106,7 +106,7 @@ returns-in-Err-finish-clause-taken g c =
     (c.cut_back.ensures ∙ c.in-Ok.ensures.count) (c.put_back.ensures ∙ c.in-Ok.ensures.before.0)
     c.in-Err-finish.ensures.silent
 
--- ---- the same, by the calls of the port
+-- ---- the results by the port's calls
 
 pub returns-in-Ok-finish-clause-calls : goal.returns-in-Ok-finish-clause-calls
 returns-in-Ok-finish-clause-calls g c =
@@ -196,7 +196,7 @@ returns-in-Err-clause-calls g c =
       };
     })
 
--- ---- below the position of each node all failed
+-- ---- below its position, all of each node's queued units failed
 
 pub returns-in-Ok-finish-clause-below : goal.returns-in-Ok-finish-clause-below
 returns-in-Ok-finish-clause-below g c =

@@ -42,7 +42,7 @@ promised g c =
     g.P.Port.offered (cluster_of c.self.inside) (cluster_then g c) (AllBuilds c.args.builds.now) refl refl
     i.count i.world i.is_world c.self.invariant.1 c.take_turn.result c.take_turn.ensures.turn)
 
--- and what stands then
+-- and what holds after it
 standing : (g : Over) (c : goal.After-take_turn g)
     → StandsThen g.D.Disk.is_kept g.D.Disk.history (cluster_of c.self.inside) (cluster_then g c)
 standing g c =

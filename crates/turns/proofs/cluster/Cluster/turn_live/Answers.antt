@@ -43,7 +43,7 @@ promised g c =
     g.P.Port.offered (cluster_of c.self.inside) (cluster_then g c) (SoFar (made_of (map (option_map (λ b. b.now)) c.args.made.now)) c.args.wish) refl refl
     i.count i.world i.is_world c.self.invariant.1 c.take_live_turn.result c.take_live_turn.ensures.turn)
 
--- and what stands then
+-- and what holds after it
 standing : (g : Over) (c : goal.After-take_live_turn g)
     → StandsThen g.D.Disk.is_kept g.D.Disk.history (cluster_of c.self.inside) (cluster_then g c)
 standing g c =
