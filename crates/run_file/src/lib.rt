@@ -8,8 +8,6 @@ mod found;
 mod judging;
 mod laws;
 mod start;
-#[cfg(test)]
-mod tests;
 mod text;
 
 pub use crate::difference::first_difference;
