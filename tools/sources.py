@@ -5,6 +5,8 @@ The gate proves the crates of crates.txt. Beside them stand the drivers of tests
 (tests/rows/), which it doesn't prove; each of these folders has a list `crates`, of the same form. Their files have names of their own,
 since the gate takes no file by one of the kit's names outside crates/.
 """
+import functools
+import hashlib
 import os
 import shutil
 
@@ -107,3 +109,25 @@ def is_current(program):
         return False
     built = os.path.getmtime(program_of(program))
     return all(os.path.getmtime(f"{folder_of(crate)}/{file}") <= built for crate in with_all_below([program]) for file in files_of(crate))
+
+
+def digest(files):
+    """A digest of files, by the names that they go by here and their bytes; the times at which they were written don't matter."""
+    whole = hashlib.sha256()
+    for name, path in sorted(files):
+        with open(path, "rb") as file:
+            whole.update(f"{name} {hashlib.sha256(file.read()).hexdigest()}\n".encode())
+    return whole.hexdigest()
+
+
+@functools.lru_cache(maxsize=None)
+def digest_of_crate(crate):
+    """A digest of the crate's code, definitions and proofs."""
+    files = [it for it in files_of(crate) if it.startswith(("src/", "specs/", "proofs/"))]
+    return digest((it, f"{folder_of(crate)}/{it}") for it in files)
+
+
+def digest_of_sources(crate):
+    """A digest of the crate's code, definitions and proofs, and of those of all crates that it stands on."""
+    lines = sorted(f"{it} {digest_of_crate(it)}\n" for it in with_all_below([crate]))
+    return hashlib.sha256("".join(lines).encode()).hexdigest()

@@ -1,13 +1,23 @@
-"""The manual pages, the width of lines, how much a reader has to believe, the one order of crates wherever some of them stand in a
-row, and what documents count and name."""
+"""The manual pages, the width of lines, how much a reader has to believe, how much the gate has to do, the one order of crates wherever
+some of them stand in a row, and what documents count and name."""
 import glob
 import os
 import re
 import shutil
 import subprocess
+import sys
 
 from topics.tally import TESTS, TOP, contents
 
+sys.path.insert(0, f"{TOP}/tools")
+
+import tried
+
+# How much the gate may have to do: the most crates of crates.txt, the most ways through it, and the most wrong bodies that it tries.
+# A way leads from a crate down to one that it stands on, from name to name in the lines of crates.txt; each crate is one to itself.
+MOST_CRATES = 70
+MOST_WAYS = 500_000
+MOST_WRONG_BODIES = 130
 WIDEST = 100
 # the most columns of a line of a document
 WIDEST_TEXT = 140
@@ -20,7 +30,7 @@ FRONT_PAGE = 120
 def manual(tally):
     """The manual pages, where the machine has mandoc."""
     if not shutil.which("mandoc"):
-        print("tests/run: no mandoc here: the manual pages are not looked at", flush=True)
+        tally.skip("the manual pages", "there is no mandoc here")
         return
     for page in sorted(os.listdir(f"{TOP}/man")):
         done = subprocess.run(["mandoc", "-Tlint", f"{TOP}/man/{page}"], capture_output=True, text=True)
@@ -202,6 +212,28 @@ def one_order(tally):
     tally.add("docs/DEFINITIONS.md, its order", out_of_order(headings("DEFINITIONS.md", r"^## .*?\(`crates/(\w+)/"), order))
 
 
+def cost_of_the_gate(tally):
+    """The crates, the ways through crates.txt and the wrong bodies of the gate are no more than they may be."""
+    named, ways = crates(), {}
+    for crate in named:
+        ways[crate] = 1 + sum(ways[it] for it in named[crate])
+    edits = len(glob.glob(f"{TOP}/crates/*/must-fail/*.edit"))
+    print(f"tests/run: {len(named)} crates, {sum(ways.values()):,} ways through crates.txt, {edits} wrong bodies in the gate", flush=True)
+    for name, count, most in (("its crates", len(named), MOST_CRATES), ("the ways through it", sum(ways.values()), MOST_WAYS - 1)):
+        tally.add(f"crates.txt, {name}", f"{count:,}, and at most {most:,} are wanted" if count > most else "")
+    tally.add("crates/*/must-fail", f"{edits} wrong bodies, and at most {MOST_WRONG_BODIES} are wanted" if edits > MOST_WRONG_BODIES else "")
+
+
+def tried_wrong_bodies(tally):
+    """Tells the crates whose edits in tests/wrong-bodies were not tried as they and the sources stand. That is no failure: a change of a
+    crate makes it so for all above. Each line of what was tried is of a crate that has edits."""
+    strangers = sorted(set(tried.read()) - set(tried.crates()))
+    tally.add("tests/wrong-bodies/tried", f"{strangers} have no edits there" if strangers else "")
+    untried, all_crates = tried.untried(), tried.crates()
+    told = f": {', '.join(untried)} (`tests/try-wrong-bodies --untried`)" if untried else ""
+    print(f"tests/run: the wrong bodies of {len(untried)} of {len(all_crates)} crates were not tried as they stand{told}", flush=True)
+
+
 def below(crate, named):
     """The crate, and all that it stands on."""
     found, left = set(), [crate]
@@ -280,6 +312,8 @@ def run(tally):
     to_believe(tally)
     wrong_bodies(tally)
     one_order(tally)
+    cost_of_the_gate(tally)
+    tried_wrong_bodies(tally)
     rows_of_crates(tally)
     files_of_crates(tally)
     promises(tally)
