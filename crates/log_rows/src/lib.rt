@@ -1,14 +1,9 @@
-//! The log of notes: sequences of its calls, and runs over disks that fail or crash.
+//! Checks that contracts compose: calls of the log of notes, one after the other, proved from
+//! nothing but what the contracts of these calls say.
 #![tactic(auto)]
 
 mod chained;
-#[cfg(test)]
-mod failing;
-#[cfg(test)]
-mod logs;
 mod real_file;
-#[cfg(test)]
-mod rows;
 
 pub use chained::append_two;
 pub use real_file::{append_to_file, write_or_look};

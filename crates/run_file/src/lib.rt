@@ -9,8 +9,6 @@ mod found;
 mod judging;
 mod laws;
 mod start;
-#[cfg(test)]
-mod tests;
 mod text;
 
 pub use crate::difference::first_difference;

@@ -5,8 +5,6 @@
 mod key;
 mod laws;
 mod seal;
-#[cfg(test)]
-mod tests;
 
 pub use crate::key::{fingerprint, key_of_text, text_of_key};
 pub use crate::laws::{runs_are_told_apart, texts_are_told_apart};

@@ -1,10 +1,7 @@
-//! Sequences of one node's turns, derived from the contracts alone; and tests of the only node of a
-//! cluster.
+//! Sequences of one node's turns, derived from the contracts alone.
 #![tactic(auto)]
 
 mod handing;
-#[cfg(test)]
-mod rows;
 mod two;
 
 pub use crate::handing::hand_on;
