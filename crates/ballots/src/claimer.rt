@@ -20,8 +20,7 @@ ghost use Rattle.ballots.specs.Support.{IsMember};
 
 use crate::value::copy_of_vote;
 use crate::{Tally, Value, Weights};
-use agreement::keep;
-use claims::Claim;
+use claims::{Claim, keep};
 use faults::Memory;
 use package_record::Build;
 

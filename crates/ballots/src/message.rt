@@ -5,8 +5,7 @@ use crate::Value;
 use crate::value::copy_of_vote;
 use claims::Claim;
 use faults::Memory;
-use package_record::Build;
-use pkgpath::PkgPath;
+use package_record::{Build, PkgPath};
 
 /// The contents of a message about its unit.
 #[derive(Drop)]

@@ -1,6 +1,6 @@
 //! The members that promised or voted so far.
 ghost use Rattle.std.specs.Prelude.{◌≡◌, IfOk};
-ghost use Rattle.agreement.specs.Quorums.{is_majority};
+ghost use Rattle.claims.specs.Quorums.{is_majority};
 ghost use Rattle.ballots.specs.Support.{IsMember, joined_by, of_nobody, set_of};
 
 use crate::Weights;
@@ -88,6 +88,6 @@ impl Tally {
     pub fn is_majority(&self) -> bool
         ensures { result ≡ is_majority self.now.weights (set_of self.now) }
     {
-        agreement::is_majority(self.weights.as_slice(), self.joined.as_slice())
+        claims::is_majority(self.weights.as_slice(), self.joined.as_slice())
     }
 }

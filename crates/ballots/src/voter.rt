@@ -1,15 +1,14 @@
 //! The voter of one unit: what it promised, and what it last voted for.
 ghost use Rattle.std.specs.Prelude.{◌≡◌, IfOk, Some};
-ghost use Rattle.agreement.specs.Member.{greater};
-ghost use Rattle.agreement.specs.Step.{on_offer, on_propose};
-ghost use Rattle.agreement.specs.Votes.{ballot, is_voted, report_of};
+ghost use Rattle.claims.specs.Member.{greater};
+ghost use Rattle.claims.specs.Step.{on_offer, on_propose};
+ghost use Rattle.claims.specs.Votes.{ballot, is_voted, report_of};
 ghost use Rattle.ballots.specs.InTheAgreement.{IsStepOf, promised_then, voted_then};
 ghost use Rattle.ballots.specs.inside.Steps.{refusal_of};
 
 use crate::value::copy_of_vote;
 use crate::{Body, Fact, Value};
-use agreement::{is_above, is_below, is_promised};
-use claims::Claim;
+use claims::{Claim, is_above, is_below, is_promised};
 use faults::Memory;
 use package_record::Build;
 use std::marker::Model;

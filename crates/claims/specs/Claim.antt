@@ -1,5 +1,5 @@
 -- The limits of claims, their order, and which claims a member can have made.
-use Rattle.agreement.specs.declared.claim.Claim.{Claim}
+use Rattle.claims.specs.declared.claim.Claim.{Claim}
 use Rattle.claims.specs.declared.TheConstants.{GREATEST_ROUND, MEMBERS}
 use Rattle.std.specs.Prelude.{◌<◌, ◌≤◌, ℕ, Option}
 use Rattle.std.specs.Option.{option_cmp}

@@ -1,7 +1,7 @@
 -- Jobs: what is to be built.
 use Rattle.std.specs.Prelude.{ℕ, List}
 use Rattle.faults.specs.Bytes.{Text}
-use Rattle.agreement.specs.declared.claim.Claim.{Claim}
+use Rattle.claims.specs.declared.claim.Claim.{Claim}
 use Rattle.claims.specs.declared.deps.Dep.{Dep}
 
 -- the name of the unit, the paths of its packages, the claim under which they are built, the host

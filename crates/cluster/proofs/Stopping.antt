@@ -3,12 +3,12 @@ use Rattle.std.proofs.Common.{◌≡◌, ℕ, List, Option, arith, inl, inr, ref
 use Rattle.std.specs.Io.KnownBytes.{Keeps}
 use Rattle.clap.specs.Words.{HasKind, IsAmong, Kinds, Text as Word, kind_of}
 use Rattle.clap.specs.declared.error.Error.{Error}
-use Rattle.program.specs.Stops.{StopsBy, status_after}
+use Rattle.program_io.specs.Stops.{StopsBy, status_after}
 use Rattle.cluster.specs.Stopped.{CannotCarryOut, HasStopped}
-use Rattle.program.specs.declared.stop.Stop.{Stop}
-use Rattle.program.specs.declared.stop.Stop.TheVariants.{Refused, Unwritten, WrongWords}
-use Rattle.dpbn_words.specs.Calls.{AreTaken, IsCallOf, faults_of, matched}
-use Rattle.dpbn_words.specs.declared.Call.{Call}
+use Rattle.program_io.specs.declared.stop.Stop.{Stop}
+use Rattle.program_io.specs.declared.stop.Stop.TheVariants.{Refused, Unwritten, WrongWords}
+use Rattle.dpbn_cli.specs.Calls.{AreTaken, IsCallOf, faults_of, matched}
+use Rattle.dpbn_cli.specs.declared.Call.{Call}
 
 module _ (words : List Word) (before after : Option (List ℕ)) where
   -- clap refused the arguments

@@ -4,11 +4,11 @@ use Rattle.std.specs.Io.KnownBytes.{Appends}
 use Rattle.clap.specs.Words.{Text as Word}
 use Rattle.dpbn_build.specs.Build.{IsBuildText, IsNodeText}
 use Rattle.dpbn_cluster.specs.Cluster.{IsClusterText}
-use Rattle.dpbn_words.specs.Calls.{AreTaken, IsCallOf, matched}
-use Rattle.dpbn_words.specs.declared.Call.{Call}
-use Rattle.dpbn_words.specs.declared.Call.TheVariants.{Build, Cluster, Key, Node}
+use Rattle.dpbn_cli.specs.Calls.{AreTaken, IsCallOf, matched}
+use Rattle.dpbn_cli.specs.declared.Call.{Call}
+use Rattle.dpbn_cli.specs.declared.Call.TheVariants.{Build, Cluster, Key, Node}
 use Rattle.faults.specs.Bytes.{Text}
-use Rattle.program.specs.Printing.{AppendsBeginning}
+use Rattle.program_io.specs.Printing.{AppendsBeginning}
 
 -- What a call prints, and its status. The status is 0, except that of a build, which says whether
 -- all is held that can be.

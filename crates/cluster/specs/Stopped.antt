@@ -5,14 +5,14 @@ use Rattle.clap.specs.Words.{IsAmong, Text as Word, kind_of}
 use Rattle.cluster.specs.Printed.{HasBegun}
 use Rattle.dpbn_build.specs.Build.{AreGood, RefusesBuild, RefusesNode}
 use Rattle.dpbn_cluster.specs.Cluster.{RefusesCluster}
-use Rattle.dpbn_words.specs.Calls.{AreTaken, IsCallOf, faults_of, matched}
-use Rattle.dpbn_words.specs.declared.Call.{Call}
-use Rattle.dpbn_words.specs.declared.Call.TheVariants.{Build, Cluster, Key, Node}
-use Rattle.program.specs.Refusals.{IsSystemRefusal, device_refusal, memory_refusal}
-use Rattle.program.specs.Stops.{status_after}
-use Rattle.program.specs.declared.refusal.Refusal.{Refusal}
-use Rattle.program.specs.declared.stop.Stop.{Stop}
-use Rattle.program.specs.declared.stop.Stop.TheVariants.{Refused, Unwritten, WrongWords}
+use Rattle.dpbn_cli.specs.Calls.{AreTaken, IsCallOf, faults_of, matched}
+use Rattle.dpbn_cli.specs.declared.Call.{Call}
+use Rattle.dpbn_cli.specs.declared.Call.TheVariants.{Build, Cluster, Key, Node}
+use Rattle.program_io.specs.Refusals.{IsSystemRefusal, device_refusal, memory_refusal}
+use Rattle.program_io.specs.Stops.{status_after}
+use Rattle.program_io.specs.declared.refusal.Refusal.{Refusal}
+use Rattle.program_io.specs.declared.stop.Stop.{Stop}
+use Rattle.program_io.specs.declared.stop.Stop.TheVariants.{Refused, Unwritten, WrongWords}
 
 -- upper bounds of a call's values
 abbrev pub IsGood : Call → Type 0

@@ -9,14 +9,14 @@ ghost use Rattle.cluster.specs.Stopped.{
   IsGood,
   RefusesCall,
 };
-ghost use Rattle.dpbn_words.specs.Calls.{AreTaken};
-ghost use Rattle.program.specs.Refusals.{IsSystemRefusal};
+ghost use Rattle.dpbn_cli.specs.Calls.{AreTaken};
+ghost use Rattle.program_io.specs.Refusals.{IsSystemRefusal};
 
 use dpbn_build::{build_of_words, node_of_words};
+use dpbn_cli::{Call, dpbn_words};
 use dpbn_cluster::cluster_of_words;
 use dpbn_key::make_key;
-use dpbn_words::{Call, dpbn_words};
-use program::{Answer, Refusal, Stop, print};
+use program_io::{Answer, Refusal, Stop, print};
 use std::io::Write;
 
 /// Carries out the call that the arguments make, and returns the exit status:

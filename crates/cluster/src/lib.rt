@@ -4,4 +4,6 @@
 mod calls;
 
 pub use crate::calls::dpbn_main;
-pub use dpbn_words::{Call, dpbn_words};
+pub use dpbn_build::{MemPort, Port, Solo, UdpPort};
+pub use dpbn_cli::{Call, dpbn_words};
+pub use dpbn_cluster::Cluster;

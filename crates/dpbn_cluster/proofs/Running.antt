@@ -2,17 +2,17 @@
 use Rattle.std.proofs.Common.{◌≡◌, ◌∙◌, ◌++◌, ◌+◌, ℕ, List, [], ◌∷◌, Option, None, Some, Result, Ok, Err, IfErr, IfOk, append-nil, append_assoc, ap, length, map, refl, subst, sym}
 use Rattle.std.proofs.lemmas.List.{length_push}
 use Rattle.std.specs.Prelude.{IfNone, IfSome}
-use Rattle.choice.specs.declared.fault.TurnFault.TheVariants as refused
+use Rattle.turn_rules.specs.declared.fault.TurnFault.TheVariants as refused
 use Rattle.dpbn_cluster.specs.Running.{Answer, AreEventsOf, GoesOnIn, HasRun, IsTurn, TurnsLead}
-use Rattle.events.specs.Events.{Event, StopIn, event_view}
-use Rattle.events.specs.declared.event.Event as declared
-use Rattle.events.specs.declared.event.Left.TheVariants as left
-use Rattle.ports.specs.Calls.{Call}
-use Rattle.ports.specs.Kept.{Arrived}
+use Rattle.protocol.specs.Events.{Event, StopIn, event_view}
+use Rattle.protocol.specs.declared.event.Event as declared
+use Rattle.protocol.specs.declared.event.Left.TheVariants as left
+use Rattle.datagram_ports.specs.Calls.{Call}
+use Rattle.datagram_ports.specs.Kept.{Arrived}
 use Rattle.protocol.specs.Given.{Given}
-use Rattle.turns.specs.Faults.{IsLeftBy, IsTurnFault}
-use Rattle.turns.specs.State.{ClusterState, taken}
-use Rattle.turns.specs.Turn.{IsSame}
+use Rattle.cluster_turns.specs.Faults.{IsLeftBy, IsTurnFault}
+use Rattle.cluster_turns.specs.State.{ClusterState, taken}
+use Rattle.cluster_turns.specs.Turn.{IsSame}
 
 module _ {D P : Type 0} (given : P → Option (List Arrived)) (does : P → Call → P → Type 0) (builds : Given) where
   -- one more turn

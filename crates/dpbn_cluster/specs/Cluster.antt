@@ -1,17 +1,17 @@
 -- What `dpbn cluster` prints, and what it reports if it can't run.
 use Rattle.std.specs.Prelude.{◌≡◌, ◌⊎◌, ℕ, List, Some, flat_map, length, option_map, slice_get}
-use Rattle.choice.specs.Refusals.{number_of, place_of}
-use Rattle.choice.specs.declared.fault.TurnFault.{TurnFault}
+use Rattle.turn_rules.specs.Refusals.{number_of, place_of}
+use Rattle.turn_rules.specs.declared.fault.TurnFault.{TurnFault}
 use Rattle.dpbn_cluster.specs.Running.{AreEventsOfTurns}
 use Rattle.dpbn_node.specs.Given.{AreTold}
 use Rattle.dpbn_node.specs.Node.{RefusesGiven, socket_refusal}
-use Rattle.dpbn_words.specs.declared.Files.{Files}
+use Rattle.dpbn_cli.specs.declared.Files.{Files}
 use Rattle.dpbr_run.specs.Run.{IsNodeLine}
-use Rattle.events.specs.Events.{Event}
+use Rattle.protocol.specs.Events.{Event}
 use Rattle.faults.specs.Bytes.{Text}
-use Rattle.program.specs.Listings.{IsDescribed, RefusesListingFile}
-use Rattle.program.specs.Refusals.{IsSystemRefusal}
-use Rattle.program.specs.declared.refusal.Refusal.{Refusal}
+use Rattle.program_io.specs.Listings.{IsDescribed, RefusesListingFile}
+use Rattle.program_io.specs.Refusals.{IsSystemRefusal}
+use Rattle.program_io.specs.declared.refusal.Refusal.{Refusal}
 use Rattle.engine.specs.Division.{Division}
 use Rattle.world.specs.Happening.{Leads}
 use Rattle.world.specs.World.{IsMade, World, start}

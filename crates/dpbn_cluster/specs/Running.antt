@@ -1,17 +1,17 @@
 -- The turns of a run.
 use Rattle.std.specs.Prelude.{◌≡◌, ◌++◌, ℕ, List, [], ◌∷◌, Option, None, Some, Result, Ok, Err, IfErr, IfNone, IfOk, IfSome, length}
-use Rattle.choice.specs.declared.fault.TurnFault.{TurnFault}
-use Rattle.choice.specs.declared.fault.TurnFault.TheVariants as refused
-use Rattle.events.specs.Events.{Event, StopIn, event_view, node_of}
-use Rattle.events.specs.declared.event.Event as declared
-use Rattle.events.specs.declared.event.Left.TheVariants as left
-use Rattle.ports.specs.Calls.{Call}
-use Rattle.ports.specs.Kept.{Arrived}
+use Rattle.turn_rules.specs.declared.fault.TurnFault.{TurnFault}
+use Rattle.turn_rules.specs.declared.fault.TurnFault.TheVariants as refused
+use Rattle.protocol.specs.Events.{Event, StopIn, event_view, node_of}
+use Rattle.protocol.specs.declared.event.Event as declared
+use Rattle.protocol.specs.declared.event.Left.TheVariants as left
+use Rattle.datagram_ports.specs.Calls.{Call}
+use Rattle.datagram_ports.specs.Kept.{Arrived}
 use Rattle.protocol.specs.Given.{Given}
-use Rattle.turns.specs.Calls.{HasCalled}
-use Rattle.turns.specs.Faults.{IsLeftBy, IsTurnFault}
-use Rattle.turns.specs.State.{ClusterState, taken}
-use Rattle.turns.specs.Turn.{HasHappened, IsSame, KeepsWith, OthersStay}
+use Rattle.cluster_turns.specs.Calls.{HasCalled}
+use Rattle.cluster_turns.specs.Faults.{IsLeftBy, IsTurnFault}
+use Rattle.cluster_turns.specs.State.{ClusterState, taken}
+use Rattle.cluster_turns.specs.Turn.{HasHappened, IsSame, KeepsWith, OthersStay}
 
 -- what a turn returns
 abbrev pub Answer : Type 0

@@ -9,32 +9,31 @@ ghost use Rattle.dpbn_cluster.specs.Cluster.{
 };
 ghost use Rattle.dpbn_cluster.specs.Running.{AreEventsOfTurns, HasRunTo};
 ghost use Rattle.dpbn_node.specs.Node.{socket_refusal};
-ghost use Rattle.events.specs.Events.{event_view};
+ghost use Rattle.protocol.specs.Events.{event_view};
 ghost use Rattle.faults.specs.Bytes.{line_feed};
-ghost use Rattle.program.specs.Refusals.{IsSystemRefusal, memory_refusal};
+ghost use Rattle.program_io.specs.Refusals.{IsSystemRefusal, memory_refusal};
 ghost use Rattle.traces.specs.Written.{trace_text};
-ghost use Rattle.turns.specs.State.{IsWorldOf};
+ghost use Rattle.cluster_turns.specs.State.{IsWorldOf};
 ghost use Rattle.engine.specs.Division.{Division};
 ghost use Rattle.world.specs.World.{World, start};
 
 use crate::turning::{lines_of, run};
 use ballots::Weights;
-use choice::TurnFault;
+use cluster_turns::Cluster;
+use datagram_ports::Port;
+use dpbn_cli::Files;
 use dpbn_node::{Given, given_of_words, log_of_file};
-use dpbn_words::Files;
-use events::Event;
 use faults::Memory;
 use listing::Tree;
-use ports::Port;
-use program::{Answer, Refusal, tree_of_file};
-use protocol::Packages;
+use program_io::{Answer, Refusal, tree_of_file};
+use protocol::{Event, Packages};
 use run_file::read_run;
 use stable_record::{Disk, FileDisk};
 use std::alloc::{AllocError, Global};
 use std::fs;
 use std::io::Write;
 use traces::{Trace, write_trace};
-use turns::Cluster;
+use turn_rules::TurnFault;
 use udp::UdpPort;
 
 /// Runs all members' nodes for the given number of turns, and returns the line of each. Why a turn

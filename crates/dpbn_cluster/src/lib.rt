@@ -5,3 +5,4 @@ mod answering;
 mod turning;
 
 pub use crate::answering::cluster_of_words;
+pub use cluster_turns::Cluster;

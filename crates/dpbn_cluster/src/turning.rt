@@ -4,18 +4,17 @@ ghost use Rattle.dpbn_cluster.specs.Running.{Answer, HasRun, IsTurn};
 ghost use Rattle.dpbr_run.specs.shared.NodeLines.{HasNodeLines};
 ghost use Rattle.dpbr_run.specs.Run.{IsNodeLine};
 ghost use Rattle.std.specs.Prelude.{string_bytes};
-ghost use Rattle.turns.specs.State.{IsWorldOf};
+ghost use Rattle.cluster_turns.specs.State.{IsWorldOf};
 ghost use Rattle.world.specs.World.{World};
 
-use choice::TurnFault;
-use events::Event;
-use ports::Port;
-use program::{Refusal, node_text};
-use protocol::Packages;
+use cluster_turns::Cluster;
+use datagram_ports::Port;
+use program_io::{Refusal, node_text};
+use protocol::{Event, Packages};
 use stable_record::Disk;
 use std::alloc::{AllocError, Global};
 use std::io::Write;
-use turns::Cluster;
+use turn_rules::TurnFault;
 
 /// Takes the given number of turns. Why a turn is refused is printed on `err`, and so are the
 /// nodes' lines after each `progress` turns, if that is set.

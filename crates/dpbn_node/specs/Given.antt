@@ -2,8 +2,8 @@
 use Rattle.std.specs.Prelude.{◌≡◌, ◌⊎◌, ℕ, List, ◌∷◌, Option, None, Some, flat_map, length, replicate}
 use Rattle.std.specs.Fmt.{decimal}
 use Rattle.faults.specs.Bytes.{Text}
-use Rattle.program.specs.Refusals.{memory_refusal}
-use Rattle.program.specs.declared.refusal.Refusal.{Refusal}
+use Rattle.program_io.specs.Refusals.{memory_refusal}
+use Rattle.program_io.specs.declared.refusal.Refusal.{Refusal}
 
 -- each weight in decimal, after a comma
 abbrev pub with_commas : List ℕ → Text

@@ -4,20 +4,20 @@ use Rattle.std.specs.declared.rt.LibcRuntime.{LibcRuntime}
 use Rattle.dpbn_node.specs.Given.{RefusesWeights}
 use Rattle.dpbn_node.specs.Runs.{HasFlushed, IsOfNode, IsOfNodeOn, IsRunOf, RefusesPlace, RefusesStart, RunOf, Running, letters_of, port_vouches}
 pub use Rattle.dpbn_node.specs.Runs.{AreGood, socket_refusal}
-use Rattle.dpbn_words.specs.declared.Files.{Files}
-use Rattle.dpbn_words.specs.declared.Peers.{Peers}
-use Rattle.dpbn_words.specs.declared.Run.{Run}
+use Rattle.dpbn_cli.specs.declared.Files.{Files}
+use Rattle.dpbn_cli.specs.declared.Peers.{Peers}
+use Rattle.dpbn_cli.specs.declared.Run.{Run}
 use Rattle.faults.specs.Bytes.{Text}
 use Rattle.listing.specs.Tree.{Tree}
-use Rattle.program.specs.Listings.{RefusesListingFile}
-use Rattle.program.specs.NodeLine.{IsLineOf}
-use Rattle.program.specs.declared.refusal.Refusal.{Refusal}
+use Rattle.program_io.specs.Listings.{RefusesListingFile}
+use Rattle.program_io.specs.NodeLine.{IsLineOf}
+use Rattle.program_io.specs.declared.refusal.Refusal.{Refusal}
 use Rattle.protocol.specs.Given.{Given}
-use Rattle.solo.specs.Handed.{AllBuilds}
-use Rattle.solo.specs.Turns.{HaveTurned}
+use Rattle.lone_node.specs.Handed.{AllBuilds}
+use Rattle.lone_node.specs.Turns.{HaveTurned}
 use Rattle.stable_record.specs.RealFile.{file_agrees, file_history}
 use Rattle.stable_record.specs.declared.file_disk.FileDisk.{FileDisk}
-use Rattle.trace_files.specs.Builds.{AreBuilds, RefusesBuildsFile}
+use Rattle.input_files.specs.Builds.{AreBuilds, RefusesBuildsFile}
 use Rattle.udp.specs.Calls.{DoesOverUdp}
 use Rattle.udp.specs.declared.udp_port.UdpPort.{UdpPort}
 

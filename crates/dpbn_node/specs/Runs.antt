@@ -2,15 +2,15 @@
 use Rattle.std.specs.Prelude.{◌≡◌, ◌≢◌, ◌≤◌, ◌⊎◌, ◌++◌, ⊤, ℕ, Bool, true, false, List, [], Option, None, Some, Ok, if◌then◌else◌, length, option_map, string_bytes}
 use Rattle.std.specs.declared.net.socket_addr.SocketAddr.{SocketAddr}
 use Rattle.std.specs.declared.rt.LibcRuntime.{LibcRuntime}
-use Rattle.choice.specs.Pending.{nothing_kept}
+use Rattle.lone_node.specs.Pending.{nothing_kept}
 use Rattle.dpbn_node.specs.Given.{AreTold}
 use Rattle.dpbn_node.specs.declared.starting.Begun.{Begun}
 use Rattle.dpbn_node.specs.declared.starting.Place.{Place}
-use Rattle.dpbn_run.specs.Keys.{IsKeyOf, RefusesKeyFile, seal_of, shown_of}
-use Rattle.dpbn_run.specs.Starts.{IsStartRefusal, owner}
-use Rattle.dpbn_words.specs.declared.Peers.{Peers}
-use Rattle.dpbn_words.specs.declared.Peers.TheVariants.{Base, Hosts}
-use Rattle.dpbn_words.specs.declared.Run.{Run}
+use Rattle.dpbn_node.specs.Keys.{IsKeyOf, RefusesKeyFile, seal_of, shown_of}
+use Rattle.dpbn_node.specs.Starts.{IsStartRefusal, owner}
+use Rattle.dpbn_cli.specs.declared.Peers.{Peers}
+use Rattle.dpbn_cli.specs.declared.Peers.TheVariants.{Base, Hosts}
+use Rattle.dpbn_cli.specs.declared.Run.{Run}
 use Rattle.engine.specs.State.{State}
 use Rattle.faults.specs.Bytes.{Text, comma}
 use Rattle.faults.specs.Pieces.{pieces_at}
@@ -20,14 +20,14 @@ use Rattle.node.specs.OnLog.{IsOnLog, identity_of, texts_of}
 use Rattle.node.specs.Refusals.{number_of}
 use Rattle.node.specs.State.{LoggedNode, NodeState}
 use Rattle.node.specs.declared.fault.NodeFault.{NodeFault}
-use Rattle.program.specs.Listings.{IsDescribed}
-use Rattle.program.specs.Refusals.{IsSystemRefusal, memory_refusal}
-use Rattle.program.specs.declared.refusal.Refusal.{Refusal}
+use Rattle.program_io.specs.Listings.{IsDescribed}
+use Rattle.program_io.specs.Refusals.{IsSystemRefusal, memory_refusal}
+use Rattle.program_io.specs.declared.refusal.Refusal.{Refusal}
 use Rattle.protocol.specs.State.{engine_of}
 use Rattle.run_file.specs.Starts.{IsStarted}
-pub use Rattle.solo.specs.Handed.{SoFar}
-pub use Rattle.solo.specs.State.{SoloState}
-pub use Rattle.solo.specs.Turns.{IsTurn, Outcome}
+pub use Rattle.lone_node.specs.Handed.{SoFar}
+pub use Rattle.lone_node.specs.State.{SoloState}
+pub use Rattle.lone_node.specs.Turns.{IsTurn, Outcome}
 use Rattle.stable_record.specs.Crash.{AllAlong}
 use Rattle.stable_record.specs.History.{seen}
 use Rattle.stable_record.specs.Opening.{Opens, OpensAsLeft}

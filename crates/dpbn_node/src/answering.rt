@@ -2,19 +2,19 @@
 ghost use Rattle.std.specs.Prelude.{◌≡◌, ◌<◌, ◌≤◌, IfErr, IfOk, length, string_bytes};
 ghost use Rattle.dpbn_node.specs.Node.{IsLineAfter, IsNodeText, IsShown, IsShownOn, RefusesNode};
 ghost use Rattle.dpbn_node.specs.Runs.{AreGood, RefusesOnLog, RefusesStart, letters_of, run_at};
-ghost use Rattle.program.specs.NodeLine.{IsLineOf};
+ghost use Rattle.program_io.specs.NodeLine.{IsLineOf};
 
 use crate::given::{Given, given_of_words};
 use crate::starting::{Begun, Place, begin, open, place_of_words};
 use crate::turning::run;
-use dpbn_run::{Telling, write_unwritten};
-use dpbn_words::{Files, Peers, Run};
+use crate::{Telling, write_unwritten};
+use datagram_ports::Port;
+use dpbn_cli::{Files, Peers, Run};
 use listing::Tree;
-use ports::Port;
-use program::{Answer, Refusal, node_text, tree_of_file};
+use lone_node::Solo;
+use program_io::{Answer, Refusal, node_text, tree_of_file};
 use protocol::Packages;
 use run_file::Start;
-use solo::Solo;
 use stable_record::{Disk, FileDisk};
 use std::alloc::{AllocError, Global};
 use std::io::Write;

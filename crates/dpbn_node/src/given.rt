@@ -2,17 +2,17 @@
 ghost use Rattle.std.specs.Prelude.{◌≡◌, ◌∷◌, ◌≤◌, IfErr, IfOk, Some, option_map, string_bytes, true};
 ghost use Rattle.dpbn_node.specs.Node.{RefusesGiven};
 ghost use Rattle.dpbn_node.specs.Given.{AreTold, RefusesWeights, weights_refusal, with_commas};
-ghost use Rattle.program.specs.Refusals.{IsSystemRefusal};
-ghost use Rattle.trace_files.specs.Builds.{AreBuilds};
+ghost use Rattle.program_io.specs.Refusals.{IsSystemRefusal};
+ghost use Rattle.input_files.specs.Builds.{AreBuilds};
 
 use arrayvec::ArrayVec;
 use ballots::Weights;
-use dpbn_words::Files;
-use program::Refusal;
+use dpbn_cli::Files;
+use input_files::builds_of_file;
+use program_io::Refusal;
 use protocol::Packages;
 use stable_record::FileDisk;
 use std::alloc::{AllocError, Global};
-use trace_files::builds_of_file;
 
 /// The builds that nodes use, and the members' weights.
 #[derive(Drop)]

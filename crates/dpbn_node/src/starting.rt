@@ -14,16 +14,16 @@ ghost use Rattle.dpbn_node.specs.Runs.{
   run_at,
   socket_refusal,
 };
-ghost use Rattle.dpbn_run.specs.Keys.{IsKeyOf};
-ghost use Rattle.program.specs.Refusals.{memory_refusal};
+ghost use Rattle.dpbn_node.specs.Keys.{IsKeyOf};
+ghost use Rattle.program_io.specs.Refusals.{memory_refusal};
 ghost use Rattle.udp.specs.Ways.{IsSeatOf};
 
+use crate::{Sealing, identity_of, key_of_words, start_of};
 use ballots::Weights;
-use dpbn_run::{Sealing, identity_of, key_of_words, start_of};
-use dpbn_words::{Peers, Run};
+use dpbn_cli::{Peers, Run};
 use listing::Tree;
 use node::Node;
-use program::Refusal;
+use program_io::Refusal;
 use run_file::Start;
 use stable_record::FileDisk;
 use std::alloc::Global;

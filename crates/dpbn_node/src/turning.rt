@@ -1,14 +1,14 @@
 //! The turns of a node.
 ghost use Rattle.std.specs.Prelude.{◌≡◌};
 ghost use Rattle.dpbn_node.specs.Node.{HasRun};
-ghost use Rattle.solo.specs.Handed.{AllBuilds};
-ghost use Rattle.solo.specs.Turns.{HaveTurned, IsTurn, Outcome};
+ghost use Rattle.lone_node.specs.Handed.{AllBuilds};
+ghost use Rattle.lone_node.specs.Turns.{HaveTurned, IsTurn, Outcome};
 
-use dpbn_run::Telling;
-use ports::Port;
-use program::Refusal;
+use crate::Telling;
+use datagram_ports::Port;
+use lone_node::Solo;
+use program_io::Refusal;
 use protocol::Packages;
-use solo::Solo;
 use stable_record::{Disk, FileDisk};
 use std::alloc::Global;
 use std::io::Write;

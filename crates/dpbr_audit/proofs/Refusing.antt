@@ -3,11 +3,11 @@ use Rattle.std.proofs.Common.{◌≡◌, ◌⊎◌, inl, inr, ap, refl}
 use Rattle.faults.specs.Bytes.{Text}
 use Rattle.listing.specs.Tree.{Tree}
 use Rattle.dpbr_audit.specs.Audit.{RefusesList}
-use Rattle.lists.specs.List.{IsFirstBadLine}
-use Rattle.lists.specs.ListRefusals.{list_refusal}
-use Rattle.lists.specs.declared.list.ListFault.{ListFault}
-use Rattle.lists.specs.declared.list.ListFault.TheVariants.{Memory}
-use Rattle.program.specs.Refusals.{memory_refusal}
+use Rattle.package_lists.specs.List.{IsFirstBadLine}
+use Rattle.package_lists.specs.ListRefusals.{list_refusal}
+use Rattle.package_lists.specs.declared.list.ListFault.{ListFault}
+use Rattle.package_lists.specs.declared.list.ListFault.TheVariants.{Memory}
+use Rattle.program_io.specs.Refusals.{memory_refusal}
 
 -- out of memory, or the first bad line
 pub list_told : (list : Text) (tree : Tree) (e : ListFault) → (e ≡ Memory) ⊎ IsFirstBadLine list e

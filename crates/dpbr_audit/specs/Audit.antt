@@ -10,12 +10,12 @@ use Rattle.auditing.specs.declared.verdict.Verdict.TheVariants.{Yes, No}
 use Rattle.faults.specs.Bytes.{Text, line_feed}
 use Rattle.listing.specs.Listing.{Rules, tree_of}
 use Rattle.listing.specs.Tree.{Tree}
-use Rattle.lists.specs.List.{AreEntries, IsFirstBadLine}
-use Rattle.lists.specs.ListRefusals.{list_refusal}
-use Rattle.lists.specs.declared.list.ListFault.{ListFault}
-use Rattle.program.specs.Files.{RefusesBoth, RefusesTexts}
-use Rattle.program.specs.Listings.{IsDescribedAt}
-use Rattle.program.specs.declared.refusal.Refusal.{Refusal}
+use Rattle.package_lists.specs.List.{AreEntries, IsFirstBadLine}
+use Rattle.package_lists.specs.ListRefusals.{list_refusal}
+use Rattle.package_lists.specs.declared.list.ListFault.{ListFault}
+use Rattle.program_io.specs.Files.{RefusesBoth, RefusesTexts}
+use Rattle.program_io.specs.Listings.{IsDescribedAt}
+use Rattle.program_io.specs.declared.refusal.Refusal.{Refusal}
 
 -- the words for why a package is not allowed
 abbrev pub reason_text : Reason → Text

@@ -1,11 +1,11 @@
 //! The text of `dpbr audit`.
 ghost use Rattle.std.specs.Prelude.{◌≡◌, ◌⊎◌, IfErr, IfOk, string_bytes};
-ghost use Rattle.lists.specs.List.{IsFirstBadLine};
+ghost use Rattle.package_lists.specs.List.{IsFirstBadLine};
 ghost use Rattle.dpbr_audit.specs.Audit.{IsVerdictOn, no_line, reason_text, status_of, verdict_line};
 
 use auditing::{Reason, Verdict, audit};
 use listing::Tree;
-use lists::{ListFault, read_list};
+use package_lists::{ListFault, read_list};
 use std::alloc::{AllocError, Global};
 
 /// The verdict on the list of packages in the text.

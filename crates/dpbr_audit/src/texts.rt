@@ -1,12 +1,12 @@
 //! The verdict of `dpbr audit` for two texts.
 ghost use Rattle.std.specs.Prelude.{◌≡◌, ◌⊎◌, IfErr, IfOk};
 ghost use Rattle.dpbr_audit.specs.Audit.{IsVerdictOnListing, RefusesAudit};
-ghost use Rattle.program.specs.Listings.{rules_for};
-ghost use Rattle.program.specs.Refusals.{memory_refusal};
+ghost use Rattle.program_io.specs.Listings.{rules_for};
+ghost use Rattle.program_io.specs.Refusals.{memory_refusal};
 
 use crate::text::audit_list;
 use auditing::Verdict;
-use program::{Refusal, tree_of_text};
+use program_io::{Refusal, tree_of_text};
 use std::alloc::Global;
 
 /// The verdict of `dpbr audit` on a list of packages, given a listing.

@@ -5,7 +5,7 @@ use Rattle.std.proofs.lemmas.List.{append-nil, length-append}
 use Rattle.engine.specs.State.{AreCounts, State}
 use Rattle.engine.specs.declared.Counts.{Counts}
 use Rattle.faults.specs.Bytes.{Text}
-use Rattle.program.specs.NodeLine.{IsLineOf, node_line}
+use Rattle.program_io.specs.NodeLine.{IsLineOf, node_line}
 use Rattle.protocol.specs.State.{engine_of}
 use Rattle.dpbr_run.specs.shared.NodeLines.{HasNodeLines}
 use Rattle.dpbr_run.specs.Run.{IsNodeLine, letters_at}

@@ -18,10 +18,10 @@ use Rattle.package_record.proofs.Digests.{sha256_bytes}
 use Rattle.package_record.proofs.Lacking.{hex_lacks, lacks-append, name_lacks, path_lacks}
 use Rattle.package_record.proofs.ReadWhole.{ended_split}
 use Rattle.world.specs.Headline.{entry_of}
-use Rattle.lists.specs.List.{AreEntries, Names, Says, Spells, lines_in, said_of, without_empty_end}
-use Rattle.lists.specs.ListText.{built_line, list_text, record_lines, signature_line}
-use Rattle.lists.specs.declared.list_line.ListLine.{ListLine}
-use Rattle.lists.specs.declared.list_line.ListLine.TheVariants.{Built}
+use Rattle.package_lists.specs.List.{AreEntries, Names, Says, Spells, lines_in, said_of, without_empty_end}
+use Rattle.package_lists.specs.ListText.{built_line, list_text, record_lines, signature_line}
+use Rattle.package_lists.specs.declared.list_line.ListLine.{ListLine}
+use Rattle.package_lists.specs.declared.list_line.ListLine.TheVariants.{Built}
 
 -- ---- one line
 

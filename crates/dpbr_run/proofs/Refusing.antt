@@ -3,10 +3,10 @@ use Rattle.std.proofs.Common.{◌≡◌, ◌⊎◌, inl, inr}
 use Rattle.faults.specs.Bytes.{Text}
 use Rattle.listing.specs.Tree.{Tree}
 use Rattle.dpbr_run.specs.Run.{RefusesEvent, RefusesTrace}
-use Rattle.program.specs.Files.{RefusesAt}
-use Rattle.program.specs.Refusals.{memory_refusal}
-use Rattle.program.specs.declared.refusal.Refusal.{Refusal}
-use Rattle.trace_files.specs.Traces.{RefusesTraceAt}
+use Rattle.program_io.specs.Files.{RefusesAt}
+use Rattle.program_io.specs.Refusals.{memory_refusal}
+use Rattle.program_io.specs.declared.refusal.Refusal.{Refusal}
+use Rattle.input_files.specs.Traces.{RefusesTraceAt}
 
 -- out of memory, or what is reported about an event
 pub event_refused : (trace : Text) (tree : Tree) (r : Refusal) → (r ≡ memory_refusal) ⊎ RefusesEvent tree trace r

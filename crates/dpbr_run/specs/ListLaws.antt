@@ -1,7 +1,7 @@
 -- Laws of printed lists of packages.
 use Rattle.std.specs.Prelude.{List, All, map}
-use Rattle.lists.specs.List.{AreEntries}
-use Rattle.lists.specs.ListText.{list_text}
+use Rattle.package_lists.specs.List.{AreEntries}
+use Rattle.package_lists.specs.ListText.{list_text}
 use Rattle.package_record.specs.Content.{Content, IsRecord}
 use Rattle.world.specs.Headline.{entry_of}
 

@@ -4,16 +4,16 @@ use Rattle.engine.specs.State.{State}
 use Rattle.faults.specs.Bytes.{Text}
 use Rattle.listing.specs.Listing.{Rules, tree_of}
 use Rattle.listing.specs.Tree.{Tree}
-use Rattle.lists.specs.ListText.{list_text}
-use Rattle.program.specs.Files.{RefusesBoth, RefusesTexts}
-use Rattle.program.specs.Listings.{IsDescribedAt}
-use Rattle.program.specs.NodeLine.{IsLineOf}
-use Rattle.program.specs.declared.refusal.Refusal.{Refusal}
+use Rattle.package_lists.specs.ListText.{list_text}
+use Rattle.program_io.specs.Files.{RefusesBoth, RefusesTexts}
+use Rattle.program_io.specs.Listings.{IsDescribedAt}
+use Rattle.program_io.specs.NodeLine.{IsLineOf}
+use Rattle.program_io.specs.declared.refusal.Refusal.{Refusal}
 use Rattle.protocol.specs.State.{engine_of}
-use Rattle.running.specs.Faults as runs
-use Rattle.running.specs.History.{IsHistory, IsRunFault, History, taken}
-use Rattle.running.specs.declared.run_fault.RunFault.{RunFault}
-use Rattle.trace_files.specs.Traces.{RefusesText}
+use Rattle.simulator.specs.Faults as runs
+use Rattle.simulator.specs.History.{IsHistory, IsRunFault, History, taken}
+use Rattle.simulator.specs.declared.run_fault.RunFault.{RunFault}
+use Rattle.input_files.specs.Traces.{RefusesText}
 use Rattle.traces.specs.Trace.{Trace, trace_of}
 use Rattle.world.specs.World.{World, WorldNode, member_at}
 

@@ -2,13 +2,13 @@
 ghost use Rattle.std.specs.Prelude.{◌≡◌, IfErr, IfOk};
 ghost use Rattle.dpbr_run.specs.Run.{IsRun, IsRunOf, RefusesRunFiles, RefusesTrace};
 ghost use Rattle.faults.specs.Bytes.{Text};
-ghost use Rattle.program.specs.Files.{RefusesAt};
+ghost use Rattle.program_io.specs.Files.{RefusesAt};
 
 use crate::text::run_of_events;
+use input_files::trace_of_name;
 use listing::Tree;
-use program::{Answer, NamedTexts, Refusal, tree_of_name};
+use program_io::{Answer, NamedTexts, Refusal, tree_of_name};
 use std::alloc::Global;
-use trace_files::trace_of_name;
 
 /// The result for the listing and the trace with these names. The listing is read first.
 pub fn run_of_files<T: NamedTexts>(

@@ -11,4 +11,4 @@ pub use crate::files::run_of_files;
 pub use crate::laws::printed_lists_are_read;
 pub use crate::text::{run_of_trace, run_text};
 pub use crate::texts::run_of_texts;
-pub use running::{RunFault, World, run};
+pub use simulator::{RunFault, World, run};

@@ -3,17 +3,17 @@ ghost use Rattle.std.specs.Prelude.{◌≡◌, ◌⊎◌, IfErr, IfOk, Ok, lengt
 ghost use Rattle.dpbr_run.specs.Run.{IsNodeLine, IsOutcome, IsRunOf, RefusesEvent, RefusesTrace};
 ghost use Rattle.dpbr_run.specs.shared.NodeLines.{HasNodeLines};
 ghost use Rattle.faults.specs.Bytes.{Text};
-ghost use Rattle.program.specs.Refusals.{memory_refusal};
+ghost use Rattle.program_io.specs.Refusals.{memory_refusal};
 ghost use Rattle.traces.specs.Faults.{trace_view};
 ghost use Rattle.traces.specs.Trace.{trace_of};
 
 use faults::Memory;
+use input_files::trace_of_text;
 use listing::Tree;
-use lists::put_list;
-use program::{Refusal, node_text};
-use running::{World, run};
+use package_lists::put_list;
+use program_io::{Refusal, node_text};
+use simulator::{World, run};
 use std::alloc::{AllocError, Global};
-use trace_files::trace_of_text;
 use traces::Trace;
 
 /// What is printed after the trace was run: for each node a line with the number of packages with

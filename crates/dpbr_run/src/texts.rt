@@ -1,11 +1,11 @@
 //! The result of `dpbr run` for two texts.
 ghost use Rattle.std.specs.Prelude.{◌≡◌, ◌⊎◌, IfErr, IfOk};
 ghost use Rattle.dpbr_run.specs.Run.{IsRunOfListing, RefusesRun};
-ghost use Rattle.program.specs.Listings.{rules_for};
-ghost use Rattle.program.specs.Refusals.{memory_refusal};
+ghost use Rattle.program_io.specs.Listings.{rules_for};
+ghost use Rattle.program_io.specs.Refusals.{memory_refusal};
 
 use crate::text::run_of_trace;
-use program::{Refusal, tree_of_text};
+use program_io::{Refusal, tree_of_text};
 use std::alloc::Global;
 
 /// What `dpbr run` prints for a listing and a trace.

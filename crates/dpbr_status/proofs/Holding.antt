@@ -11,7 +11,7 @@ use Rattle.graph.proofs.Marked.{has_mark-same, marked_after, marked_before}
 use Rattle.listing.specs.Lines.{Line}
 use Rattle.listing.specs.Tree.{IsTree, Tree}
 use Rattle.pkgpath.specs.PkgPath.{path_of}
-use Rattle.program.proofs.Once.{ok_once}
+use Rattle.program_io.proofs.Once.{ok_once}
 use Rattle.dpbr_status.proofs.Positions.{same_paths}
 use Rattle.dpbr_status.specs.Held.{IsFaultless, Names}
 use Rattle.dpbr_status.specs.inside.Holding.{IsNamed}

@@ -10,7 +10,7 @@ use Rattle.std.proofs.lemmas.Slice.Eq.{bytes_eq-Decides}
 use Rattle.faults.specs.Bytes.{Text}
 use Rattle.listing.specs.Tree.{Tree, no_package, path_at}
 use Rattle.pkgpath.specs.PkgPath.{path_of}
-use Rattle.program.proofs.Once.{ok_once}
+use Rattle.program_io.proofs.Once.{ok_once}
 use Rattle.dpbr_status.specs.Held.{IsListed, Names}
 
 pub listed_at : (tree : Tree) (path : Text) (p : ℕ) → Some p ≡ position (λ x. bytes_eq x.path path) tree → (p < length tree) × (path_at tree p ≡ path)

@@ -7,7 +7,7 @@ use Rattle.dpbr_status.specs.HeldRefusals.{held_refusal}
 use Rattle.dpbr_status.specs.Status.{RefusesHeld}
 use Rattle.dpbr_status.specs.declared.held.HeldFault.{HeldFault}
 use Rattle.dpbr_status.specs.declared.held.HeldFault.TheVariants.{Memory}
-use Rattle.program.specs.Refusals.{memory_refusal}
+use Rattle.program_io.specs.Refusals.{memory_refusal}
 
 -- out of memory, or the first fault
 pub held_told : (held : Text) (tree : Tree) (e : HeldFault) → (e ≡ Memory) ⊎ IsFirstFault tree held e

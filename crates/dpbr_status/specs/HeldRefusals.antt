@@ -2,7 +2,7 @@
 use Rattle.std.specs.Prelude.{ℕ, Option, None, Some}
 use Rattle.dpbr_status.specs.declared.held.HeldFault.{HeldFault}
 use Rattle.dpbr_status.specs.declared.held.HeldFault.TheVariants.{Memory, BadList, Unlisted, Ignored}
-use Rattle.program.specs.declared.refusal.Refusal.{Refusal}
+use Rattle.program_io.specs.declared.refusal.Refusal.{Refusal}
 
 -- the number that each refusal is reported with
 abbrev pub number_of : HeldFault → ℕ

@@ -11,10 +11,10 @@ use Rattle.listing.specs.Tree.{Package, Tree}
 use Rattle.dpbr_status.specs.Held.{AreHeld, IsFirstFault}
 use Rattle.dpbr_status.specs.HeldRefusals.{held_refusal}
 use Rattle.dpbr_status.specs.declared.held.HeldFault.{HeldFault}
-use Rattle.program.specs.Files.{RefusesBoth, RefusesTexts}
-use Rattle.program.specs.Listings.{IsDescribedAt}
-use Rattle.program.specs.NodeLine.{counts_line}
-use Rattle.program.specs.declared.refusal.Refusal.{Refusal}
+use Rattle.program_io.specs.Files.{RefusesBoth, RefusesTexts}
+use Rattle.program_io.specs.Listings.{IsDescribedAt}
+use Rattle.program_io.specs.NodeLine.{counts_line}
+use Rattle.program_io.specs.declared.refusal.Refusal.{Refusal}
 
 -- the printed form of a letter
 abbrev pub letter_text : Letter → Text

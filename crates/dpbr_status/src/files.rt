@@ -3,11 +3,11 @@
 ghost use Rattle.std.specs.Prelude.{◌≡◌, Bool, IfErr, IfOk};
 ghost use Rattle.dpbr_status.specs.Status.{IsStatus, IsStatusOf, RefusesHeld, RefusesStatusFiles};
 ghost use Rattle.faults.specs.Bytes.{Text};
-ghost use Rattle.program.specs.Files.{RefusesAt};
+ghost use Rattle.program_io.specs.Files.{RefusesAt};
 
 use crate::text::status_by_letters;
 use listing::Tree;
-use program::{Answer, NamedTexts, Refusal, tree_of_name};
+use program_io::{Answer, NamedTexts, Refusal, tree_of_name};
 use std::alloc::Global;
 use std::mem::forget;
 

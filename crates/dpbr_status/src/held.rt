@@ -12,7 +12,7 @@ use engine::Units;
 use faults::{Fault, WantOfMemory};
 use listing::Tree;
 use pkgpath::{PathFault, PkgPath};
-use program::Refusal;
+use program_io::Refusal;
 use std::alloc::Global;
 use thiserror::Error;
 

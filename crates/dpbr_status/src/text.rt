@@ -10,8 +10,8 @@ use faults::Memory;
 use listing::Tree;
 use pkgname::PkgName;
 use pkgpath::PkgPath;
-use program::counts_text;
-use snapshot::Snapshot;
+use program_io::counts_text;
+use status_letters::Snapshot;
 use std::alloc::Global;
 
 /// What is printed for a tree and a text of held package paths: for each package a line with its

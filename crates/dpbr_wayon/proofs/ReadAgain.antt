@@ -7,16 +7,16 @@ use Rattle.ballots.specs.Weights.{AreWeights}
 use Rattle.dpbr_wayon.specs.WayOn.{IsWritten}
 use Rattle.dpbr_wayon.specs.inside.Sound.{IsSound}
 use Rattle.dpbr_wayon.proofs.Sound.{history_sound, way_sound}
-use Rattle.events.specs.Events.{Event, event_view}
-use Rattle.events.specs.declared.event.Event as declared
+use Rattle.protocol.specs.Events.{Event, event_view}
+use Rattle.protocol.specs.declared.event.Event as declared
 use Rattle.faults.specs.Bytes.{Text, line_feed}
 use Rattle.protocol.specs.Given.{Given}
-use Rattle.running.specs.History.{History, IsHistory}
+use Rattle.ways_on.specs.History.{History, IsHistory}
 use Rattle.traces.specs.Again.{IsTextEvent, IsTextTrace}
 use Rattle.traces.specs.Trace.{Trace, trace_of}
 use Rattle.traces.specs.Written.{trace_text}
-use Rattle.way.specs.Asked.{IsGranted}
-use Rattle.way.specs.Laws.{HasWay}
+use Rattle.ways_on.specs.Asked.{IsGranted}
+use Rattle.ways_on.specs.Laws.{HasWay}
 
 -- a trace of these events, and then of a way
 abbrev pub joined : List ℕ → List declared.Event → List Event → Trace

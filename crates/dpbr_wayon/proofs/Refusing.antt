@@ -6,12 +6,12 @@ use Rattle.listing.specs.Tree.{Tree}
 use Rattle.pkgpath.specs.PkgPath.{path_of}
 use Rattle.pkgpath.specs.declared.PathFault.{PathFault}
 use Rattle.pkgpath.specs.declared.PathFault.TheVariants.{Memory as PathMemory}
-use Rattle.program.specs.Files.{RefusesAt}
-use Rattle.program.specs.Refusals.{memory_refusal}
-use Rattle.program.specs.declared.refusal.Refusal.{Refusal}
+use Rattle.program_io.specs.Files.{RefusesAt}
+use Rattle.program_io.specs.Refusals.{memory_refusal}
+use Rattle.program_io.specs.declared.refusal.Refusal.{Refusal}
 use Rattle.protocol.specs.Given.{Given}
-use Rattle.trace_files.specs.Builds.{AreSpelledAt, RefusesBuilds}
-use Rattle.trace_files.specs.Traces.{IsSpelledAt}
+use Rattle.input_files.specs.Builds.{AreSpelledAt, RefusesBuilds}
+use Rattle.input_files.specs.Traces.{IsSpelledAt}
 use Rattle.traces.specs.Builds.{builds_of}
 use Rattle.traces.specs.Trace.{Trace}
 

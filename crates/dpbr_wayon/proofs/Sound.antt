@@ -9,14 +9,14 @@ use Rattle.std.proofs.lemmas.List.Elements.{All-cons, All-nil, All-weaker}
 use Rattle.std.proofs.lemmas.Slice.Eq.{bytes_eq-Decides}
 use Rattle.std.proofs.lemmas.Str.{IsUtf8-from_ascii, is_utf8-from_IsUtf8}
 use Rattle.std.proofs.lemmas.Str.Ascii.{IsAscii-nil}
-use Rattle.agreement.specs.Member as members
-use Rattle.agreement.specs.declared.claim.Claim.{Claim}
+use Rattle.claims.specs.Member as members
+use Rattle.claims.specs.declared.claim.Claim.{Claim}
 use Rattle.dpbr_wayon.specs.inside.Sound.{AreTextFiles, HaveTextNames, IsSound}
 use Rattle.dpbr_wayon.proofs.JustGiven.{all_good, ascending_apart, paths_in}
 use Rattle.engine.specs.Division.{Division, IsDivision, number_found, unit_at}
 use Rattle.engine.specs.declared.Letter.{Letter}
-use Rattle.events.specs.Events as events
-use Rattle.events.specs.Events.{Event, is_step}
+use Rattle.protocol.specs.Events as events
+use Rattle.protocol.specs.Events.{Event, is_step}
 use Rattle.faults.specs.Answers.{first_given, first_that_applies, option_or}
 use Rattle.faults.specs.Bytes.{Text, is_among}
 use Rattle.listing.specs.Tree.{Tree, path_at}
@@ -40,16 +40,16 @@ use Rattle.protocol.specs.declared.refusal.Refusal.TheVariants as refusals
 use Rattle.protocol.proofs.Answering.{has_unit, not_refused}
 use Rattle.protocol.proofs.Asked.{unit_is_one}
 use Rattle.protocol.proofs.PackageOrder.{paths_ascend}
-use Rattle.running.specs.History.{History, IsHistory}
-use Rattle.running.specs.History as histories
-use Rattle.way.specs.Asked.{IsGranted, is_majority_up, is_queued, next_build, refusal_at, refusal_of_stranger}
-use Rattle.way.specs.Rounds.{is_round_left, next_claim}
-use Rattle.way.specs.Ways.{AreOnWay, IsOnWay}
-use Rattle.way.specs.declared.fault.WayFault.TheVariants as way_fault
+use Rattle.ways_on.specs.History.{History, IsHistory}
+use Rattle.ways_on.specs.History as histories
+use Rattle.ways_on.specs.Asked.{IsGranted, is_majority_up, is_queued, next_build, refusal_at, refusal_of_stranger}
+use Rattle.ways_on.specs.Rounds.{is_round_left, next_claim}
+use Rattle.ways_on.specs.Ways.{AreOnWay, IsOnWay}
+use Rattle.ways_on.specs.declared.fault.WayFault.TheVariants as way_fault
 use Rattle.wire.specs.declared.datagram.Piece.{Piece}
 use Rattle.world.specs.Happening.{Acts, Asks, Happens, Leads, is_up}
 use Rattle.world.specs.World.{World, WorldNode, member_at, node_at, start}
-use Rattle.world.proofs.Growing.{event_later}
+use Rattle.world.proofs.Growth.{event_later}
 
 -- ---- names
 

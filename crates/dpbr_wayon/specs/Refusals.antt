@@ -6,20 +6,20 @@ use Rattle.listing.specs.Tree.{Tree}
 use Rattle.pkgpath.specs.PkgPath.{path_of}
 use Rattle.pkgpath.specs.Refusals as paths
 use Rattle.pkgpath.specs.declared.PathFault.{PathFault}
-use Rattle.program.specs.Files.{RefusesAt}
-use Rattle.program.specs.Listings.{IsDescribedAt, RefusesListingAt}
-use Rattle.program.specs.declared.refusal.Refusal.{Refusal}
+use Rattle.program_io.specs.Files.{RefusesAt}
+use Rattle.program_io.specs.Listings.{IsDescribedAt, RefusesListingAt}
+use Rattle.program_io.specs.declared.refusal.Refusal.{Refusal}
 use Rattle.protocol.specs.Given.{Given}
-use Rattle.running.specs.Faults as runs
-use Rattle.running.specs.History.{History, IsHistory, IsRunFault, taken}
-use Rattle.running.specs.declared.run_fault.RunFault.{RunFault}
-use Rattle.trace_files.specs.Builds.{RefusesBuilds}
-use Rattle.trace_files.specs.Traces.{IsSpelledAt, RefusesTraceAt}
+use Rattle.ways_on.specs.Faults as runs
+use Rattle.ways_on.specs.History.{History, IsHistory, IsRunFault, taken}
+use Rattle.ways_on.specs.RunFault.{RunFault}
+use Rattle.input_files.specs.Builds.{RefusesBuilds}
+use Rattle.input_files.specs.Traces.{IsSpelledAt, RefusesTraceAt}
 use Rattle.traces.specs.Builds.{builds_of}
 use Rattle.traces.specs.Trace.{Trace}
-use Rattle.way.specs.Asked.{HasNoWay}
-use Rattle.way.specs.Refusals as ways
-use Rattle.way.specs.declared.fault.WayFault.{WayFault}
+use Rattle.ways_on.specs.Asked.{HasNoWay}
+use Rattle.ways_on.specs.Refusals as ways
+use Rattle.ways_on.specs.declared.fault.WayFault.{WayFault}
 use Rattle.world.specs.World.{World}
 
 -- ---- about texts

@@ -1,19 +1,19 @@
 -- What `dpbr wayon` prints.
 use Rattle.std.specs.Prelude.{◌≡◌, ◌++◌, ℕ, Bool, List, [], ◌∷◌, Option, None, Some, Ok, filter, map}
-use Rattle.events.specs.Events.{Event}
+use Rattle.protocol.specs.Events.{Event}
 use Rattle.faults.specs.Bytes.{Text, is_among, line_feed}
 use Rattle.listing.specs.Tree.{Tree, path_at}
 use Rattle.pkgpath.specs.PkgPath.{path_of}
-use Rattle.program.specs.Listings.{IsDescribedAt}
+use Rattle.program_io.specs.Listings.{IsDescribedAt}
 use Rattle.protocol.specs.Given.{Given}
 use Rattle.protocol.specs.Jobs.{files_for}
-use Rattle.running.specs.History.{History, IsHistory, taken}
+use Rattle.ways_on.specs.History.{History, IsHistory, taken}
 use Rattle.traces.specs.Builds.{builds_of}
 use Rattle.traces.specs.Trace.{Trace, trace_of}
 use Rattle.traces.specs.Written.{trace_text}
 use Rattle.engine.specs.Division.{Division, number_found, unit_at}
-use Rattle.way.specs.Asked.{IsGranted}
-use Rattle.way.specs.Laws.{HasWay}
+use Rattle.ways_on.specs.Asked.{IsGranted}
+use Rattle.ways_on.specs.Laws.{HasWay}
 
 -- ---- files for the unit
 

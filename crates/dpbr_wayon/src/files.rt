@@ -6,10 +6,10 @@ ghost use Rattle.dpbr_wayon.specs.WayOn.{HasWayOn, IsWayOn};
 use crate::reading::path_of_text;
 use crate::target::Target;
 use crate::text::way_of_events;
+use input_files::{builds_of_name, trace_of_name};
 use listing::Tree;
-use program::{Answer, NamedTexts, Refusal, tree_of_name};
+use program_io::{Answer, NamedTexts, Refusal, tree_of_name};
 use std::alloc::Global;
-use trace_files::{builds_of_name, trace_of_name};
 
 /// The result for the listing, the trace and the files for paths with these names. Each is read
 /// before the next, and the target's path is parsed before the last of them is read.

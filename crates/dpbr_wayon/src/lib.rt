@@ -12,4 +12,4 @@ mod writable;
 pub use crate::files::wayon_of_files;
 pub use crate::target::Target;
 pub use crate::text::way_of_events;
-pub use way::{WayFault, way_on};
+pub use ways_on::{WayFault, way_on};

@@ -2,17 +2,16 @@
 //! nothing; their contracts follow from the types of the events.
 ghost use Rattle.std.specs.Prelude.{◌≤◌, All, map};
 ghost use Rattle.dpbr_wayon.specs.inside.Sound.{AreTextFiles, HaveTextNames, IsSound};
-ghost use Rattle.events.specs.Events.{event_view};
+ghost use Rattle.protocol.specs.Events.{event_view};
 ghost use Rattle.hex.specs.Hex.{IsBytes};
 ghost use Rattle.package_record.specs.FileView.{file_view};
 ghost use Rattle.pkgpath.specs.PkgPath.{IsPath};
 ghost use Rattle.traces.specs.Again.{AreLeft, IsTextEvent, IsTextPackage};
 ghost use Rattle.traces.specs.Events.{most};
 
-use events::{Event, Left};
 use package_record::{File, Files};
 use pkgpath::PkgPath;
-use protocol::Packages;
+use protocol::{Event, Left, Packages};
 
 /// A trace can contain these events if names of their files are text and their stops are during
 /// steps.

@@ -10,8 +10,8 @@ use Rattle.std.proofs.lemmas.Slice.Eq.{bytes_eq-Decides}
 use Rattle.std.specs.List.{list_all}
 use Rattle.std.specs.Str.{bytes_eq}
 use Rattle.faults.specs.Bytes.{Text}
-use Rattle.pkgpath.proofs.Without.{without-once}
-use Rattle.pkgpath.specs.PkgPath.{IsPath, without_subpackage}
+use Rattle.listing.proofs.Without.{without-once}
+use Rattle.listing.specs.PkgPath.{IsPath, without_subpackage}
 use Rattle.listing.specs.Tree.{IsTree, Tree, group_at, no_package, path_at}
 use Rattle.engine.specs.Division.{Division, IsDivision, no_unit, number_named, unit_at}
 use Rattle.engine.proofs.Lists.{in_range, kept_all, kept_pass, not_true, passes, range_below, range_rising}

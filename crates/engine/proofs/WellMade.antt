@@ -16,8 +16,8 @@ use Rattle.faults.proofs.Ascending.{same_ascending, same_members}
 use Rattle.faults.proofs.Members.{contains_first, member_cases, no_members}
 use Rattle.faults.proofs.Sets.{from_set, into_set, set_rises}
 use Rattle.listing.specs.Tree.{ArePositions, AreSingle, IsTree, Tree, build_at, group_at, no_package, path_at, position_of, run_at}
-use Rattle.pkgpath.proofs.Without.{without-is_path}
-use Rattle.pkgpath.specs.PkgPath.{IsPath, without_subpackage}
+use Rattle.listing.proofs.Without.{without-is_path}
+use Rattle.listing.specs.PkgPath.{IsPath, without_subpackage}
 use Rattle.engine.proofs.Division.{group_place, leasts, made_alike, made_contains, made_listed, number_here, number_some, same_unit, unit_number, units_are}
 use Rattle.engine.proofs.InOrder.{from_order, into_order, order_alone, order_paths, two_members}
 use Rattle.engine.proofs.Lists.{and_true, any_of, any_some, below_in, contains_in, filter_same, in_at, in_below, in_contains, in_kept, map_same, not_true, range_increasing}

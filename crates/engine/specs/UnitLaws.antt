@@ -2,7 +2,7 @@
 use Rattle.std.specs.Prelude.{◌≡◌, ◌<◌, ◌⊎◌, ◌↔◌, ℕ, Bool, not, List, [], ◌∷◌, Any, Contains, Some, filter, length, map}
 use Rattle.faults.specs.Pieces.{set_of}
 use Rattle.listing.specs.Tree.{AreSingle, ArePositions, IsTree, Tree, build_at, path_at, run_at}
-use Rattle.pkgpath.specs.PkgPath.{IsPath, without_subpackage}
+use Rattle.listing.specs.PkgPath.{IsPath, without_subpackage}
 use Rattle.engine.specs.Division.{Division, IsDivision, number_found, number_named, number_of, unit_at}
 use Rattle.engine.specs.Ignored.{IsIgnored}
 use Rattle.engine.specs.Units.{AreUnits, IsUnitOf, Unit, positions, units_with}

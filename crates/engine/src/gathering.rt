@@ -8,8 +8,7 @@ ghost use Rattle.graph.specs.Marks.{has_mark};
 
 use faults::Memory;
 use indexmap::IndexSet;
-use listing::Tree;
-use pkgpath::PkgPath;
+use listing::{PkgPath, Tree};
 use std::alloc::Global;
 
 /// The units of a tree while they are gathered, numbered in the order of their lowest positions.

@@ -31,6 +31,7 @@ pub use crate::unit_laws::{
     unit_unless_ignored, units_are_well_made,
 };
 pub use crate::units::Units;
+pub use listing::Tree;
 
 /// The state of a package, as a letter of dpb(1)'s status line. Exactly one letter applies.
 #[derive(Clone, Copy, Debug, PartialEq, Eq, Hash)]

@@ -7,8 +7,7 @@ ghost use Rattle.engine.specs.inside.Gathering.{lists_of};
 ghost use Rattle.engine.specs.inside.UnitKeeping.{AreAlike, needed_by, needs_in_turn, unit_made};
 
 use faults::Memory;
-use listing::Tree;
-use pkgpath::PkgPath;
+use listing::{PkgPath, Tree};
 use std::alloc::Global;
 
 /// A unit as stored: the positions of its packages, in order of path, and of what its build needs.

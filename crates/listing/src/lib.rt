@@ -20,6 +20,7 @@ mod word;
 
 pub use crate::laws::lone_packages_have_no_groups;
 pub use crate::tree::Tree;
+pub use pkgpath::PkgPath;
 
 /// Why a text is not a listing. The first faulty line decides. A line is tested for its form, its
 /// path, the number of paths, its value from the left, and a second, different value, in this

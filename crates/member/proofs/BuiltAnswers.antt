@@ -6,12 +6,12 @@ use Rattle.std.specs.Prelude.{◌⊎◌, option_and_then, unwrap_or}
 use Rattle.std.proofs.lemmas.Bool.{false≢true}
 use Rattle.faults.specs.Answers.{unless_fault}
 use Rattle.faults.specs.Bytes.{Text}
-use Rattle.agreement.specs.Member as members
-use Rattle.agreement.specs.Messages as messages
-use Rattle.agreement.specs.Quorums.{nobody}
-use Rattle.agreement.specs.Step.{Outcome, on_built, says}
-use Rattle.agreement.specs.Votes.{ballot}
-use Rattle.agreement.specs.declared.claim.Claim.{Claim}
+use Rattle.claims.specs.Member as members
+use Rattle.claims.specs.Messages as messages
+use Rattle.claims.specs.Quorums.{nobody}
+use Rattle.claims.specs.Step.{Outcome, on_built, says}
+use Rattle.claims.specs.Votes.{ballot}
+use Rattle.claims.specs.declared.claim.Claim.{Claim}
 use Rattle.claims.specs.Job.{Task}
 use Rattle.engine.specs.declared.Letter.TheVariants as letters
 use Rattle.ballots.specs.Support.{Support, of_nobody, set_of}

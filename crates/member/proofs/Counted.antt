@@ -5,13 +5,13 @@ use Rattle.std.proofs.Common.{if◌then◌else◌}
 use Rattle.std.proofs.lemmas.Bool.{and_parts, cond_both, leb-true, true≢false}
 use Rattle.std.specs.List.{list_all}
 use Rattle.std.specs.Prelude.{nat_le}
-use Rattle.agreement.specs.Claims.{claim_same}
-use Rattle.agreement.specs.Member as members
-use Rattle.agreement.specs.Messages as messages
-use Rattle.agreement.specs.Quorums.{Quorums, is_majority, with_member}
-use Rattle.agreement.specs.Step.{Outcome, on_promise, on_quorum, on_vote}
-use Rattle.agreement.specs.Votes.{Ballot, PromiseOf, kept_report, report_of}
-use Rattle.agreement.specs.declared.claim.Claim.{Claim}
+use Rattle.claims.specs.Claims.{claim_same}
+use Rattle.claims.specs.Member as members
+use Rattle.claims.specs.Messages as messages
+use Rattle.claims.specs.Quorums.{Quorums, is_majority, with_member}
+use Rattle.claims.specs.Step.{Outcome, on_promise, on_quorum, on_vote}
+use Rattle.claims.specs.Votes.{Ballot, PromiseOf, kept_report, report_of}
+use Rattle.claims.specs.declared.claim.Claim.{Claim}
 use Rattle.ballots.specs.InTheAgreement.{IsClaimerStep, IsStepOnPromise, IsStepOnVote, builds_next}
 use Rattle.ballots.specs.InTheAgreement.{claim_of, claimer_then, is_building, noted_next}
 use Rattle.ballots.specs.InTheAgreement.{promise_outcome, said_next, stage_then, weights_of}

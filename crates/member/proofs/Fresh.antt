@@ -4,7 +4,7 @@ use Rattle.std.proofs.Common.{None, refl, ap, ◌∙◌, filter, length, map, re
 use Rattle.std.specs.Prelude.{cond, is_some}
 use Rattle.std.specs.FinSet as set
 use Rattle.std.proofs.lemmas.List.Elements.{All-map, All-nil}
-use Rattle.agreement.specs.Member.{Facts, no_facts}
+use Rattle.claims.specs.Member.{Facts, no_facts}
 use Rattle.ballots.specs.Weights.{AreWeights}
 use Rattle.ballots.specs.declared.message.Note.{Note}
 use Rattle.engine.specs.Division.{Division, IsDivision, number_named, number_of}

@@ -4,12 +4,12 @@ use Rattle.std.proofs.Common.{◌∷◌, Option, Some, None, ap, length, option_
 use Rattle.std.proofs.Common.{if◌then◌else◌}
 use Rattle.std.proofs.lemmas.Bool.{cond_both, cond-true, eq-eqb, true≢false}
 use Rattle.std.specs.Prelude.{is_some}
-use Rattle.agreement.specs.Claims.{is_above, is_below, is_promised}
-use Rattle.agreement.specs.Member as members
-use Rattle.agreement.specs.Step.{Outcome, on_agreed, on_ask, on_offer, on_propose}
-use Rattle.agreement.specs.Step.{still}
-use Rattle.agreement.specs.Votes.{Ballot, ballot, is_voted}
-use Rattle.agreement.specs.declared.claim.Claim.{Claim}
+use Rattle.claims.specs.Claims.{is_above, is_below, is_promised}
+use Rattle.claims.specs.Member as members
+use Rattle.claims.specs.Step.{Outcome, on_agreed, on_ask, on_offer, on_propose}
+use Rattle.claims.specs.Step.{still}
+use Rattle.claims.specs.Votes.{Ballot, ballot, is_voted}
+use Rattle.claims.specs.declared.claim.Claim.{Claim}
 use Rattle.ballots.specs.InTheAgreement.{IsStepOf, IsVoter}
 use Rattle.ballots.specs.Pledge.{Pledge}
 use Rattle.ballots.specs.declared.message.Body.TheVariants as bodies

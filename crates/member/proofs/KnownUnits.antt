@@ -1,7 +1,7 @@
 -- What is known of a unit, by a member's fields.
 use Rattle.std.proofs.Common.{◌≡◌, ◌<◌, ◌∙◌, ℕ, ap, get_or, length, subst, sym}
 use Rattle.std.proofs.lemmas.List.{get_or-map, length-map}
-use Rattle.agreement.specs.Member.{no_facts}
+use Rattle.claims.specs.Member.{no_facts}
 use Rattle.ballots.specs.InTheAgreement.{IsVoter}
 use Rattle.protocol.specs.InTheAgreement.{view}
 use Rattle.protocol.specs.Member.{IsMember}

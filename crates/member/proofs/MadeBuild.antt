@@ -12,7 +12,7 @@ use Rattle.faults.proofs.Members.{contains_first, contains_later}
 use Rattle.claims.specs.Claim.{IsClaim}
 use Rattle.claims.specs.Deps.{is_ascending}
 use Rattle.claims.specs.Job.{Task}
-use Rattle.listing.specs.Tree.{Tree, path_at, run_at}
+use Rattle.engine.specs.Tree.{Tree, path_at, run_at}
 use Rattle.pkgpath.specs.PkgPath.{without_subpackage}
 use Rattle.package_record.specs.Content.{Content}
 use Rattle.package_record.specs.Making.{build_fault}

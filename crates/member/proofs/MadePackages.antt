@@ -14,7 +14,7 @@ use Rattle.std.proofs.lemmas.Map.Text.{is_eq-slice_cmp}
 use Rattle.faults.specs.Bytes.{Text}
 use Rattle.faults.specs.Pieces.{text_cmp}
 use Rattle.claims.specs.Deps.{is_ascending}
-use Rattle.listing.specs.Tree.{Tree, path_at}
+use Rattle.engine.specs.Tree.{Tree, path_at}
 use Rattle.member.specs.inside.Packages.{Made, made_at, have_files}
 use Rattle.member.specs.inside.Packages.{FilesByPath}
 

@@ -9,7 +9,7 @@ use Rattle.std.proofs.lemmas.List.Quantifiers.{position-Some}
 use Rattle.std.proofs.lemmas.List.Sums.{fails_before_first}
 use Rattle.faults.specs.Answers.{option_or}
 use Rattle.faults.specs.Bytes.{Text}
-use Rattle.listing.specs.Tree.{position_of}
+use Rattle.engine.specs.Tree.{position_of}
 use Rattle.engine.specs.Division.{Division, no_unit, number_found, number_named, number_of, unit_at}
 use Rattle.engine.specs.Units.{Unit}
 use Rattle.engine.proofs.Places.{equal_bytes, same_bytes}

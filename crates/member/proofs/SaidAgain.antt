@@ -1,10 +1,10 @@
 -- What a nudge of the open claim repeats.
 use Rattle.std.proofs.Common.{◌≡◌, ◌<◌, ℕ, true, not, List, [], Option, Some, None}
 use Rattle.std.proofs.Common.{Result, Ok, Err, refl, sym, subst, ap, ◌∙◌, filter, length}
-use Rattle.agreement.specs.Step.{on_nudge}
-use Rattle.agreement.specs.Votes.{Ballot}
-use Rattle.agreement.specs.Member as members
-use Rattle.agreement.specs.declared.claim.Claim.{Claim}
+use Rattle.claims.specs.Step.{on_nudge}
+use Rattle.claims.specs.Votes.{Ballot}
+use Rattle.claims.specs.Member as members
+use Rattle.claims.specs.declared.claim.Claim.{Claim}
 use Rattle.ballots.specs.Support.{Support, set_of}
 use Rattle.ballots.specs.declared.message.Body.TheVariants as bodies
 use Rattle.protocol.specs.State.{OpenClaim, Progress, Gathering, Building, Voting, State, Value}
@@ -22,7 +22,7 @@ use Rattle.protocol.proofs.TheTheory.{named}
 use Rattle.engine.specs.declared.Letter.TheVariants as letters
 use Rattle.std.specs.Prelude.{option_and_then, option_map}
 use Rattle.std.specs.List.{range_with_len}
-use Rattle.agreement.specs.Votes.{ballot, report_of}
+use Rattle.claims.specs.Votes.{ballot, report_of}
 use Rattle.ballots.specs.declared.claimer.Claimer.{Claimer}
 use Rattle.ballots.specs.declared.claimer.Claimer.TheVariants as claimers
 use Rattle.member.specs.OpenClaims.{IsWeighedBy, joined_in, open_of, progress_of_claimer}

@@ -4,12 +4,12 @@ use Rattle.std.proofs.Common.{Option, Some, None, eqb-true, refl, sym, subst, ap
 use Rattle.std.proofs.Common.{if◌then◌else◌, option_map}
 use Rattle.std.specs.Option.{ForSome}
 use Rattle.std.proofs.lemmas.Bool.{and_parts, cond-false, cond-true, eq-eqb, true≢false}
-use Rattle.agreement.specs.Member as members
-use Rattle.agreement.specs.Nodes as nodes
-use Rattle.agreement.specs.Step.{Outcome}
-use Rattle.agreement.specs.Quorums.{named_in}
-use Rattle.agreement.specs.Votes.{ballot, report_of}
-use Rattle.agreement.specs.declared.claim.Claim.{Claim}
+use Rattle.claims.specs.Member as members
+use Rattle.claims.specs.Nodes as nodes
+use Rattle.claims.specs.Step.{Outcome}
+use Rattle.claims.specs.Quorums.{named_in}
+use Rattle.claims.specs.Votes.{ballot, report_of}
+use Rattle.claims.specs.declared.claim.Claim.{Claim}
 use Rattle.ballots.specs.InTheAgreement.{is_building, note_of, said}
 use Rattle.ballots.specs.InTheAgreement.{claim_of, stage_then}
 use Rattle.ballots.specs.InTheAgreement.{claimer_then, weights_of}

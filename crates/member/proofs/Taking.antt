@@ -4,7 +4,7 @@ use Rattle.std.proofs.Common.{ap, ◌∙◌, if◌then◌else◌, option_map, su
 use Rattle.std.specs.Prelude.{option_and_then, unwrap_or}
 use Rattle.std.specs.Option.{ForSome}
 use Rattle.faults.specs.Answers.{option_or}
-use Rattle.agreement.specs.declared.claim.Claim.{Claim}
+use Rattle.claims.specs.declared.claim.Claim.{Claim}
 use Rattle.claims.specs.Job.{Task}
 use Rattle.engine.proofs.Kept.{unit_good}
 use Rattle.protocol.specs.State.{OpenClaim, Progress, Gathering, Building, Voting, State, name_at}

@@ -1,7 +1,7 @@
 -- How contracts see an open claim.
 use Rattle.std.specs.Prelude.{◌≡◌, ◌<◌, ℕ, true, List, length}
-use Rattle.agreement.specs.Quorums.{Members, nobody}
-use Rattle.agreement.specs.Votes.{ballot, report_of}
+use Rattle.claims.specs.Quorums.{Members, nobody}
+use Rattle.claims.specs.Votes.{ballot, report_of}
 use Rattle.ballots.specs.InTheAgreement.{weights_of}
 use Rattle.ballots.specs.Support.{Support, set_of}
 use Rattle.ballots.specs.declared.claimer.Claimer.{Claimer}

@@ -1,6 +1,6 @@
 -- How contracts see a prepared step, and when it may be taken.
 use Rattle.std.specs.Prelude.{ℕ, List, Option, None, Some, option_and_then, option_map, Ok}
-use Rattle.agreement.specs.Votes.{ballot, report_of}
+use Rattle.claims.specs.Votes.{ballot, report_of}
 use Rattle.claims.specs.Job.{Task}
 use Rattle.ballots.specs.declared.claimer.ClaimerChange.{ClaimerChange}
 use Rattle.ballots.specs.declared.claimer.ClaimerChange.TheVariants as change

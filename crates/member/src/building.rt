@@ -16,7 +16,7 @@ ghost use Rattle.member.specs.inside.Waiting.{waiting_for};
 use crate::packages::{by_path, made};
 use crate::receivers::everyone;
 use crate::texts::Listed;
-use crate::{ClaimChange, Member, OpenClaim, Step};
+use crate::{ClaimChange, Member, MemberStep, OpenClaim};
 use arrayvec::ArrayVec;
 use ballots::{Body, Claimer, Tally};
 use claims::{Claim, Job};
@@ -52,7 +52,7 @@ impl<'a> Member<'a> {
 
     /// The claim's host has built the unit. The build is sent to all as the claim's proposal. It
     /// shares the tree's texts, because the member may later hold it unchanged.
-    pub(crate) fn built(&self, path: &PkgPath, packages: Packages) -> Result<Step, Refusal>
+    pub(crate) fn built(&self, path: &PkgPath, packages: Packages) -> Result<MemberStep, Refusal>
         ensures { IsPrepared self.now (Input.Built path.now packages) result }
     {
         let (unit, job) = self.building(path)?;
@@ -69,7 +69,7 @@ impl<'a> Member<'a> {
             host: job.host,
             claimer,
         });
-        Ok(Step::saying(sends, change))
+        Ok(MemberStep::saying(sends, change))
     }
 
     /// Sends the build of the unit to these members as the claim's proposal.
@@ -90,11 +90,11 @@ impl<'a> Member<'a> {
     }
 
     /// The claim's host could not build the unit. The claim ends.
-    pub(crate) fn failed(&self, path: &PkgPath) -> Result<Step, Refusal>
+    pub(crate) fn failed(&self, path: &PkgPath) -> Result<MemberStep, Refusal>
         ensures { IsPrepared self.now (Input.Failed path.now) result }
     {
         let _ = self.building(path)?;
-        Ok(Step::saying(Sends::nothing(), ClaimChange::Ends))
+        Ok(MemberStep::saying(Sends::nothing(), ClaimChange::Ends))
     }
 
     /// The unit that the path names and its job, if the open claim is for it and waits for a build.

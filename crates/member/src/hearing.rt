@@ -16,7 +16,7 @@ ghost use Rattle.member.specs.inside.Waiting.{is_for};
 use crate::naming::unit_named;
 use crate::receivers::{everyone, one, others};
 use crate::texts::Listed;
-use crate::{ClaimChange, Member, OpenClaim, Step};
+use crate::{ClaimChange, Member, MemberStep, OpenClaim};
 use arrayvec::ArrayVec;
 use ballots::{Body, Claimer, ClaimerStep, Fact, Message, Next, Note, VoterStep};
 use claims::{Claim, Job};
@@ -26,7 +26,7 @@ use protocol::{Input, Outcome, Refusal, Sends};
 
 impl<'a> Member<'a> {
     /// Answers a message.
-    pub(crate) fn heard(&self, message: Message) -> Result<Step, Refusal>
+    pub(crate) fn heard(&self, message: Message) -> Result<MemberStep, Refusal>
         ensures { IsPrepared self.now (Input.Message message) result }
     {
         match self.unit_heard(&message) {
@@ -56,7 +56,7 @@ impl<'a> Member<'a> {
     }
 
     /// Answers the message about the unit. A build that may be kept shares the tree's texts.
-    fn read(&self, unit: u32, message: Message) -> Result<Step, Memory>
+    fn read(&self, unit: u32, message: Message) -> Result<MemberStep, Memory>
         requires unit { unit < length self.now.division.units }
         requires sender { message.sender < length self.now.weights }
         ensures { IfOk result (Makes self.now (hears self.now unit message.sender message.body)) }
@@ -116,7 +116,7 @@ impl<'a> Member<'a> {
     }
 
     /// Answers the message about the unit.
-    fn answered(&self, unit: u32, sender: u8, body: Body) -> Result<Step, Memory>
+    fn answered(&self, unit: u32, sender: u8, body: Body) -> Result<MemberStep, Memory>
         requires unit { unit < length self.now.division.units }
         requires sender { sender < length self.now.weights }
         ensures { IfOk result (Makes self.now (hears self.now unit sender body)) }
@@ -135,12 +135,12 @@ impl<'a> Member<'a> {
             Body::Vote(claim) => self.voted_by(unit, sender, claim),
             Body::Agreed(build) => self.agreed(unit, build),
             Body::Ask => self.asked_by(unit, sender),
-            Body::Nay(_, _) => Ok(Step::nothing()),
+            Body::Nay(_, _) => Ok(MemberStep::nothing()),
         }
     }
 
     /// The voter's step, which answers the member that made the claim.
-    fn voting(&self, unit: u32, claim: Claim, step: VoterStep) -> Result<Step, Memory>
+    fn voting(&self, unit: u32, claim: Claim, step: VoterStep) -> Result<MemberStep, Memory>
         requires unit { unit < length self.now.division.units }
         requires kept { step.change ≡ step.note }
         ensures { IfOk result
@@ -152,7 +152,7 @@ impl<'a> Member<'a> {
             change,
         } = step;
         match self.texts_of(unit, claim, note, answer) {
-            Ok((note, sends)) => Ok(Step {
+            Ok((note, sends)) => Ok(MemberStep {
                 outcome: Outcome {
                     note,
                     sends,
@@ -217,34 +217,34 @@ impl<'a> Member<'a> {
         sender: u8,
         claim: Claim,
         report: Option<(Claim, Build)>,
-    ) -> Result<Step, Memory>
+    ) -> Result<MemberStep, Memory>
         requires unit { unit < length self.now.division.units }
         requires sender { sender < length self.now.weights }
         ensures { IfOk result
             (Makes self.now (hears self.now unit sender (Body.Promise claim report))) }
     {
         let Some(open) = self.claim_for(unit) else {
-            return Ok(Step::nothing());
+            return Ok(MemberStep::nothing());
         };
         let step = open.claimer.promise(sender, claim, report.as_ref())?;
         self.counting(open, step)
     }
 
     /// The sender votes for the claim's proposal.
-    fn voted_by(&self, unit: u32, sender: u8, claim: Claim) -> Result<Step, Memory>
+    fn voted_by(&self, unit: u32, sender: u8, claim: Claim) -> Result<MemberStep, Memory>
         requires unit { unit < length self.now.division.units }
         requires sender { sender < length self.now.weights }
         ensures { IfOk result (Makes self.now (hears self.now unit sender (Body.Vote claim))) }
     {
         let Some(open) = self.claim_for(unit) else {
-            return Ok(Step::nothing());
+            return Ok(MemberStep::nothing());
         };
         let step = open.claimer.vote(sender, claim)?;
         self.counting(open, step)
     }
 
     /// The claimer's step.
-    fn counting(&self, own: &OpenClaim, step: ClaimerStep) -> Result<Step, Memory>
+    fn counting(&self, own: &OpenClaim, step: ClaimerStep) -> Result<MemberStep, Memory>
         requires { self.now.claim ≡ Some (open_of own.now) }
         ensures { IfOk result
             (λ made. made ≡ counter_prepared self.now (open_of own.now) step.next step.change) }
@@ -260,14 +260,14 @@ impl<'a> Member<'a> {
     }
 
     /// What follows from a claimer's step, before it changes the claim.
-    fn following(&self, own: &OpenClaim, next: Next) -> Result<Step, Memory>
+    fn following(&self, own: &OpenClaim, next: Next) -> Result<MemberStep, Memory>
         requires { self.now.claim ≡ Some (open_of own.now) }
         ensures { (change : ClaimerChange Value) → IfOk result
             (λ made. counting made change
             ≡ counter_prepared self.now (open_of own.now) next change) }
     {
         match next {
-            Next::Nothing => Ok(Step::nothing()),
+            Next::Nothing => Ok(MemberStep::nothing()),
             Next::Build => {
                 let job = self.job_for(own.unit, own.host, own.claimer.claim())?;
                 giving(job)
@@ -278,21 +278,21 @@ impl<'a> Member<'a> {
                     everyone(&self.weights),
                     Body::Propose(claim, build),
                 )?;
-                Ok(Step::saying(sends, ClaimChange::Stays))
+                Ok(MemberStep::saying(sends, ClaimChange::Stays))
             }
             Next::Hold { noted, sent } => self.holding(own.unit, noted, sent),
         }
     }
 
     /// A majority voted: the build is held, and sent to all others.
-    fn holding(&self, unit: u32, noted: Build, sent: Build) -> Result<Step, Memory>
+    fn holding(&self, unit: u32, noted: Build, sent: Build) -> Result<MemberStep, Memory>
         requires { unit < length self.now.division.units }
         ensures { (change : ClaimerChange Value) → IfOk result
             (λ made. counting made change ≡ held_prepared self.now unit noted sent change) }
     {
         let (note, kept) = self.note_held(unit, noted)?;
         let sends = self.sent(unit, others(&self.weights, self.me), Body::Agreed(sent))?;
-        Ok(Step {
+        Ok(MemberStep {
             outcome: Outcome {
                 note: Some(note),
                 sends,
@@ -317,19 +317,19 @@ impl<'a> Member<'a> {
     }
 
     /// The agreed build becomes held, unless one of the unit is held already.
-    fn agreed(&self, unit: u32, build: Build) -> Result<Step, Memory>
+    fn agreed(&self, unit: u32, build: Build) -> Result<MemberStep, Memory>
         requires { unit < length self.now.division.units }
         ensures { IfOk result (Makes self.now (hears self.now unit 0 (Body.Agreed build))) }
     {
         if self.known[unit as usize].held.is_some() {
-            return Ok(Step::nothing());
+            return Ok(MemberStep::nothing());
         }
         let (note, kept) = self.note_held(unit, build)?;
         let change = match self.claim_for(unit) {
             Some(_) => ClaimChange::Ends,
             None => ClaimChange::Stays,
         };
-        Ok(Step {
+        Ok(MemberStep {
             outcome: Outcome {
                 note: Some(note),
                 sends: Sends::nothing(),
@@ -342,7 +342,7 @@ impl<'a> Member<'a> {
     }
 
     /// The sender asks for the agreed build. It gets it if one is held here.
-    fn asked_by(&self, unit: u32, sender: u8) -> Result<Step, Memory>
+    fn asked_by(&self, unit: u32, sender: u8) -> Result<MemberStep, Memory>
         requires { unit < length self.now.division.units }
         ensures { IfOk result (Makes self.now (hears self.now unit sender Body.Ask)) }
     {
@@ -350,20 +350,20 @@ impl<'a> Member<'a> {
             Some(held) => {
                 let build = held.build().copy()?;
                 let sends = self.sent(unit, one(sender), Body::Agreed(build))?;
-                Ok(Step::saying(sends, ClaimChange::Stays))
+                Ok(MemberStep::saying(sends, ClaimChange::Stays))
             }
-            None => Ok(Step::nothing()),
+            None => Ok(MemberStep::nothing()),
         }
     }
 }
 
 /// Gives this job to be built.
-fn giving(job: Job) -> Result<Step, Memory>
+fn giving(job: Job) -> Result<MemberStep, Memory>
     ensures { (change : ClaimerChange Value) → IfOk result
         (λ made. counting made change ≡ quiet_prepared [] (Some job) change) }
 {
     let kept_job = job.copy()?;
-    Ok(Step {
+    Ok(MemberStep {
         outcome: Outcome {
             note: None,
             sends: Sends::nothing(),

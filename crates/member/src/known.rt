@@ -1,6 +1,6 @@
 //! What a member knows of a unit, and still knows after a restart.
 ghost use Rattle.std.specs.Prelude.{◌≡◌};
-ghost use Rattle.agreement.specs.Member.{no_facts, noted};
+ghost use Rattle.claims.specs.Member.{no_facts, noted};
 ghost use Rattle.ballots.specs.InTheAgreement.{note_of};
 
 use crate::held::Held;

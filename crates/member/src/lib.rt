@@ -26,5 +26,5 @@ mod texts;
 
 pub use crate::member::Member;
 pub use crate::open_claim::OpenClaim;
-pub use crate::step::{ClaimChange, Step};
+pub use crate::step::{ClaimChange, MemberStep};
 pub use protocol::{Input, Outcome, Packages, Refusal, Send, Sends};

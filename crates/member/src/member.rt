@@ -3,7 +3,7 @@
 ghost use Rattle.std.specs.Prelude.{◌≡◌, ◌<◌, IfErr, IfOk, OnOk, None, Some};
 ghost use Rattle.std.specs.Prelude.{length, map, nat_lt, replicate};
 ghost use Rattle.std.specs.List.{list_all};
-ghost use Rattle.agreement.specs.Member.{no_facts};
+ghost use Rattle.claims.specs.Member.{no_facts};
 ghost use Rattle.faults.specs.Answers.{map_ok};
 ghost use Rattle.engine.specs.Division.{IsDivision};
 ghost use Rattle.protocol.specs.Answers.{after, tree_digest};
@@ -19,12 +19,11 @@ use crate::change::{change_claim, change_job};
 use crate::facts::keep_fact;
 use crate::known::Known;
 use crate::naming::unit_named;
-use crate::{OpenClaim, Step};
+use crate::{MemberStep, OpenClaim};
 use ballots::{Note, Weights};
 use claims::{Claim, Job};
-use engine::{Engine, Units};
+use engine::{Engine, Tree, Units};
 use faults::Memory;
-use listing::Tree;
 use pkgpath::PkgPath;
 use protocol::{Input, Outcome, Refusal};
 use std::alloc::Global;
@@ -133,7 +132,7 @@ impl<'a> Member<'a> {
     /// # Errors
     ///
     /// `Memory`, if an allocation failed; else the first refusal that applies to the input.
-    pub fn prepare(&mut self, input: Input) -> Result<Step, Refusal>
+    pub fn prepare(&mut self, input: Input) -> Result<MemberStep, Refusal>
         ensures same { self.new ≡ self.old }
         ensures step { HasAnswered self.old input (map_ok (answer_by self.old) result) }
         ensures taken { IfOk result (MayBeTaken self.old) }
@@ -143,7 +142,7 @@ impl<'a> Member<'a> {
     }
 
     /// The step that answers the input.
-    fn prepared(&self, input: Input) -> Result<Step, Refusal>
+    fn prepared(&self, input: Input) -> Result<MemberStep, Refusal>
         ensures { IsPrepared self.now input result }
     {
         match input {
@@ -157,12 +156,12 @@ impl<'a> Member<'a> {
     }
 
     /// Takes the step, which must have been prepared in the present state. Does not allocate.
-    pub fn commit(&mut self, step: Step) -> Outcome
+    pub fn commit(&mut self, step: MemberStep) -> Outcome
         requires { MayBeTaken self.old step }
         ensures state { self.new ≡ after self.old (answer_by self.old step) }
         ensures outcome { told result ≡ (step.note, step.sends, step.job) }
     {
-        let Step {
+        let MemberStep {
             outcome,
             kept_fact,
             kept_job,

@@ -5,14 +5,13 @@ ghost use Rattle.std.specs.Str.{bytes_eq};
 ghost use Rattle.faults.specs.Bytes.{Text};
 ghost use Rattle.claims.specs.Deps.{is_ascending};
 ghost use Rattle.indexmap.specs.IndexMap.{get};
-ghost use Rattle.listing.specs.Tree.{ArePositions, IsTree, name_at, path_at, run_at};
+ghost use Rattle.engine.specs.Tree.{ArePositions, IsTree, name_at, path_at, run_at};
 ghost use Rattle.protocol.specs.Jobs.{in_order_of_path};
 ghost use Rattle.member.specs.inside.Packages.{files_at, have_files, made_at, made_of};
 
-use engine::paths_at;
+use engine::{Tree, paths_at};
 use faults::Memory;
 use indexmap::IndexMap;
-use listing::Tree;
 use package_record::{Files, Package};
 use pkgpath::PkgPath;
 use protocol::{Packages, Refusal};

@@ -1,7 +1,7 @@
 //! Getters of a member's state.
 ghost use Rattle.std.specs.Prelude.{◌≡◌, ◌<◌, length, option_map};
 ghost use Rattle.std.specs.Option.{option_copied};
-ghost use Rattle.agreement.specs.Votes.{report_of};
+ghost use Rattle.claims.specs.Votes.{report_of};
 ghost use Rattle.engine.specs.State as engines;
 ghost use Rattle.protocol.specs.Answers.{tree_digest};
 ghost use Rattle.protocol.specs.Member.{IsMember};
@@ -14,8 +14,7 @@ use crate::held::HeldRecord;
 use crate::{Member, OpenClaim};
 use ballots::{Claimer, Weights};
 use claims::{Claim, Job};
-use engine::{Counts, Letter, Units};
-use listing::Tree;
+use engine::{Counts, Letter, Tree, Units};
 use package_record::{Build, Record};
 use pkgpath::PkgPath;
 use std::alloc::Global;

@@ -24,7 +24,7 @@ pub enum ClaimChange {
 /// A prepared step with all that it allocated. Its note and messages can be read before it is
 /// taken.
 #[derive(Drop)]
-pub struct Step {
+pub struct MemberStep {
     pub(crate) outcome: Outcome,
     /// The fact that the member keeps.
     pub(crate) kept_fact: Option<Fact>,
@@ -33,7 +33,7 @@ pub struct Step {
     pub(crate) change: ClaimChange,
 }
 
-impl Model for Step {
+impl Model for MemberStep {
     ghost use Rattle.member.specs.Prepared.{Prepared};
 
     ghost Value = { Prepared };
@@ -45,7 +45,7 @@ impl Model for Step {
     ghost invariant = { IsKept };
 }
 
-impl Step {
+impl MemberStep {
     /// The note that has to be on the log before anything is sent.
     pub fn note(&self) -> Option<&Note>
         ensures { option_copied result ≡ self.now.note }
@@ -61,20 +61,20 @@ impl Step {
     }
 
     /// The step, with its change of the open claim replaced by this one.
-    pub(crate) fn with_change(self, change: ClaimChange) -> Step
+    pub(crate) fn with_change(self, change: ClaimChange) -> MemberStep
         ensures { result ≡ record self { change = change } }
     {
-        Step { change, ..self }
+        MemberStep { change, ..self }
     }
 
     /// A step without a note, which sends these messages and makes this change of the open claim.
-    pub(crate) fn saying(sends: Sends, change: ClaimChange) -> Step
+    pub(crate) fn saying(sends: Sends, change: ClaimChange) -> MemberStep
         ensures note { result.note ≡ None }
         ensures sends { result.sends ≡ sends }
         ensures job { result.job ≡ None }
         ensures change { result.change ≡ change }
     {
-        Step {
+        MemberStep {
             outcome: Outcome {
                 note: None,
                 sends,
@@ -87,12 +87,12 @@ impl Step {
     }
 
     /// A step that notes, sends and changes nothing.
-    pub(crate) fn nothing() -> Step
+    pub(crate) fn nothing() -> MemberStep
         ensures note { result.note ≡ None }
         ensures sends { result.sends ≡ [] }
         ensures job { result.job ≡ None }
         ensures change { result.change ≡ ClaimChange.Stays }
     {
-        Step::saying(Sends::nothing(), ClaimChange::Stays)
+        MemberStep::saying(Sends::nothing(), ClaimChange::Stays)
     }
 }

@@ -3,8 +3,8 @@ ghost use Rattle.std.specs.Prelude.{◌≡◌, IfOk};
 
 use ballots::Body;
 use claims::Texts;
+use engine::Tree;
 use faults::Memory;
-use listing::Tree;
 use pkgname::PkgName;
 use pkgpath::PkgPath;
 

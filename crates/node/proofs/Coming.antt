@@ -25,8 +25,8 @@ use Rattle.node.specs.declared.fault.Foreign.{Foreign}
 use Rattle.node.specs.declared.fault.Foreign.TheVariants as foreign
 use Rattle.node.specs.declared.fault.NodeFault.{NodeFault}
 use Rattle.node.specs.declared.fault.NodeFault.TheVariants as fault
-use Rattle.node.specs.declared.ready.Change.{Change}
-use Rattle.node.specs.declared.ready.Change.TheVariants as change
+use Rattle.node.specs.declared.prepared_step.Change.{Change}
+use Rattle.node.specs.declared.prepared_step.Change.TheVariants as change
 use Rattle.node.specs.inside.Stepping.{AreKept, ComesAs, MakesReady, dropped_by, foreign_by, left_at, strange_by}
 
 -- ---- refusals

@@ -6,7 +6,7 @@ use Rattle.std.proofs.lemmas.Grind.{flat_map-append}
 use Rattle.std.proofs.lemmas.List.{map-append}
 use Rattle.std.proofs.lemmas.List.Elements.{All-head, All-tail}
 use Rattle.faults.specs.Bytes.{Text}
-use Rattle.agreement.specs.Member.{Facts}
+use Rattle.claims.specs.Member.{Facts}
 use Rattle.ballots.specs.declared.message.Note.{Note}
 use Rattle.member.specs.Prepared.{Prepared, answer_by}
 use Rattle.protocol.specs.Answers.{after as member_after}
@@ -29,7 +29,7 @@ use Rattle.node.specs.State.{IsNode, LoggedNode, NodeState, restored_member, wit
 use Rattle.node.specs.Step.{IsReadyFor, ReadyStep, after, answer_then, changed, note_in, running_step, sends_in, taken_by}
 use Rattle.node.specs.Parcels.{datagrams_to}
 use Rattle.node.specs.declared.fault.NodeFault.{NodeFault}
-use Rattle.node.specs.declared.ready.Out.{Out}
+use Rattle.node.specs.declared.prepared_step.Effects.{Effects}
 use Rattle.node.specs.declared.fault.NodeFault.TheVariants as fault
 use Rattle.node.specs.Noted.{notes_in}
 use Rattle.node.specs.inside.Stepping.{GoesOnWith, HasRoomForText, IsNoteCause, LacksRoomFor, committed, entry_len, with_text}
@@ -212,7 +212,7 @@ module _ {D : Type 0} (history : D → History) (s : State) (texts : List Text) 
     }
 
     -- what is given out is that of the step
-    pub done_taken : (out : Out) → out.sends ≡ datagrams_to (sends_in r.step) → out.job ≡ (answer_then s r.step).job
+    pub done_taken : (out : Effects) → out.sends ≡ datagrams_to (sends_in r.step) → out.job ≡ (answer_then s r.step).job
         → HasTaken before.node (node_with new more left stops) (taken_by before.node r) out
     done_taken out sends job = record {
       state = done_state;

@@ -1,7 +1,7 @@
 -- A file opens in one way only.
 use Rattle.std.proofs.Common.{◌≡◌, inl, inr, ℕ, List, Ok, Err, Result, MatchResult, refl, sym, subst, ap, ◌∙◌}
 use Rattle.faults.specs.Bytes.{Text}
-use Rattle.listing.specs.Tree.{Tree}
+use Rattle.engine.specs.Tree.{Tree}
 use Rattle.stable_record.specs.Log.{Note as Bytes}
 use Rattle.stable_record.specs.Opening.{HasOneAnswer, Opens}
 use Rattle.stable_record.specs.declared.identity.Identity.{Identity}

@@ -4,7 +4,7 @@ use Rattle.std.specs.Prelude.{◌≢◌}
 use Rattle.std.proofs.lemmas.List.Elements.{All-nil}
 use Rattle.faults.specs.Bytes.{Text}
 use Rattle.ballots.specs.declared.message.Note.{Note}
-use Rattle.listing.specs.Tree.{Tree}
+use Rattle.engine.specs.Tree.{Tree}
 use Rattle.protocol.proofs.Restored.{notes_restore}
 use Rattle.protocol.specs.Restoring.{restored}
 use Rattle.protocol.specs.State.{State, Value, fresh}

@@ -21,8 +21,8 @@ use Rattle.node.specs.Step.{Does, IsReadyFor, ReadyStep, Takes, changed, heard, 
 use Rattle.node.specs.declared.fault.Foreign.TheVariants as foreign
 use Rattle.node.specs.declared.fault.NodeFault.{NodeFault}
 use Rattle.node.specs.declared.fault.NodeFault.TheVariants as fault
-use Rattle.node.specs.declared.ready.Change.{Change}
-use Rattle.node.specs.declared.ready.Change.TheVariants as change
+use Rattle.node.specs.declared.prepared_step.Change.{Change}
+use Rattle.node.specs.declared.prepared_step.Change.TheVariants as change
 use Rattle.node.specs.inside.Stepping.{AreKept, IsPrepared, IsSafe, MakesReady, foreign_by, refused_by}
 
 module _ (n : NodeState) (is : IsNode n) (input : Input) (good : IsGoodInput input) (step : Prepared) (answered : HasAnswered n.member input (Ok (answer_by n.member step))) where

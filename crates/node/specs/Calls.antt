@@ -3,7 +3,7 @@ use Rattle.std.specs.Prelude.{◌≡◌, ◌⊎◌, ℕ, List, Option, Result, O
 use Rattle.faults.specs.Answers.{IsRightUnless}
 use Rattle.faults.specs.Bytes.{Text}
 use Rattle.ballots.specs.declared.message.Note.{Note}
-use Rattle.listing.specs.Tree.{Tree}
+use Rattle.engine.specs.Tree.{Tree}
 use Rattle.protocol.specs.Restoring.{AreOnUnits}
 use Rattle.protocol.specs.State.{Value}
 use Rattle.node.specs.OnLog.{HasRoomForNote, LacksRoom, LeavesOneMoreAtMost, identity, identity_of, texts_of}
@@ -12,7 +12,7 @@ use Rattle.node.specs.State.{LoggedNode, NodeState, opened_node}
 use Rattle.node.specs.Step.{Asked, Taken, Takes, after, after_refusal}
 use Rattle.node.specs.declared.fault.NodeFault.{NodeFault}
 use Rattle.node.specs.declared.fault.NodeFault.TheVariants.{Memory, Refused, Log, Stopped, Foreign}
-use Rattle.node.specs.declared.ready.Out.{Out}
+use Rattle.node.specs.declared.prepared_step.Effects.{Effects}
 use Rattle.stable_record.specs.Crash.{OnlySyncs}
 use Rattle.stable_record.specs.History.{History, seen}
 use Rattle.stable_record.specs.declared.log.Log as logs
@@ -52,17 +52,17 @@ pub record HasPrepared (old new : NodeState) (asked : Asked)
   pub state : new ≡ prepared old asked result
 
 -- What is given out is that of the step: its datagrams, each with its receiver, and its job.
-pub record IsOutOf (t : Taken) (out : Out) : Type 0 where
+pub record IsOutOf (t : Taken) (out : Effects) : Type 0 where
   pub sends : out.sends ≡ datagrams_to t.answer.sends
   pub job : out.job ≡ t.answer.job
 
 -- The step was taken: the node is changed by it, and its datagrams and job are given out.
-pub record HasTaken (old new : NodeState) (t : Taken) (out : Out) : Type 0 where
+pub record HasTaken (old new : NodeState) (t : Taken) (out : Effects) : Type 0 where
   pub state : new ≡ after old t
   pub tells : IsOutOf t out
 
 -- The call took the right step: the node is changed by it, and its datagrams and job are given out.
-pub record HasHandled (old new : NodeState) (asked : Asked) (out : Out) : Type 0 where
+pub record HasHandled (old new : NodeState) (asked : Asked) (out : Effects) : Type 0 where
   pub step : Taken
   pub takes : Takes old asked (Ok step)
   pub taken : HasTaken old new step out

@@ -2,7 +2,7 @@
 use Rattle.std.specs.Prelude.{◌≡◌, ◌+◌, ◌<◌, ℕ, List, length, map, Option, None, Some}
 use Rattle.faults.specs.Bytes.{Text}
 use Rattle.ballots.specs.declared.message.Note.{Note}
-use Rattle.listing.specs.Tree.{Tree}
+use Rattle.engine.specs.Tree.{Tree}
 use Rattle.protocol.specs.State.{State, Value}
 use Rattle.protocol.specs.Answers.{tree_digest}
 use Rattle.node.specs.State.{IsNode, LoggedNode, NodeState}

@@ -3,11 +3,11 @@
 use Rattle.std.specs.Prelude.{◌≡◌, ◌<◌, ◌≤◌, ℕ, All, List, Option, None, Some, Ok, length}
 use Rattle.std.specs.Option.{ForSome}
 use Rattle.faults.specs.Bytes.{Text}
-use Rattle.agreement.specs.Votes.{Ballot}
-use Rattle.agreement.specs.Member as members
-use Rattle.agreement.specs.Member.{Facts}
-use Rattle.agreement.specs.Messages as messages
-use Rattle.agreement.specs.Step.{Outcome}
+use Rattle.claims.specs.Votes.{Ballot}
+use Rattle.claims.specs.Member as members
+use Rattle.claims.specs.Member.{Facts}
+use Rattle.claims.specs.Messages as messages
+use Rattle.claims.specs.Step.{Outcome}
 use Rattle.claims.specs.Claim.{IsClaim, IsRound, greatest_round}
 use Rattle.engine.specs.declared.Letter.{Letter}
 use Rattle.ballots.specs.Weights.{AreWeights}

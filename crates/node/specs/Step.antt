@@ -19,8 +19,8 @@ use Rattle.node.specs.State.{IsNode, NodeState, restored_member, with_note}
 use Rattle.node.specs.declared.fault.Foreign.TheVariants as foreign
 use Rattle.node.specs.declared.fault.NodeFault.{NodeFault}
 use Rattle.node.specs.declared.fault.NodeFault.TheVariants as fault
-use Rattle.node.specs.declared.ready.Change.{Change}
-use Rattle.node.specs.declared.ready.Change.TheVariants as change
+use Rattle.node.specs.declared.prepared_step.Change.{Change}
+use Rattle.node.specs.declared.prepared_step.Change.TheVariants as change
 use Rattle.wire.specs.Reading.{datagram_of}
 use Rattle.wire.specs.declared.datagram.Piece.{Piece}
 

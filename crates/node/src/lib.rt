@@ -9,7 +9,7 @@ mod node;
 mod noted;
 mod opening;
 mod parcels;
-mod ready;
+mod prepared_step;
 mod step_end;
 mod stepping;
 mod written;
@@ -21,5 +21,6 @@ pub use crate::laws::{
 pub use crate::node::Node;
 pub use crate::noted::Noted;
 pub use crate::parcels::Parcels;
-pub use crate::ready::{Change, Out, Ready};
-pub use events::{Event, Left, Torn};
+pub use crate::prepared_step::{Change, Effects, PreparedStep};
+pub use member::MemberStep;
+pub use protocol::{Event, Left, Torn};

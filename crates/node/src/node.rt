@@ -1,7 +1,7 @@
 //! A node. Contracts see its member, its notes, its pieces, and its log.
 ghost use Rattle.std.specs.Prelude.{◌≡◌, ◌<◌, Some, is_some, length, option_map, true, ℕ};
 ghost use Rattle.std.specs.Option.{option_copied};
-ghost use Rattle.agreement.specs.Votes.{report_of};
+ghost use Rattle.claims.specs.Votes.{report_of};
 ghost use Rattle.claims.specs.Claim.{IsClaim};
 ghost use Rattle.engine.specs.State as engines;
 ghost use Rattle.faults.specs.Answers.{IsRightUnless};
@@ -17,8 +17,7 @@ ghost use Rattle.node.specs.Noted.{notes_in};
 use crate::noted::Noted;
 use ballots::Weights;
 use claims::Claim;
-use engine::{Counts, Letter, Units};
-use listing::Tree;
+use engine::{Counts, Letter, Tree, Units};
 use member::{Member, OpenClaim};
 use package_record::{Build, Record};
 use pkgpath::PkgPath;

@@ -13,9 +13,9 @@ ghost use Rattle.node.specs.inside.Stepping.{GoesOnWith, HasRoomForText, IsNoteC
 use crate::kept::{change_kept, make_room};
 use crate::noted::Noted;
 use crate::opening::told;
-use crate::{Node, NodeFault, Out, Ready};
+use crate::{Effects, Node, NodeFault, PreparedStep};
 use claims::Job;
-use member::{Member, Step};
+use member::{Member, MemberStep};
 use protocol::Outcome;
 use stable_record::{Disk, Log, LogFault};
 use wire::Piece;
@@ -29,7 +29,7 @@ impl<'a, D: Disk> Node<'a, D> {
     /// # Errors
     ///
     /// `Memory`, and those of `Log::append`.
-    pub fn finish(&mut self, ready: Ready) -> Result<Out, NodeFault>
+    pub fn finish(&mut self, ready: PreparedStep) -> Result<Effects, NodeFault>
         requires present { IsReadyFor self.old.node ready }
         ensures taken { IfOk result
             (HasTaken self.old.node self.new.node (taken_by self.old.node ready)) }
@@ -174,7 +174,7 @@ fn write<D: Disk>(log: &mut Log<D>, noted: &mut Noted, note: Option<&[u8]>) -> R
 }
 
 /// Takes a step whose note is on the disk. Does not allocate.
-fn take(member: &mut Member<'_>, pieces: &mut Vec<Piece>, ready: Ready) -> Out
+fn take(member: &mut Member<'_>, pieces: &mut Vec<Piece>, ready: PreparedStep) -> Effects
     requires room { vec_len pieces.old < vec_capacity pieces.old }
     requires step { ForSome ready.step (MayBeTaken member.old) }
     ensures member { member.new ≡ committed member.old ready.step }
@@ -185,11 +185,11 @@ fn take(member: &mut Member<'_>, pieces: &mut Vec<Piece>, ready: Ready) -> Out
     let (step, sends, change) = ready.apart();
     change_kept(pieces, change);
     let job = commit(member, step);
-    Out { sends, job }
+    Effects { sends, job }
 }
 
 /// Takes the member's part of a step, if it has one. Does not allocate.
-fn commit(member: &mut Member<'_>, step: Option<Step>) -> Option<Job>
+fn commit(member: &mut Member<'_>, step: Option<MemberStep>) -> Option<Job>
     requires { ForSome step (MayBeTaken member.old) }
     ensures member { member.new ≡ committed member.old step }
     ensures job { result ≡ (answer_then member.old step).job }

@@ -16,7 +16,7 @@ ghost use Rattle.node.specs.Step.{Comes, Does, IsReadyFor, changed, heard, taken
 ghost use Rattle.node.specs.inside.Stepping.{AreKept, ComesAs, IsPrepared, MakesReady, dropped_by, foreign_by, refused_by, strange_by};
 
 use crate::kept::{drop_pieces, has_number, is_last, joined, known_build, test_header};
-use crate::{Change, Foreign, Node, NodeFault, Out, Ready};
+use crate::{Change, Effects, Foreign, Node, NodeFault, PreparedStep};
 use ballots::Message;
 use member::Input;
 use protocol::Refusal;
@@ -29,7 +29,7 @@ impl<'a, D: Disk> Node<'a, D> {
     /// # Errors
     ///
     /// `Stopped`; else `Memory`, or the member's refusal.
-    pub fn prepare(&mut self, input: Input) -> Result<Ready, NodeFault>
+    pub fn prepare(&mut self, input: Input) -> Result<PreparedStep, NodeFault>
         requires message { IsGoodInput input }
         ensures step { HasPrepared self.old.node self.new.node (Does input)
             (map_ok (taken_by self.old.node) result) }
@@ -53,7 +53,7 @@ impl<'a, D: Disk> Node<'a, D> {
     /// # Errors
     ///
     /// `Stopped`; else `Memory`, or `Foreign` with the reason.
-    pub fn prepare_datagram(&mut self, bytes: &[u8]) -> Result<Ready, NodeFault>
+    pub fn prepare_datagram(&mut self, bytes: &[u8]) -> Result<PreparedStep, NodeFault>
         ensures step { HasPrepared self.old.node self.new.node (Comes bytes.now)
             (map_ok (taken_by self.old.node) result) }
         ensures ready { IfOk result (IsReadyFor self.new.node) }
@@ -73,7 +73,7 @@ impl<'a, D: Disk> Node<'a, D> {
     }
 
     /// Makes the step on an input ready, with this change of the pieces.
-    fn prepare_input(&mut self, input: Input, change: Change) -> Result<Ready, Refusal>
+    fn prepare_input(&mut self, input: Input, change: Change) -> Result<PreparedStep, Refusal>
         requires message { IsGoodInput input }
         requires pieces { AreKept self.old.node.member (changed change self.old.node.pieces) }
         ensures step { IsPrepared self.old.node input change result }
@@ -87,11 +87,15 @@ impl<'a, D: Disk> Node<'a, D> {
                 return Err(refusal);
             }
         };
-        Ok(Ready::of(alloc, step, change)?)
+        Ok(PreparedStep::of(alloc, step, change)?)
     }
 
     /// Makes the step on a received message ready, with this change of the pieces.
-    fn prepare_message(&mut self, message: Message, change: Change) -> Result<Ready, NodeFault>
+    fn prepare_message(
+        &mut self,
+        message: Message,
+        change: Change,
+    ) -> Result<PreparedStep, NodeFault>
         requires message { IsGoodBody message.path message.body }
         requires pieces { AreKept self.old.node.member (changed change self.old.node.pieces) }
         ensures step { MakesReady self.old.node
@@ -106,7 +110,7 @@ impl<'a, D: Disk> Node<'a, D> {
     }
 
     /// Makes the step on a received piece ready. Its header is tested first.
-    fn prepare_piece(&mut self, piece: Piece) -> Result<Ready, NodeFault>
+    fn prepare_piece(&mut self, piece: Piece) -> Result<PreparedStep, NodeFault>
         requires { IsPiece piece }
         ensures step { ComesAs self.old.node self.new.node
             (arrival_of_piece self.old.node.pieces piece
@@ -118,16 +122,16 @@ impl<'a, D: Disk> Node<'a, D> {
             return Err(foreign(refusal));
         }
         if has_number(self.pieces.as_slice(), &piece.header, piece.number) {
-            Ok(Ready::waiting(self.allocator(), Change::Stays))
+            Ok(PreparedStep::waiting(self.allocator(), Change::Stays))
         } else if is_last(self.pieces.as_slice(), &piece) {
             self.prepare_joined(piece)
         } else {
-            Ok(Ready::waiting(self.allocator(), Change::Keeps(piece)))
+            Ok(PreparedStep::waiting(self.allocator(), Change::Keeps(piece)))
         }
     }
 
     /// Makes the step on a message ready whose last missing piece was received.
-    fn prepare_joined(&mut self, piece: Piece) -> Result<Ready, NodeFault>
+    fn prepare_joined(&mut self, piece: Piece) -> Result<PreparedStep, NodeFault>
         requires { IsPiece piece }
         ensures step { ComesAs self.old.node self.new.node
             (arrival_of_all (without piece.header self.old.node.pieces)
@@ -164,7 +168,7 @@ impl<'a, D: Disk> Node<'a, D> {
     /// # Errors
     ///
     /// Those of both.
-    pub fn handle(&mut self, input: Input) -> Result<Out, NodeFault>
+    pub fn handle(&mut self, input: Input) -> Result<Effects, NodeFault>
         requires message { IsGoodInput input }
         ensures taken { IfOk result (HasHandled self.old.node self.new.node (Does input)) }
         ensures on_log { D.is_kept self.new.log.disk → IsOnLog D.history self.old
@@ -204,7 +208,7 @@ impl<'a, D: Disk> Node<'a, D> {
     /// # Errors
     ///
     /// Those of both.
-    pub fn handle_datagram(&mut self, bytes: &[u8]) -> Result<Out, NodeFault>
+    pub fn handle_datagram(&mut self, bytes: &[u8]) -> Result<Effects, NodeFault>
         ensures taken { IfOk result (HasHandled self.old.node self.new.node (Comes bytes.now)) }
         ensures on_log { D.is_kept self.new.log.disk → IsOnLog D.history self.old
             → OnOk result (IsOnLog D.history self.new) }

@@ -6,10 +6,10 @@ use Rattle.std.proofs.lemmas.List.{length-append, length-map, take-append-drop}
 use Rattle.std.proofs.lemmas.List.Elements.{All-cons, All-nil}
 use Rattle.faults.specs.Answers.{first_given, option_or, unless_fault}
 use Rattle.faults.specs.Bytes.{Text}
-use Rattle.agreement.specs.declared.claim.Claim.{Claim}
+use Rattle.claims.specs.declared.claim.Claim.{Claim}
 use Rattle.claims.specs.Deps.{is_ascending}
 use Rattle.claims.specs.declared.deps.Dep.{Dep}
-use Rattle.pkgpath.specs.PkgPath.{without_subpackage}
+use Rattle.claims.specs.PkgPath.{without_subpackage}
 use Rattle.package_record.specs.Build.{AreAlike, IsAlike, IsBuild, build_text, most_packages, paths_of, records_text}
 use Rattle.package_record.specs.Content.{AreFileNames, Content, IsRecord, is_next_name, most_bytes, names_of, record_text}
 use Rattle.package_record.specs.Laws.{CanBeMade}

@@ -9,11 +9,11 @@ use Rattle.hex.specs.Hex.{encode_lower, encode_with, lower_digits}
 use Rattle.faults.specs.Answers.{unless_fault}
 use Rattle.faults.specs.Bytes.{Text, comma, has_byte, slash}
 use Rattle.faults.specs.Pieces.{pieces_at}
-use Rattle.pkgname.specs.PkgName.{IsName, fault_of as name_fault_of, has_empty_flavor, is_name_byte}
-use Rattle.pkgname.specs.declared.NameFault.TheVariants as name_faults
-use Rattle.pkgpath.specs.PkgPath.{IsPath, directory_of, fault_of as path_fault_of, is_component, is_part, is_path_byte, parts_of}
-use Rattle.pkgpath.proofs.FirstFault.{faultless}
-use Rattle.pkgpath.proofs.Pieces.{lacks, pieces-split}
+use Rattle.claims.specs.PkgName.{IsName, fault_of as name_fault_of, has_empty_flavor, is_name_byte}
+use Rattle.claims.specs.NameFault.TheVariants as name_faults
+use Rattle.claims.specs.PkgPath.{IsPath, directory_of, fault_of as path_fault_of, is_component, is_part, is_path_byte, parts_of}
+use Rattle.claims.proofs.FirstFault.{faultless}
+use Rattle.claims.proofs.Pieces.{lacks, pieces-split}
 
 -- ---- texts
 

@@ -15,9 +15,9 @@ use Rattle.std.proofs.Math.Seq.{drop-append-add, drop-append_seam, get_or-append
 use Rattle.hex.specs.Hex.{IsBytes, encode_lower}
 use Rattle.hex.proofs.HexLemmas.{decode_sized-encode_lower}
 use Rattle.faults.specs.Bytes.{Text, begins_with, has_byte, is_empty}
-use Rattle.pkgname.specs.PkgName.{IsName}
-use Rattle.pkgpath.specs.PkgPath.{IsPath}
-use Rattle.agreement.specs.declared.claim.Claim.{Claim}
+use Rattle.claims.specs.PkgName.{IsName}
+use Rattle.claims.specs.PkgPath.{IsPath}
+use Rattle.claims.specs.declared.claim.Claim.{Claim}
 use Rattle.claims.specs.Claim.{IsClaim, greatest_round}
 use Rattle.claims.specs.declared.deps.Dep.{Dep}
 use Rattle.package_record.specs.Content.{IsDep, most_bytes}

@@ -11,9 +11,9 @@ use Rattle.sha2.specs.Sha256.{sha256}
 use Rattle.sha2.proofs.Facts256.{length-sha256}
 use Rattle.faults.specs.Bytes.{Text, begins_with, is_among, is_empty, slash}
 use Rattle.faults.specs.Pieces.{pieces_at}
-use Rattle.pkgname.specs.PkgName.{IsName}
-use Rattle.pkgpath.specs.PkgPath.{IsPath}
-use Rattle.agreement.specs.declared.claim.Claim.{Claim}
+use Rattle.claims.specs.PkgName.{IsName}
+use Rattle.claims.specs.PkgPath.{IsPath}
+use Rattle.claims.specs.declared.claim.Claim.{Claim}
 use Rattle.claims.specs.Claim.{IsClaim}
 use Rattle.claims.specs.Deps.{is_ascending}
 use Rattle.claims.specs.declared.deps.Dep.{Dep}

@@ -13,10 +13,10 @@ use Rattle.hex.specs.Hex.{encode_lower}
 use Rattle.sha2.specs.Sha256.{sha256}
 use Rattle.faults.specs.Bytes.{Text, begins_with, has_byte, is_among}
 use Rattle.faults.specs.Pieces.{pieces_at}
-use Rattle.pkgpath.specs.PkgPath.{IsPath}
-use Rattle.pkgpath.proofs.Pieces.{lacks}
+use Rattle.claims.specs.PkgPath.{IsPath}
+use Rattle.claims.proofs.Pieces.{lacks}
 use Rattle.claims.specs.Claim.{IsClaim, greatest_round}
-use Rattle.agreement.specs.declared.claim.Claim.{Claim}
+use Rattle.claims.specs.declared.claim.Claim.{Claim}
 use Rattle.claims.specs.declared.deps.Dep.{Dep}
 use Rattle.package_record.specs.Content.{AreFileNames, Content, IsDep, IsRecord, NamedFile, built_line, claim_line, ended, file_lines, front_lines, header_lines, is_file_name, is_printable, most_bytes, names_of, record_text, run_line}
 use Rattle.package_record.specs.Reading.{Header, content_of_parts, files_in, first_of, header_of, total_of, whole_of}

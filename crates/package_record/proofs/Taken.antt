@@ -12,8 +12,8 @@ use Rattle.std.proofs.lemmas.List.Sums.{prefix_len_stops, split_at_first}
 use Rattle.std.proofs.lemmas.Slice.Eq.{bytes_eq-Decides}
 use Rattle.hex.specs.Hex.{decode_sized, encode_lower}
 use Rattle.faults.specs.Bytes.{Text, begins_with, is_empty}
-use Rattle.pkgname.specs.PkgName.{IsName, name_of}
-use Rattle.pkgpath.specs.PkgPath.{IsPath, path_of}
+use Rattle.claims.specs.PkgName.{IsName, name_of}
+use Rattle.claims.specs.PkgPath.{IsPath, path_of}
 use Rattle.claims.specs.declared.deps.Dep.{Dep}
 use Rattle.package_record.specs.Content.{built_line, is_next_name, most_bytes, run_line}
 use Rattle.package_record.specs.Reading.{Head, Place, ◌>>=◌, built_at, cut_in, dependency_in, digest_in, entry_at, field_at, head_at, if_lower, is_above, is_itself, is_number, last_of, line_at, line_in, name_in, path_in, run_at, size_in}

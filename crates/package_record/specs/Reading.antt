@@ -9,9 +9,9 @@ use Rattle.hex.specs.Hex.{decode_sized, encode_lower}
 use Rattle.sha2.specs.Sha256.{sha256}
 use Rattle.faults.specs.Bytes.{Text, begins_with, blank, dot, is_empty, line_feed}
 use Rattle.faults.specs.Pieces.{pieces_at, text_cmp}
-use Rattle.pkgname.specs.PkgName.{name_of}
-use Rattle.pkgpath.specs.PkgPath.{path_of}
-use Rattle.agreement.specs.declared.claim.Claim.{Claim}
+use Rattle.claims.specs.PkgName.{name_of}
+use Rattle.claims.specs.PkgPath.{path_of}
+use Rattle.claims.specs.declared.claim.Claim.{Claim}
 use Rattle.claims.specs.Claim.{greatest_round}
 use Rattle.claims.specs.declared.deps.Dep.{Dep}
 use Rattle.package_record.specs.Content.{Content, NamedFile, greatest_host, is_next_name, most_bytes}

@@ -3,10 +3,8 @@ ghost use Rattle.std.specs.Prelude.{◌≡◌, IfOk};
 ghost use Rattle.package_record.specs.Views.{content_of};
 
 use crate::hashed_files::HashedFiles;
-use claims::{Claim, Deps, Texts};
+use claims::{Claim, Deps, PkgName, PkgPath, Texts};
 use faults::Memory;
-use pkgname::PkgName;
-use pkgpath::PkgPath;
 use std::alloc::Global;
 
 /// The contents of a record, as given or parsed.

@@ -15,10 +15,8 @@ use crate::number::size;
 use crate::reading::{
     claim_line, dependency, digest, host_line, name_line, path, path_line, version_line,
 };
-use claims::{Claim, Dep};
+use claims::{Claim, Dep, PkgName, PkgPath};
 use indexmap::IndexSet;
-use pkgname::PkgName;
-use pkgpath::PkgPath;
 use std::alloc::Global;
 
 /// The contents of the first five lines.

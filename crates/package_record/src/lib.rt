@@ -46,6 +46,7 @@ pub use crate::laws::{
     record_text_is_read_at_the_front, what_is_made_is_a_build, what_is_read_is_a_build,
 };
 pub use crate::package::{Record, make};
+pub use claims::PkgPath;
 
 /// The greatest number of a host; the least is 0.
 pub const GREATEST_HOST: u16 = 65_535;

@@ -3,8 +3,7 @@
 
 use crate::room::{BUILT, LEAST_FILE, RUN};
 use crate::{File, Record};
-use claims::Dep;
-use pkgpath::PkgPath;
+use claims::{Dep, PkgPath};
 
 /// The maximum number of digits of a number.
 const DIGITS: usize = 20;

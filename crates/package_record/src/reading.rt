@@ -21,10 +21,8 @@ use crate::digest::digest_of;
 use crate::fault::ReadError;
 use crate::number::number_within;
 use crate::{GREATEST_HOST, RecordFault};
-use claims::{Claim, Dep, GREATEST_ROUND, MEMBERS};
+use claims::{Claim, Dep, GREATEST_ROUND, MEMBERS, NameFault, PathFault, PkgName, PkgPath};
 use faults::split_once;
-use pkgname::{NameFault, PkgName};
-use pkgpath::{PathFault, PkgPath};
 use std::alloc::Global;
 
 /// The fault that the line is not the one expected there.

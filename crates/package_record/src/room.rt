@@ -3,8 +3,7 @@
 
 use crate::File;
 use crate::fields::Fields;
-use claims::Dep;
-use pkgpath::PkgPath;
+use claims::{Dep, PkgPath};
 
 /// The maximum number of bytes of the first five lines and the empty line, without the name and the
 /// path.

@@ -3,13 +3,12 @@ ghost use Rattle.std.specs.Prelude.{◌≡◌, IfOk};
 ghost use Rattle.std.specs.Cmp.Lexicographic.{pointwise};
 ghost use Rattle.std.specs.Str.{bytes_eq};
 ghost use Rattle.faults.specs.Answers.{IsRightUnless, unless_fault};
-ghost use Rattle.pkgpath.specs.PkgPath.{without_subpackage};
+ghost use Rattle.claims.specs.PkgPath.{without_subpackage};
 ghost use Rattle.package_record.specs.BuildReading.{is_next_path, is_same_dep, next_fault, unlike_fault};
 
 use crate::{Record, RecordFault};
-use claims::Dep;
+use claims::{Dep, PkgPath};
 use faults::Memory;
-use pkgpath::PkgPath;
 
 fn is_same_dep(dep: &Dep, other: &Dep) -> bool
     ensures { result ≡ is_same_dep dep.now other.now }

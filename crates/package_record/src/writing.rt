@@ -2,8 +2,8 @@
 ghost use Rattle.std.specs.Prelude.{◌≡◌, ◌++◌, [], ◌∷◌, All, OnOk, IfOk, codes, decimal, flat_map, length, map};
 ghost use Rattle.hex.specs.Hex.{encode_lower};
 ghost use Rattle.sha2.specs.Sha256.{sha256};
-ghost use Rattle.pkgname.specs.PkgName.{IsName};
-ghost use Rattle.pkgpath.specs.PkgPath.{IsPath};
+ghost use Rattle.claims.specs.PkgName.{IsName};
+ghost use Rattle.claims.specs.PkgPath.{IsPath};
 ghost use Rattle.package_record.specs.Content.{HasNames, IsDep, built_line, claim_line, ended, file_lines, front_lines, header_text, name_lines, record_text, run_line};
 ghost use Rattle.package_record.specs.FileView.{file_view};
 ghost use Rattle.package_record.specs.Views.{content_of};
@@ -13,10 +13,9 @@ use crate::digest::digest_text;
 use crate::fields::Fields;
 use crate::hashed_files::HashedFiles;
 use crate::room::{header_room, text_room};
-use claims::{Claim, Dep};
+use claims::{Claim, Dep, PkgPath};
 use faults::Memory;
 use itoa::Buffer;
-use pkgpath::PkgPath;
 use std::alloc::Global;
 
 /// Appends a line made of these parts.

@@ -12,15 +12,15 @@ use Rattle.std.specs.List.{list_all, list_any, range_with_len}
 use Rattle.std.specs.Str.{bytes_eq}
 use Rattle.faults.specs.Answers.{first_that_applies}
 use Rattle.faults.specs.Bytes.{Text}
-use Rattle.agreement.specs.Quorums.{Members, Quorums, is_majority, named_in, with_member}
-use Rattle.agreement.specs.Member as members
-use Rattle.agreement.specs.Member.{Facts, facts_of, no_facts}
-use Rattle.agreement.specs.Messages as messages
-use Rattle.agreement.specs.Claims.{claim_same}
-use Rattle.agreement.specs.declared.claim.Claim.{Claim}
-use Rattle.agreement.specs.Step.{Outcome, on_agreed, on_ask, on_vote}
-use Rattle.agreement.specs.Noted.{IsClosedWhereHeld}
-use Rattle.agreement.proofs.Restored.{message_noted}
+use Rattle.claims.specs.Quorums.{Members, Quorums, is_majority, named_in, with_member}
+use Rattle.claims.specs.Member as members
+use Rattle.claims.specs.Member.{Facts, facts_of, no_facts}
+use Rattle.claims.specs.Messages as messages
+use Rattle.claims.specs.Claims.{claim_same}
+use Rattle.claims.specs.declared.claim.Claim.{Claim}
+use Rattle.claims.specs.Step.{Outcome, on_agreed, on_ask, on_vote}
+use Rattle.claims.specs.Noted.{IsClosedWhereHeld}
+use Rattle.claims.proofs.Restored.{message_noted}
 use Rattle.ballots.specs.InTheAgreement.{said}
 use Rattle.ballots.specs.Pledge.{HasPromised}
 use Rattle.ballots.specs.declared.message.Body.{Body}
@@ -95,15 +95,15 @@ pub seen_by : (s : State) (u : ℕ) (claim : Option OpenClaim) → s.claim ≡ c
 seen_by s u None e holds =
     let P : Option OpenClaim
     → Type 0 = λ claim. IsWithin (length s.weights)
-    (Rattle.agreement.specs.Nodes.stage_at (option_map claim_of claim) u) × IsClosedWhereHeld
-    (facts_at s u).held (Rattle.agreement.specs.Nodes.stage_at (option_map claim_of claim) u) in
+    (Rattle.claims.specs.Nodes.stage_at (option_map claim_of claim) u) × IsClosedWhereHeld
+    (facts_at s u).held (Rattle.claims.specs.Nodes.stage_at (option_map claim_of claim) u) in
     let both = subst P (sym e) (tt, closed_closed (facts_at s u).held) in
     record { within = both.0; closed = both.1 }
 seen_by s u (Some o) e holds =
     let P : Option OpenClaim
     → Type 0 = λ claim. IsWithin (length s.weights)
-    (Rattle.agreement.specs.Nodes.stage_at (option_map claim_of claim) u) × IsClosedWhereHeld
-    (facts_at s u).held (Rattle.agreement.specs.Nodes.stage_at (option_map claim_of claim) u) in
+    (Rattle.claims.specs.Nodes.stage_at (option_map claim_of claim) u) × IsClosedWhereHeld
+    (facts_at s u).held (Rattle.claims.specs.Nodes.stage_at (option_map claim_of claim) u) in
     let Q : members.Stage Value
     → Type 0 = λ stage. IsWithin (length s.weights) stage × IsClosedWhereHeld
     (facts_at s u).held stage in

@@ -4,15 +4,15 @@ use Rattle.std.proofs.Common.{[], ◌∷◌, Option, Some, None, Result, Ok, Err
 use Rattle.std.proofs.Common.{sym, subst, ap, ◌∙◌, if◌then◌else◌, filter, length, nat_le}
 use Rattle.std.proofs.Common.{option_map, sum, IfSome}
 use Rattle.std.proofs.lemmas.Bool.{and_parts, cond-true, eq-eqb, false≢true, leb-true, ltb-false}
-use Rattle.agreement.specs.Quorums.{Members, Quorums, is_majority, named_in, weight}
-use Rattle.agreement.specs.Member as members
-use Rattle.agreement.specs.Member.{no_facts}
-use Rattle.agreement.specs.Step.{Outcome, on_built, on_failed, on_inquire, on_nudge, on_start}
-use Rattle.agreement.specs.Step as theory
-use Rattle.agreement.specs.declared.claim.Claim.{Claim}
-use Rattle.agreement.specs.Noted.{IsNoted}
-use Rattle.agreement.proofs.Restored.{answer_noted}
-use Rattle.agreement.specs.Nodes as nodes
+use Rattle.claims.specs.Quorums.{Members, Quorums, is_majority, named_in, weight}
+use Rattle.claims.specs.Member as members
+use Rattle.claims.specs.Member.{no_facts}
+use Rattle.claims.specs.Step.{Outcome, on_built, on_failed, on_inquire, on_nudge, on_start}
+use Rattle.claims.specs.Step as theory
+use Rattle.claims.specs.declared.claim.Claim.{Claim}
+use Rattle.claims.specs.Noted.{IsNoted}
+use Rattle.claims.proofs.Restored.{answer_noted}
+use Rattle.claims.specs.Nodes as nodes
 use Rattle.ballots.specs.Weights.{AreWeights, is_weight}
 use Rattle.std.proofs.lemmas.List.Sums.{sum_by-cons}
 use Rattle.std.proofs.lemmas.Map.Views.{any-filter_same}
@@ -26,7 +26,7 @@ use Rattle.engine.specs.Division.{no_unit, number_named, number_of}
 use Rattle.engine.specs.Units.{is_in}
 use Rattle.engine.proofs.Lists.{in_range}
 use Rattle.engine.proofs.Names.{name_is_found}
-use Rattle.listing.specs.Tree.{position_of}
+use Rattle.engine.specs.Tree.{position_of}
 use Rattle.protocol.specs.State.{OpenClaim, Progress, Gathering, Building, Voting, State, Value}
 use Rattle.protocol.specs.State.{name_at, unit_with}
 use Rattle.protocol.specs.InTheAgreement.{claim_of, stage_of, view}

@@ -1,11 +1,11 @@
 -- Two trees, and members for the computed examples.
 use Rattle.std.specs.Prelude.{◌≡◌, refl, ℕ, zero, suc, Bool, true, false, List, [], ◌∷◌, Option}
 use Rattle.std.specs.Prelude.{None, Some, codes, map}
-use Rattle.agreement.specs.declared.claim.Claim.{Claim}
-use Rattle.agreement.specs.Votes.{Ballot}
-use Rattle.agreement.specs.Member.{Facts, no_facts}
+use Rattle.claims.specs.declared.claim.Claim.{Claim}
+use Rattle.claims.specs.Votes.{Ballot}
+use Rattle.claims.specs.Member.{Facts, no_facts}
 use Rattle.std.proofs.lemmas.Bool.{false≢true}
-use Rattle.listing.specs.Tree.{Tree, is_marked_at}
+use Rattle.engine.specs.Tree.{Tree, is_marked_at}
 use Rattle.engine.specs.Division.{Division}
 use Rattle.engine.specs.Ignored.{AreTheIgnored}
 use Rattle.engine.specs.Units.{AreUnits}

@@ -1,15 +1,15 @@
 -- A step of the theory preserves the invariant of open claims.
 use Rattle.std.proofs.Common.{◌≡◌, ℕ, false, Option, None, Some, IfSome}
 use Rattle.std.proofs.lemmas.Bool.{cond_both}
-use Rattle.agreement.specs.declared.claim.Claim.{Claim}
-use Rattle.agreement.specs.Claims.{claim_same, is_above, is_below, is_promised}
-use Rattle.agreement.specs.Quorums.{Quorums, nobody, with_member}
-use Rattle.agreement.specs.Votes.{Ballot, PromiseOf, is_voted, kept_report}
-use Rattle.agreement.specs.Member as members
-use Rattle.agreement.specs.Messages as messages
-use Rattle.agreement.specs.Step.{Outcome, on_agreed, on_ask, on_built, on_failed, on_inquire}
-use Rattle.agreement.specs.Step.{on_message, on_nudge, on_offer, on_promise, on_propose, on_quorum}
-use Rattle.agreement.specs.Step.{on_vote}
+use Rattle.claims.specs.declared.claim.Claim.{Claim}
+use Rattle.claims.specs.Claims.{claim_same, is_above, is_below, is_promised}
+use Rattle.claims.specs.Quorums.{Quorums, nobody, with_member}
+use Rattle.claims.specs.Votes.{Ballot, PromiseOf, is_voted, kept_report}
+use Rattle.claims.specs.Member as members
+use Rattle.claims.specs.Messages as messages
+use Rattle.claims.specs.Step.{Outcome, on_agreed, on_ask, on_built, on_failed, on_inquire}
+use Rattle.claims.specs.Step.{on_message, on_nudge, on_offer, on_promise, on_propose, on_quorum}
+use Rattle.claims.specs.Step.{on_vote}
 use Rattle.protocol.specs.State.{Value}
 use Rattle.std.specs.Prelude.{not, ◌&&◌}
 

@@ -2,14 +2,14 @@
 use Rattle.std.proofs.Common.{◌≡◌, ◌==◌, ◌&&◌, ◌<◌, not, ℕ, true, false, Option, Some, None, refl}
 use Rattle.std.proofs.Common.{sym, subst, ⊎_elim, eqb-true}
 use Rattle.std.proofs.lemmas.Bool.{cond_both, false≢true, or_cases}
-use Rattle.agreement.specs.declared.claim.Claim.{Claim}
-use Rattle.agreement.specs.Claims.{claim_same, is_above, is_below, is_promised}
-use Rattle.agreement.specs.Quorums.{Members, Quorums, with_member}
-use Rattle.agreement.specs.Votes.{Ballot, PromiseOf, is_voted, kept_report}
-use Rattle.agreement.specs.Member as members
-use Rattle.agreement.specs.Messages as messages
-use Rattle.agreement.specs.Step.{Outcome, on_agreed, on_ask, on_message, on_offer, on_promise}
-use Rattle.agreement.specs.Step.{on_propose, on_quorum, on_vote, still}
+use Rattle.claims.specs.declared.claim.Claim.{Claim}
+use Rattle.claims.specs.Claims.{claim_same, is_above, is_below, is_promised}
+use Rattle.claims.specs.Quorums.{Members, Quorums, with_member}
+use Rattle.claims.specs.Votes.{Ballot, PromiseOf, is_voted, kept_report}
+use Rattle.claims.specs.Member as members
+use Rattle.claims.specs.Messages as messages
+use Rattle.claims.specs.Step.{Outcome, on_agreed, on_ask, on_message, on_offer, on_promise}
+use Rattle.claims.specs.Step.{on_propose, on_quorum, on_vote, still}
 use Rattle.protocol.specs.State.{Value}
 use Rattle.protocol.proofs.TheTheory.{IsSaidBy, IsSaidByAny, IsWithin}
 

@@ -12,7 +12,7 @@ use Rattle.faults.specs.Pieces.{set_of}
 use Rattle.faults.proofs.Members.{contains_first, contains_later, has_preimage}
 use Rattle.faults.proofs.Sets.{from_set}
 use Rattle.claims.specs.declared.deps.Dep.{Dep}
-use Rattle.listing.specs.Tree.{IsTree, path_at}
+use Rattle.engine.specs.Tree.{IsTree, path_at}
 use Rattle.package_record.specs.Content.{Content}
 use Rattle.engine.specs.Division.{number_of, unit_at}
 use Rattle.engine.proofs.Places.{has_position, same_bytes}

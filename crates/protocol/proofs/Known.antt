@@ -6,10 +6,10 @@ use Rattle.std.specs.List.{slice_index_or}
 use Rattle.std.proofs.lemmas.Bool.{cases_eq, cases_lt, false≢true}
 use Rattle.std.proofs.lemmas.List.{get_or-set_other, get_or-set_same, get_or_past, length-set}
 use Rattle.std.proofs.lemmas.List.Elements.{All-set}
-use Rattle.agreement.specs.declared.claim.Claim.{Claim}
-use Rattle.agreement.specs.Claims.{is_above}
-use Rattle.agreement.specs.Member as members
-use Rattle.agreement.specs.Member.{Facts, first, greater, no_facts, noted}
+use Rattle.claims.specs.declared.claim.Claim.{Claim}
+use Rattle.claims.specs.Claims.{is_above}
+use Rattle.claims.specs.Member as members
+use Rattle.claims.specs.Member.{Facts, first, greater, no_facts, noted}
 use Rattle.ballots.specs.InTheAgreement.{note_of}
 use Rattle.ballots.specs.Pledge.{HasPromised}
 use Rattle.ballots.specs.declared.message.Note.{Note}

@@ -18,15 +18,15 @@ use Rattle.faults.specs.Pieces.{text_cmp}
 use Rattle.faults.proofs.Ascending.{Rising}
 use Rattle.faults.proofs.Members.{contains_first, contains_later, has_preimage}
 use Rattle.faults.proofs.Sets.{from_set, set_rises}
-use Rattle.agreement.specs.Member.{Facts, no_facts}
-use Rattle.agreement.specs.declared.claim.Claim.{Claim}
+use Rattle.claims.specs.Member.{Facts, no_facts}
+use Rattle.claims.specs.declared.claim.Claim.{Claim}
 use Rattle.claims.specs.Claim.{IsClaim}
 use Rattle.claims.specs.Deps.{AreInOrder, is_ascending}
 use Rattle.claims.specs.declared.deps.Dep.{Dep}
-use Rattle.listing.specs.Tree.{ArePositions, Tree, no_package, path_at}
-use Rattle.listing.specs.Tree.{run_at}
-use Rattle.pkgname.specs.PkgName.{IsName}
-use Rattle.pkgpath.specs.PkgPath.{IsPath}
+use Rattle.engine.specs.Tree.{ArePositions, Tree, no_package, path_at}
+use Rattle.engine.specs.Tree.{run_at}
+use Rattle.package_record.specs.PkgName.{IsName}
+use Rattle.package_record.specs.PkgPath.{IsPath}
 use Rattle.package_record.specs.Build.{AreAlike, IsAlike, IsBuild, paths_of, unit_path}
 use Rattle.package_record.specs.Content.{Content, IsDep, IsRecord}
 use Rattle.package_record.specs.Laws.{CanBeMade}

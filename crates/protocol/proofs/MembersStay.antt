@@ -5,12 +5,12 @@ use Rattle.std.proofs.Common.{length, nat_le}
 use Rattle.std.specs.Prelude.{cond, unwrap_or}
 use Rattle.std.specs.List.{list_all}
 use Rattle.std.proofs.lemmas.Bool.{and_parts, leb-false, leb-true}
-use Rattle.agreement.specs.Noted.{IsNoted}
-use Rattle.agreement.specs.Quorums.{is_majority}
-use Rattle.agreement.specs.Member as members
-use Rattle.agreement.specs.Step.{Outcome, on_built, on_failed, on_inquire, on_nudge, on_start}
-use Rattle.agreement.specs.Step as theory
-use Rattle.agreement.proofs.Restored.{answer_noted, message_noted}
+use Rattle.claims.specs.Noted.{IsNoted}
+use Rattle.claims.specs.Quorums.{is_majority}
+use Rattle.claims.specs.Member as members
+use Rattle.claims.specs.Step.{Outcome, on_built, on_failed, on_inquire, on_nudge, on_start}
+use Rattle.claims.specs.Step as theory
+use Rattle.claims.proofs.Restored.{answer_noted, message_noted}
 use Rattle.claims.specs.Claim.{greatest_round}
 use Rattle.engine.specs.declared.Letter.{Letter}
 use Rattle.faults.specs.Bytes.{Text}

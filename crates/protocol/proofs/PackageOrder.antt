@@ -18,8 +18,8 @@ use Rattle.faults.proofs.Ascending.{Rising}
 use Rattle.faults.proofs.Members.{contains_first, contains_later}
 use Rattle.faults.proofs.Sets.{set_rises}
 use Rattle.claims.specs.Deps.{is_ascending}
-use Rattle.listing.specs.Tree.{Tree, group_at, path_at, position_of}
-use Rattle.pkgpath.specs.PkgPath.{without_subpackage}
+use Rattle.engine.specs.Tree.{Tree, group_at, path_at, position_of}
+use Rattle.package_record.specs.PkgPath.{without_subpackage}
 use Rattle.engine.specs.Division.{Division, IsDivision, unit_at}
 use Rattle.engine.specs.Units.{made_with, positions}
 use Rattle.engine.specs.Units as units

@@ -11,8 +11,8 @@ use Rattle.std.proofs.lemmas.List.{length-map, reverse-append}
 use Rattle.std.proofs.lemmas.List.Elements.{All-head, All-map, All-tail}
 use Rattle.std.proofs.lemmas.List.Quantifiers.{position-Some}
 use Rattle.faults.specs.Bytes.{Text}
-use Rattle.agreement.specs.Member as members
-use Rattle.agreement.specs.Member.{Facts, no_facts, noted}
+use Rattle.claims.specs.Member as members
+use Rattle.claims.specs.Member.{Facts, no_facts, noted}
 use Rattle.ballots.specs.InTheAgreement.{note_of}
 use Rattle.ballots.specs.declared.message.Note.{Note}
 use Rattle.engine.specs.Division.{Division, IsDivision, no_unit, number_named, unit_at}

@@ -1,7 +1,7 @@
 -- Members with one package, computed. Nothing here computes a digest; only bodies of messages do.
 use Rattle.std.specs.Prelude.{◌≡◌, refl, ℕ, true, List, [], ◌∷◌, Option, None, Some, Result, Ok}
 use Rattle.std.specs.Prelude.{Err, codes, map, option_map}
-use Rattle.agreement.specs.Votes.{ballot}
+use Rattle.claims.specs.Votes.{ballot}
 use Rattle.engine.specs.declared.Letter.TheVariants as letters
 use Rattle.ballots.specs.declared.message.Body.{Body}
 use Rattle.ballots.specs.declared.message.Body.TheVariants.{Offer, Promise, Propose, Vote, Agreed}

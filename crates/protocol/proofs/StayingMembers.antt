@@ -7,14 +7,14 @@ use Rattle.std.specs.Option.{ForSome}
 use Rattle.std.proofs.lemmas.Bool.{cond-false, cond-true, cond_both, eq-eqb, eqb-false, ne_eqb}
 use Rattle.std.proofs.lemmas.Bool.{le-ltb}
 use Rattle.std.proofs.lemmas.List.Elements.{All-weaker}
-use Rattle.agreement.specs.Noted.{IsClosedWhereHeld, IsNoted}
-use Rattle.agreement.specs.Quorums.{is_majority, named_in, nobody, weight}
-use Rattle.agreement.specs.Member as members
-use Rattle.agreement.specs.Member.{Facts, facts_of, no_facts, noted_any}
-use Rattle.agreement.specs.Nodes as nodes
-use Rattle.agreement.specs.Step.{Outcome}
-use Rattle.agreement.specs.World.{put}
-use Rattle.agreement.specs.declared.claim.Claim.{Claim}
+use Rattle.claims.specs.Noted.{IsClosedWhereHeld, IsNoted}
+use Rattle.claims.specs.Quorums.{is_majority, named_in, nobody, weight}
+use Rattle.claims.specs.Member as members
+use Rattle.claims.specs.Member.{Facts, facts_of, no_facts, noted_any}
+use Rattle.claims.specs.Nodes as nodes
+use Rattle.claims.specs.Step.{Outcome}
+use Rattle.claims.specs.World.{put}
+use Rattle.claims.specs.declared.claim.Claim.{Claim}
 use Rattle.claims.specs.Claim.{IsClaim}
 use Rattle.engine.specs.Division.{unit_at}
 use Rattle.engine.proofs.Names.{name_is_found}

@@ -11,14 +11,14 @@ use Rattle.std.specs.Prelude.{All, slice_set}
 use Rattle.std.specs.Option.{ForSome}
 use Rattle.faults.specs.Bytes.{Text}
 use Rattle.ballots.specs.declared.message.Note.{Note}
-use Rattle.agreement.specs.Quorums.{Members, named_in}
-use Rattle.agreement.specs.Member as members
-use Rattle.agreement.specs.Member.{Facts, facts_of, no_facts, noted, noted_any}
-use Rattle.agreement.specs.Messages as messages
-use Rattle.agreement.specs.Nodes as nodes
-use Rattle.agreement.specs.Step.{Outcome}
-use Rattle.agreement.specs.World.{put}
-use Rattle.agreement.specs.Votes.{Ballot, report_of}
+use Rattle.claims.specs.Quorums.{Members, named_in}
+use Rattle.claims.specs.Member as members
+use Rattle.claims.specs.Member.{Facts, facts_of, no_facts, noted, noted_any}
+use Rattle.claims.specs.Messages as messages
+use Rattle.claims.specs.Nodes as nodes
+use Rattle.claims.specs.Step.{Outcome}
+use Rattle.claims.specs.World.{put}
+use Rattle.claims.specs.Votes.{Ballot, report_of}
 use Rattle.ballots.specs.InTheAgreement.{note_of, said}
 use Rattle.engine.specs.Division.{number_named}
 use Rattle.engine.proofs.Lists.{in_range}

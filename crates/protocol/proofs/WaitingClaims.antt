@@ -5,16 +5,16 @@ use Rattle.std.proofs.Common.{Option, Some, None, Ok, Err, IfSome, eqb-true, ref
 use Rattle.std.proofs.Common.{◌∙◌, inl, inr, if◌then◌else◌, length, option_map}
 use Rattle.std.specs.Prelude.{unwrap_or}
 use Rattle.std.proofs.lemmas.Bool.{cond_both}
-use Rattle.agreement.specs.declared.claim.Claim.{Claim}
-use Rattle.agreement.specs.Claims.{claim_same, is_above, is_below, is_promised}
-use Rattle.agreement.specs.Quorums.{Quorums, is_majority, with_member}
-use Rattle.agreement.specs.Votes.{Ballot, is_voted, kept_report, report_of}
-use Rattle.agreement.specs.Member as members
-use Rattle.agreement.specs.Nodes as nodes
-use Rattle.agreement.specs.Step.{Outcome, on_agreed, on_ask, on_built, on_failed, on_inquire}
-use Rattle.agreement.specs.Step.{on_message, on_nudge, on_offer, on_promise, on_propose, on_quorum}
-use Rattle.agreement.specs.Step.{on_start, on_vote}
-use Rattle.agreement.proofs.Order.{claim_same_true}
+use Rattle.claims.specs.declared.claim.Claim.{Claim}
+use Rattle.claims.specs.Claims.{claim_same, is_above, is_below, is_promised}
+use Rattle.claims.specs.Quorums.{Quorums, is_majority, with_member}
+use Rattle.claims.specs.Votes.{Ballot, is_voted, kept_report, report_of}
+use Rattle.claims.specs.Member as members
+use Rattle.claims.specs.Nodes as nodes
+use Rattle.claims.specs.Step.{Outcome, on_agreed, on_ask, on_built, on_failed, on_inquire}
+use Rattle.claims.specs.Step.{on_message, on_nudge, on_offer, on_promise, on_propose, on_quorum}
+use Rattle.claims.specs.Step.{on_start, on_vote}
+use Rattle.claims.proofs.Order.{claim_same_true}
 use Rattle.ballots.specs.InTheAgreement.{is_building, said}
 use Rattle.ballots.specs.declared.message.Body.{Body}
 use Rattle.ballots.specs.declared.message.Body.TheVariants as bodies

@@ -4,12 +4,12 @@ use Rattle.std.specs.Prelude.{◌==◌, ℕ, not, List, filter, Option, None, So
 use Rattle.std.specs.Prelude.{if◌then◌else◌}
 use Rattle.std.specs.List.{list_any, range_with_len}
 use Rattle.sha2.specs.Sha256.{sha256}
-use Rattle.agreement.specs.Member as members
-use Rattle.agreement.specs.Messages as messages
-use Rattle.agreement.specs.Step.{Outcome}
+use Rattle.claims.specs.Member as members
+use Rattle.claims.specs.Messages as messages
+use Rattle.claims.specs.Step.{Outcome}
 use Rattle.claims.specs.Job.{Task}
-use Rattle.listing.specs.Digest.{digest_text}
-use Rattle.listing.specs.Tree.{Tree}
+use Rattle.engine.specs.Digest.{digest_text}
+use Rattle.engine.specs.Tree.{Tree}
 use Rattle.ballots.specs.InTheAgreement.{is_building}
 use Rattle.ballots.specs.declared.message.Body.{Body}
 use Rattle.ballots.specs.declared.message.Message.{Message}

@@ -1,17 +1,17 @@
 -- A member in the terms of the agreement theory, in which a path is the number of a unit.
 use Rattle.std.specs.Prelude.{ℕ, true, List, filter, Option, None, Some, option_map}
 use Rattle.std.specs.List.{range_with_len}
-use Rattle.agreement.specs.Quorums.{Members, named_in}
-use Rattle.agreement.specs.Votes.{Ballot}
-use Rattle.agreement.specs.Member as members
-use Rattle.agreement.specs.Messages as messages
-use Rattle.agreement.specs.Nodes as nodes
+use Rattle.claims.specs.Quorums.{Members, named_in}
+use Rattle.claims.specs.Votes.{Ballot}
+use Rattle.claims.specs.Member as members
+use Rattle.claims.specs.Messages as messages
+use Rattle.claims.specs.Nodes as nodes
 use Rattle.ballots.specs.declared.message.Body.{Body}
 use Rattle.ballots.specs.declared.message.Body.TheVariants.{Offer, Promise, Propose, Vote, Agreed}
 use Rattle.ballots.specs.declared.message.Body.TheVariants.{Ask, Nay}
 use Rattle.ballots.specs.declared.message.Fact.{Fact}
 use Rattle.ballots.specs.declared.message.Fact.TheVariants as fact
-use Rattle.agreement.specs.declared.claim.Claim.{Claim}
+use Rattle.claims.specs.declared.claim.Claim.{Claim}
 use Rattle.protocol.specs.State.{OpenClaim, Progress, Gathering, Building, Voting, State, Value}
 use Rattle.protocol.specs.State.{facts_at}
 use Rattle.std.specs.Prelude.{unwrap_or}

@@ -6,11 +6,11 @@ use Rattle.std.specs.Str.{bytes_eq}
 use Rattle.sha2.specs.Sha256.{sha256}
 use Rattle.faults.specs.Bytes.{Text, is_among}
 use Rattle.faults.specs.Pieces.{set_of}
-use Rattle.agreement.specs.declared.claim.Claim.{Claim}
+use Rattle.claims.specs.declared.claim.Claim.{Claim}
 use Rattle.claims.specs.Job.{Task}
 use Rattle.claims.specs.declared.deps.Dep.{Dep}
-use Rattle.listing.specs.Tree as trees
-use Rattle.listing.specs.Tree.{Tree, path_at, run_at}
+use Rattle.engine.specs.Tree as trees
+use Rattle.engine.specs.Tree.{Tree, path_at, run_at}
 use Rattle.engine.specs.Division.{unit_at}
 use Rattle.package_record.specs.Content.{Content, NamedFile, record_text}
 use Rattle.protocol.specs.Given.{Given}

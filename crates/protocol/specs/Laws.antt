@@ -6,15 +6,15 @@ use Rattle.std.specs.Option.{ForSome}
 use Rattle.std.specs.Str.{bytes_eq}
 use Rattle.faults.specs.Bytes.{Text}
 use Rattle.package_record.specs.Content.{Content}
-use Rattle.agreement.specs.declared.claim.Claim.{Claim}
-use Rattle.agreement.specs.Quorums.{is_majority}
-use Rattle.agreement.specs.Member as members
-use Rattle.agreement.specs.Messages as messages
-use Rattle.agreement.specs.Nodes as nodes
-use Rattle.agreement.specs.Step as theory
+use Rattle.claims.specs.declared.claim.Claim.{Claim}
+use Rattle.claims.specs.Quorums.{is_majority}
+use Rattle.claims.specs.Member as members
+use Rattle.claims.specs.Messages as messages
+use Rattle.claims.specs.Nodes as nodes
+use Rattle.claims.specs.Step as theory
 use Rattle.claims.specs.Claim.{IsClaim}
 use Rattle.claims.specs.Job.{Task}
-use Rattle.listing.specs.Tree.{path_at}
+use Rattle.engine.specs.Tree.{path_at}
 use Rattle.faults.specs.Pieces.{set_of}
 use Rattle.package_record.specs.Build.{IsBuild, unit_path}
 use Rattle.package_record.specs.Making.{build_fault}

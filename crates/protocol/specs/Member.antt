@@ -1,8 +1,8 @@
 -- The invariant of members and of inputs.
 use Rattle.std.specs.Prelude.{◌≡◌, ◌<◌, ◌≤◌, ℕ, true, false, All, List, [], None, Some, length}
 use Rattle.std.specs.Option.{ForSome}
-use Rattle.agreement.specs.Quorums.{is_majority, named_in}
-use Rattle.agreement.specs.declared.claim.Claim.{Claim}
+use Rattle.claims.specs.Quorums.{is_majority, named_in}
+use Rattle.claims.specs.declared.claim.Claim.{Claim}
 use Rattle.claims.specs.Claim.{IsClaim}
 use Rattle.engine.specs.Division.{IsDivision, unit_at}
 use Rattle.ballots.specs.Pledge.{HasPromised}

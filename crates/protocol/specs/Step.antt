@@ -8,17 +8,17 @@ use Rattle.std.specs.List.{list_all}
 use Rattle.std.specs.Str.{bytes_eq}
 use Rattle.faults.specs.Answers.{IsRightUnless, first_that_applies, option_or, unless_fault}
 use Rattle.faults.specs.Bytes.{Text}
-use Rattle.agreement.specs.Quorums.{is_majority}
-use Rattle.agreement.specs.Member as members
-use Rattle.agreement.specs.Member.{Facts, no_facts}
-use Rattle.agreement.specs.Step.{Outcome, on_built, on_failed, on_inquire, on_message, on_nudge}
-use Rattle.agreement.specs.Step.{on_start}
+use Rattle.claims.specs.Quorums.{is_majority}
+use Rattle.claims.specs.Member as members
+use Rattle.claims.specs.Member.{Facts, no_facts}
+use Rattle.claims.specs.Step.{Outcome, on_built, on_failed, on_inquire, on_message, on_nudge}
+use Rattle.claims.specs.Step.{on_start}
 use Rattle.claims.specs.Claim.{greatest_round}
 use Rattle.claims.specs.Job.{Task}
 use Rattle.engine.specs.declared.Letter.{Letter}
 use Rattle.engine.specs.declared.Letter.TheVariants as letters
 use Rattle.engine.specs.Division.{number_found, number_named}
-use Rattle.listing.specs.Tree.{position_of}
+use Rattle.engine.specs.Tree.{position_of}
 use Rattle.package_record.specs.Making.{build_fault}
 use Rattle.ballots.specs.InTheAgreement.{said}
 use Rattle.ballots.specs.declared.message.Body.{Body}

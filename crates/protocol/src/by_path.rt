@@ -11,8 +11,7 @@ ghost use Rattle.protocol.specs.inside.First.{IsFirst};
 use crate::packages::Packages;
 use faults::Memory;
 use indexmap::IndexMap;
-use package_record::Files;
-use pkgpath::PkgPath;
+use package_record::{Files, PkgPath};
 use std::alloc::Global;
 use std::marker::Model;
 

@@ -4,7 +4,7 @@ ghost use Rattle.std.specs.Prelude.{◌≡◌, IfOk};
 use crate::Packages;
 use ballots::Message;
 use faults::Memory;
-use pkgpath::PkgPath;
+use package_record::PkgPath;
 
 /// What a member is asked. A path names a unit, by the unit's name or as one of its packages.
 #[derive(Drop)]

@@ -4,8 +4,7 @@ ghost use Rattle.faults.specs.Bytes.{is_among};
 ghost use Rattle.protocol.specs.Jobs.{files_for};
 
 use faults::Memory;
-use package_record::Files;
-use pkgpath::PkgPath;
+use package_record::{Files, PkgPath};
 use std::alloc::Global;
 use std::marker::Model;
 

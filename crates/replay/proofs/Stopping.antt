@@ -4,12 +4,12 @@ use Rattle.std.specs.Io.KnownBytes.{Keeps}
 use Rattle.clap.specs.Words.{HasKind, IsAmong, Kinds, Text as Word, kind_of}
 use Rattle.clap.specs.declared.error.Error.{Error}
 use Rattle.faults.specs.Bytes.{Text}
-use Rattle.program.specs.Stops.{StopsBy, status_after}
+use Rattle.program_io.specs.Stops.{StopsBy, status_after}
 use Rattle.replay.specs.Stopped.{CannotCarryOut, HasStopped}
-use Rattle.program.specs.declared.stop.Stop.{Stop}
-use Rattle.program.specs.declared.stop.Stop.TheVariants.{Refused, Unwritten, WrongWords}
-use Rattle.words.specs.Calls.{AreTaken, IsCallOf, faults_of, matched}
-use Rattle.words.specs.declared.Call.{Call}
+use Rattle.program_io.specs.declared.stop.Stop.{Stop}
+use Rattle.program_io.specs.declared.stop.Stop.TheVariants.{Refused, Unwritten, WrongWords}
+use Rattle.dpbr_cli.specs.Calls.{AreTaken, IsCallOf, faults_of, matched}
+use Rattle.dpbr_cli.specs.declared.Call.{Call}
 
 module _ (Gave : Text → Text → Type 0) (words : List Word) (before after : Option (List ℕ)) where
   -- clap refused the arguments

@@ -7,10 +7,10 @@ use Rattle.dpbr_run.specs.Run.{IsRun}
 use Rattle.dpbr_status.specs.Status.{IsStatus}
 use Rattle.dpbr_wayon.specs.WayOn.{IsWayOn}
 use Rattle.faults.specs.Bytes.{Text}
-use Rattle.program.specs.Printing.{AppendsBeginning}
-use Rattle.words.specs.Calls.{AreTaken, IsCallOf, matched}
-use Rattle.words.specs.declared.Call.{Call}
-use Rattle.words.specs.declared.Call.TheVariants.{Audit, Run, Status, Wayon}
+use Rattle.program_io.specs.Printing.{AppendsBeginning}
+use Rattle.dpbr_cli.specs.Calls.{AreTaken, IsCallOf, matched}
+use Rattle.dpbr_cli.specs.declared.Call.{Call}
+use Rattle.dpbr_cli.specs.declared.Call.TheVariants.{Audit, Run, Status, Wayon}
 
 -- what a call prints if reads of its names gave some texts, and its status
 abbrev pub IsOutputOf : (Text → Text → Type 0) → Call → ℕ → Text → Type 0

@@ -7,15 +7,15 @@ use Rattle.dpbr_run.specs.Run.{RefusesRunFiles}
 use Rattle.dpbr_status.specs.Status.{RefusesStatusFiles}
 use Rattle.dpbr_wayon.specs.Refusals.{RefusesWayOn}
 use Rattle.faults.specs.Bytes.{Text}
-use Rattle.program.specs.Refusals.{device_refusal, memory_refusal}
-use Rattle.program.specs.Stops.{IsBegun, status_after}
-use Rattle.program.specs.declared.refusal.Refusal.{Refusal}
-use Rattle.program.specs.declared.stop.Stop.{Stop}
-use Rattle.program.specs.declared.stop.Stop.TheVariants.{Refused, Unwritten, WrongWords}
+use Rattle.program_io.specs.Refusals.{device_refusal, memory_refusal}
+use Rattle.program_io.specs.Stops.{IsBegun, status_after}
+use Rattle.program_io.specs.declared.refusal.Refusal.{Refusal}
+use Rattle.program_io.specs.declared.stop.Stop.{Stop}
+use Rattle.program_io.specs.declared.stop.Stop.TheVariants.{Refused, Unwritten, WrongWords}
 use Rattle.replay.specs.Printed.{HasBegun}
-use Rattle.words.specs.Calls.{AreTaken, IsCallOf, faults_of, matched}
-use Rattle.words.specs.declared.Call.{Call}
-use Rattle.words.specs.declared.Call.TheVariants.{Audit, Run, Status, Wayon}
+use Rattle.dpbr_cli.specs.Calls.{AreTaken, IsCallOf, faults_of, matched}
+use Rattle.dpbr_cli.specs.declared.Call.{Call}
+use Rattle.dpbr_cli.specs.declared.Call.TheVariants.{Audit, Run, Status, Wayon}
 
 -- what is reported about the texts that reads of a call's names gave
 abbrev pub RefusesCall : (Text → Text → Type 0) → Call → Refusal → Type 0

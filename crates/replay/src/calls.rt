@@ -4,16 +4,16 @@ ghost use Rattle.std.specs.Prelude.{◌≡◌, ◌≤◌, ◌⊎◌, IfErr, IfOk
 ghost use Rattle.std.specs.Io.KnownBytes.{Keeps};
 ghost use Rattle.replay.specs.Printed.{HasCarriedOut, HasPrinted, IsOutputOf};
 ghost use Rattle.replay.specs.Stopped.{CannotCarryOut, HasFailed, HasStopped, RefusesCall};
-ghost use Rattle.words.specs.Calls.{AreTaken};
+ghost use Rattle.dpbr_cli.specs.Calls.{AreTaken};
 
 use dpbr_audit::audit_of_files;
+use dpbr_cli::{Call, dpbr_words};
 use dpbr_run::run_of_files;
 use dpbr_status::status_of_files;
 use dpbr_wayon::{Target, wayon_of_files};
-use program::{Answer, NamedTexts, Refusal, Stop, print};
+use program_io::{Answer, NamedTexts, Refusal, Stop, print};
 use std::alloc::Global;
 use std::io::Write;
-use words::{Call, dpbr_words};
 
 /// Carries out the call that the arguments make, and returns the exit status:
 /// - 0;

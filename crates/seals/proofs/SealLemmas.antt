@@ -2,8 +2,8 @@
 use Rattle.std.proofs.Common.{◌≡◌, ◌∙◌, ℕ, ◌+◌, ◌-◌, ◌<◌, List, ◌++◌, ap, arith, drop, length, length-append, sym, take}
 use Rattle.std.proofs.Math.Seq.{drop-append_seam, take-append_seam}
 use Rattle.std.proofs.lemmas.List.{append_cancel_left}
-use Rattle.hmac.proofs.Lengths.{length-hmac}
-use Rattle.hmac.specs.Hmac.{hmac}
+use Rattle.seals.proofs.Lengths.{length-hmac}
+use Rattle.seals.specs.Hmac.{hmac}
 use Rattle.seals.specs.Sealed.{sealed}
 
 -- equal lists have equal parts if the first parts have the same length

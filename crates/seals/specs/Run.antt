@@ -1,7 +1,7 @@
 -- The keys of runs.
 use Rattle.std.specs.Prelude.{ℕ, List, ◌∷◌, ◌++◌, codes, length, take}
 use Rattle.faults.specs.Bytes.{Text}
-use Rattle.hmac.specs.Hmac.{hmac}
+use Rattle.seals.specs.Hmac.{hmac}
 
 -- what distinguishes runs with the same key: the tree's digest, the number of members, and the
 -- weight of each; the 1 is the version of the datagram format

@@ -5,7 +5,7 @@ ghost use Rattle.hex.specs.Hex.{encode_lower};
 ghost use Rattle.seals.specs.KeyText.{WritesKey};
 ghost use Rattle.seals.specs.Run.{fingerprint};
 
-use hmac::hmac;
+use crate::hmac;
 
 /// The key that the text writes. The text must be 64 hexadecimal digits and a line feed, and
 /// nothing else.

@@ -1,12 +1,12 @@
 //! The seal of a run.
 ghost use Rattle.std.specs.Prelude.{◌≡◌, ◌≢◌, ◌+◌, ◌≤◌, ◌++◌, ◌∷◌, IsOk, IsSomeAnd, List, MatchOption, OnErr, OnOk, codes, length, vec_capacity, vec_len, ℕ};
-ghost use Rattle.hmac.specs.Hmac.{hmac};
+ghost use Rattle.seals.specs.Hmac.{hmac};
 ghost use Rattle.seals.specs.Run.{run_key, run_text};
 ghost use Rattle.seals.specs.Sealed.{sealed};
 
+use crate::{Key, hmac, is_same};
 use arrayvec::ArrayVec;
 use faults::Memory;
-use hmac::{Key, hmac, is_same};
 use std::marker::Model;
 
 /// The length of a seal, in bytes.
@@ -83,7 +83,7 @@ impl Seal {
     }
 
     /// The text's seal.
-    #[tactic(auto, unfolding(hmac::specs::Hmac::hmac))]
+    #[tactic(auto, unfolding(crate::specs::Hmac::hmac))]
     fn seal_of(&self, text: &[u8]) -> [u8; SEAL_SIZE]
         ensures { result ≡ hmac self.now text.now }
     {

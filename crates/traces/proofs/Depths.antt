@@ -1,9 +1,9 @@
 -- What is written has no float, and isn't nested deeply.
 use Rattle.std.proofs.Common.{◌≡◌, ℕ, ◌≤◌, List, [], ◌∷◌, map, All, Bool, true, false, Option, None, Some, refl, arith}
 use Rattle.std.proofs.lemmas.List.Elements.{All-head, All-tail}
-use Rattle.events.specs.Events.{Event, Claim, Built, Failed, Nudge, Ask, Deliver, Stop, StopIn, Restart, is_step}
-use Rattle.events.specs.declared.event.Left.{Left}
-use Rattle.events.specs.declared.event.Left.TheVariants as left
+use Rattle.protocol.specs.Events.{Event, Claim, Built, Failed, Nudge, Ask, Deliver, Stop, StopIn, Restart, is_step}
+use Rattle.protocol.specs.declared.event.Left.{Left}
+use Rattle.protocol.specs.declared.event.Left.TheVariants as left
 use Rattle.faults.specs.Bytes.{Text}
 use Rattle.package_record.specs.Content.{NamedFile}
 use Rattle.protocol.specs.Given.{Given}

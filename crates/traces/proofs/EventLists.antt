@@ -1,6 +1,6 @@
 -- Events that are parsed item by item.
 use Rattle.std.proofs.Common.{◌≡◌, ℕ, ◌-◌, ◌<◌, ◌≤◌, List, length, map, Option, None, Some, Result, Ok, refl, ap, ◌∙◌, append-nil}
-use Rattle.events.specs.Events.{Event, event_view}
+use Rattle.protocol.specs.Events.{Event, event_view}
 use Rattle.json.specs.Token.{Token}
 use Rattle.json.specs.Json as json
 use Rattle.json.specs.Json.{Parse, after_end_array, items, parse_map}

@@ -1,7 +1,7 @@
 -- Traces, parsed and written, by computation.
 use Rattle.std.specs.Prelude.{◌≡◌, [], ◌∷◌, None, Ok, Err, codes, refl}
-use Rattle.events.specs.Events.{Deliver, Nudge, Restart, StopIn}
-use Rattle.events.specs.declared.event.Left.TheVariants as left
+use Rattle.protocol.specs.Events.{Deliver, Nudge, Restart, StopIn}
+use Rattle.protocol.specs.declared.event.Left.TheVariants as left
 use Rattle.traces.specs.Events.{clean_stop_in, deliver_in, event_in, node_alone_in}
 use Rattle.traces.specs.Fields.{number_of}
 use Rattle.traces.specs.Trace.{Trace, equals_in, outer_in, trace_from, weighted_in}

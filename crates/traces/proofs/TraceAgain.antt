@@ -4,7 +4,7 @@ use Rattle.std.proofs.lemmas.Bool.{and_parts, eq-eqb, eqb-true, leb-true}
 use Rattle.std.proofs.lemmas.List.Elements.{All-head, All-tail}
 use Rattle.std.specs.List.{list_all}
 use Rattle.ballots.specs.Weights.{AreWeights, is_weight}
-use Rattle.events.specs.Events.{Event}
+use Rattle.protocol.specs.Events.{Event}
 use Rattle.faults.specs.Bytes.{Text}
 use Rattle.serde_json.specs.Read.{read}
 use Rattle.serde_json.specs.View.{items_of}

@@ -6,9 +6,9 @@ use Rattle.std.proofs.lemmas.Str.{IsUtf8-from_is_utf8, utf8_lossy-IsUtf8}
 use Rattle.std.specs.List.{list_all}
 use Rattle.std.specs.Str.Lossy.{utf8_lossy}
 use Rattle.ballots.specs.Weights.{is_weight}
-use Rattle.events.specs.Events.{Event, Claim, Built, Failed, Nudge, Ask, Deliver, Stop, StopIn, Restart}
-use Rattle.events.specs.declared.event.Left.{Left}
-use Rattle.events.specs.declared.event.Left.TheVariants as left
+use Rattle.protocol.specs.Events.{Event, Claim, Built, Failed, Nudge, Ask, Deliver, Stop, StopIn, Restart}
+use Rattle.protocol.specs.declared.event.Left.{Left}
+use Rattle.protocol.specs.declared.event.Left.TheVariants as left
 use Rattle.faults.specs.Bytes.{Text}
 use Rattle.hex.specs.Hex.{encode_lower, encode_with, lower_digits}
 use Rattle.json.proofs.Printed.Utf8.{IsUtf8-are_ascii, are_ascii}

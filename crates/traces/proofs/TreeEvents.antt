@@ -17,7 +17,7 @@ use Rattle.serde_json.specs.Data.{Items, array, item, no_items, no_members, numb
 use Rattle.serde_json.specs.Read.{of_items, of_json, number_of, number_from, is_integer}
 use Rattle.pkgpath.specs.PkgPath.{path_of}
 use Rattle.package_record.specs.Content.{NamedFile}
-use Rattle.events.specs.Events.{Built, Claim, Deliver, Nudge}
+use Rattle.protocol.specs.Events.{Built, Claim, Deliver, Nudge}
 use Rattle.traces.specs.Events.{built_alone_in, claim_in, deliver_in, event_in, most, node_alone_in}
 use Rattle.traces.specs.Fields.{◌>>=◌, all_of, answer_in, file_in, files_in}
 use Rattle.traces.specs.Fields as fields

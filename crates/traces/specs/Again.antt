@@ -3,9 +3,9 @@ use Rattle.std.specs.Prelude.{◌≡◌, ◌≤◌, true, List, All}
 use Rattle.std.specs.Str.{is_utf8}
 use Rattle.faults.specs.Bytes.{Text}
 use Rattle.ballots.specs.Weights.{AreWeights}
-use Rattle.events.specs.Events.{Event, Claim, Built, Failed, Nudge, Ask, Deliver, Stop, StopIn, Restart, is_step}
-use Rattle.events.specs.declared.event.Left.{Left}
-use Rattle.events.specs.declared.event.Left.TheVariants as left
+use Rattle.protocol.specs.Events.{Event, Claim, Built, Failed, Nudge, Ask, Deliver, Stop, StopIn, Restart, is_step}
+use Rattle.protocol.specs.declared.event.Left.{Left}
+use Rattle.protocol.specs.declared.event.Left.TheVariants as left
 use Rattle.hex.specs.Hex.{IsBytes}
 use Rattle.package_record.specs.Content.{NamedFile}
 use Rattle.pkgpath.specs.PkgPath.{IsPath}

@@ -1,6 +1,6 @@
 //! Events, by their kinds.
 ghost use Rattle.std.specs.Prelude.{◌≡◌, ◌∷◌, [], IfOk, option_map};
-ghost use Rattle.events.specs.Events.{event_view};
+ghost use Rattle.protocol.specs.Events.{event_view};
 ghost use Rattle.serde_json.specs.View.{view};
 ghost use Rattle.traces.specs.Events.{
   built_alone_in,
@@ -22,17 +22,16 @@ ghost use Rattle.traces.specs.Events.{
   stop_inside,
   torn_stop_in,
 };
-ghost use Rattle.events.specs.Events as events;
+ghost use Rattle.protocol.specs.Events as events;
 ghost use Rattle.traces.specs.inside.Given.{Gives};
 
 use crate::fields::{field, field_count, hex, node, number, path, text};
 use crate::files::{files, packages};
 use crate::read_error::ReadError;
-use events::{Event, Left, Torn};
 use faults::Memory;
 use package_record::Files;
 use pkgpath::PkgPath;
-use protocol::Packages;
+use protocol::{Event, Left, Packages, Torn};
 use serde_json::Value;
 use std::alloc::Global;
 

@@ -11,9 +11,8 @@ ghost use Rattle.traces.specs.declared.TraceFault.TheVariants.{Memory as out_of_
 ghost use Rattle.traces.specs.Written.{trace_text};
 
 use ballots::Weights;
-use events::Event;
 use faults::{Fault, Memory, WantOfMemory};
-use protocol::Packages;
+use protocol::{Event, Packages};
 use std::alloc::Global;
 use thiserror::Error;
 

@@ -1,6 +1,6 @@
 //! The items of an array as events.
 ghost use Rattle.std.specs.Prelude.{◌≡◌, ◌≤◌, length, IfOk, IfErr, Some};
-ghost use Rattle.events.specs.Events.{event_view};
+ghost use Rattle.protocol.specs.Events.{event_view};
 ghost use Rattle.serde_json.specs.Data.{Data, Items, item as item_and};
 ghost use Rattle.traces.specs.Events.{event_in};
 ghost use Rattle.serde_json.specs.View.{view};
@@ -9,7 +9,7 @@ ghost use Rattle.traces.specs.inside.Listing.{answer_behind};
 
 use crate::event::event;
 use crate::read_error::ReadError;
-use events::Event;
+use protocol::Event;
 use serde_json::Value;
 use std::alloc::Global;
 

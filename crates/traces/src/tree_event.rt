@@ -4,7 +4,7 @@
 ghost use Rattle.std.specs.Prelude.{◌≡◌, ◌≤◌, ℕ, IfOk, IfSome, OnOk};
 ghost use Rattle.json.specs.Json.{string};
 ghost use Rattle.json.specs.Value.{value_view};
-ghost use Rattle.events.specs.Events.{event_view};
+ghost use Rattle.protocol.specs.Events.{event_view};
 ghost use Rattle.package_record.specs.FileView.{file_view};
 ghost use Rattle.traces.specs.Events.{event_in};
 ghost use Rattle.traces.specs.Fields.{file_in, files_in, number_of};
@@ -13,10 +13,10 @@ ghost use Rattle.traces.specs.inside.Trees.{Reads, five, four, path_in, three, t
 use crate::event::alone;
 use crate::fields::{bytes_of, path_of};
 use crate::read_error::ReadError;
-use events::Event;
 use json::Value;
 use package_record::{File, Files};
 use pkgpath::PkgPath;
+use protocol::Event;
 use std::alloc::Global;
 
 /// A member of an object: its key and value.

@@ -1,6 +1,6 @@
 //! Traces as JSON values.
 ghost use Rattle.std.specs.Prelude.{◌≡◌, IfOk, codes, map};
-ghost use Rattle.events.specs.Events.{event_view};
+ghost use Rattle.protocol.specs.Events.{event_view};
 ghost use Rattle.package_record.specs.FileView.{file_view};
 ghost use Rattle.serde_json.specs.View.{members_view, view};
 ghost use Rattle.traces.specs.Faults.{trace_view};
@@ -32,11 +32,10 @@ ghost use Rattle.traces.specs.Written.{
 use crate::Trace;
 use crate::event::own_files;
 use crate::reading::are_ones;
-use events::{Event, Left};
 use faults::Memory;
 use package_record::{File, Files};
 use pkgpath::PkgPath;
-use protocol::Packages;
+use protocol::{Event, Left, Packages};
 use serde_json::{Map, Value, put};
 use std::alloc::Global;
 use std::string::String;

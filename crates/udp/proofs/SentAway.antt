@@ -6,8 +6,8 @@ use Rattle.std.proofs.lemmas.List.{append-nil, map-append}
 use Rattle.std.proofs.lemmas.List.Sorted.{IsPermutation-append_left, IsPermutation-append_right, IsPermutation-map, IsPermutation-refl, IsPermutation-trans}
 use Rattle.std.specs.declared.net.socket_addr.SocketAddr.{SocketAddr}
 use Rattle.faults.specs.Bytes.{Text}
-use Rattle.ports.specs.Calls.{Call, Received, Sent, WentThrough}
-use Rattle.ports.specs.Kept.{Parcel}
+use Rattle.datagram_ports.specs.Calls.{Call, Received, Sent, WentThrough}
+use Rattle.datagram_ports.specs.Kept.{Parcel}
 use Rattle.udp.specs.Calls.{AreSentAway, DoesOverUdp, IsSamePort, LeavesWhatIsSent, Setup, out_of}
 use Rattle.udp.specs.Inbox.{came_as}
 use Rattle.udp.specs.Leaving.{IsLeft, texts_of}

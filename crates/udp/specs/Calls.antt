@@ -2,9 +2,9 @@
 use Rattle.std.specs.Prelude.{◌≡◌, ◌⊎◌, ◌++◌, ℕ, Bool, IsPermutation, List, [], ◌∷◌, Option, Result, Ok, Err}
 use Rattle.std.specs.declared.net.socket_addr.SocketAddr.{SocketAddr}
 use Rattle.faults.specs.Bytes.{Text}
-use Rattle.ports.specs.Calls.{Call, Received, Sent, WentThrough}
-use Rattle.ports.specs.Kept.{Parcel}
-use Rattle.ports.specs.declared.fault.PortFault.{PortFault}
+use Rattle.datagram_ports.specs.Calls.{Call, Received, Sent, WentThrough}
+use Rattle.datagram_ports.specs.Kept.{Parcel}
+use Rattle.datagram_ports.specs.declared.fault.PortFault.{PortFault}
 use Rattle.udp.specs.Inbox.{came_as}
 use Rattle.udp.specs.Leaving.{IsLeft, texts_of}
 use Rattle.udp.specs.Ways.{HasNoSeat, HasWay, IsSeatOf, LeavesBy}

@@ -1,7 +1,7 @@
 -- Why a port can't be made, and how bad hosts are reported.
 use Rattle.std.specs.Prelude.{◌≡◌, ◌⊎◌, ℕ, Option, None, Some}
-use Rattle.ports.specs.declared.fault.PortFault.{PortFault}
-use Rattle.ports.specs.declared.fault.PortFault.TheVariants as ports
+use Rattle.datagram_ports.specs.declared.fault.PortFault.{PortFault}
+use Rattle.datagram_ports.specs.declared.fault.PortFault.TheVariants as ports
 use Rattle.udp.specs.declared.hosts.HostsFault.{HostsFault}
 use Rattle.udp.specs.declared.hosts.HostsFault.TheVariants.{BadHost, Memory}
 

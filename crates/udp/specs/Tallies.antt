@@ -1,7 +1,7 @@
 -- Statistics for each member.
 use Rattle.std.specs.Prelude.{ℕ, List, [], ◌∷◌, Option, zero, suc}
 use Rattle.std.specs.declared.time.Instant.{Instant}
-use Rattle.ports.specs.Kept.{one_more}
+use Rattle.datagram_ports.specs.Kept.{one_more}
 use Rattle.udp.specs.declared.inbox.Came.{Came}
 use Rattle.udp.specs.declared.inbox.Came.TheVariants.{Lost, Repeated, Unsealed, Waits}
 use Rattle.udp.specs.declared.tallies.Tally.{Tally}

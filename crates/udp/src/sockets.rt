@@ -10,7 +10,7 @@ ghost use Rattle.udp.specs.Ways.{HasNoSeat, HasNoWay, IsSeatOf, IsWay};
 use crate::inbox::{Came, Inbox};
 use crate::requests::{Request, Requests, request_in};
 use crate::tallies::Tallies;
-use ports::PortFault;
+use datagram_ports::PortFault;
 use std::io::ErrorKind;
 use std::net::{Net, SocketAddr, UdpSocket};
 use std::time::Instant;

@@ -1,6 +1,6 @@
 //! Statistics for each member.
 ghost use Rattle.std.specs.Prelude.{◌≡◌, [], length, replicate, slice_get, map, IfOk};
-ghost use Rattle.ports.specs.Kept.{one_more};
+ghost use Rattle.datagram_ports.specs.Kept.{one_more};
 ghost use Rattle.udp.specs.Tallies.{after, unsent_once_more, with_tally};
 
 use crate::inbox::Came;

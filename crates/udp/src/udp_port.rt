@@ -1,7 +1,7 @@
 //! Ports over UDP.
 ghost use Rattle.std.specs.Prelude.{◌≡◌, ◌<◌, [], IfErr, IfOk, IfSome, None, OnErr, OnOk, length, true};
-ghost use Rattle.ports.specs.Calls.{Received, Sent, told};
-ghost use Rattle.ports.specs.Kept.{counted, one_more};
+ghost use Rattle.datagram_ports.specs.Calls.{Received, Sent, told};
+ghost use Rattle.datagram_ports.specs.Kept.{counted, one_more};
 ghost use Rattle.udp.specs.Calls.{DoesOverUdp};
 ghost use Rattle.udp.specs.Inbox.{StillVouches, came_as, is_vouched_for};
 ghost use Rattle.udp.specs.Leaving.{IsLeft};
@@ -21,7 +21,7 @@ use crate::requests::Requests;
 use crate::sockets::{Seat, Way, address_of, take_seat};
 use crate::tallies::Tallies;
 use crate::told::Told;
-use ports::{Port, PortFault};
+use datagram_ports::{Port, PortFault};
 use seals::Seal;
 use std::alloc::Global;
 use std::net::{Net, SocketAddr};

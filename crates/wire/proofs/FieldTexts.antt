@@ -12,7 +12,7 @@ use Rattle.faults.specs.Answers.{unless_fault}
 use Rattle.faults.specs.Bytes.{Text, is_empty, is_one_of}
 use Rattle.pkgpath.specs.PkgPath.{IsPath, canonical_text, fault_of, path_of, value_of}
 use Rattle.pkgpath.specs.declared.PathFault.{PathFault}
-use Rattle.agreement.specs.declared.claim.Claim.{Claim}
+use Rattle.claims.specs.declared.claim.Claim.{Claim}
 use Rattle.claims.specs.Claim.{IsClaim, greatest_round}
 use Rattle.package_record.specs.Build.{build_text, unit_path}
 use Rattle.package_record.specs.BuildReading.{whole_build_of}

@@ -2,7 +2,7 @@
 use Rattle.std.proofs.Common.{◌≡◌, ℕ, ◌≤◌, true, [], ◌∷◌, ◌++◌, Result, Ok, inl, inr, refl, sym, ap, subst, ◌∙◌, append_assoc, arith}
 use Rattle.faults.specs.Bytes.{Text, is_one_of}
 use Rattle.claims.specs.Claim.{greatest_round}
-use Rattle.agreement.specs.declared.claim.Claim.{Claim}
+use Rattle.claims.specs.declared.claim.Claim.{Claim}
 use Rattle.package_record.specs.Laws.{BuildTextIsReadAgain, WhatIsReadIsABuild}
 use Rattle.ballots.specs.Value.{Value}
 use Rattle.ballots.specs.declared.message.Fact.{Fact}

@@ -1,7 +1,7 @@
 -- The place of the sender's number in a datagram, and the lengths of pieces.
 use Rattle.std.proofs.Common.{◌≡◌, ◌<◌, ◌≤◌, ◌+◌, ℕ, suc, zero, List, [], ◌∷◌, ◌++◌, length, min, Option, Some, codes, refl, sym, ap, subst, ◌∙◌, arith, slice_get}
 use Rattle.std.proofs.lemmas.List.{length-append}
-use Rattle.agreement.specs.declared.claim.Claim.{Claim}
+use Rattle.claims.specs.declared.claim.Claim.{Claim}
 use Rattle.wire.specs.Laws.{sender_of}
 use Rattle.wire.specs.Pieces.{IsPiece, piece_size}
 use Rattle.wire.specs.Spelling.{carrier_kind, carrier_text, claim_text, datagram_text, front_text, header_text, path_text, piece_text}

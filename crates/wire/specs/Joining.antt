@@ -2,7 +2,7 @@
 use Rattle.std.specs.Prelude.{◌≡◌, ◌==◌, ◌&&◌, ℕ, All, Bool, true, false, List, [], ◌∷◌, filter, flat_map}
 use Rattle.std.specs.Str.{bytes_eq}
 use Rattle.faults.specs.Bytes.{Text}
-use Rattle.agreement.specs.Claims.{claim_same}
+use Rattle.claims.specs.Claims.{claim_same}
 use Rattle.wire.specs.Pieces.{numbers_of, piece_at}
 use Rattle.wire.specs.declared.datagram.Carrier.{Carrier}
 use Rattle.wire.specs.declared.datagram.Carrier.TheVariants.{Promise, Propose, Agreed}

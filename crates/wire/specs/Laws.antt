@@ -2,7 +2,7 @@
 use Rattle.std.specs.Prelude.{◌≡◌, ◌<◌, ◌≤◌, ◌+◌, ◌++◌, ◌↔◌, ℕ, All, List, [], flat_map, length, map, slice_get, slice_index, Option, None, Some, option_map, Ok}
 use Rattle.std.specs.List.{range_with_len}
 use Rattle.faults.specs.Bytes.{Text}
-use Rattle.agreement.specs.declared.claim.Claim.{Claim}
+use Rattle.claims.specs.declared.claim.Claim.{Claim}
 use Rattle.package_record.specs.Build.{build_text}
 use Rattle.ballots.specs.declared.message.Message.{Message}
 use Rattle.ballots.specs.declared.message.Note.{Note}

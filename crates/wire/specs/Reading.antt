@@ -4,7 +4,7 @@ use Rattle.std.specs.Str.{bytes_eq}
 use Rattle.byteorder.specs.Endian.{big_number}
 use Rattle.faults.specs.Bytes.{Text, is_empty, is_one_of}
 use Rattle.pkgpath.specs.PkgPath.{path_of}
-use Rattle.agreement.specs.declared.claim.Claim.{Claim}
+use Rattle.claims.specs.declared.claim.Claim.{Claim}
 use Rattle.claims.specs.Claim.{greatest_round, most_members}
 use Rattle.package_record.specs.Build.{unit_path}
 use Rattle.package_record.specs.Content.{most_bytes}

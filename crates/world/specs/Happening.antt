@@ -9,9 +9,9 @@ use Rattle.protocol.specs.declared.input.Input.TheVariants as inputs
 use Rattle.node.specs.OnLog.{IsFull}
 use Rattle.node.specs.State.{with_note}
 use Rattle.node.specs.Step.{Asked, Comes, Does, IsAsked, Taken, Takes, after}
-use Rattle.events.specs.Events.{Event, Claim, Built, Failed, Nudge, Ask, Deliver, Stop, StopIn, Restart, is_step, node_of}
-use Rattle.events.specs.declared.event.Left.{Left}
-use Rattle.events.specs.declared.event.Left.TheVariants as left
+use Rattle.protocol.specs.Events.{Event, Claim, Built, Failed, Nudge, Ask, Deliver, Stop, StopIn, Restart, is_step, node_of}
+use Rattle.protocol.specs.declared.event.Left.{Left}
+use Rattle.protocol.specs.declared.event.Left.TheVariants as left
 use Rattle.node.specs.declared.fault.NodeFault.{NodeFault}
 use Rattle.node.specs.declared.fault.NodeFault.TheVariants as node_fault
 use Rattle.stable_record.specs.declared.log_fault.LogFault.TheVariants.{Full}

@@ -1,10 +1,10 @@
 -- The headline theorem: one agreed list at every point of a run.
 use Rattle.engine.specs.Division.{Division, number_found, unit_at}
-use Rattle.listing.specs.Tree.{position_of}
+use Rattle.engine.specs.Tree.{position_of}
 use Rattle.std.specs.Prelude.{◌≡◌, ◌≢◌, ◌++◌, ℕ, Bool, true, List, ◌∷◌, Option, Some, All, AllPairs, Contains, is_some, length, map, slice_get}
 use Rattle.sha2.specs.Sha256.{sha256}
 use Rattle.faults.specs.Bytes.{Text}
-use Rattle.agreement.specs.declared.claim.Claim.{Claim}
+use Rattle.claims.specs.declared.claim.Claim.{Claim}
 use Rattle.auditing.specs.Allowed.{IsAllowed}
 use Rattle.auditing.specs.Fits.{Fits}
 use Rattle.auditing.specs.declared.entry.Entry.{Entry}
@@ -17,7 +17,7 @@ use Rattle.package_record.specs.Content.{Content, IsRecord, record_text}
 use Rattle.protocol.specs.Given.{Given}
 use Rattle.protocol.specs.Jobs.{job_of, record_by, signature}
 use Rattle.protocol.specs.State.{Building, Value, engine_of, facts_at, held_record}
-use Rattle.events.specs.Events.{Event, Built}
+use Rattle.protocol.specs.Events.{Event, Built}
 use Rattle.world.specs.Happening.{Happens, Leads}
 use Rattle.world.specs.World.{World, WorldNode, member_at, start}
 

@@ -3,8 +3,8 @@ use Rattle.std.specs.Prelude.{◌≡◌, ◌⊎◌, ◌++◌, Bool, true, false,
 use Rattle.std.specs.List.{list_any}
 use Rattle.std.specs.Str.{bytes_eq}
 use Rattle.faults.specs.Bytes.{Text}
-use Rattle.agreement.specs.declared.claim.Claim.{Claim}
-use Rattle.agreement.specs.Quorums.{is_majority}
+use Rattle.claims.specs.declared.claim.Claim.{Claim}
+use Rattle.claims.specs.Quorums.{is_majority}
 use Rattle.claims.specs.Claim.{IsClaim}
 use Rattle.package_record.specs.Content.{Content}
 use Rattle.protocol.specs.State.{Value}

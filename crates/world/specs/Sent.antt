@@ -2,8 +2,8 @@
 use Rattle.std.specs.Prelude.{◌≡◌, ◌++◌, ℕ, true, List, [], ◌∷◌, fold, map, if◌then◌else◌}
 use Rattle.std.specs.List.{list_all}
 use Rattle.faults.specs.Bytes.{Text, is_among}
-use Rattle.agreement.specs.declared.claim.Claim.{Claim}
-use Rattle.agreement.specs.Quorums.{Members}
+use Rattle.claims.specs.declared.claim.Claim.{Claim}
+use Rattle.claims.specs.Quorums.{Members}
 use Rattle.ballots.specs.declared.message.Body.{Body}
 use Rattle.ballots.specs.declared.message.Body.TheVariants.{Promise, Propose, Vote}
 use Rattle.ballots.specs.declared.message.Message.{Message}
@@ -11,7 +11,7 @@ use Rattle.protocol.specs.State.{Value}
 use Rattle.protocol.specs.Answers.{tree_digest}
 use Rattle.protocol.specs.declared.sends.Send.{Send}
 use Rattle.node.specs.Parcels.{datagrams_of, datagrams_to}
-use Rattle.wire.specs.Messages.{IsMessage}
+use Rattle.node.specs.Messages.{IsMessage}
 use Rattle.world.specs.World.{World}
 use Rattle.std.specs.Prelude.{Option}
 

@@ -8,7 +8,7 @@ use Rattle.ballots.specs.declared.message.Note.{Note}
 use Rattle.protocol.specs.Restoring.{restored}
 use Rattle.protocol.specs.State.{OpenClaim, State, Value, fresh}
 use Rattle.node.specs.State.{NodeState}
-use Rattle.wire.specs.declared.datagram.Piece.{Piece}
+use Rattle.node.specs.Piece.{Piece}
 
 -- a node of the world; its facts are what its notes restore
 pub record WorldNode : Type 0 where

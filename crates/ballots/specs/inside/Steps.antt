@@ -1,7 +1,7 @@
 -- The steps of the code, by case.
 use Rattle.std.specs.Prelude.{Option, None, Some, if◌then◌else◌, unwrap_or}
-use Rattle.agreement.specs.declared.claim.Claim.{Claim}
-use Rattle.agreement.specs.Quorums.{is_majority}
+use Rattle.claims.specs.declared.claim.Claim.{Claim}
+use Rattle.claims.specs.Quorums.{is_majority}
 use Rattle.ballots.specs.Pledge.{Pledge}
 use Rattle.ballots.specs.Support.{Support, of_nobody, set_of}
 use Rattle.ballots.specs.declared.claimer.ClaimerChange.TheVariants as change

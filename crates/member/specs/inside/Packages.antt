@@ -4,7 +4,7 @@ use Rattle.std.specs.List.{list_all}
 use Rattle.std.specs.Map.{lookup}
 use Rattle.std.specs.Str.{bytes_eq}
 use Rattle.faults.specs.Bytes.{Text}
-use Rattle.listing.specs.Tree.{Tree, name_at, path_at, run_at}
+use Rattle.engine.specs.Tree.{Tree, name_at, path_at, run_at}
 use Rattle.package_record.specs.Content.{NamedFile}
 use Rattle.package_record.specs.declared.build.Package.{Package}
 use Rattle.protocol.specs.Given.{Given}

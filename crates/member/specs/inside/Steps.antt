@@ -1,11 +1,11 @@
 -- How contracts see a prepared step's fields, and the functions that prepare it.
 use Rattle.std.specs.Prelude.{◌≡◌, ℕ, None, Result, IfOk, option_map}
 use Rattle.faults.specs.Answers.{IsRightUnless, map_ok}
-use Rattle.agreement.specs.Member as members
-use Rattle.agreement.specs.Messages as messages
-use Rattle.agreement.specs.Quorums.{nobody}
-use Rattle.agreement.specs.Step.{Outcome, notes_and_says}
-use Rattle.agreement.specs.declared.claim.Claim.{Claim}
+use Rattle.claims.specs.Member as members
+use Rattle.claims.specs.Messages as messages
+use Rattle.claims.specs.Quorums.{nobody}
+use Rattle.claims.specs.Step.{Outcome, notes_and_says}
+use Rattle.claims.specs.declared.claim.Claim.{Claim}
 use Rattle.protocol.specs.State.{State, Value}
 use Rattle.protocol.specs.Answers.{Answer}
 use Rattle.protocol.specs.Step.{HasAnswered}
@@ -13,7 +13,7 @@ use Rattle.protocol.specs.declared.input.Input.{Input}
 use Rattle.protocol.specs.declared.refusal.Refusal.{Refusal}
 use Rattle.protocol.specs.declared.refusal.Refusal.TheVariants.{Memory}
 use Rattle.member.specs.Prepared.{IsChangeWeighedBy, Prepared, answer_by}
-use Rattle.member.specs.declared.step.Step.TheInside.{Inside}
+use Rattle.member.specs.declared.step.MemberStep.TheInside.{Inside}
 
 -- the step with these fields
 abbrev pub prepared_by : Inside → Prepared

@@ -1,8 +1,8 @@
 -- How contracts see a member's fields.
 use Rattle.std.specs.Prelude.{◌≡◌, List, [], Option, None, map, option_and_then, option_map}
 use Rattle.std.specs.Option.{ForSome}
-use Rattle.agreement.specs.Member.{Facts}
-use Rattle.agreement.specs.Votes.{report_of}
+use Rattle.claims.specs.Member.{Facts}
+use Rattle.claims.specs.Votes.{report_of}
 use Rattle.claims.specs.Job.{Task}
 use Rattle.engine.specs.State as engine
 use Rattle.engine.specs.Division.{Division}

@@ -5,15 +5,15 @@ use Rattle.std.specs.Option.{ForSome}
 use Rattle.std.proofs.lemmas.Bool.{cond_both}
 use Rattle.std.proofs.lemmas.List.Elements.{All-head, All-tail}
 use Rattle.faults.specs.Bytes.{Text}
-use Rattle.agreement.specs.Votes.{Ballot, ballot, kept_report}
-use Rattle.agreement.specs.Quorums.{Quorums, with_member, nobody}
-use Rattle.agreement.specs.Claims.{claim_same, is_above, is_below, is_promised}
-use Rattle.agreement.specs.Votes.{is_voted, PromiseOf}
-use Rattle.agreement.specs.Member as members
-use Rattle.agreement.specs.Member.{Facts, facts_of, first, greater, no_facts, noted}
-use Rattle.agreement.specs.Messages as messages
-use Rattle.agreement.specs.Step.{Outcome, notes, notes_and_says, on_agreed, on_ask, on_message, on_offer, on_promise, on_propose, on_quorum, on_vote, says, still}
-use Rattle.agreement.specs.declared.claim.Claim.{Claim}
+use Rattle.claims.specs.Votes.{Ballot, ballot, kept_report}
+use Rattle.claims.specs.Quorums.{Quorums, with_member, nobody}
+use Rattle.claims.specs.Claims.{claim_same, is_above, is_below, is_promised}
+use Rattle.claims.specs.Votes.{is_voted, PromiseOf}
+use Rattle.claims.specs.Member as members
+use Rattle.claims.specs.Member.{Facts, facts_of, first, greater, no_facts, noted}
+use Rattle.claims.specs.Messages as messages
+use Rattle.claims.specs.Step.{Outcome, notes, notes_and_says, on_agreed, on_ask, on_message, on_offer, on_promise, on_propose, on_quorum, on_vote, says, still}
+use Rattle.claims.specs.declared.claim.Claim.{Claim}
 use Rattle.claims.specs.Claim.{IsClaim}
 use Rattle.protocol.specs.State.{Value}
 use Rattle.wire.specs.Messages.{IsBuildOf}

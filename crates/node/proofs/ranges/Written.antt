@@ -9,14 +9,14 @@ use Rattle.std.proofs.lemmas.List.Elements.{All-map, All-nil}
 use Rattle.sha2.proofs.Facts256.{length-sha256}
 use Rattle.faults.specs.Answers.{first_that_applies, option_or}
 use Rattle.faults.specs.Bytes.{Text}
-use Rattle.agreement.specs.Quorums.{is_majority, nobody}
-use Rattle.agreement.specs.Votes.{Ballot, ballot}
-use Rattle.agreement.specs.Member as members
-use Rattle.agreement.specs.Member.{facts_of}
-use Rattle.agreement.specs.Messages as messages
-use Rattle.agreement.specs.Nodes as nodes
-use Rattle.agreement.specs.Step.{Outcome, on_built, on_failed, on_inquire, on_nudge, on_start}
-use Rattle.agreement.specs.declared.claim.Claim.{Claim}
+use Rattle.claims.specs.Quorums.{is_majority, nobody}
+use Rattle.claims.specs.Votes.{Ballot, ballot}
+use Rattle.claims.specs.Member as members
+use Rattle.claims.specs.Member.{facts_of}
+use Rattle.claims.specs.Messages as messages
+use Rattle.claims.specs.Nodes as nodes
+use Rattle.claims.specs.Step.{Outcome, on_built, on_failed, on_inquire, on_nudge, on_start}
+use Rattle.claims.specs.declared.claim.Claim.{Claim}
 use Rattle.claims.specs.Claim.{IsClaim, IsRound, greatest_round, most_members}
 use Rattle.engine.specs.declared.Letter.{Letter}
 use Rattle.package_record.specs.Build.{IsBuild}

@@ -2,7 +2,7 @@
 use Rattle.std.specs.Prelude.{◌≡◌, option_map}
 use Rattle.node.specs.Parcels.{datagrams_to}
 use Rattle.node.specs.Step.{ReadyStep, note_in, sends_in}
-use Rattle.node.specs.declared.ready.Ready.TheInside.{Inside}
+use Rattle.node.specs.declared.prepared_step.PreparedStep.TheInside.{Inside}
 use Rattle.wire.specs.Spelling.{note_text}
 
 -- the step with these fields

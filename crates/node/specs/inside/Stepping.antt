@@ -32,7 +32,7 @@ use Rattle.node.specs.Step.{ReadyStep, Taken, after, answer_then, pieces_left, s
 use Rattle.node.specs.declared.fault.Foreign.TheVariants as foreign
 use Rattle.node.specs.declared.fault.NodeFault.{NodeFault}
 use Rattle.node.specs.declared.fault.NodeFault.TheVariants as fault
-use Rattle.node.specs.declared.ready.Change.{Change}
+use Rattle.node.specs.declared.prepared_step.Change.{Change}
 
 -- These are pieces, none occurs twice, and the member accepts their headers.
 pub record AreKept (s : State) (pieces : List Piece) : Type 0 where

@@ -2,7 +2,7 @@
 use Rattle.std.specs.Prelude.{Bool, ◌&&◌, ◌==◌}
 use Rattle.std.specs.Cmp.Lexicographic.{pointwise}
 use Rattle.std.specs.Str.{bytes_eq}
-use Rattle.agreement.specs.Claims.{claim_same}
+use Rattle.claims.specs.Claims.{claim_same}
 use Rattle.package_record.specs.BuildReading.{is_same_dep}
 use Rattle.package_record.specs.Content.{Content, NamedFile}
 

@@ -1,6 +1,6 @@
 -- The invariant of a seal.
 use Rattle.std.specs.Prelude.{◌≡◌}
-use Rattle.hmac.specs.Hmac.{block_of}
+use Rattle.seals.specs.Hmac.{block_of}
 use Rattle.seals.specs.declared.seal.Seal.TheInside.{Inside}
 
 -- Texts are sealed with the run's key.

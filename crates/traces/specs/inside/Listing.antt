@@ -2,7 +2,7 @@
 use Rattle.std.specs.Prelude.{List, length, map, Result, Ok, Err}
 use Rattle.faults.specs.Answers.{map_ok}
 use Rattle.std.specs.Prelude.{◌++◌}
-use Rattle.events.specs.Events.{Event, event_view}
+use Rattle.protocol.specs.Events.{Event, event_view}
 use Rattle.serde_json.specs.Data.{Items}
 use Rattle.traces.specs.Trace.{Place, events_from}
 use Rattle.traces.specs.declared.listed.Listed.{Listed}

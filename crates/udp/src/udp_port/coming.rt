@@ -1,6 +1,6 @@
 //! Received datagrams of a port: they are moved from the sockets to the queue.
 ghost use Rattle.std.specs.Prelude.{◌≡◌, Err, None, Ok, false, true};
-ghost use Rattle.ports.specs.Kept.{one_more};
+ghost use Rattle.datagram_ports.specs.Kept.{one_more};
 ghost use Rattle.udp.specs.Calls.{setup_of};
 ghost use Rattle.udp.specs.Inbox.{GoesOn};
 ghost use Rattle.udp.specs.Leaving.{IsLeft};
@@ -9,7 +9,7 @@ ghost use Rattle.udp.specs.Waiting.{patience_at};
 use crate::patience::{Hurry, Patience};
 use crate::sockets::{Sieve, take_off};
 use crate::udp_port::UdpPort;
-use ports::PortFault;
+use datagram_ports::PortFault;
 use std::time::{Clock, Instant};
 
 impl<C: Clock> UdpPort<'_, C> {

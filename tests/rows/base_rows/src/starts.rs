@@ -1,9 +1,7 @@
 //! Starts of members of one run, in a folder of its own.
 use arrayvec::ArrayVec;
 use faults::Fault;
-use run_file::{
-    LogFound, RunFault, Start, StartFault, found_in, is_blank, judge, read_run, start_on, write_run,
-};
+use run_file::{LogFound, RunFault, Start, StartFault, found_in, is_blank, judge, read_run, start_on, write_run};
 use stable_record::{Identity, Log, MemDisk};
 use std::fs;
 use std::test::Fail;

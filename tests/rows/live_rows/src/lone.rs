@@ -1,18 +1,18 @@
 //! The only node of a cluster.
 use ballots::Weights;
-use choice::{Act, TurnFault};
+use datagram_ports::MemPort;
 use engine::Counts;
 use listing::Tree;
+use lone_node::Solo;
 use member::Input;
 use node::Node;
 use package_record::{File, Files};
 use pkgpath::PkgPath;
-use ports::MemPort;
 use protocol::Packages;
-use solo::Solo;
 use stable_record::{Disk, Failing, FaultDisk, MemDisk};
 use std::alloc::Global;
 use std::test::Fail;
+use turn_rules::{Act, TurnFault};
 
 static LISTING: &[u8] = b"a/b.FULLPKGNAME=b-1.0\n";
 
