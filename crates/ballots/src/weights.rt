@@ -13,7 +13,7 @@ pub const GREATEST_WEIGHT: u8 = 100;
 
 /// Invalid weights: there is no member, there are more than nine, or a weight is not 1 to 100.
 #[derive(Clone, Copy, Debug, PartialEq, Eq, Error)]
-#[error("the weights of the members are bad")]
+#[error("the weights of the members are invalid")]
 pub struct BadWeights;
 
 impl Fault for BadWeights {

@@ -17,10 +17,10 @@ pub enum KeyFault {
     #[error("the file can't be read or written")]
     Files,
     /// The file isn't a line of 64 hexadecimal digits.
-    #[error("the file has no key")]
+    #[error("the file doesn't contain a key")]
     NoKey,
     /// Others than the file's owner may read, write or run it.
-    #[error("the key's file is open to others")]
+    #[error("others may read or write the key file")]
     Exposed,
 }
 

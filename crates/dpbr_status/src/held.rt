@@ -22,7 +22,7 @@ use thiserror::Error;
 pub enum HeldFault {
     #[error("out of memory")]
     Memory,
-    #[error("line {0} is no package path")]
+    #[error("line {0} is not a package path")]
     BadList(u64),
     #[error("line {0} names a path that is not listed")]
     Unlisted(u64),

@@ -32,16 +32,16 @@ pub enum ListingFault {
     Memory,
     /// Number 401: the line has no `=`, or no dot before it; its FULLPKGNAME is not a package name;
     /// or a dependency in it is malformed, or has a malformed spec.
-    #[error("line {0} is no line of a listing")]
+    #[error("line {0} is malformed")]
     BadLine(u64),
     /// Number 402: the line's own path, or the path of a dependency in it, is not a package path.
-    #[error("line {0} has a text that is no package path")]
+    #[error("line {0} contains a malformed package path")]
     BadPath(u64),
     /// Number 403: the line sets a variable of a path to a different value than an earlier line.
     #[error("line {0} sets a variable to another value")]
     TwiceSet(u64),
     /// Number 404: the line has the 16,385th path, or its value has a 513th dependency.
-    #[error("line {0} has one path or one dependency too many")]
+    #[error("line {0} exceeds the limit of paths or dependencies")]
     TooMany(u64),
     /// Number 405: no line is faulty, but a path has no FULLPKGNAME. The place is the first line
     /// that sets a variable of such a path.

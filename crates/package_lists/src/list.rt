@@ -20,7 +20,7 @@ use thiserror::Error;
 pub enum ListFault {
     #[error("out of memory")]
     Memory,
-    #[error("line {0} belongs to no list of packages")]
+    #[error("line {0} doesn't belong to a list of packages")]
     BadList(u64),
 }
 

@@ -68,7 +68,7 @@ pub const MOST_PACKAGES: usize = 16_384;
 pub enum RecordFault {
     #[error("out of memory")]
     Memory,
-    #[error("line {0} is not what stands there in a record")]
+    #[error("line {0} is not what a record has at that place")]
     BadLine(u64),
     #[error("the record is cut short")]
     Truncated,
@@ -76,7 +76,7 @@ pub enum RecordFault {
     Trailing,
     #[error("the file of line {0} has another digest")]
     DigestDiffers(u64),
-    #[error("the file name {0} is bad, or stands twice")]
+    #[error("file name {0} is invalid or a duplicate")]
     BadFileName(u64),
     #[error("the record is too large")]
     TooLarge,

@@ -37,7 +37,7 @@ pub enum NameFault {
     TooLong,
     /// Number 202: the text has a byte that isn't allowed in a name, or an empty flavor after its
     /// version.
-    #[error("the name has a byte that may not stand there, or an empty flavor")]
+    #[error("the name has a byte that isn't allowed, or an empty flavor")]
     BadByte,
     /// Number 201: no dash after the first byte is followed by a digit.
     #[error("the name has no version")]

@@ -34,10 +34,10 @@ pub enum SpecFault {
     TooLong,
     /// Number 303: a stem or a flavor has a byte that isn't allowed in a name, or a flavor is
     /// empty.
-    #[error("a stem or a flavor has a byte that may not stand there, or a flavor is empty")]
+    #[error("a stem or a flavor has a byte that isn't allowed, or a flavor is empty")]
     BadByte,
     /// Number 302: a bound is neither `*` nor a version with at most one operator before it.
-    #[error("a bound is neither a star nor a version, alone or behind one operator")]
+    #[error("a bound is neither a star nor a version, alone or after one operator")]
     BadBound,
 }
 

@@ -18,19 +18,19 @@ pub enum Refusal {
     Ignored,
     #[error("the build waits for dependencies")]
     Waiting,
-    #[error("the build is held")]
+    #[error("the packages are already held")]
     Held,
-    #[error("no claim is open for this")]
+    #[error("there is no open claim for this")]
     NoClaim,
     #[error("no round is left")]
     RoundsSpent,
-    #[error("the files make no build: {0}")]
+    #[error("the files don't make a build: {0}")]
     BadFiles(RecordFault),
-    #[error("the message is of another tree")]
+    #[error("the message is about another tree")]
     OtherTree,
-    #[error("the message is not of a member")]
+    #[error("the message is not from a member")]
     NotAMember,
-    #[error("the files are of other packages")]
+    #[error("the files are for other packages")]
     OtherPackages,
 }
 

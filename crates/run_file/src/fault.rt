@@ -15,7 +15,7 @@ use thiserror::Error;
 pub enum RunFault {
     /// The run file is of another run, and first differs in this line. If the line is 0, the log
     /// has notes but no run file, and the run has a key.
-    #[error("the log is of another run, by line {0}")]
+    #[error("line {0} of the run file shows that the log belongs to another run")]
     Differs(u64),
     /// There is a run file, but its log is missing, or is empty and would be made anew.
     #[error("the member's log is lost")]

@@ -44,7 +44,7 @@ pub struct Trace {
 pub enum TraceFault {
     #[error("out of memory")]
     Memory,
-    #[error("the trace is bad at event {0}")]
+    #[error("the trace is malformed at event {0}")]
     BadTrace(u64),
 }
 

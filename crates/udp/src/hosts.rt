@@ -20,7 +20,7 @@ use thiserror::Error;
 pub enum HostsFault {
     #[error("out of memory")]
     Memory,
-    #[error("host {0} is none of a member")]
+    #[error("entry {0} is not an address that a member can have")]
     BadHost(u64),
 }
 

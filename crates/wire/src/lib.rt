@@ -48,13 +48,13 @@ pub enum WireFault {
     TooLong,
     #[error("the bytes end early")]
     Truncated,
-    #[error("the bytes do not begin as a datagram does")]
+    #[error("the bytes don't begin like a datagram")]
     Magic,
-    #[error("there is no such kind")]
+    #[error("the kind is unknown")]
     Kind,
     #[error("a field is out of its range")]
     BadField,
-    #[error("bytes follow")]
+    #[error("there are extra bytes at the end")]
     Trailing,
 }
 
