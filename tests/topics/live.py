@@ -1100,7 +1100,7 @@ def manual_page(tally):
 def readme(tally):
     """The README's three hosts: its very commands, in a folder where they find what they name, print what it says."""
     text = contents(f"{TOP}/README.md").decode()
-    block = re.search(r"^Three hosts that build this tree.*?\n\n(.*?)\n\n", text, re.DOTALL | re.MULTILINE)[1]
+    block = re.search(r"^Build this tree with three nodes.*?\n\n(.*?)\n\n", text, re.DOTALL | re.MULTILINE)[1]
     line = re.search(r"# each prints: node K: (.*)", block)[1]
     wanted = [f"node {me}: {line}" for me in range(3)] + [re.search(r"packages/list +# (\w+)$", block)[1]]
     with tempfile.TemporaryDirectory() as folder:
