@@ -14,7 +14,7 @@ import sources
 WIDTH = 100
 FUNCTION = re.compile(r"^\s*(pub )?(?:const )?fn (\w+)")
 OPENING = re.compile(r"^(?:pub )?(impl|trait)\b(?:<.*?>)? ?(.*)$")
-DEFINITION = re.compile(r"^(?!use |mod )(?:[a-z_]+ )*(?:pub|abbrev|record|data) (\w+)")
+DEFINITION = re.compile(r"^(?!use |mod )(?:[a-z_]+ )*(?:pub|abbrev|record|data) (?!pub )([^\s:]+)")
 SECTION = re.compile(r"^-- -{2,} ?(.*?)(?: -*)?$")
 ITEM = re.compile(r"^(?:[-*]|\d+\.) ")
 # the crates whose proofs docs/PROOF.md lists, bottom up, and the line below which it does
