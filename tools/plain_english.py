@@ -62,11 +62,11 @@ def blocks_of_text(text: str) -> Iterator[Tuple[int, str]]:
     for number, line in enumerate([*text.split("\n"), ""], 1):
         if line.startswith("```"):
             is_code = not is_code
-        ends = not line.strip() or line.startswith(("```", "#", "|", "<!--", "!["))
+        ends = not line.strip() or line.lstrip().startswith(("```", "#", "|", "<!--", "!["))
         if block and (ends or is_code or re.match(r"\s*([-*]|\d+\.) ", line)):
             yield start, " ".join(block)
             block = []
-        if line.startswith("|"):
+        if line.lstrip().startswith("|"):
             yield from ((number, cell.strip()) for cell in line.split("|"))
         elif line.startswith("#"):
             yield number, line.lstrip("# ")
