@@ -137,7 +137,7 @@ def blocks_of_comments(text: str, mark: str) -> Iterator[Tuple[int, str]]:
 
 def blocks(path: str, kind: str) -> Iterator[Tuple[int, str]]:
     with open(path, encoding="utf-8", errors="replace") as file:
-        text = file.read()
+        text = file.read().partition("<!-- What follows is generated")[0]
     if kind == "text":
         yield from blocks_of_text(text)
     elif kind == "page":
