@@ -137,9 +137,9 @@ def blocks_of_comments(text: str, mark: str) -> Iterator[Tuple[int, str]]:
 
 def blocks(path: str, kind: str) -> Iterator[Tuple[int, str]]:
     with open(path, encoding="utf-8", errors="replace") as file:
-        text = file.read().partition("<!-- What follows is generated")[0]
+        text = file.read()
     if kind == "text":
-        yield from blocks_of_text(text)
+        yield from blocks_of_text(text.partition("<!-- What follows is generated")[0])
     elif kind == "page":
         yield from blocks_of_page(text)
     elif kind == "rattle":
