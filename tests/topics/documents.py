@@ -111,8 +111,8 @@ def plain(tally: Tally) -> None:
     for name, found, most, before in (("hard words", words, MOST_WORDS, WORDS_BEFORE), ("long sentences", sentences, MOST_SENTENCES, SENTENCES_BEFORE)):
         few = len(found) <= most and most * 10 <= before
         tally.add(f"plain English, {name}", "" if few else f"{len(found)}, and at most {most} are allowed (`tools/plain-english PATH` lists them)")
-    same = [f"{it.path}:{it.line}" for it in words if it.text.startswith("The same,")]
-    tally.add("plain English, sentences that begin with 'The same,'", ", ".join(same))
+    same = [f"{it.path}:{it.line}" for it in words if it.text.startswith("The same")]
+    tally.add("plain English, sentences that begin as notes on another one", ", ".join(same))
     sample = "A node behind a firewall tells the others. Where it stands, `told` doesn't count."
     hits = [found[0] for pattern, _ in plain_english.patterns() for found in pattern.finditer(plain_english.without_code(sample))]
     tally.add("tools/plain-english, a sample", "" if len(hits) == 4 else f"it finds {hits}")
