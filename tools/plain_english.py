@@ -91,7 +91,9 @@ def blocks_of_page(text: str) -> Iterator[Tuple[int, str]]:
             yield from ((number, cell) for cell in re.split(r" Ta ", line[4:]))
         elif not is_code and not macro and not line.startswith('.\\"'):
             start = start if block else number
-            block.append("`x`" if re.match(r"\.(Ql|Cm|Fl|Ar|Pa|Ev|Nm|Xr|Va|Sx|Li)\b", line) else re.sub(r"^\.\w+ ", "", line))
+            mark = re.search(r" ([.,;:])$", line)
+            is_name = re.match(r"\.(Ql|Cm|Fl|Ar|Pa|Ev|Nm|Xr|Va|Sx|Li|Op)\b", line)
+            block.append(f"`x`{mark[1] if mark else ''}" if is_name else re.sub(r"^\.\w+ ", "", line))
 
 
 def blocks_of_python(text: str) -> Iterator[Tuple[int, str]]:
