@@ -9,7 +9,7 @@ import sources
 
 
 def probes():
-    """The program, once it is told which one is timed; without it the bench ends."""
+    """The program. Prints which one is timed; if there is none, the bench ends."""
     program, bench = sources.program_of("probes"), os.path.basename(sys.argv[0])
     where = os.path.relpath(program, sources.TOP)
     if not os.path.exists(program):

@@ -116,7 +116,7 @@ def claim(path):
     return {"above": 0, "event": "claim", "host": 3, "node": 0, "path": path}
 
 
-# Runs the words, and tells on standard error the seconds, the peak memory in KiB and the status. What the system says of a
+# Runs the words, and prints on standard error the seconds, the peak memory in KiB and the status. What the system says of a
 # process's peak is never less than what the process had that started it, so that a small one has to.
 RUN = """
 import os, subprocess, sys, time

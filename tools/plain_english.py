@@ -112,8 +112,9 @@ def blocks_of_python(text: str) -> Iterator[Tuple[int, str]]:
             is_long = '"""' in token.string[:4]
             if is_long:
                 yield from ((token.start[0] + at - 1, block) for at, block in blocks_of_text(token.string.strip('rbf"')))
-            else:
-                yield token.start[0], token.string
+            elif " " in token.string:
+                # without what is inserted into the text
+                yield token.start[0], re.sub(r"\{[^{}]*\}", "", token.string)
     if comment:
         yield start, " ".join(comment)
 

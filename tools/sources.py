@@ -1,7 +1,7 @@
-"""The sources of crates and of all that they stand on, copied into a repository of their own: there the kit's commands prove or compile
+"""The sources of crates and of all that they are built on, copied into a repository of their own: there the kit's commands prove or compile
 them from nothing, and leave what was proved in the checkout alone.
 
-The gate proves the crates of crates.txt. Beside them stand the drivers of tests and benches (tests/drivers/) and crates of tests
+The gate proves the crates of crates.txt. Next to them are the drivers of tests and benches (tests/drivers/) and crates of tests
 (tests/rows/), which it doesn't prove; each of these folders has a list `crates`, of the same form. Their files have names of their own,
 since the gate takes no file by one of the kit's names outside crates/.
 """
@@ -30,7 +30,7 @@ def lines():
 
 
 def lines_beside():
-    """The lines of the crates that stand beside those of crates.txt."""
+    """The lines of the crates that are next to those of crates.txt."""
     return {crate: line for folder in BESIDE for crate, line in lines_of(f"{folder}/crates").items()}
 
 
@@ -45,7 +45,7 @@ def named():
 
 
 def with_all_below(chosen):
-    """The chosen crates and all that they stand on, bottom up."""
+    """The chosen crates and all that they are built on, bottom up."""
     below, found, left = below_by({**lines(), **lines_beside()}), set(), list(chosen)
     while left:
         crate = left.pop()
@@ -56,7 +56,7 @@ def with_all_below(chosen):
 
 
 def folder_of(crate):
-    """Where the crate stands."""
+    """The folder of the crate."""
     return next((f"{it}/{crate}" for it in BESIDE if os.path.isdir(f"{it}/{crate}")), f"{TOP}/crates/{crate}")
 
 
@@ -65,12 +65,12 @@ def is_program(crate):
 
 
 def program_of(crate):
-    """Where the program that a crate is stands once it is built."""
+    """The path of a crate's program once it is built."""
     return f"{folder_of(crate)}/out/{crate}"
 
 
 def files_of(crate):
-    """The files that a crate is made of, but for its wrong bodies, below its folder."""
+    """The files that a crate is made of, except for its wrong bodies, below its folder."""
     top = folder_of(crate)
     for folder, folders, names in os.walk(top):
         folders[:] = sorted(it for it in folders if it not in NOT_COPIED)
@@ -78,7 +78,7 @@ def files_of(crate):
 
 
 def kit_name(file):
-    """How a file of a crate that stands beside crates/ is named for the kit."""
+    """How a file of a crate that is next to crates/ is named for the kit."""
     stem, end = os.path.splitext(file)
     return stem + KIT_NAMES.get(end, end)
 
@@ -104,7 +104,7 @@ def copy(crates, folder):
 
 
 def is_current(program):
-    """Whether a program is built, and of the sources as they stand: none of their files is newer."""
+    """Whether a program is built, and none of its source files is newer."""
     if not os.path.exists(program_of(program)):
         return False
     built = os.path.getmtime(program_of(program))
@@ -128,6 +128,6 @@ def digest_of_crate(crate):
 
 
 def digest_of_sources(crate):
-    """A digest of the crate's code, definitions and proofs, and of those of all crates that it stands on."""
+    """A digest of the crate's code, definitions and proofs, and of those of all crates that it is built on."""
     lines = sorted(f"{it} {digest_of_crate(it)}\n" for it in with_all_below([crate]))
     return hashlib.sha256("".join(lines).encode()).hexdigest()

@@ -9,12 +9,12 @@ import sources
 WRONG_BODIES = f"{sources.TOP}/tests/wrong-bodies"
 TRIED = f"{WRONG_BODIES}/tried"
 HEAD = """# Written by tests/try-wrong-bodies. Of each crate: digests of its sources with those of all crates below, and of its edits here; how many
-# of these were tried, and refused; and the kit. `tests/run documents` names the crates whose edits were not tried as they stand.
+# of these were tried, and refused; and the kit. `tests/run documents` names the crates whose edits were not tried on the current sources.
 """
 
 
 def edits_in(folder):
-    """The names of the edits of a folder, if it stands."""
+    """The names of the edits of a folder, if it exists."""
     return sorted(it for it in os.listdir(folder) if it.endswith(".edit")) if os.path.isdir(folder) else []
 
 
@@ -29,7 +29,7 @@ def kit():
 
 
 def as_it_stands(crate):
-    """The digests of the crate's sources and of its edits, as they stand."""
+    """The current digests of the crate's sources and of its edits."""
     folder = f"{WRONG_BODIES}/{crate}"
     return sources.digest_of_sources(crate), sources.digest((it, f"{folder}/{it}") for it in edits_in(folder))
 
@@ -55,12 +55,12 @@ def write(lines):
 
 
 def is_tried(crate, line):
-    """Whether the line says that the crate's edits were tried, and refused, as they and the sources stand."""
+    """Whether the line says that the crate's edits were tried, and refused, on the current sources."""
     found = re.match(r"\w+ sources=(\w+) edits=(\w+) tried=(\d+) refused=(\d+) kit=", line)
     return bool(found) and found.groups()[:2] == as_it_stands(crate) and found[3] == found[4] == str(len(edits_in(f"{WRONG_BODIES}/{crate}")))
 
 
 def untried():
-    """The crates whose edits were not tried as they stand."""
+    """The crates whose edits were not tried on the current sources."""
     lines = read()
     return [crate for crate in crates() if not is_tried(crate, lines.get(crate, ""))]

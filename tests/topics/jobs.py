@@ -1,4 +1,4 @@
-"""tools/build-jobs beside a node that is played here: it posts jobs in its work folder, takes what is handed in, and holds it on a log
+"""tools/build-jobs next to a node that is played here: it posts jobs in its work folder, takes what is handed in, and holds it on a log
 of its own. What runs are small scripts. And what tools/unpack-log makes of packages whose large files went another way."""
 import contextlib
 import hashlib
@@ -43,7 +43,7 @@ class Node:
             file.write(packages.log([]))
 
     def note(self, text, gate=b"\1"):
-        """Writes a note behind the last one, and then opens its gate."""
+        """Writes a note after the last one, and then opens its gate."""
         with open(self.log, "r+b") as file:
             place = file.seek(-1, os.SEEK_END)
             file.write(b"\0" + len(text).to_bytes(4, "big") + text + b"\0")
@@ -117,7 +117,7 @@ class Driver:
                                             stdin=subprocess.DEVNULL, stdout=out, stderr=out, env={**os.environ, "TOP": node.folder})
 
     def lines(self):
-        """What it told, without the times."""
+        """What it printed, without the times."""
         return [re.sub("^[0-9:]{8} ", "", line) for line in read(self.out).splitlines()]
 
     def tells(self, line):
@@ -187,7 +187,7 @@ def side_by_side(tally):
 
 
 def failures(tally):
-    """What fails is marked with why and its log, and built again once the mark is gone; each answer that is none fails."""
+    """What fails is marked with why and its log, and built again once the mark is gone; each malformed answer fails."""
     with laid('echo told; [ -e "$TOP/mended" ] || exit 3; ' + BUILD) as (node, driver):
         name = node.post("a/b")
         why, log = node.failed(name), f"{os.path.realpath(node.work)}/logs/a:b.log"
@@ -211,7 +211,7 @@ def failures(tally):
 
 
 def odd_jobs(tally):
-    """A job that isn't whole, or of another name, is none; one waits for what it is to be built on, and for the log."""
+    """A job that is incomplete, or has another name, is ignored; one waits for what it is to be built on, and for the log."""
     with tempfile.TemporaryDirectory() as folder:
         node = Node(folder)
         node.held["c/d"] = f"c/d p9-1 {'0' * 64}"
@@ -343,7 +343,7 @@ DEEP = 'if [ $PKGPATH = c/d ]; then cd "$OUT/c:d" && python3 -c "import os\nfor 
 
 
 def builds_that_misbehave(tally):
-    """What a build leaves behind ends with it; what can't be read fails it, and nothing else; and how it is named ends nothing."""
+    """What a build leaves after ends with it; what can't be read fails it, and nothing else; and how it is named ends nothing."""
     with laid('sleep 1000 & echo $! > "$TOP/left"; ' + BUILD) as (node, driver):
         made = node.take(node.post("a/b"))
         add(tally, "what a build left running", bool(made) and until(lambda: not is_alive(node.folder, "left")), made)
@@ -359,7 +359,7 @@ def builds_that_misbehave(tally):
 
 
 def what_the_system_refuses(tally):
-    """What can't be written is told, and tried again; a host that stops leaves no mark; a folder that was made anew ends it."""
+    """What can't be written is reported, and tried again; a host that stops leaves no mark; a folder that was made anew ends it."""
     with laid(BUILD) as (node, driver):
         until(lambda: os.path.exists(f"{node.work}/lock"))
         os.rename(f"{node.work}/done", f"{node.work}/gone")
@@ -399,7 +399,7 @@ def what_the_system_refuses(tally):
 
 
 def what_is_no_job(tally):
-    """What stands among the jobs and is none, whatever it is and says, keeps no other job back."""
+    """Something that isn't a job keeps no other job back."""
     odd = {"a name of other bytes": b"@unit a/\xff\n@package a/b\n", "a name with a zero byte": b"@unit a/b\n@package a/\0\n", "no path": b"@unit ../x\n@package ../x\n"}
     with laid(BUILD) as (node, driver):
         for what, text in (*odd.items(), ("no host", b"@unit a/c\n@package a/c\n@host x\n")):
@@ -418,7 +418,7 @@ def what_is_no_job(tally):
 
 
 def where_it_stands(tally):
-    """A work folder may have any name; what can't be told, since its output is full, or nobody reads it, keeps nothing back."""
+    """A work folder may have any name; what can't be reported, since its output is full, or nobody reads it, keeps nothing back."""
     with tempfile.TemporaryDirectory() as folder:
         os.mkdir(f"{folder}/w\udcff")
         node = Node(f"{folder}/w\udcff")
@@ -473,7 +473,7 @@ def refused_reads(tally):
 
 
 def told_once(tally):
-    """What the system refuses again is told again only where it is something else."""
+    """An error is reported again only if it is another one."""
     module, lines = build_jobs(), []
     driver = object.__new__(module.Driver)
     driver.due, driver.told, driver.tell = {}, set(), lines.append
@@ -531,7 +531,7 @@ def on_the_disk(tally):
 
 
 def commands(tally):
-    """A command is found from where build-jobs is started, and one that isn't there is told at once."""
+    """A command is found from where build-jobs is started, and one that isn't there is reported at once."""
     with laid(BUILD + '; echo "$0 $@" > "$OUT/a:b/words"', more=("--", "x", "--", "-j", "--")) as (node, driver):
         made = node.take(node.post("a/b"))
         add(tally, "a command's words", made.get("a/b", {}).get("words") == b"-- x -- -j --\n", (made, driver.lines()))
@@ -626,7 +626,7 @@ def fetched(tally, nodes, digest):
     name = nodes[1].post("a/z", built=["a/x", "a/y"])
     told = second.tells(re.escape(f"? a/z waits for big of a/x, {digest}, of host 1"))
     store = f"{nodes[1].work}/store"
-    # the other's is fetched right behind it, and stands there half till it is hashed
+    # the other's is fetched right after it, and is there half till it is hashed
     whole = [it for it in os.listdir(store) if not it.startswith(".")]
     is_gone = until(lambda: not os.listdir(store))
     add(tally, "a file that comes wrong", told and not whole and is_gone, (second.lines(), whole, os.listdir(store)))
@@ -647,7 +647,7 @@ def fetched(tally, nodes, digest):
 
 
 def unpacked(tally, node, names):
-    """unpack-log with the store makes whole packages; what the store has not, or has otherwise, stays as it was, and is told."""
+    """unpack-log with the store makes whole packages; what the store lacks, or has with other bytes, stays as it was, and is reported."""
     store = f"{node.work}/store"
     said = packages.tool("unpack-log", "--store", store, node.log, f"{node.folder}/out")
     whole = {path: sorted(os.listdir(f"{node.folder}/out/{path}")) for path in ("a:x", "a:y")}
@@ -665,7 +665,7 @@ def unpacked(tally, node, names):
 
 
 def stand_ins(tally):
-    """Only what names its own file stands for one, and only where that has a place."""
+    """Only what names its own file replaces one, and only if that has a place."""
     told = {name: f"SHA256 ({name}) = {packages.digest(b'large')}\nSIZE ({name}) = 5\n".encode() for name in ("x", "w/v", "u")}
     files = [("x", b"x"), ("x.sha256", told["x"]), ("y.sha256", told["x"]), ("w/v.sha256", told["w/v"]), ("u.sha256", told["u"]), ("u/t", b"t")]
     with tempfile.TemporaryDirectory() as folder:
@@ -682,7 +682,7 @@ def stand_ins(tally):
 
 
 def words(tally):
-    """Wrong words are told, and nothing is made."""
+    """Wrong words are reported, and nothing is made."""
     with tempfile.TemporaryDirectory() as folder:
         for wrong in (["-j", "0"], ["-j", "65"], ["--digests", "x"], []):
             said = packages.tool("build-jobs", *wrong, f"{folder}/work", *([f"{folder}/log", "--", "true"] if wrong else []))

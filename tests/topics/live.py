@@ -1,5 +1,5 @@
 """`dpbn build` with tools/build-jobs: hosts that build a tree of Makefiles together, nodes and drivers that are killed meanwhile,
-ports that fail and are mended, a host that comes late, answers that are none, how much is sent where nothing happens, and a long
+ports that fail and are mended, a host that comes late, malformed answers, how much is sent if nothing happens, and a long
 run."""
 import contextlib
 import fcntl
@@ -28,14 +28,14 @@ LIMIT = 300
 # how much more memory a long run may have at its end than after its first part, in kB: of what is kept to be used again some
 # pages more may have been touched
 SPARE = 64
-# how long a turn waits of the last of nine members, where no patience is told and nothing comes, in milliseconds (dpbn(1): 20 times
+# how long a turn of the last of nine members waits by default if nothing arrives, in milliseconds (dpbn(1): 20 times
 # 1 + 8/2), and how many such turns an hour has: a day of that member has the fewest, 864,000
 WAIT, HOUR = 100, 36_000
 # how many bytes a large file has
 LARGE = 134_217_728
 # how long is waited for such a day, in seconds, and how many hours of it there have to be by then
 LONGEST_DAY, LEAST_HOURS = 45, 6
-# how many bytes a log may have, and how many before it is told how many it has (dpbn(1))
+# how many bytes a log may have, and from how many on that is reported (dpbn(1))
 MOST_OF_A_LOG, NEARLY_FULL = 2_147_483_648, 2_147_483_648 // 10 * 9
 
 
@@ -50,7 +50,7 @@ def until(holds, seconds=LIMIT, nap=0.02):
 
 
 def check(tally, name, right, *told):
-    """One more test, which passed if that is right; else it is told what was seen."""
+    """One more test, which passed if that is right; otherwise what was seen is reported."""
     tally.add(name, "" if right else " ".join(f"{it!r:.800}" for it in told) or "it isn't so")
 
 
@@ -102,7 +102,7 @@ class Host:
         until(lambda: not any(is_locked(f"{self.work}/build/{name}/lock") for name in names_in(f"{self.work}/build")))
 
     def lines(self):
-        """What the node told on standard error since it was started."""
+        """What the node printed on standard error since it was started."""
         return contents(self.out("err"))[self.began:].split(b"\n")[:-1]
 
     def begun(self):
@@ -110,7 +110,7 @@ class Host:
         return contents(self.out("driver")).count(b" > ") if os.path.exists(self.out("driver")) else 0
 
     def holds_all(self):
-        """Whether it told last that it holds all that isn't ignored."""
+        """Whether it printed last that it holds all that isn't ignored."""
         told = [it for it in map(LINE.fullmatch, self.lines()) if it]
         return bool(told) and told[-1].groups()[1:] == self.run.all_held()
 
@@ -158,7 +158,7 @@ class Run:
 
     def alone(self):
         """How long one host takes that builds the ports one after the other, and how long the longest chain of builds is of which
-        each needs the one before, in seconds; what a build takes beside its wait is that of a serial build, on the average."""
+        each needs the one before, in seconds; what a build takes next to its wait is that of a serial build, on the average."""
         texts = {port: contents(f"{self.folder}/tree/{port}/Makefile").decode() for port in self.ports}
         texts = {port: text for port, text in texts.items() if "IGNORE = " not in text}
         each, needs = self.makes / len(self.ports), needs_of(contents(f"{self.folder}/listing"))
@@ -193,7 +193,7 @@ class Run:
         return until(lambda: all(host.holds_all() for host in hosts or self.hosts))
 
     def told(self):
-        """What the nodes told last, for who looks why something failed."""
+        """What the nodes reported last, to find out why something failed."""
         return [(host.node.poll(), host.lines()[-4:], contents(host.out("driver"))[-300:]) for host in self.hosts]
 
     def begun(self):
@@ -359,7 +359,7 @@ def jobs(tally):
 
 
 def broken(tally):
-    """Two ports are broken: each host tries them once, and comes to rest with status 3. Run again the marks stand; they are taken
+    """Two ports are broken: each host tries them once, and comes to rest with status 3. Run again, the marks are still there; they are taken
     away and the Makefiles mended meanwhile, and all is built."""
     name = "two broken ports"
     with laid(ports=12, seed=5, broken=2, least=0.05, most=0.2) as run:
@@ -396,7 +396,7 @@ def settled(paths):
 
 
 def late(tally):
-    """A host whose node starts when two others hold all comes to hold all, and the others note nothing."""
+    """A host whose node starts when two others hold all obtains all, and the others note nothing."""
     name = "a late host"
     with laid(ports=20, seed=6, least=0.02, most=0.1) as run:
         early, last = run.hosts[:2], run.hosts[2]
@@ -446,7 +446,7 @@ UNIT = '{"a/unit,-main":[],"a/unit,-tests":[{"hex":"78","name":"x"}]}\n'
 SINGLE = ("bytes", "half", "held", "long", "name", "other")
 ANSWERED = "".join(f"a/{name}.FULLPKGNAME={name}-1\n" for name in SINGLE)
 ANSWERED += "a/unit,-main.FULLPKGNAME=unit-1\na/unit,-tests.FULLPKGNAME=unit-tests-1\n"
-# what is right for each unit, and what is none, by how that is
+# what is right for each unit, and what is malformed, with how
 GOOD = {"a/unit": UNIT, **{f"a/{name}": f'{{"a/{name}":[{{"hex":"78","name":"x"}}]}}\n' for name in SINGLE}}
 # what an answer has besides its unit's packages is not looked at
 GOOD["a/other"] = '{"a/other":[{"hex":"78","name":"x"}],"x/y":[{"hex":"","name":"@x"}]}\n'
@@ -457,7 +457,7 @@ BAD = {"that is no text": ("a/bytes", b"{"), "of another unit": ("a/other", b'{"
 
 
 class Lone(Host):
-    """A node for which the test builds: it stands in a folder with a listing, and its peers, if there are any, are the test's."""
+    """A node for which the test builds: it is in a folder with a listing, and its peers, if there are any, are the test's."""
 
     def __init__(self, folder, listing, weights=(1,), me=0):
         self.folder, self.members = folder, len(weights)
@@ -487,7 +487,7 @@ class Lone(Host):
         os.rename(f"{self.work}/{part}/.{name}.test", f"{self.work}/{part}/{name}")
 
     def is_failed(self, unit, name):
-        """Waits until the node told that the unit failed, and marked it, and took the answer away."""
+        """Waits until the node printed that the unit failed, and marked it, and took the answer away."""
         return until(lambda: b"dpbn: failed " + unit.encode() in self.lines() and os.path.exists(f"{self.work}/failed/{name}")
                      and not os.path.exists(f"{self.work}/done/{name}"), 20)
 
@@ -510,7 +510,7 @@ def lone(listing, *words, weights=(1,)):
 
 
 def answers(tally):
-    """Answers that make no build, are half written, or are of a unit that is held: each is told and marked, or nobody looks at it;
+    """Answers that make no build, are half written, or are of a unit that is held: each is reported and marked, or ignored;
     and once the marks are gone all is built."""
     with lone(ANSWERED, "--jobs", "64") as host:
         all_posted = until(lambda: set(host.jobs()) == set(GOOD), 30)
@@ -551,7 +551,7 @@ TWO = "a/b.FULLPKGNAME=b-1\na/c.FULLPKGNAME=c-1\n"
 
 
 def rests_behind_all_jobs(tally):
-    """A node whose open claim is answered, while the other one of its two jobs is built still, comes to rest behind that one."""
+    """A node whose open claim is answered, while the other one of its two jobs is built still, comes to rest after that one."""
     name = "two jobs, and a rest"
     with lone(TWO, "--jobs", "2", "--rest", "1") as host:
         first, second = host.job("a/b"), host.job("a/c")
@@ -566,7 +566,7 @@ def rests_behind_all_jobs(tally):
 
 def taken_away(tally):
     """A job that is taken away is posted again: that of the open claim, and one whose claim was given up for that; and no more jobs
-    are out than are told."""
+    are out than are allowed."""
     with lone(TWO + "a/d.FULLPKGNAME=d-1\n", "--jobs", "2") as host:
         names = {unit: host.job(unit) for unit in ("a/b", "a/c")}
         for unit, name in reversed(names.items()):
@@ -663,7 +663,7 @@ def left_to_another(tally, takeover=4):
 
 
 def other_runs(tally):
-    """A folder that has files, beside a log without notes, is that of another run, and nothing of it changes; what is half written
+    """A folder that has files, next to a log without notes, is that of another run, and nothing of it changes; what is half written
     doesn't count."""
     for part in ("jobs", "done", "failed"):
         for name, wanted in (("0" * 64, 1209), (f".{'0' * 64}.1", None)):
@@ -742,7 +742,7 @@ def quiet(tally):
 
 
 def unanswered(tally):
-    """A node whose peers never answer offers its claim to each once a second, and asks as often; told to rest, it ends with status 3."""
+    """A node whose peers never answer offers its claim to each once a second, and asks as often; with --rest it ends with status 3."""
     name = "a node that nobody answers"
     with lone("a/b.FULLPKGNAME=b-1\n", "--rest", "8", weights=(1, 1, 1)) as host, contextlib.ExitStack() as stack:
         ears = [stack.enter_context(taken(port, address)) for address, port in host.places[1:]]
@@ -818,7 +818,7 @@ def long_run(tally, first=10, rounds=30):
             if not until(lambda: host.lines().count(b"dpbn: failed a/c") > number, 20, 0.002):
                 break
             os.unlink(f"{host.work}/failed/{name}")
-            # it is claimed anew, and the job tells so
+            # it is claimed again, and the job says so
             if not until(lambda: contents(f"{host.work}/jobs/{name}") != job, 20, 0.002):
                 break
             count += 1
@@ -869,7 +869,7 @@ def day_passed(tally, host, place):
 
 
 def nearly_full(tally):
-    """A log that has as many bytes as it may have before it is told, and with a note more: then it is told, once."""
+    """A log that has as many bytes as it may have before it is reported, and with a note more: then it is reported, once."""
     name = "a log that is nearly full"
     with tempfile.TemporaryDirectory() as folder:
         if shutil.disk_usage(folder).free < 2 * MOST_OF_A_LOG:
@@ -896,7 +896,7 @@ def nearly_full(tally):
 
 
 def votes(room):
-    """Votes for builds of `a/b`, in a log, that take so many bytes together."""
+    """Votes for builds of `a/b`, in a log, that take this many bytes together."""
     size = 4_000_000
     while room > 2 * size:
         yield vote(size)
@@ -907,19 +907,19 @@ def votes(room):
 
 @functools.cache
 def vote(size):
-    """One that takes so many bytes."""
+    """One that takes this many bytes."""
     def with_file(text):
         build = packages.build(packages.record("a/b", "b-1", [("x", text)], host=0))
         return behind_a_gate(packages.note(3, "a/b", packages.claim(1, 0) + build))
 
     rest = size - len(with_file(b"")) + 1
-    # the record tells the file's size, in as many digits as that has
+    # the record has the file's size, in as many digits as that has
     digits = next(it for it in range(1, 8) if len(str(rest - it)) == it)
     return with_file(b"x" * (rest - digits))
 
 
 def behind_a_gate(note):
-    """A note as it stands in a log, behind its open gate."""
+    """A note as it is in a log, after its open gate."""
     return b"\1" + len(note).to_bytes(4, "big") + note
 
 
@@ -963,7 +963,7 @@ def posted_on_the_disk(tally):
 # ---- large packages
 
 def held(host):
-    """How many packages the node told last that it holds."""
+    """How many packages the node printed last that it holds."""
     told = [it for it in map(LINE.fullmatch, host.lines()) if it]
     return sum(map(int, told[-1].groups()[1:3])) if told else 0
 
@@ -978,7 +978,7 @@ def start_storing(host, script):
 
 def large(tally):
     """Packages of hundreds of megabytes, each built at another host on those before: their large files go by digest, are fetched from
-    where they were built, and stand whole in the end."""
+    where they were built, and are whole in the end."""
     name, units = "large packages", ("x", "y", "z")
     listing = "".join(f"a/{it}.FULLPKGNAME={it}-1\n" for it in units) + "a/y.BUILD_DEPENDS=a/x\na/z.BUILD_DEPENDS=a/x a/y\n"
     script = f'd="$OUT/$(echo $PKGPATH | tr / :)" && mkdir "$d" && yes $PKGPATH | head -c {LARGE} > "$d/big" && '
@@ -1093,7 +1093,7 @@ def faults(tally):
 # ---- what is shown
 
 def manual_page(tally):
-    """What dpbn(1) shows of hosts that build, beside what it shows before it."""
+    """What dpbn(1) shows of hosts that build, next to what it shows before it."""
     nodes.shown_runs(tally, f"{TOP}/man/dpbn.1", ".Ss Hosts that build\n")
 
 

@@ -12,7 +12,7 @@ from topics.tally import TESTS, TOP, built_shim, contents, text_difference
 
 # what members and nodes are asked, a file each, as `probes` reads it
 ASKED = f"{TESTS}/members"
-# the stored traces of which worlds are made, over the one package that `probes` has where no listing is told
+# the stored traces of which worlds are made, over the one package that `probes` has if no listing is given
 WORLDS = ("a_build_is_taken_over", "a_build_in_pieces")
 
 
@@ -43,7 +43,7 @@ def is_right(told, right):
 
 
 def problem_of(got, right, again):
-    """What is wrong where an allocation was refused: in a step all is told, elsewhere a beginning."""
+    """What is wrong where an allocation was refused: in a step everything is printed, elsewhere a prefix."""
     told, said, status = got
     if said == b"1 again\n":
         again.append(said)

@@ -1,4 +1,4 @@
-"""Want of memory at each allocation of dpbr: the right answer or fault 1, and nothing else."""
+"""Lack of memory at each allocation of dpbr: the right answer or fault 1, and nothing else."""
 import concurrent.futures
 import os
 import re
@@ -30,7 +30,7 @@ def long_listing(paths):
 
 
 def is_want_of_memory(words, got):
-    """Nothing is printed but fault 1, which a run tells of the event at which it came up, once there is one; and so that before a way."""
+    """Only fault 1 is printed. A run adds the event at which it came up, if there is one."""
     out, error, status = got
     place = rb"( at [1-9][0-9]*)?" if words[0] in ("run", "wayon") else b""
     return (out, status) == (b"", 1) and re.fullmatch(rb"dpbr: fault 1" + place + rb"\n", error)

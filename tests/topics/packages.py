@@ -37,7 +37,7 @@ def record(path, name, files, built=(), run=(), host=3, claim="1.0"):
 
 
 def build(*records):
-    """The text of a build, behind its length."""
+    """The text of a build, after its length."""
     text = (f"@dpb 2\n@packages {len(records)}\n".encode() if len(records) > 1 else b"") + b"".join(records)
     return len(text).to_bytes(4, "big") + text
 
@@ -87,7 +87,7 @@ def files_in(folder):
 
 
 def unpacked(folder, text):
-    """What the tool said of a log with these bytes, and what it left beside the log."""
+    """What the tool said of a log with these bytes, and what it left next to the log."""
     with open(f"{folder}/log", "wb") as file:
         file.write(text)
     said = tool("unpack-log", f"{folder}/log", f"{folder}/out")
@@ -96,7 +96,7 @@ def unpacked(folder, text):
 
 
 def good_logs(tally):
-    """Two forms of log, what a torn write left behind the gate, and a node that holds nothing."""
+    """Two forms of log, what a torn write left after the gate, and a node that holds nothing."""
     for name, text, files in (("a log", log(NOTES), FILES), ("a log with weights", log(NOTES, (1, 1, 3), 2), FILES),
                               ("a log with a torn note", log(NOTES, end=b"\0\0\0\x28torn"), FILES),
                               ("a log without notes", log([]), {"list": b"", "held": b""})):
@@ -116,7 +116,7 @@ def good_logs(tally):
 
 
 def bad_logs(tally):
-    """A log that is none, or that has a bad note, is told with its place, and nothing is left."""
+    """A malformed log, or one with a bad note, is reported with its place, and nothing is left."""
     good, first = log(NOTES), 43
     held = log([HELD_D])
     cases = [("no bytes", b"", 0), ("a closed header", b"\0" + good[1:], 0), ("another magic", good[:8] + b"3" + good[9:], 1),
@@ -141,7 +141,7 @@ def bad_logs(tally):
 
 
 def cut_logs(tally):
-    """A log cut at each length: at a gate it is whole where the byte is taken for a closed one, and else it is told."""
+    """A log cut at each length: at a gate it is whole if the byte is taken for a closed one, and otherwise it is reported."""
     text, wrong = log([HELD_D]), []
     for length in range(len(text)):
         with tempfile.TemporaryDirectory() as folder:
@@ -194,7 +194,7 @@ def builds(tally):
 
 
 def large_builds(tally):
-    """A file that is too large is told, or gives way to what says which it is."""
+    """A file that is too large is reported, or gives way to what says which it is."""
     large = bytes(MOST_OF_A_BUILD + 1)
     with tempfile.TemporaryDirectory() as folder:
         written(folder, {"a:b,-x/large": large, "a:b,-y/small": b"y", "c:d/z": b"z"})

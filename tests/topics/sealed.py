@@ -1,5 +1,5 @@
 """Nodes of a run with a key: what is forged, flipped, replayed or sealed otherwise changes nothing; requests that come again at once;
-faults that come again; files of keys; run files beside logs that are lost, swapped, emptied and copied back."""
+faults that come again; files of keys; run files next to logs that are lost, swapped, emptied and copied back."""
 import hashlib
 import hmac
 import json
@@ -19,7 +19,7 @@ from topics.tally import contents, difference
 
 # how many datagrams are sent, in all, that are forged; and that are noise or genuine ones with a bit flipped
 FORGED = FLIPPED = 1_000_000
-# after so many a sender naps, so that what it sends finds room in the socket's line
+# after this many a sender naps, so that what it sends finds room in the socket's line
 AT_ONCE, NAP = 64, 0.001
 STRANGER = "127.0.0.9"
 TALLY = re.compile(rb"^dpbn: member (\d): heard (\d+)(?:, last \d+ s ago)?, sealed otherwise (\d+), asked again (\d+), unsent (\d+)$")
@@ -105,12 +105,12 @@ def over(node):
 
 
 def lines_of(folder, me):
-    """What the node told so far."""
+    """What the node printed so far."""
     return contents(f"{folder}/err-{me}").split(b"\n")[:-1]
 
 
 def seen(folder, me):
-    """What it told last of each other member (heard, sealed otherwise, asked again, unsent), and of strangers."""
+    """What it printed last of each other member (heard, sealed otherwise, asked again, unsent), and of strangers."""
     tallies, strangers = {}, 0
     for line in lines_of(folder, me):
         found = TALLY.match(line)
@@ -131,7 +131,7 @@ def settled(folder, me):
 
 
 def has_told(folder, me, *lines, seconds=60):
-    """Waits until it has told one of these lines."""
+    """Waits until it has reported one of these lines."""
     until = time.monotonic() + seconds
     while time.monotonic() < until:
         if not set(lines).isdisjoint(lines_of(folder, me)):
@@ -152,7 +152,7 @@ def at_rest(folder, me):
 
 
 def others(line):
-    """Whether it is told of nothing but members, strangers and the node itself."""
+    """Whether only members, strangers and the node itself are reported."""
     return not (TALLY.match(line) or line.startswith((b"dpbn: strangers: ", b"node ")))
 
 
@@ -286,7 +286,7 @@ def runs(tally):
 # ---- what comes
 
 def believed(tally):
-    """Without a key a build that a member's address tells as agreed is taken; the same datagrams do nothing under a key."""
+    """Without a key a build that a member's address announces as agreed is taken; the same datagrams do nothing under a key."""
     for name, words, line in (("no key", ["--unsealed"], node_line(0, i=1)), ("a key", ["--key", "key"], node_line(0, q=1))):
         with tempfile.TemporaryDirectory() as folder:
             lay_run(folder)
@@ -303,7 +303,7 @@ def believed(tally):
 
 
 def forgeries(tree, weights, count):
-    """So many datagrams, of each kind and for each other member, that carry no seal of the run, or a wrong one."""
+    """This many datagrams, of each kind and for each other member, that carry no seal of the run, or a wrong one."""
     dice, texts = random.Random(2), []
     for sender in (1, 2):
         texts += datagrams_of(tree, b"a/b", record("a/b", "b-1.0", b"forged"), sender).values()
@@ -377,7 +377,7 @@ def flipped(tally):
 
 
 def strangers_of_the_run(tally):
-    """A member with another key, other weights or another listing is heard by none, and told by name, once; the others go on without."""
+    """A member with another key, other weights or another listing is heard by none, and reported by name, once; the others go on without."""
     for name, more, files in (("key", keyed, None), ("weights", None, None), ("listing", None, "other")):
         with tempfile.TemporaryDirectory() as folder:
             lay_run(folder)
@@ -451,7 +451,7 @@ def agreed_of_two(tally, folder, when):
 
 
 def beside_a_flood(tally, packages=150):
-    """Two nodes that build, and the same beside forged datagrams from the third one's address at both."""
+    """Two nodes that build, and the same next to forged datagrams from the third one's address at both."""
     took = []
     for is_flooded in (False, True):
         with tempfile.TemporaryDirectory() as folder:
@@ -495,7 +495,7 @@ def asked_for(mouth, to, request, seconds):
 
 
 def comes(mouth, front, seconds):
-    """Whether a datagram that begins so comes within so many seconds."""
+    """Whether a datagram that begins so comes within this many seconds."""
     until = time.monotonic() + seconds
     while time.monotonic() < until:
         try:
@@ -540,13 +540,13 @@ def repeated(tally, seconds=4):
 
 
 def silent_for(folder, me, member):
-    """For how many seconds it heard nothing of a member, as it told last."""
+    """For how many seconds it heard nothing of a member, as it printed last."""
     told = re.findall(rb"^dpbn: member %d: heard \d+, last (\d+) s ago" % member, contents(f"{folder}/err-{me}"), re.MULTILINE)
     return int(told[-1]) if told else 0
 
 
 def faults_again(tally, count=50):
-    """A member that is in sends what means nothing: the fault is told once, and then how often it came again; and how many seconds ago
+    """A member that is in sends what means nothing: the fault is reported once, and then how often it came again; and how many seconds ago
     the member was heard."""
     with tempfile.TemporaryDirectory() as folder:
         key = lay_run(folder)

@@ -10,7 +10,7 @@ from topics.memory import refusing
 from topics.programs import stored_cases
 from topics.tally import built_shim, text_difference
 
-# The folders of stored cases of `dpbr run`: those whose builds go out in several pieces stand apart.
+# The folders of stored cases of `dpbr run`: those whose builds go out in several pieces are separate.
 STORED = ("traces", "pieces")
 
 FILES = b'[{"hex":"616263","name":"x"}]'
