@@ -1,4 +1,4 @@
-"""How much memory is asked for where texts that are no build come for a unit of which a long build is known: nothing of that is
+"""How much memory is requested if malformed builds arrive for a unit of which a long build is known. nothing of that is
 spelled for a text that doesn't begin as it does, or is shorter, and else hardly more than came. The same texts come for a unit of
 which nothing is known, which shows what reading them takes. That needs the program `probes` as it is built, which
 `tools/prove probes` builds: without it this topic is skipped."""
@@ -33,7 +33,7 @@ def build(unit, host=3, size=0):
     return "".join(f"{line}\n" for line in [*lines, ""]).encode()
 
 
-# texts that are no build, by the unit; how often each comes; and what may be spelled for one
+# malformed builds, by the unit; how often each comes; and what may be spelled for one
 TEXTS = {
     "other bytes": (lambda unit: b"x" * SHORT, 20, lambda text: 0),
     "a build of another host, cut": (lambda unit: build(unit, host=4)[:SHORT], 20, lambda text: 0),
@@ -93,7 +93,7 @@ def add(tally, name, problem, *given):
         told = problem(*given)
     except (OSError, ValueError, subprocess.SubprocessError) as error:
         told = str(error)
-    tally.add(f"memory beside a known build, {name}", told)
+    tally.add(f"memory next to a known build, {name}", told)
 
 
 def run(tally):

@@ -119,7 +119,7 @@ def plain(tally: Tally) -> None:
 
 
 def definitions(path: str) -> Iterator[Tuple[int, int]]:
-    """The definitions of a file: the line where each begins, and how many lines it has."""
+    """The definitions of a file: the line at which it begins, and how many lines it has."""
     starts, lines = [], lines_of(path)
     for n, line in enumerate(lines):
         if re.match(r"(abbrev|unfoldable|pub|record|data|[a-z_]+ pub) ", line) and not is_import(line) and not line.startswith("pub mod"):
@@ -232,8 +232,8 @@ def cost_of_the_gate(tally: Tally) -> None:
 
 
 def tried_wrong_bodies(tally: Tally) -> None:
-    """Prints the crates whose edits in tests/wrong-bodies were not tried on the current sources. That is no failure, since a change of a
-    crate makes it so for all above. Each line of the record is about a crate that has edits."""
+    """Prints the crates whose edits in tests/wrong-bodies were not tried on the current sources. That isn't a failure, since a change
+    of a crate makes it so for all above. Each line of the record is about a crate that has edits."""
     strangers = sorted(set(tried.read()) - set(tried.crates()))
     tally.add("tests/wrong-bodies/tried", f"{strangers} have no edits there" if strangers else "")
     untried, all_crates = tried.untried(), tried.crates()

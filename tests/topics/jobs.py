@@ -131,7 +131,7 @@ class Driver:
 
 @contextlib.contextmanager
 def laid(script, *words, more=()):
-    """A node that has just opened its log, and a driver that works for it, with more words for the script."""
+    """A node that has opened its log, and a driver that works for it, with more words for the script."""
     with tempfile.TemporaryDirectory() as folder:
         node = Node(folder)
         node.open()
@@ -192,10 +192,10 @@ def failures(tally):
         name = node.post("a/b")
         why, log = node.failed(name), f"{os.path.realpath(node.work)}/logs/a:b.log"
         add(tally, "a build that fails", why == f"a/b: status 3\n{log}\n", why)
-        add(tally, "the same, told", driver.tells(re.escape(f"! a/b failed after 0 s: status 3, see {log}")), driver.lines())
+        add(tally, "the same, reported", driver.tells(re.escape(f"! a/b failed after 0 s: status 3, see {log}")), driver.lines())
         add(tally, "the same, its log", read(log).endswith("told\n"), read(log))
         time.sleep(0.3)
-        add(tally, "a mark that stands", len(driver.lines()) == 2 and not os.listdir(f"{node.work}/done"), driver.lines())
+        add(tally, "a mark that exists", len(driver.lines()) == 2 and not os.listdir(f"{node.work}/done"), driver.lines())
         with open(f"{node.folder}/mended", "w"):
             os.unlink(f"{node.work}/failed/{name}")
         add(tally, "a mark that was taken away", bool(node.take(name)), driver.lines())
@@ -269,7 +269,7 @@ def drivers_that_end(tally):
                 file.write("{")
         again = Driver(node, 'mkdir "$OUT/$(echo $PKGPATH | tr / :)" && if [ $PKGPATH = a/b ]; then echo again > "$OUT/a:b/x"; fi')
         told = again.tells(re.escape(f"= a build of an earlier run goes on in {os.path.realpath(node.work)}/build/{left[0]}"))
-        add(tally, "the next one tells it", told, again.lines())
+        add(tally, "the next one reports it", told, again.lines())
         other = node.take(node.post("c/d")), is_alive(node.folder, "pid"), [line for line in again.lines() if line.startswith("> a/b")]
         add(tally, "a unit of which a build goes on", other == ({"c/d": {}}, True, []), other)
         with open(f"{node.folder}/go", "w"):
@@ -387,7 +387,7 @@ def what_the_system_refuses(tally):
         time.sleep(0.3)
         ended = driver.end()
         left = os.listdir(f"{node.work}/failed"), os.listdir(f"{node.work}/jobs"), os.listdir(f"{node.work}/build")
-        add(tally, "a build that is ended just before it", (ended, left) == (143, ([], [name], [])), (ended, left, driver.lines()))
+        add(tally, "a build that is ended right before it", (ended, left) == (143, ([], [name], [])), (ended, left, driver.lines()))
     with laid(SLOW) as (node, driver):
         node.post("a/b")
         until(lambda: os.path.exists(f"{node.folder}/pid") and read(f"{node.folder}/pid"))
@@ -414,7 +414,7 @@ def what_is_no_job(tally):
         for what, name in (*odd.items(), ("a folder", "1" * 64), ("a FIFO", "2" * 64)):
             add(tally, f"a job that is {what}", driver.tells(f"[?] jobs/{name} is no job: .*"), driver.lines())
         begun = [line for line in driver.lines() if line.startswith(">")]
-        add(tally, "a job beside these", bool(made) and begun == ["> z/b, on 0 packages: 1 of 1"], driver.lines())
+        add(tally, "a job next to these", bool(made) and begun == ["> z/b, on 0 packages: 1 of 1"], driver.lines())
 
 
 def where_it_stands(tally):
@@ -543,7 +543,7 @@ def commands(tally):
         os.chmod(f"{folder}/build", 0o755)
         process = subprocess.Popen([f"{TOP}/tools/build-jobs", node.work, node.log, "--", "./build"], cwd=folder, stdin=subprocess.DEVNULL,
                                    stdout=subprocess.DEVNULL, stderr=subprocess.DEVNULL)
-        add(tally, "a command beside it", bool(node.take(node.post("a/b"))))
+        add(tally, "a command next to it", bool(node.take(node.post("a/b"))))
         process.kill()
         process.wait()
         process = subprocess.Popen([f"{TOP}/tools/build-jobs", node.work, node.log, "--", "sh", "-c", f"{BUILD}; exit 3"], stdin=subprocess.DEVNULL,
@@ -558,7 +558,7 @@ def commands(tally):
 
 
 def not_allowed(tally):
-    """A build that may not be ended, as where it runs as another user, keeps its folder, and nobody waits for it."""
+    """A build that may not be ended, for example one of another user, keeps its folder, and nobody waits for it."""
     module, told = build_jobs(), []
     module.LONGEST_END = 0.2
     with tempfile.TemporaryDirectory() as folder:
@@ -610,7 +610,7 @@ def large(tally):
         add(tally, "large files", [sorted(its) for it in made for its in it.values()] == [["big.sha256", "small"]] * 2 and len(names) == 2 and right, (made, names))
         text = next(iter(made[0].values()))["big.sha256"].decode()
         digest = re.findall("[0-9a-f]{64}", text)[0]
-        add(tally, "a large file, what is told", text == f"SHA256 (big) = {digest}\nSIZE (big) = {LARGE}\n" and digest in names, text)
+        add(tally, "a large file, what is reported", text == f"SHA256 (big) = {digest}\nSIZE (big) = {LARGE}\n" and digest in names, text)
         first.end()
         for path, its in ((path, its) for it in made for path, its in it.items()):
             nodes[1].hold(path, {path: sorted(its.items())})
@@ -619,7 +619,7 @@ def large(tally):
 
 
 def fetched(tally, nodes, digest):
-    """Another host has none of them: what comes first is wrong, and isn't used."""
+    """Another host has none of them: the first file to arrive is wrong, and isn't used."""
     see = 'mkdir "$OUT/a:z" && cd "$DEPS" && ls a:x a:y > "$OUT/a:z/saw" && cat a:x/big a:y/big | wc -c > "$OUT/a:z/size"'
     get = f'echo $HOST $SIZE $NAME >> "{nodes[1].folder}/asked"; if [ -e "{nodes[1].folder}/up" ]; then cp "{nodes[0].work}/store/$SHA256" "$TARGET"; else head -c $SIZE /dev/zero > "$TARGET"; fi'
     second = Driver(nodes[1], see, "--digests", "1000000", "--fetch", get)
@@ -678,7 +678,7 @@ def stand_ins(tally):
         got = packages.files_in(f"{folder}/out/a:b")
     wanted = {name: text for name, text in files if name != "w/v.sha256"}
     wanted["w/v"] = b"large"
-    tally.add("unpack-log of what stands for no file", "" if (said, got) == ((b"", b"", 0), wanted) else f"{said} {sorted(got)}")
+    tally.add("unpack-log of a digest without a file", "" if (said, got) == ((b"", b"", 0), wanted) else f"{said} {sorted(got)}")
 
 
 def words(tally):

@@ -171,7 +171,7 @@ class Run:
         return sum(takes.values()), max(chain.values())
 
     def all_held(self):
-        """What a node's line says where all is held that isn't ignored."""
+        """A node's line if everything that isn't ignored is held."""
         return tuple(b"%d" % it for it in (len(self.paths), 0, 0, 0, self.ignored))
 
     def start(self, *words):
@@ -180,7 +180,7 @@ class Run:
             host.start_driver()
 
     def ends(self):
-        """Waits until all nodes ended by themselves, and answers their statuses."""
+        """Waits until all nodes have ended, and returns their statuses."""
         until(lambda: all(host.node.poll() is not None for host in self.hosts))
         return [host.node.poll() for host in self.hosts]
 
@@ -374,7 +374,7 @@ def broken(tally):
         run.end()
         run.start("--takeover", "1")
         again = until(lambda: all(failed <= set(host.lines()) for host in run.hosts))
-        check(tally, f"{name}, marks that stand", again, run.told())
+        check(tally, f"{name}, marks that exist", again, run.told())
         run.set_broken(mended=True)
         for host in run.hosts:
             for mark in names_in(f"{host.work}/failed"):
@@ -435,7 +435,7 @@ def with_a_key(tally):
         check(tally, f"{name}, all is held", run.is_held(), run.told())
         tell(run, name, began)
         told = [line for host in run.hosts for line in host.lines() if b"seals otherwise" in line or b"fault" in line]
-        check(tally, f"{name}, what is told", not told, told)
+        check(tally, f"{name}, what is reported", not told, told)
         run.end()
         whole(tally, run, name)
 
@@ -531,7 +531,7 @@ def answers(tally):
         host.kill("node")
         host.start_node("--rest", "1")
         until(lambda: host.node.poll() is not None, 30)
-        check(tally, "a work folder beside its log", host.node.poll() == 0, host.lines()[-4:])
+        check(tally, "a work folder next to its log", host.node.poll() == 0, host.lines()[-4:])
 
 
 def late_answers(tally, host, names):
@@ -693,7 +693,7 @@ def beside_nodes(tally):
             others = [nodes.started(folder, me, words) for me in (1, 2)]
             for path in paths:
                 host.hand_in("done", host.job(path), json.dumps({path: []}).encode())
-            check(tally, "a node beside others that have no builds", host.shows(I=3), host.lines()[-4:])
+            check(tally, "a node among others that have no builds", host.shows(I=3), host.lines()[-4:])
             held = [nodes.node_line(me, i=3) in iter(it.stderr.readline, b"") for me, it in enumerate(others, 1)]
             check(tally, "the others, what they hold", all(held), held)
         finally:
@@ -702,7 +702,7 @@ def beside_nodes(tally):
             host.end()
 
 
-# ---- what is sent, and what is kept
+# ---- what is sent, and memory
 
 def came(ears):
     """The kinds of the datagrams that wait at each of these sockets."""
@@ -726,7 +726,7 @@ def quiet(tally):
         failed = until(lambda: b"dpbn: failed a/c" in host.lines(), 30)
         came(ears)
         until(lambda: any(came(ears)), 10)
-        # now one was just asked
+        # now a question was asked
         came(ears)
         time.sleep(5)
         kinds = came(ears)
@@ -1029,7 +1029,7 @@ def large_ones(tally, name, folder, hosts, units):
 # ---- words, and what is refused before the first turn
 
 def wrong_words():
-    """Words of `dpbn build` that are no call."""
+    """Wrong arguments of `dpbn build`."""
     needed = {"--listing": "listing", "--work": "work", "--dir": "logs", "--members": "3", "--me": "0"}
     for lacking in needed:
         yield [*(it for pair in needed.items() if pair[0] != lacking for it in pair), "--base", "7000"]
@@ -1046,7 +1046,7 @@ def wrong_words():
 
 
 def no_calls(tally):
-    """Words that are no call: clap's text on standard error, status 2, and nothing is made."""
+    """Wrong arguments: clap's text on standard error, status 2, and nothing is made."""
     with tempfile.TemporaryDirectory() as folder:
         nodes.lay(folder)
         before = names_in(folder)
@@ -1054,7 +1054,7 @@ def no_calls(tally):
             out, error, code = answer(["build", *words], folder)
             check(tally, f"dpbn build {words}", (out, code) == (b"", 2) and error, out, error, code)
         stays = names_in(folder) == before and not logs_in(folder)
-        check(tally, "what stands after words that are no call", stays, names_in(folder))
+        check(tally, "the folder after wrong arguments", stays, names_in(folder))
 
 
 def faults(tally):
@@ -1098,7 +1098,7 @@ def manual_page(tally):
 
 
 def readme(tally):
-    """The README's three hosts: its very commands, in a folder where they find what they name, print what it says."""
+    """The README's three hosts: its very commands, in a folder with the files that they name, print what it says."""
     text = contents(f"{TOP}/README.md").decode()
     block = re.search(r"^Build this tree with three nodes.*?\n\n(.*?)\n\n", text, re.DOTALL | re.MULTILINE)[1]
     line = re.search(r"# each prints: node K: (.*)", block)[1]

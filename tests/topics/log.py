@@ -125,7 +125,7 @@ def shapes(tally, folder):
     for length in range(len(new) + 1):
         check(tally, folder, f"a log in making of {length} bytes", b"\0" + new[1:length] if length else b"", [])
         likely = length < 2 or length == len(new)
-        check(tally, folder, f"{length} bytes behind a strange gate", b"\xff" + new[1:length] if length else b"", [] if likely else 1004)
+        check(tally, folder, f"{length} bytes after a strange gate", b"\xff" + new[1:length] if length else b"", [] if likely else 1004)
     check(tally, folder, "a log whose first gate is closed", b"\0" + whole[1:], 1004)
     tree, weights, me = OWNER
     for name, owner in (("another tree", (bytes([8] * 32), weights, me)), ("four members", (tree, bytes([1] * 4), me)),
@@ -187,7 +187,7 @@ def order(tally, folder):
 
 
 def failing(tally, folder, name, start, found, all_later):
-    """Each call fails in turn, alone or with all later ones: 1001, and the notes before are there, with one more or without."""
+    """Each call fails in turn, by itself or with all later ones: 1001, and the notes before are there, with one more or without."""
     number, problem, was_failed = 0, "", True
     while was_failed and not problem:
         number += 1

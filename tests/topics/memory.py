@@ -55,11 +55,11 @@ def refusals(tally, folder, words, name):
 
 
 def cluster_problem(folder, got):
-    """What is wrong with a cluster of which a request for memory was refused: turns go on, and what the trace has is what the nodes
+    """What is wrong with a cluster of which an allocation failed: turns go on, and what the trace has is what the nodes
     show; or nothing is printed but fault 1."""
     out, error, status = got
     if set(error.split(b"\n")) - {b"", b"dpbn: fault 1"}:
-        return f"it tells {error!r}"
+        return f"it prints {error!r}"
     if status == 1 and error:
         return f"it prints {out!r}" if out else ""
     told = subprocess.run([PROGRAM, "run", "listing", "TRACE"], cwd=folder, capture_output=True, timeout=60).stdout

@@ -125,7 +125,7 @@ def case(tally, kind, name):
 
 
 def wrong_words():
-    """Words that are no call."""
+    """Wrong arguments."""
     node = ["node", *SHARED, "--members", "3", "--me", "0", "--turns", "1"]
     cluster = ["cluster", *SHARED, "--members", "3", "--turns", "1"]
     here = [*node, "--base", "7000"]
@@ -151,13 +151,13 @@ def wrong_words():
 
 
 def no_calls(tally):
-    """Words that are no call: clap's text on standard error, and status 2."""
+    """Wrong arguments: clap's text on standard error, and status 2."""
     with tempfile.TemporaryDirectory() as folder:
         lay(folder)
         for words in wrong_words():
             out, error, code = answer(words, folder)
             tally.add(f"dpbn {words}", "" if (out, code) == (b"", 2) and error else f"{out!r:.200}, {error!r:.200}, status {code}")
-        tally.add("the logs after words that are no call", f"{logs_in(folder)}" if logs_in(folder) else "")
+        tally.add("the logs after wrong arguments", f"{logs_in(folder)}" if logs_in(folder) else "")
 
 
 def helps(tally):
@@ -217,7 +217,7 @@ def cluster_faults(tally):
             ("801", {"--weights": "1,2"}), ("2", {"--dir": "none"}), ("1204", {})), preexec_fn=no_files_left)
         words = ["cluster", *SHARED, "--members", "3", "--turns", "200"]
         answer(words, folder)
-        none, used = b"this is no log", logs_in(folder)
+        none, used = b"this isn't a log", logs_in(folder)
         # one log after the other, by number
         for first, second, wanted in ((none, used["node-1.log"], 1004), (used["node-1.log"], none, 1005), (used["node-0.log"], none, 1203),
                                       (b"", none, 1004), (b"", used["node-0.log"], 1005), (b"", used["node-1.log"], 1203)):
@@ -231,7 +231,7 @@ def bad_files(folder):
     put(f"{folder}/bad", b"bad\n")
     os.mkdir(f"{folder}/bad-logs")
     for me in range(4):
-        put(f"{folder}/bad-logs/node-{me}.log", b"this is no log")
+        put(f"{folder}/bad-logs/node-{me}.log", b"this isn't a log")
 
 
 def bad_words(tally):
@@ -273,7 +273,7 @@ def refused_logs(tally):
             logs_stay(tally, folder, ["4" if it == "3" else it for it in words], 1005)
             logs_stay(tally, folder, ["other" if it == "listing" else it for it in words], 1005)
         whole = logs_in(folder)
-        for spoiled, wanted in ((b"this is no log", 1004), (whole["node-0.log"][:-1], 1004), (whole["node-2.log"], 1005)):
+        for spoiled, wanted in ((b"this isn't a log", 1004), (whole["node-0.log"][:-1], 1004), (whole["node-2.log"], 1005)):
             put(f"{folder}/logs/node-0.log", spoiled)
             logs_stay(tally, folder, ["cluster", *three], wanted)
             logs_stay(tally, folder, [*node, "0"], wanted)
@@ -287,11 +287,11 @@ def alone(tally):
         lay(folder)
         words = ["node", *SHARED, "--members", "1", "--me", "0", "--base", str(free_ports(1)), "--turns", "12"]
         for _ in range(2):
-            tally.add("dpbn node, alone", difference(answer(words, folder), (b"node 0: I=1 B=0 Q=0 T=0 !=0\n", b"", 0)))
+            tally.add("dpbn node, by itself", difference(answer(words, folder), (b"node 0: I=1 B=0 Q=0 T=0 !=0\n", b"", 0)))
         one = ["cluster", *SHARED, "--members", "1", "--turns", "12"]
         tally.add("a cluster on its log", difference(answer(one, folder), (b"", b"dpbn: fault 1203\n", 1)))
         three = ["cluster", *SHARED, "--members", "3", "--turns", "12"]
-        tally.add("beside the run file of a lone member", difference(answer(three, folder), (b"", b"dpbn: fault 1203\n", 1)))
+        tally.add("next to the run file of a lone member", difference(answer(three, folder), (b"", b"dpbn: fault 1203\n", 1)))
         os.remove(f"{folder}/logs/node-0.run")
         tally.add("the log of a lone member", difference(answer(three, folder), (b"", b"dpbn: fault 1005\n", 1)))
 
@@ -360,7 +360,7 @@ def down_problem(folder, got, once):
 
 
 def called(shim, folder, words, fail):
-    """What is answered where this call of the logs' devices fails, on logs that are new, and how many such calls there were."""
+    """The answer if this call of the logs' devices fails, on logs that are new, and how many such calls there were."""
     lay_logs(folder)
     put(f"{folder}/calls", b"")
     got = answer(words, folder, env={**os.environ, "LD_PRELOAD": f"{shim}/calls.so", "CALLS": f"{folder}/calls", "FAIL": fail})
@@ -437,7 +437,7 @@ def ended(process):
 
 
 def sockets_of(process):
-    """Where the process listens by UDP: addresses and ports."""
+    """The addresses and ports at which the process listens by UDP."""
     try:
         links = [os.readlink(f"/proc/{process.pid}/fd/{fd}") for fd in os.listdir(f"/proc/{process.pid}/fd")]
     except OSError:
@@ -679,7 +679,7 @@ def second_start(tally):
         tally.add("the log of the node that runs", "" if logs_in(folder)["node-0.log"] == before["node-0.log"] else "it changed")
         others = [started(folder, me, ["--base", str(base), "--turns", "100"]) for me in (1, 2)]
         lines = b"".join(it.communicate(timeout=300)[0] for it in others)
-        tally.add("the others beside it", "" if lines == node_line(1, i=1) + node_line(2, i=1) else f"{lines!r}")
+        tally.add("the others next to it", "" if lines == node_line(1, i=1) + node_line(2, i=1) else f"{lines!r}")
         tally.add("the node that runs", "" if first.poll() is None else f"it ended with {first.returncode}")
         ended(first)
         got = answer([*node[:-3], "--turns", "0", "--base", str(base)], folder)
@@ -724,9 +724,9 @@ class Full:
     def tally(self, tally, when):
         """Whether a note finds no room is a matter of time, and so is whether a node that was killed had reported it. But if notes
         had none, one of their nodes has."""
-        seen = f"a note had no room in {self.filled}, and 1001 was told in {self.told}"
+        seen = f"a note had no room in {self.filled}, and 1001 was reported in {self.told}"
         print(f"tests/run: {when}: {self.rounds} with a full device; {seen}", flush=True)
-        tally.add(f"{when}: what is told of full devices", "" if self.told or not self.filled else f"nothing, and {self.filled} notes had no room")
+        tally.add(f"{when}: what is reported of full devices", "" if self.told or not self.filled else f"nothing, and {self.filled} notes had no room")
         tally.add(f"{when}: other faults", f"{sorted(self.strange)}" if self.strange else "")
 
 

@@ -121,7 +121,7 @@ def help_of(tally, name, ask):
     for command, call in calls.items():
         out, error, status = ask([command, "--help"])
         got = usage(error.decode()) if (out, status) == (b"", 2) else (out, error, status)
-        tally.add(f"{name} {command} --help", "" if got == call else f"it tells {got}, and man/{name}.1 has {call}")
+        tally.add(f"{name} {command} --help", "" if got == call else f"it has {got}, and man/{name}.1 has {call}")
         strange = strange_numbers(page, error.decode())
         tally.add(f"{name} {command} --help, its numbers", f"those of {strange} aren't the page's" if strange else "")
 
@@ -131,7 +131,7 @@ def helps(tally):
 
 
 def readme(tally):
-    """The README's lines on files, each as it is there, in a folder where it finds what it names: what they print is stored."""
+    """The README's lines on files, each as it is there, in a folder with the files that it names: what they print is stored."""
     text = contents(f"{TOP}/README.md").decode()
     lines = re.findall(r"^    (\./dpbr status .*)$", text, re.MULTILINE)
     lines += [it.strip() for it in re.search(r"^Other commands, the last two.*?\n\n(.*?)\n\n", text, re.DOTALL | re.MULTILINE)[1].split("\n")]
@@ -167,7 +167,7 @@ def examples(tally):
 
 
 def no_calls(tally):
-    """Words that are no call of the program: clap's text on standard error, and status 2."""
+    """Wrong arguments: clap's text on standard error, and status 2."""
     status, audit, run = ["status", "listing", "held"], ["audit", "listing", "list"], ["run", "listing", "trace"]
     for words in ([], ["--help"], ["help"], ["--version"], ["status"], ["status", "listing"], [*status, "more"], ["state", *status[1:]],
                   [b"status", b"\xff", b"held"], ["status", "--help"], ["audit"], ["audit", "listing"], [*audit, "more"],
@@ -242,7 +242,7 @@ def run_chain(tally):
 
 
 def one_unit(tally):
-    """As many packages as a listing has, of one group: one build makes them, so that all wait where one of them needs another path."""
+    """As many packages as a listing has, of one group: one build makes them, so that all wait if one of them needs another path."""
     packages = 16384
     listing = "".join(f"a/b,-p{n}.FULLPKGNAME=p{n}-1\n" for n in range(packages - 1)) + "a/c.FULLPKGNAME=c-1\n"
     for needs, letter in (("", "Q"), ("a/b,-p9.BUILD_DEPENDS=a/c\n", "T"), ("a/b,-p9.BUILD_DEPENDS=a/b,-p8\n", "Q")):

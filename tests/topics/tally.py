@@ -85,7 +85,7 @@ def cut(line):
 
 
 def text_difference(one, other):
-    """How a text differs from the one that is required: as a diff, and the place where they part."""
+    """How a text differs from the one that is required: as a diff, and the position of the first difference."""
     got, wanted = (text.decode(errors="backslashreplace").split("\n") for text in (one, other))
     lines = [cut(line) for line in difflib.unified_diff(wanted, got, "wanted", "got", n=1, lineterm="")]
     if len(lines) > MOST_LINES:

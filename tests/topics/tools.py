@@ -138,16 +138,16 @@ driver.ask(lambda: [asked_of(*drawing) for drawing in drawings()])
 
 
 def pictures(tally):
-    """The README's picture is the example's, shows the promise that reports a vote, and has its words where nothing else is. Ten
+    """The README's picture is the example's, shows the promise that reports a vote, and has its words at free places. Ten
     events have a row each, and a thousand, or twenty thousand, are folded into a picture of some rows."""
     done = drawn(f"{EXAMPLES}/listing", f"{EXAMPLES}/trace")
     wanted = (contents(f"{EXAMPLES}/take-over.svg"), b"", 0)
     tally.add("draw-trace of the example", difference((done.stdout, done.stderr, done.returncode), wanted))
     lies, count = covered(contents(f"{EXAMPLES}/take-over.svg"))
-    tally.add("draw-trace of the example, where its words stand", f"{lies} of {count} lie on something" if lies or count != 12 else "")
+    tally.add("draw-trace of the example, the places of its words", f"{lies} of {count} lie on something" if lies or count != 12 else "")
     telling = (b">7 promise: it voted for node 0's build<", b">8 propose node 0's build again<", b">deliver 7 to node 1<")
     told = [text for text in telling if text not in done.stdout]
-    tally.add("draw-trace of the example, what it tells", f"{told} isn't there" if told else "")
+    tally.add("draw-trace of the example, what it says", f"{told} isn't there" if told else "")
     name = "draw-trace of ten events"
     svg, height = picture(tally, name, *builds(1, 10))
     rows, notes = len(set(re.findall('<text x="48" y="([0-9]+)"', svg))), svg.count('width="6" height="6"')
@@ -173,8 +173,8 @@ def folded(tally, count):
     if svg:
         tally.add(name, "" if agreed(svg) == count and height < MOST_HEIGHT else f"{agreed(svg)} packages in {height} pixels")
         lies, words = covered(svg)
-        tally.add(f"{name}, where its words stand", f"{lies} of {words} lie on something" if lies or not words else "")
-        tally.add(f"{name}, how the list grew", "" if f">{count} packages after {12 * count} events<" in svg else "it isn't told")
+        tally.add(f"{name}, the places of its words", f"{lies} of {words} lie on something" if lies or not words else "")
+        tally.add(f"{name}, how the list grew", "" if f">{count} packages after {12 * count} events<" in svg else "it isn't reported")
 
 
 def asked(tool, file):
@@ -272,7 +272,7 @@ def limits(tally):
 
 
 def single(tally):
-    """With --single packages that differ in the subpackage alone are a build each."""
+    """With --single, packages that differ only in the subpackage are a build each."""
     with laid(as_large_as_may_be(["a/b,-x", "a/b,-y", "a/b,-z"])) as folder:
         with open(f"{folder}/a:b,-x/y", "wb") as file:
             file.write(b"x")
@@ -298,7 +298,7 @@ def many_files(tally):
 
 
 def other_names(tally):
-    """A file gives way if it has to, and another one replaces it, with a name that is no file's and no folder's, and is shorter."""
+    """A file gives way if it has to, and another one replaces it, with a name that no file or folder has, and is shorter."""
     large, small, dot = bytes(2_500_000), bytes(1_000_000), (b"x" * 10)
     for name, files, wanted in (("names of files", {"x": large, "x.sha256": dot, "z": large[1:]}, ["x", "x.sha256", "z.sha256"]),
                                 ("names of folders", {"x": large, "x.sha256/y": dot, "z": large[1:]}, ["x", "x.sha256/y", "z.sha256"]),
@@ -318,7 +318,7 @@ def forbidden():
 
 
 def unread(tally):
-    """Where a file can't be read, which elsewhere root always can, nothing is written; nor where something is a link."""
+    """If a file can't be read, or something is a link, nothing is written."""
     if os.geteuid() or sys.platform == "linux":
         with laid({"a:b/x": b"x", "c:d/x": b"x"}) as folder:
             os.chmod(f"{folder}/c:d/x", 0)

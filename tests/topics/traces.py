@@ -57,6 +57,6 @@ def refused_in_turn(tally, folder, name, row):
 def run(tally):
     stored_cases(tally, STORED)
     with tempfile.TemporaryDirectory() as folder:
-        if is_built(tally, "traces, want of memory") and built_shim(tally, folder, "refuse"):
+        if is_built(tally, "traces, lack of memory") and built_shim(tally, folder, "refuse"):
             for name, row in ROWS.items():
                 refused_in_turn(tally, folder, name, row)

@@ -139,7 +139,7 @@ def case(tally, kind, name):
 
 
 def no_calls(tally):
-    """Words that are no call: one too few or too many, and a number that is malformed or out of range; and good numbers."""
+    """Wrong arguments: one too few or too many, and a number that is malformed or out of range; and good numbers."""
     words = ["wayon", "listing", "trace", "1", "devel/gettext", "4", "builds"]
     wrong = [words[:count] for count in range(1, len(words))] + [[*words, "more"], [*words, "--help"], ["ways", *words[1:]], ["--single", *words]]
     wrong += [[*words[:3], number, *words[4:]] for number in ("256", "-1", "", "1.0", "x", "99999999999999999999")]
@@ -178,7 +178,7 @@ def refusals(tally):
 
 
 def large_builds(tally):
-    """Files that just fit the limit of a build, and a byte more; the claim's round, the greatest and one more, is in the build."""
+    """Files that exactly fit the limit of a build, and a byte more; the claim's round, the greatest and one more, is in the build."""
     claimed = '{"above":%d,"event":"claim","host":3,"node":0,"path":"a/b"}'
     for name, event, size, fault in (("the largest build", "", 4194158, 0), ("a build a byte too large", "", 4194159, 907),
                                      ("the largest build by its round", claimed % 7, 4194158, 0), ("a build too large by its round", claimed % 8, 4194158, 907)):
