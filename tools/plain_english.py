@@ -100,6 +100,7 @@ def blocks_of_python(text: str) -> Iterator[Tuple[int, str]]:
     """The comments of a Python script, joined where they follow each other, and its texts."""
     comment: List[str] = []
     start = last = 0
+    is_first = True
     for token in tokenize.generate_tokens(io.StringIO(text).readline):
         if token.type == tokenize.COMMENT and not token.string.startswith("#!"):
             if comment and token.start[0] != last + 1:
@@ -109,12 +110,13 @@ def blocks_of_python(text: str) -> Iterator[Tuple[int, str]]:
             comment.append(token.string.lstrip("# "))
             last = token.start[0]
         elif token.type == tokenize.STRING or tokenize.tok_name[token.type] == "FSTRING_MIDDLE":
-            is_long = '"""' in token.string[:4]
-            if is_long:
+            # a text of several lines is a comment if a statement begins with it, and else a script or an expected answer
+            if '"""' in token.string[:4] and is_first:
                 yield from ((token.start[0] + at - 1, block) for at, block in blocks_of_text(token.string.strip('rbf"')))
-            elif " " in token.string:
+            elif " " in token.string and "\n" not in token.string:
                 # without what is inserted into the text
                 yield token.start[0], re.sub(r"\{[^{}]*\}", "", token.string)
+        is_first = token.type in (tokenize.NEWLINE, tokenize.NL, tokenize.INDENT, tokenize.DEDENT, tokenize.COMMENT)
     if comment:
         yield start, " ".join(comment)
 
