@@ -1,8 +1,8 @@
 """Listings that are made up, the same in every run, and how long a program takes on them.
 
-The listings have layers, as a ports tree has: a path depends on paths of lower layers, often on few hubs (a compiler, a make,
-a library of everything) and seldom far down; most paths have few dependencies, a few have sixty; some are subpackages, some
-have flavors, some are ignored.
+The listings have layers, as a ports tree has. A path depends on paths of lower layers, often on a few hubs (a compiler, a make,
+a large library) and seldom far down. Most paths have few dependencies, and a few have sixty. Some are subpackages, some have
+flavors, and some are ignored.
 """
 import os
 import statistics

@@ -81,8 +81,10 @@ def blocks_of_page(text: str) -> Iterator[Tuple[int, str]]:
     for number, line in enumerate([*text.split("\n"), ".Pp"], 1):
         if line.startswith(".Bd -literal"):
             is_code = True
-        elif line.startswith(".Ed"):
+        elif line.startswith((".Ed", ".Sh DESC")):
             is_code = False
+        elif line.startswith(".Sh SYN"):
+            is_code = True
         macro = re.match(r"\.(Pp|It|Bl|El|Bd|Ed|Sh|Ss|Dl)\b", line)
         if macro and block:
             yield start, " ".join(block)

@@ -1,5 +1,5 @@
-"""The sources of crates and of all that they are built on, copied into a repository of their own: there the kit's commands prove or compile
-them from nothing, and don't touch what was proved in the checkout.
+"""Copies the sources of crates, and of all that they are built on, into a repository of their own. There the kit's commands prove or
+compile them from nothing, and don't touch what was proved in the checkout.
 
 The gate proves the crates of crates.txt. Next to them are the drivers of tests and benches (tests/drivers/) and crates of tests
 (tests/rows/), which it doesn't prove; each of these folders has a list `crates`, of the same form. Their files have names of their own,

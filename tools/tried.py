@@ -1,5 +1,5 @@
-"""What is written down of the wrong bodies that the gate doesn't try (tests/wrong-bodies): of each crate on which sources they were tried,
-by which kit, how many there were and how many were refused."""
+"""The record of the wrong bodies that the gate doesn't try (tests/wrong-bodies). For each crate it has the sources and the kit with which
+they were tried, how many there were, and how many were refused."""
 import os
 import re
 import subprocess

@@ -1,6 +1,6 @@
-"""How much memory is requested if malformed builds arrive for a unit of which a long build is known. nothing of that is
-spelled for a text that doesn't begin as it does, or is shorter, and else hardly more than came. The same texts come for a unit of
-which nothing is known, which shows what reading them takes. That needs the program `probes` as it is built, which
+"""How much memory is requested if malformed builds arrive for a unit of which a long build is known. Nothing of that build is
+spelled for a text that begins otherwise, or is shorter, and hardly more than what arrived for others. The same texts arrive for a
+unit of which nothing is known, which shows the cost of reading them. That needs the program `probes` as it is built, which
 `tools/prove probes` builds: without it this topic is skipped."""
 import hashlib
 import os

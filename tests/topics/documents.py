@@ -30,8 +30,8 @@ FRONT_PAGE = 120
 WRITTEN = 2500
 # Hard words and long sentences at commit e9dc0fa0 (`tools/plain-english --at`), and the greatest number of them now. Lower these
 # when there are fewer.
-WORDS_BEFORE, SENTENCES_BEFORE = 5387, 530
-MOST_WORDS, MOST_SENTENCES = 538, 53
+WORDS_BEFORE, SENTENCES_BEFORE = 5347, 518
+MOST_WORDS, MOST_SENTENCES = 534, 51
 # Lines that a renaming made too long. To break them would have all crates above proved again, so that is done at their next change.
 TOO_WIDE = {"crates/check_worlds/specs/Rows.antt", "crates/cluster_turns/specs/inside/Turning.antt", "crates/turn_rules/specs/CausedSteps.antt"}
 # Lemmas that are public although no other crate cites them since crates were merged, likewise.

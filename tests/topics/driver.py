@@ -1,6 +1,6 @@
 """The program `probes`, the driver that answers rows of questions on the crates below: a line `== TOPIC` says whom the rows after
-it ask. The gate doesn't prove it. If it is built, and of the sources as they are, it is run; else its sources are compiled without
-a proof, once for all texts that topics give it, and it is run by the kit on these."""
+it ask. The gate doesn't prove it. If it is built from the current sources, it is run. Otherwise its sources are compiled
+without a proof, once for all texts of all topics, and the kit runs it."""
 import os
 import re
 import subprocess

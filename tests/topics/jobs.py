@@ -283,8 +283,8 @@ def drivers_that_end(tally):
 
 
 def ends_of_builds(tally):
-    """A build that is ended may clean up first, though its shell ends at once; one that is over is handed in before the driver ends; and
-    what is mounted in its folder stays as it is."""
+    """A build that is ended may clean up first, though its shell ends at once. One that is over is handed in before the driver ends.
+    What is mounted in its folder stays as it is."""
     clean = 'python3 -c "import os, signal, time\ndef end(*_):\n time.sleep(0.5)\n open(os.environ[\'TOP\'] + \'/cleaned\', \'w\')\n os._exit(0)\nsignal.signal(15, end)\nopen(os.environ[\'TOP\'] + \'/up\', \'w\')\ntime.sleep(60)"; true'
     for what, end in (("a signal", lambda node, driver: driver.end()), ("a unit that is held", lambda node, driver: node.hold("a/b", {"a/b": []}))):
         with laid(clean) as (node, driver):

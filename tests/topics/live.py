@@ -28,8 +28,8 @@ LIMIT = 300
 # how much more memory a long run may have at its end than after its first part, in kB: of what is kept to be used again some
 # pages more may have been touched
 SPARE = 64
-# how long a turn of the last of nine members waits by default if nothing arrives, in milliseconds (dpbn(1): 20 times
-# 1 + 8/2), and how many such turns an hour has: a day of that member has the fewest, 864,000
+# How long a turn of the last of nine members waits by default if nothing arrives, in milliseconds (dpbn(1): 20 times
+# 1 + 8/2), and how many such turns an hour has. A day of that member has the fewest, 864,000.
 WAIT, HOUR = 100, 36_000
 # how many bytes a large file has
 LARGE = 134_217_728
@@ -157,8 +157,8 @@ class Run:
         self.hosts = [Host(self, me) for me in range(members)]
 
     def alone(self):
-        """How long one host takes that builds the ports one after the other, and how long the longest chain of builds is of which
-        each needs the one before, in seconds; what a build takes next to its wait is that of a serial build, on the average."""
+        """How long one host takes to build the ports one after the other, in seconds, and how long the longest chain of dependent
+        builds takes. What a build takes besides its wait is the average of a serial build."""
         texts = {port: contents(f"{self.folder}/tree/{port}/Makefile").decode() for port in self.ports}
         texts = {port: text for port, text in texts.items() if "IGNORE = " not in text}
         each, needs = self.makes / len(self.ports), needs_of(contents(f"{self.folder}/listing"))
@@ -633,8 +633,8 @@ def one_folder(tally):
 
 
 def overtaken(tally):
-    """A claim is taken over by another node while its build is under way: what was built is published all the same, once the unit is
-    claimed anew, and the other node, for which nobody builds, holds it, too."""
+    """A claim is taken over by another node while its build is under way. What was built is published all the same, once the unit is
+    claimed again. The other node, for which nobody builds, holds it, too."""
     with several("a/b.FULLPKGNAME=b-1\n", "work-0", "work-1", "work-2") as hosts:
         for host in hosts[:2]:
             host.start_node("--takeover", "1")

@@ -739,8 +739,8 @@ def held_by_all(tally, name, nodes, packages):
 
 
 def kills(tally, rounds=20, seed=1, packages=60, sealing=False):
-    """Three nodes on a listing, with a key or without one, of which one after the other is killed and started again, each fifth time
-    with a full device, while noise is sent to their sockets."""
+    """Three nodes on a listing, with a key or without one. One after the other is killed and started again, each fifth time with a
+    full device, while noise is sent to their sockets."""
     dice = random.Random(seed)
     listing = "".join(f"p/n{k}.FULLPKGNAME=n{k}-1\n" + (f"p/n{k}.LIB_DEPENDS=p/n{dice.randrange(k)}\n" if k % 3 else "") for k in range(packages))
     builds = {f"p/n{k}": [{"hex": dice.randbytes(dice.choice((0, 10, 40_000))).hex(), "name": "x"}] for k in range(packages)}

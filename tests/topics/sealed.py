@@ -1,5 +1,5 @@
-"""Nodes of a run with a key: what is forged, flipped, replayed or sealed otherwise changes nothing; requests that come again at once;
-faults that come again; files of keys; run files next to logs that are lost, swapped, emptied and copied back."""
+"""Nodes of a run with a key. Datagrams that are forged, flipped, replayed or sealed otherwise change nothing. Also repeated requests
+and faults, files of keys, and run files of logs that are lost, swapped, emptied and copied back."""
 import hashlib
 import hmac
 import json

@@ -1,6 +1,6 @@
-"""tools/expand-listing on stored dumps, and what dpbr makes of its output; tools/why-ignored on stored listings; tools/draw-trace on
-the example, a short and a long trace; what tools/make-builds refuses; what tools/unpack-log does with files that can't be in one
-folder, and if it is disturbed; and else what publishers take away (packages.py)."""
+"""tools/expand-listing on stored dumps, and what dpbr makes of its output; tools/why-ignored on stored listings. tools/draw-trace on
+the example, a short and a long trace. What tools/make-builds refuses, and what tools/unpack-log does with files that can't be in
+one folder, and when it is disturbed. The rest of both is in packages.py."""
 import contextlib
 import ctypes
 import json

@@ -1,10 +1,9 @@
 """`dpbr wayon`: stored cases, words and files that are refused, each in its turn, and the largest builds.
 
-Which list of events is printed is free. So of a way is tested what has to hold of any: the members, weights and events of the
-trace that was given come first; a bounded number of events follows, each the node's own claim for the path on the host, its
-own build of the files that are given for the unit's packages, or a datagram, none at a node that is down; and `dpbr run` takes the
-very bytes that were printed, and then one event more, that asks the node for the path, is refused, as it is held. Of a named case
-what is printed is known, too, if it is not long.
+Which way is printed is free. So a test checks what has to hold of any way. The members, weights and events of the given trace come
+first, and a bounded number of events follows. Each is the node's own claim for the path on the host, its own build of the given
+files, or a datagram, and none is at a node that is down. `dpbr run` takes exactly the bytes that were printed. One more event, that
+asks the node for the path, is refused, since the path is held. Short answers of named cases are stored.
 """
 import json
 import os
