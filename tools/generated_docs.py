@@ -203,8 +203,8 @@ def is_import(line: str) -> bool:
 
 def line_count() -> int:
     """How many lines of definitions there are, without comments and imports."""
-    return sum(1 for crate in sources.lines() for path in definition_files(crate) for line in lines_of(path)
-               if line.strip() and not line.lstrip().startswith("--") and not is_import(line))
+    lines = [line for crate in sources.lines() for path in definition_files(crate) for line in lines_of(path)]
+    return len([line for line in lines if line.strip() and not line.lstrip().startswith("--") and not is_import(line)])
 
 
 def file_section(crate: str, path: str) -> str:
@@ -231,8 +231,8 @@ def shared_names() -> str:
             for entry in definitions(path):
                 if isinstance(entry, Entry) and crate not in owners.setdefault(entry.name, []):
                     owners[entry.name].append(crate)
-    rows = [filled(f"`{name}`: {', '.join(f'`{it}`' for it in found)}", "- ", "  ") for name, found in sorted(owners.items()) if len(found) > 1]
-    return "\n".join(rows)
+    shared = [(name, found) for name, found in sorted(owners.items()) if len(found) > 1]
+    return "\n".join(filled(f"`{name}`: {', '.join(f'`{it}`' for it in found)}", "- ", "  ") for name, found in shared)
 
 
 def definitions_page() -> str:

@@ -35,14 +35,16 @@ def files(top: str) -> Iterator[Tuple[str, str]]:
     """The files that are read, each with its kind."""
     def found(*forms: str) -> Iterator[str]:
         for form in forms:
-            yield from (os.path.relpath(path, top) for path in sorted(glob.glob(f"{top}/{form}", recursive=True)) if os.path.isfile(path))
+            paths = sorted(glob.glob(f"{top}/{form}", recursive=True))
+            yield from (os.path.relpath(path, top) for path in paths if os.path.isfile(path))
 
     for path in found("README.md", "CONTRIBUTING.md", "tests/README.md", "docs/*.md"):
         if path not in GENERATED:
             yield path, "text"
     for path in found("man/*.[1-8]"):
         yield path, "page"
-    for path in found("tools/*", "tools/*/*.py", "bench/*", "tests/run", "tests/kills", "tests/try-wrong-bodies", "tests/*.py", "tests/topics/*.py", "dpbr", "dpbn"):
+    for path in found("tools/*", "tools/*/*.py", "bench/*", "tests/run", "tests/kills", "tests/try-wrong-bodies", "tests/*.py", "tests/topics/*.py",
+                      "dpbr", "dpbn"):
         if path not in EXEMPT:
             yield path, "script"
     for path in found("crates/*/src/**/*.rt"):
@@ -58,7 +60,8 @@ def without_code(text: str) -> str:
 
 def blocks_of_text(text: str) -> Iterator[Tuple[int, str]]:
     """The paragraphs, items and cells of a document, each with its line."""
-    is_code, block, start = False, [], 1
+    block: List[str] = []
+    is_code, start = False, 1
     for number, line in enumerate([*text.split("\n"), ""], 1):
         if line.startswith("```"):
             is_code = not is_code
@@ -77,7 +80,8 @@ def blocks_of_text(text: str) -> Iterator[Tuple[int, str]]:
 
 def blocks_of_page(text: str) -> Iterator[Tuple[int, str]]:
     """The paragraphs of a manual page, without its macros and what it shows literally."""
-    is_code, block, start = False, [], 1
+    block: List[str] = []
+    is_code, start = False, 1
     for number, line in enumerate([*text.split("\n"), ".Pp"], 1):
         if line.startswith(".Bd -literal"):
             is_code = True
@@ -125,7 +129,8 @@ def blocks_of_python(text: str) -> Iterator[Tuple[int, str]]:
 
 def blocks_of_comments(text: str, mark: str) -> Iterator[Tuple[int, str]]:
     """The comments of a source, joined where they follow each other."""
-    block, start = [], 0
+    block: List[str] = []
+    start = 0
     for number, line in enumerate([*text.split("\n"), ""], 1):
         found = re.match(rf"^\s*{mark}[/!]* ?(.*)$", line)
         if found and found[1].strip() and not re.match(r"([-*]|\d+\.) ", found[1]):
