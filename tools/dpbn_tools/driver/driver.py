@@ -17,7 +17,7 @@ from dpbn_tools.driver.health import Health
 from dpbn_tools.driver.held import Held
 from dpbn_tools.driver.job import NAME, Job, NoJob, text_of_job
 from dpbn_tools.driver.layout import Changed, Layout
-from dpbn_tools.driver.limits import WORDS, Limits
+from dpbn_tools.driver.limits import WORDS, BadLimits, Limits
 from dpbn_tools.driver.lines import Lines
 from dpbn_tools.driver.names import Listed
 from dpbn_tools.driver.posted import Earlier, Posted
@@ -28,8 +28,8 @@ from dpbn_tools.driver.tasks import Tasks
 from dpbn_tools.driver.times import Times
 from dpbn_tools.driver.workfolder import Replaced, WorkFolder
 
-# how long is waited between two looks, in seconds: while something goes on, and else
-BUSY, IDLE = 0.02, 0.05
+# how long is waited between two looks, in seconds: for so many seconds after something went on, and else
+BUSY, LONGEST_BUSY, IDLE = 0.02, 5, 0.05
 # before what the system refused is tried again, in seconds
 PATIENCE = 5
 # how often the files of a job that waits are looked at, and the free disk, in seconds
@@ -70,6 +70,7 @@ class Driver:
         self.free, self.free_due = 0, 0.0
         self.keep_due, self.clear_due = 0.0, 0.0
         self.is_stopped = self.is_ending = False
+        self.busy_until = 0.0
         self.began = time.monotonic()
 
     # ---- before the first look
@@ -120,14 +121,19 @@ class Driver:
             raise
         except Exception as error:  # pylint: disable=broad-except
             self.due[name] = time.monotonic() + PATIENCE
-            text = str(error) if isinstance(error, (OSError, ValueError)) else f"{type(error).__name__}: {error}"
+            text = str(error) if isinstance(error, (OSError, BadLimits)) else f"{type(error).__name__}: {error}"
             self.lines.tell_once(f"? it goes on in a while: {text}", (name, type(error), getattr(error, "errno", None)))
 
     def wait(self) -> None:
         """Waits until something may have happened."""
         numbers = [self.tasks.reads, *(number for number in self.reports() if number >= 0)]
-        is_busy = bool(self.jobs) or self.tasks.running > 0
-        select.select(numbers, [], [], BUSY if is_busy else IDLE)
+        woken, _, _ = select.select(numbers, [], [], BUSY if time.monotonic() < self.busy_until else IDLE)
+        if woken or self.tasks.running:
+            self.is_busy()
+
+    def is_busy(self) -> None:
+        """Something goes on, so that more may in a moment."""
+        self.busy_until = time.monotonic() + LONGEST_BUSY
 
     def reports(self) -> List[int]:
         """The pipes of commands that run."""
@@ -158,6 +164,7 @@ class Driver:
         came = [posted for posted in map(self.taken, names - set(self.jobs)) if posted]
         for posted in sorted(came, key=lambda it: it[0]):
             self.jobs[posted[1].job.name] = posted[1]
+            self.is_busy()
         for name, posted_job in list(self.jobs.items()):
             if posted_job.job.unit in self.held.units:
                 self.drop(name, "another node built it")
