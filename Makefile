@@ -2,6 +2,8 @@
 PREFIX ?=	/usr/local
 BINDIR ?=	$(PREFIX)/bin
 MANDIR ?=	$(PREFIX)/man
+# where the Python tools find their modules, from BINDIR: ../share/dpbn
+SHAREDIR ?=	$(PREFIX)/share/dpbn
 # what is installed beside the programs; each has a page in man/
 TOOLS =		expand-listing why-ignored unpack-log make-builds build-jobs
 
@@ -16,6 +18,12 @@ install: all
 	install -d $(DESTDIR)$(BINDIR) $(DESTDIR)$(MANDIR)/man1 $(DESTDIR)$(MANDIR)/man5
 	for program in dpbr dpbn; do install -m 755 crates/$$program/out/$$program $(DESTDIR)$(BINDIR)/$$program || exit 1; done
 	for tool in $(TOOLS); do install -m 755 tools/$$tool $(DESTDIR)$(BINDIR)/$$tool || exit 1; done
+	for part in dpbn_tools dpbn_tools/driver; do \
+		install -d $(DESTDIR)$(SHAREDIR)/$$part || exit 1; \
+		for module in tools/$$part/*.py; do install -m 644 $$module $(DESTDIR)$(SHAREDIR)/$$part/ || exit 1; done; \
+	done
+	install -d $(DESTDIR)$(SHAREDIR)/examples
+	install -m 755 examples/build-port $(DESTDIR)$(SHAREDIR)/examples/
 	for page in man/*.1; do install -m 644 $$page $(DESTDIR)$(MANDIR)/man1/ || exit 1; done
 	for page in man/*.5; do install -m 644 $$page $(DESTDIR)$(MANDIR)/man5/ || exit 1; done
 
