@@ -68,6 +68,6 @@ def folder_name(path: bytes) -> str:
 
 
 def short_name(path: bytes) -> str:
-    """The same, shortened if there would be no room to append to it."""
+    """The name of a package's folder, shortened if there would be no room to append to it."""
     name = folder_name(path)
     return name if len(name) <= MAX_SHORT_NAME else f"{name[:200]}.{hashlib.sha256(path).hexdigest()[:16]}"
