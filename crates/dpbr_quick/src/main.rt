@@ -23,8 +23,8 @@ fn main(rt: HostRuntime) -> ExitCode {
     ExitCode::from(status)
 }
 
-/// The words of the call, behind the name of the whole program, by which this one tells what it
-/// tells. Words that are not all text are no call, as no words are.
+/// The arguments, of which the first is the name of the whole program, so that clap's texts name
+/// that. If one isn't valid UTF-8, this is an empty list, which makes no call.
 fn words(rt: &HostRuntime) -> io::Result<Vec<String>> {
     let args = match env::args(rt) {
         Ok(args) => args,

@@ -1,29 +1,31 @@
-//! The calls of `dpbr` that need no node. A program ends once it has made one, so it leaves what is
-//! large by then to the system.
+//! The calls of `dpbr` that need no node. The program ends after one call, so `status` and `audit`
+//! don't free what is large then; the system does.
 ghost use Rattle.std.specs.Prelude.{◌≡◌, ◌≤◌, ◌⊎◌, IfErr, IfNone, IfOk, IfSome, map, string_bytes};
 ghost use Rattle.std.specs.Io.KnownBytes.{Keeps};
 ghost use Rattle.quick_calls.specs.Others.{AsksForOther, IsOther};
 ghost use Rattle.quick_calls.specs.Printed.{HasCarriedOut, HasPrinted, IsOutputOf};
 ghost use Rattle.quick_calls.specs.Stopped.{CannotCarryOut, HasFailed, HasStopped, RefusesCall};
-ghost use Rattle.words.specs.Calls.{AreTaken};
+ghost use Rattle.dpbr_cli.specs.Calls.{AreTaken};
 
 use dpbr_audit::audit_of_files;
+use dpbr_cli::{Call, dpbr_words};
 use dpbr_status::status_of_files;
-use program::{Answer, NamedTexts, Refusal, Stop, print};
+use program_io::{Answer, NamedTexts, Refusal, Stop, print};
 use std::alloc::Global;
 use std::io::Write;
-use words::{Call, dpbr_words};
 
-/// What is written where the words make one of the other calls.
+/// What is written to standard error if the arguments make one of the other calls.
 const OTHERS: &[u8] = b"dpbr_quick: this is the small program, of status and audit alone\n";
 
-/// Carries out the call that the words make, and gives the status with which the program ends: 0; 3
-/// after an audit that answers no; 1 after a fault, of which it writes one line to `err`, `dpbr:
-/// fault N` or `dpbr: fault N at K`, and nothing else; 2 where the words make no call, or ask for
-/// help, after clap's text on `err`, and where they make another call than these two.
+/// Carries out the call that the arguments make, and returns the exit status:
+/// - 0;
+/// - 3 after an audit whose answer is no;
+/// - 1 after a fault, with just one line on `err`, `dpbr: fault N` or `dpbr: fault N at K`;
+/// - 2 if the arguments make no call or ask for help, after clap's text on `err`; or if they make
+///   another call than these two.
 ///
-/// The first word is the program's name. The whole output is made before any of it is written to
-/// `out`; output that can't be written is fault 2.
+/// The first argument is the program's name. The whole output is made before any of it is written
+/// to `out`. If it can't be written, that is fault 2.
 pub fn quick_main<T: NamedTexts, O: Write, E: Write>(
     texts: &T,
     alloc: Global,
@@ -58,17 +60,17 @@ pub fn quick_main<T: NamedTexts, O: Write, E: Write>(
     }
 }
 
-/// Carries out the call that the words make, the first of which is the program's name, and gives
-/// the status with which the program then ends: 0, or 3 after an audit that answers no; or `None`,
-/// with nothing written, where the words make another call of `dpbr`.
+/// Carries out the call that the arguments make, and returns the exit status: 0, or 3 after an
+/// audit whose answer is no. If they make another call of `dpbr`, it returns `None` and writes
+/// nothing. The first argument is the program's name.
 ///
-/// The files are read in the order of the words, each before the next is opened, and all that is
-/// printed is made before it is written.
+/// The files are read in the order of the arguments, each before the next is opened. All output is
+/// made before it is written.
 ///
 /// # Errors
 ///
-/// `WrongWords`, where clap takes the words for no call; `Refused`, where a file can't be read, its
-/// text has a fault, or memory was refused; `Unwritten`, where a write to `out` failed.
+/// `WrongWords` if clap finds no call in the arguments; `Refused` if a file can't be read, its text
+/// has a fault, or memory ran out; `Unwritten` if a write to `out` failed.
 pub fn quick_call<T: NamedTexts, O: Write>(
     texts: &T,
     alloc: Global,
@@ -87,8 +89,8 @@ pub fn quick_call<T: NamedTexts, O: Write>(
     carry_out(texts, alloc, &call, out)
 }
 
-/// Prints what the call asks for, and gives the status that goes with it; or `None` where it is
-/// another call than these.
+/// Prints what the call asks for, and returns its status; or `None` if it is another call than
+/// these two.
 fn carry_out<T: NamedTexts, O: Write>(
     texts: &T,
     alloc: Global,
@@ -112,7 +114,7 @@ fn carry_out<T: NamedTexts, O: Write>(
     }
 }
 
-/// What the call prints, or `None` for another call than these.
+/// The output of the call, or `None` if it is another call than these two.
 fn answer_of_files<T: NamedTexts>(
     texts: &T,
     alloc: Global,
@@ -130,16 +132,12 @@ fn answer_of_files<T: NamedTexts>(
             listing,
             held,
             is_single,
-        } => Ok(Some(status_of_files(
-            texts, alloc, listing, held, *is_single,
-        )?)),
+        } => Ok(Some(status_of_files(texts, alloc, listing, held, *is_single)?)),
         Call::Audit {
             listing,
             list,
             is_single,
-        } => Ok(Some(audit_of_files(
-            texts, alloc, listing, list, *is_single,
-        )?)),
+        } => Ok(Some(audit_of_files(texts, alloc, listing, list, *is_single)?)),
         Call::Run { .. } | Call::Wayon { .. } => Ok(None),
     }
 }

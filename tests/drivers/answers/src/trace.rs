@@ -7,10 +7,9 @@
 use crate::text::Text;
 use crate::words::{first_bytes, first_word};
 use ballots::Weights;
-use events::Event;
 use faults::Memory;
 use pkgpath::PkgPath;
-use protocol::Packages;
+use protocol::{Event, Packages};
 use std::alloc::Global;
 use traces::{Trace, read_builds, read_trace, write_trace};
 

@@ -24,10 +24,10 @@ use crate::words::{first_bytes, first_word};
 use crate::worlds::lengths::put_lengths;
 use crate::worlds::shown::put_shown;
 use crate::worlds::steps::put_steps;
-use events::Event;
 use faults::Fault;
 use listing::{ListingFault, Tree};
-use running::World;
+use protocol::Event;
+use simulator::World;
 use traces::{Trace, TraceFault, read_trace};
 
 static LISTING: &[u8] = b"a/b.FULLPKGNAME=b-1.0\n";

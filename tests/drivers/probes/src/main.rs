@@ -5,8 +5,8 @@
 mod topic;
 
 use answers::Text;
-use std::io;
 use std::io::Write;
+use std::io;
 use std::process::ExitCode;
 use topic::{Topic, goes_on, named};
 

@@ -5,8 +5,8 @@ use faults::Fault;
 use pkgname::Pieces;
 use replay::{Refusal, audit_of_texts, run_of_texts, status_of_texts, verdict_text};
 use std::alloc::{AllocError, Global};
-use std::io;
 use std::io::Write;
+use std::io;
 
 pub fn answer(alloc: Global, line: &[u8]) -> io::Result<Vec<u8>> {
     let mut words = Pieces::new(line, b' ');

@@ -10,7 +10,7 @@ fn a_write_of_nothing_does_nothing(rt: HostRuntime) -> Result<(), Fail> {
     disk.write_at(10, &[])?;
     disk.write_at(u64::MAX, &[])?;
     assert!(rt; disk.bytes() == [5; 3].as_slice());
-    // No file in memory is that long.
+    // No file in memory can be that long.
     assert_eq!(rt; disk.write_at(u64::MAX, &[1]), Err(DiskFault::Memory));
     assert!(rt; disk.bytes() == [5; 3].as_slice());
     disk.write_at(5, &[1])?;
@@ -21,7 +21,7 @@ fn a_write_of_nothing_does_nothing(rt: HostRuntime) -> Result<(), Fail> {
 /// A note whose last sync fails, and what is left of it.
 fn torn(alloc: Global, left: Left) -> Result<(usize, usize), LogFault> {
     let disk = MemDisk::new(alloc, &file_of(alloc, &[])?)?;
-    // Opening syncs once and reads once. The fourth call of the note is the sixth.
+    // Opening syncs once and reads once. So the fourth call of the note is the sixth.
     let Ok((mut log, _none)) = Log::open(alloc, FaultDisk::new(disk, Failing::Once(6)), &who())
     else {
         return Err(LogFault::NotALog);

@@ -15,7 +15,7 @@ const LEFT: [Left; 5] = [
     Left::Fill(255),
 ];
 
-/// What a run of opening and one note met.
+/// The call that failed in a run that opens a log and appends one note.
 #[derive(Clone, Copy, Debug, PartialEq, Eq)]
 enum Met {
     Nothing,
@@ -23,7 +23,8 @@ enum Met {
     AtAppend,
 }
 
-/// Opens a file on a disk that fails, and appends a note. Gives what it met, and the disk.
+/// Opens a file on a disk that fails, and appends a note. Returns the call that failed, and the
+/// disk.
 fn run(alloc: Global, file: &[u8], failing: Failing) -> Result<(Met, MemDisk), LogFault> {
     let disk = FaultDisk::new(MemDisk::new(alloc, file)?, failing);
     let mut log = match Log::open(alloc, disk, &who()) {
@@ -41,7 +42,8 @@ fn run(alloc: Global, file: &[u8], failing: Failing) -> Result<(Met, MemDisk), L
     }
 }
 
-/// After each crash the notes are as they were, with the new one or without. Tells what was met.
+/// Checks that after each crash the notes are as they were, with the new one or without it. Returns
+/// the call that failed.
 fn crashes(
     rt: &impl Abort,
     alloc: Global,
@@ -67,7 +69,7 @@ fn crashes(
     Ok(run(alloc, file, failing)?.0)
 }
 
-/// The calls of a run, each of which failed once and from there on.
+/// Counts the calls of a run. Each of them fails once, and, in another run, from there on.
 fn calls(rt: &impl Abort, alloc: Global, file: &[u8], before: &[&[u8]]) -> Result<u64, Fail> {
     for call in 1..100 {
         let from = crashes(rt, alloc, file, before, Failing::From(call))?;
@@ -83,13 +85,13 @@ fn calls(rt: &impl Abort, alloc: Global, file: &[u8], before: &[&[u8]]) -> Resul
 #[test]
 fn each_call_may_fail(rt: HostRuntime) -> Result<(), Fail> {
     let alloc = rt.alloc();
-    // A log is opened by a sync and a read, and a note takes two writes and two syncs.
+    // A log is opened with a sync and a read, and a note takes two writes and two syncs.
     let mut file = file_of(alloc, &[&FIRST])?;
     assert_eq!(rt; calls(&rt, alloc, &file, &[&FIRST])?, 6);
-    // Bytes behind the closed gate are cut off, and a sync follows.
+    // Bytes after the closed gate are cut off, followed by a sync.
     file.extend_from_slice(&[1; 30])?;
     assert_eq!(rt; calls(&rt, alloc, &file, &[&FIRST])?, 8);
-    // A log is made by a cut, three writes and four syncs.
+    // A log is made with a cut, three writes and four syncs.
     assert_eq!(rt; calls(&rt, alloc, &[], &[])?, 14);
     assert_eq!(rt; calls(&rt, alloc, &[0; 20], &[])?, 14);
     Ok(())
@@ -101,7 +103,7 @@ fn what_an_opening_gave_stays(rt: HostRuntime) -> Result<(), Fail> {
     let file = file_of(alloc, &[&FIRST])?;
     for call in 3..7 {
         for left in LEFT {
-            // The note failed, and no crash came before the log was opened again.
+            // The note failed, and there was no crash before the log was opened again.
             let (met, disk) = run(alloc, &file, Failing::Once(call))?;
             assert_eq!(rt; met, Met::AtAppend);
             let Ok((log, given)) = Log::open(alloc, disk, &who()) else {

@@ -1,4 +1,4 @@
-//! Keys in files of a folder of their own.
+//! Keys in files in a folder of their own.
 use dpbn_key::{KeyFault, key_in, key_of_file, make_key, new_key_text, test_mode};
 use faults::Fault;
 use std::fs::{File, OpenOptions};
@@ -7,7 +7,7 @@ use std::random::RandomSource;
 use std::test::Fail;
 use std::{fs, io};
 
-/// The same byte again and again.
+/// A source that gives the same byte again and again.
 struct Same(u8);
 
 impl RandomSource for Same {
@@ -53,7 +53,7 @@ fn what_is_no_key(rt: HostRuntime) -> Result<(), Fail> {
     Ok(())
 }
 
-/// The number of the refusal of a file with this mode and text, or 0.
+/// The number of the refusal of a file with this mode and text, or 0 if it is accepted.
 fn file_refusal(rt: &HostRuntime, path: &str, mode: u32, text: &[u8]) -> Result<u32, Fail> {
     let mut options = OpenOptions::new();
     options.write(true).create_new(true).mode(mode);

@@ -1,4 +1,4 @@
-//! Logs to test with.
+//! Logs for tests.
 use arrayvec::ArrayVec;
 use stable_record::{Disk, Identity, Log, LogFault, MemDisk};
 use std::alloc::Global;
@@ -6,7 +6,7 @@ use std::alloc::Global;
 /// A note that opens round 1 of the path `a/b`.
 pub const NOTE: [u8; 14] = [1, 0, 3, 97, 47, 98, 0, 0, 0, 0, 0, 0, 0, 1];
 
-/// The first of three members that weigh the same.
+/// The first of three members with equal weights.
 pub fn who() -> Identity {
     let mut weights = ArrayVec::new();
     for _member in 0..3 {
@@ -19,7 +19,7 @@ pub fn who() -> Identity {
     }
 }
 
-/// The log of a file in memory, and its notes.
+/// The log in a file in memory, and its notes.
 pub fn opened(alloc: Global, file: &[u8]) -> Result<(Log<MemDisk>, Vec<Vec<u8>>), LogFault> {
     let disk = MemDisk::new(alloc, file)?;
     match Log::open(alloc, disk, &who()) {

@@ -1,4 +1,4 @@
-//! A run of three members. What is expected is what Python's `hmac` gives.
+//! A run of three members. Expected values come from Python's `hmac`.
 use seals::{Seal, fingerprint, key_of_text, text_of_key};
 use std::test::Fail;
 

@@ -1,9 +1,7 @@
-//! Starts of members of one run in a folder of its own.
+//! Starts of members of one run, in a folder of its own.
 use arrayvec::ArrayVec;
 use faults::Fault;
-use run_file::{
-    LogFound, RunFault, Start, StartFault, found_in, is_blank, judge, read_run, start_on, write_run,
-};
+use run_file::{LogFound, RunFault, Start, StartFault, found_in, is_blank, judge, read_run, start_on, write_run};
 use stable_record::{Identity, Log, MemDisk};
 use std::fs;
 use std::test::Fail;
@@ -11,14 +9,14 @@ use std::test::Fail;
 /// The fingerprint of a key.
 const KEY: [u8; 16] = [0x0f; 16];
 
-/// The text on member 1.
+/// The text for member 1.
 const TEXT: &str = "dpbn run 1\n\
     listing 0909090909090909090909090909090909090909090909090909090909090909\n\
     weights 3,1,100\n\
     member 1\n\
     key 0f0f0f0f0f0f0f0f0f0f0f0f0f0f0f0f\n";
 
-/// A member of the run, where the last one weighs so much.
+/// A member of the run, in which the last member has this weight.
 fn member(me: u8, last: u8) -> Identity {
     let mut weights = ArrayVec::new();
     weights.push(3);

@@ -1,18 +1,18 @@
-//! A node that is alone in its cluster, whose builds are all made.
+//! The only node of a cluster.
 use ballots::Weights;
-use choice::{Act, TurnFault};
+use datagram_ports::MemPort;
 use engine::Counts;
 use listing::Tree;
+use lone_node::Solo;
 use member::Input;
 use node::Node;
 use package_record::{File, Files};
 use pkgpath::PkgPath;
-use ports::MemPort;
 use protocol::Packages;
-use solo::Solo;
 use stable_record::{Disk, Failing, FaultDisk, MemDisk};
 use std::alloc::Global;
 use std::test::Fail;
+use turn_rules::{Act, TurnFault};
 
 static LISTING: &[u8] = b"a/b.FULLPKGNAME=b-1.0\n";
 
@@ -27,7 +27,7 @@ fn builds(alloc: Global) -> Result<Packages, Fail> {
     Ok(Packages::new(items))
 }
 
-/// The node over the disk, whose port gives what it sends.
+/// The node over the disk, with a port that returns what the node sends.
 fn opened<D: Disk>(alloc: Global, tree: &Tree, disk: D) -> Result<Solo<'_, D, MemPort>, Fail> {
     match Node::open(alloc, disk, tree, &Weights::new(&[1])?, 0) {
         Ok(node) => Ok(Solo::new(node, MemPort::new(alloc))),
@@ -35,8 +35,8 @@ fn opened<D: Disk>(alloc: Global, tree: &Tree, disk: D) -> Result<Solo<'_, D, Me
     }
 }
 
-/// What a turn did: a letter for what the member was asked, D for a datagram, `.` for nothing, and
-/// ! where the node went down.
+/// What a turn did: a letter for the node's own input, D for a datagram, `.` for nothing, and ! if
+/// the node went down.
 fn letter<D: Disk>(solo: &mut Solo<'_, D, MemPort>, builds: &Packages) -> u8 {
     match solo.turn(builds) {
         Ok(Some(Act::Own(Input::Claim { .. }))) => b'C',

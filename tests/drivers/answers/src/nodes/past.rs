@@ -1,7 +1,7 @@
 //! What nodes were asked, and all datagrams that they ever sent.
 use crate::nodes::stepping::{Answer, Asked};
 use crate::text::Text;
-use node::{Out, Parcels};
+use node::{Effects, Parcels};
 use std::alloc::Global;
 
 /// A step that a node took.
@@ -100,7 +100,7 @@ impl Past {
     }
 
     /// What goes to whom, and whether there is a job.
-    pub fn sends_text(&self, sends: &Out, out: &mut Text) -> Text {
+    pub fn sends_text(&self, sends: &Effects, out: &mut Text) -> Text {
         let mut text = Text::new(out.alloc());
         let (receivers, datagrams) = sends.sends.parts();
         for to in receivers {

@@ -6,7 +6,7 @@ use crate::inputs::input;
 use crate::text::Text;
 use crate::words::first_word;
 use faults::Fault;
-use node::{Node, NodeFault, Out};
+use node::{Node, NodeFault, Effects};
 use protocol::Input;
 use stable_record::FaultDisk;
 
@@ -23,7 +23,7 @@ pub enum Asked {
 #[derive(Drop)]
 pub enum Answer {
     /// The datagrams that it sends, and the job, if there is one.
-    Sends(Out),
+    Sends(Effects),
     /// The number of the refusal and its cause.
     Refuses(u32, Option<u64>),
     /// Memory ran out in the step.
@@ -76,7 +76,7 @@ pub fn said(words: &str, out: &mut Text) -> Option<Input>
     }
 }
 
-fn answer_of(out: Result<Out, NodeFault>) -> Answer {
+fn answer_of(out: Result<Effects, NodeFault>) -> Answer {
     match out {
         Ok(out) => Answer::Sends(out),
         Err(NodeFault::Memory) => Answer::WantsMemory,

@@ -2,8 +2,8 @@
 use crate::records::put_digest;
 use crate::text::Text;
 use crate::worlds::refusal;
-use events::Event;
-use running::World;
+use protocol::Event;
+use simulator::World;
 
 pub fn put_lengths(world: &mut World<'_>, events: &[Event], out: &mut Text) {
     for event in events {

@@ -6,7 +6,7 @@ use crate::letters::put_letter;
 use crate::text::Text;
 use faults::Fault;
 use listing::Tree;
-use running::{World, run};
+use simulator::{World, run};
 use traces::Trace;
 
 /// Puts how many events the run took, and what each node shows; or what it is refused with.

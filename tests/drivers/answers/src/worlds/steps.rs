@@ -1,8 +1,8 @@
 //! What each event of a trace notes and sends, and what is agreed by it.
 use crate::text::Text;
 use crate::worlds::refusal;
-use events::Event;
-use running::World;
+use protocol::Event;
+use simulator::World;
 
 /// Puts an item for each event.
 pub fn put_steps(world: &mut World<'_>, events: &[Event], out: &mut Text) {
