@@ -185,6 +185,24 @@ def lemmas_of(crate):
     return found
 
 
+def public_modules(crate):
+    """The files of lemmas and folders of them that are public where they are named."""
+    top = f"{TOP}/crates/{crate}/proofs"
+    folders = {name for name, _ in mods(f"{top}/Lib.antt") if os.path.isdir(f"{top}/{name}")}
+    inside = {f"{folder}.{it}" for folder in folders for it, is_public in mods(f"{top}/{folder}.antt") if is_public}
+    return {name for name, is_public in mods(f"{top}/Lib.antt") if is_public} | inside
+
+
+def cited_across_folders(crate):
+    """What stands in a folder of lemmas and is cited from files of the crate elsewhere."""
+    top, lemmas, found = f"{TOP}/crates/{crate}", lemmas_of(crate), set()
+    for path in glob.glob(f"{top}/**/*", recursive=True):
+        if path.endswith((".rt", ".antt")) and "/out/" not in path:
+            named = set(re.findall(rf"\bRattle\.{crate}\.proofs\.(\w+\.\w+)", contents(path).decode()))
+            found |= {it for it in named if it in lemmas and not path.startswith(f"{top}/proofs/{it.partition('.')[0]}/")}
+    return found
+
+
 def text_of_lemmas(crate, module):
     return contents(f"{TOP}/crates/{crate}/proofs/{module.replace('.', '/')}.antt").decode()
 
@@ -301,10 +319,12 @@ def leaning(tally):
     files = public = 0
     for crate in named:
         lemmas = lemmas_of(crate)
-        open_to_all = {module for module, is_public in lemmas.items() if is_public}
-        wanted = {module.removeprefix("proofs.") for *_, other, module in [*found, *by_drivers] if other == crate and module != "specs.inside"}
-        files, public = files + len(lemmas), public + len(open_to_all)
-        tally.add(f"crates/{crate}/proofs/Lib.antt", f"{sorted(open_to_all ^ wanted)} are public and cited by no other crate" if open_to_all != wanted else "")
+        files, public = files + len(lemmas), public + sum(lemmas.values())
+        by_others = {module.removeprefix("proofs.") for *_, other, module in [*found, *by_drivers] if other == crate and module != "specs.inside"}
+        # a folder is public that has something for other crates, and in it what they or other folders cite
+        wanted = by_others | {module.partition(".")[0] for module in by_others} | cited_across_folders(crate)
+        strange = sorted(public_modules(crate) ^ wanted)
+        tally.add(f"crates/{crate}/proofs/Lib.antt", f"{strange} are public and cited by no other, or the other way round" if strange else "")
     pairs = {(crate, other) for crate, _, other, module in found if module != "specs.inside"}
     counts = public, files, len(pairs), sum(map(len, named.values()))
     told = re.search(r"(\d+)\s+of\s+the\s+(\d+)\s+files\s+of\s+lemmas.*?(\d+)\s+of\s+the\s+(\d+)\s+pairs\s+of\s+crates", contents(f"{TOP}/docs/MAP.md").decode(), re.DOTALL)
