@@ -18,8 +18,8 @@ import tried
 
 # The limits of the gate: crates in crates.txt, ways through it, and wrong bodies. A way leads from a crate down to one that it is
 # built on, from name to name in the lines of crates.txt. Each crate is a way to itself.
-MOST_CRATES = 70
-MOST_WAYS = 500_000
+MOST_CRATES = 56
+MOST_WAYS = 90_000
 MOST_WRONG_BODIES = 130
 # the greatest width of a line of code, of a definition and of a document
 WIDEST = 100
@@ -275,15 +275,45 @@ def cited(crate: str, folder: str = f"{TOP}/crates") -> Iterator[Tuple[str, str,
     """What files of a crate cite of other crates' proofs and inner definitions: the file, the crate, and the module there."""
     for path in glob.glob(f"{folder}/{crate}/**/*", recursive=True):
         if path.endswith((".rt", ".antt", ".rs", ".proof")) and "/out/" not in path:
-            for other, module in set(re.findall(r"\bRattle\.(\w+)\.(proofs\.\w+|specs\.inside)\b", contents(path).decode())):
+            for other, module in set(re.findall(r"\bRattle\.(\w+)\.(proofs(?:\.\w+)+|specs\.inside)\b", contents(path).decode())):
                 if other != crate:
                     yield path, other, module
 
 
-def lemmas_of(crate: str) -> List[Tuple[str, str]]:
-    """The modules of lemmas of a crate, each with `pub ` in front if it is public."""
-    path = f"{TOP}/crates/{crate}/proofs/Lib.antt"
-    return re.findall(r"^(pub )?mod (\w+)$", contents(path).decode(), re.MULTILINE) if os.path.exists(path) else []
+def mods(path: str) -> List[Tuple[str, bool]]:
+    """The modules that a file names, and of each whether it is public. None if there is no such file."""
+    lines = contents(path).decode() if os.path.exists(path) else ""
+    return [(name, bool(pub)) for pub, name in re.findall(r"^(pub )?mod (\w+)$", lines, re.MULTILINE)]
+
+
+def lemmas_of(crate: str) -> Dict[str, bool]:
+    """The files of lemmas of a crate, by their modules, and whether crates above may cite them: those that `proofs/Lib.antt` names, or
+    those of a folder that it names."""
+    top = f"{TOP}/crates/{crate}/proofs"
+    found: Dict[str, bool] = {}
+    for name, is_public in mods(f"{top}/Lib.antt"):
+        inside = mods(f"{top}/{name}.antt") if os.path.isdir(f"{top}/{name}") else []
+        found.update({f"{name}.{it}": is_public and is_open for it, is_open in inside} or {name: is_public})
+    return found
+
+
+def public_modules(crate: str) -> Set[str]:
+    """The files of lemmas, and folders of them, that are declared public."""
+    top = f"{TOP}/crates/{crate}/proofs"
+    folders = {name for name, _ in mods(f"{top}/Lib.antt") if os.path.isdir(f"{top}/{name}")}
+    inside = {f"{folder}.{it}" for folder in folders for it, is_public in mods(f"{top}/{folder}.antt") if is_public}
+    return {name for name, is_public in mods(f"{top}/Lib.antt") if is_public} | inside
+
+
+def cited_across_folders(crate: str) -> Set[str]:
+    """The lemmas in a folder that files of the crate cite from outside the folder."""
+    top, lemmas = f"{TOP}/crates/{crate}", lemmas_of(crate)
+    found: Set[str] = set()
+    for path in glob.glob(f"{top}/**/*", recursive=True):
+        if path.endswith((".rt", ".antt")) and "/out/" not in path:
+            named = set(re.findall(rf"\bRattle\.{crate}\.proofs\.(\w+\.\w+)", contents(path).decode()))
+            found |= {it for it in named if it in lemmas and not path.startswith(f"{top}/proofs/{it.partition('.')[0]}/")}
+    return found
 
 
 def passed_on(crate: str) -> Set[str]:
@@ -302,13 +332,14 @@ def leaning(tally: Tally) -> None:
     tally.add("specs/inside", f"{inside} cite inner definitions of another crate" if inside else "")
     files = public = 0
     for crate in named:
-        mods = lemmas_of(crate)
-        open_to_all = {mod for pub, mod in mods if pub}
+        lemmas, open_to_all = lemmas_of(crate), public_modules(crate)
+        files, public = files + len(lemmas), public + sum(lemmas.values())
         used = [(other, module) for _, _, other, module in found if module != "specs.inside"] + by_drivers
-        wanted = {module.removeprefix("proofs.") for other, module in used if other == crate} - passed_on(crate)
-        wanted |= NOT_CITED.get(crate, set()) & open_to_all
-        files, public = files + len(mods), public + len(open_to_all)
-        tally.add(f"crates/{crate}/proofs/Lib.antt", f"{sorted(open_to_all ^ wanted)} are public, and no other crate cites them" if open_to_all != wanted else "")
+        by_others = {module.removeprefix("proofs.") for other, module in used if other == crate} - passed_on(crate)
+        # a folder is public if it has something for other crates
+        wanted = by_others | {module.partition(".")[0] for module in by_others} | cited_across_folders(crate)
+        strange = sorted(open_to_all ^ (wanted | NOT_CITED.get(crate, set()) & open_to_all))
+        tally.add(f"crates/{crate}/proofs/Lib.antt", f"{strange} are public and not cited, or cited and not public" if strange else "")
     pairs = {(crate, other) for crate, _, other, module in found if module != "specs.inside"}
     counts = public, files, sum(map(len, named.values())), len(pairs)
     count = re.search(r"(\d+)\s+of\s+the\s+(\d+)\s+files\s+of\s+lemmas.*?the\s+(\d+)\s+pairs\s+of\s+crates.*?(\d+)\s+cite\s+lemmas", text_of("docs/DESIGN.md"), re.DOTALL)
