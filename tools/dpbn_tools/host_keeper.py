@@ -171,7 +171,8 @@ class Keeper:
             part.stop(DRIVER_ENDS if part.name == DRIVER else NODE_ENDS)
 
     def write(self, is_over: bool = False) -> None:
-        state: Dict[str, Any] = {"pid": os.getpid(), "is_over": is_over, "signal": self.signal, **{part.name: part.told() for part in self.parts}}
+        state: Dict[str, Any] = {"pid": os.getpid(), "is_over": is_over, "signal": self.signal}
+        state.update({part.name: part.told() for part in self.parts})
         if state != self.written:
             with contextlib.suppress(OSError):
                 put(self.folder.at("state.json"), json.dumps(state).encode())
