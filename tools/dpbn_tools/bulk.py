@@ -88,6 +88,7 @@ class Bulk:
         self.hosts: Dict[int, Host] = {}
         self.weights: Tuple[int, ...] = ()
         self.letters = Letters(self.plan)
+        self.needs.named.clear()
         count = len(self.division.units)
         self.held_since: List[Optional[float]] = [None] * count
         self.built_by: List[Optional[int]] = [None] * count

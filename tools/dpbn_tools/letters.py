@@ -67,13 +67,15 @@ class Letters:
 
     def hold(self, unit: int) -> None:
         """From now on the paths of this unit are held."""
-        if self.is_held(unit):
-            return
         for place in self.division.units[unit].places:
+            self.hold_path(place)
+
+    def hold_path(self, place: int) -> None:
+        """From now on this path is held."""
+        if not self.held[place]:
             self.counts[self.letter(place)] -= 1
             self.counts["B"] += 1
             self.held[place] = 1
-        for place in self.division.units[unit].places:
             self.give(self.plan.circle_of[place])
 
     def give(self, circle: int) -> None:
@@ -95,7 +97,7 @@ class Letters:
         for place in places:
             for unit in self.plan.builds_on[place]:
                 self.waits[unit] -= 1
-                if not self.waits[unit] and not self.is_held(unit):
-                    size = len(self.division.units[unit].places)
+                if not self.waits[unit]:
+                    size = sum(not self.held[it] for it in self.division.units[unit].places)
                     self.counts["T"] -= size
                     self.counts["Q"] += size

@@ -50,6 +50,8 @@ class Needs:
         # units that can never be built, since each needs itself; paths that need each other to run are no such circle
         several = [[node for node in members if node < self.count] for members in self.parts if len(members) > 1]
         self.circles = [sorted(units) for units in several if units]
+        # what each unit was said to wait for
+        self.named: Dict[int, List[int]] = {}
         self.never = self.that_need({unit for circle in self.circles for unit in circle})
 
     def is_held(self, letters: Letters, part: int) -> bool:
@@ -119,7 +121,14 @@ class Needs:
         return Chain(units[::-1], best[last] if last >= 0 else 0.0)
 
     def waits_for(self, letters: Letters, unit: int) -> List[int]:
-        """Some of the units that aren't held and that this one waits for, the nearest ones."""
+        """Some of the units that aren't held and that this one waits for, the nearest ones at first. They stay until one of them is
+        held, since no other one comes to be needed."""
+        named = self.named.get(unit)
+        if named is None or any(map(letters.is_held, named)):
+            named = self.named[unit] = self.nearest(letters, unit)
+        return named
+
+    def nearest(self, letters: Letters, unit: int) -> List[int]:
         found: List[int] = []
         seen, waiting = set(), [place for place in self.division.units[unit].needs if not letters.is_installable(place)]
         for place in waiting:
