@@ -7,8 +7,8 @@ import html.parser
 import http.server
 import json
 import os
+import random
 import re
-import resource
 import shutil
 import signal
 import subprocess
@@ -22,7 +22,7 @@ from topics.tally import PROGRAM, TESTS, TOP, contents, difference
 
 sys.path.insert(0, f"{TOP}/tools")
 
-from dpbn_tools import build_times, bulk, earlier_status, letters, listings, needs, progress, report, status, units, work_folders  # noqa: E402
+from dpbn_tools import build_times, letters, listings, progress, report, units  # noqa: E402
 
 TOOL = f"{TOP}/tools/dpbn-report"
 # where the screenshots of the page are left; .gitignore names it
@@ -485,6 +485,347 @@ def plain(tally, run, found):
         check(tally, "the page in a text browser", "Failures" in said and "tool/h" in said and "Find a path" not in said, said)
 
 
+# ---- commands, ends, and what an earlier report saw
+
+def hooks(tally):
+    """Each command is run once: at the first failure, and when the bulk is over; also where the report is started again."""
+    with played() as run:
+        ran = f"{run.folder}/ran"
+        more = ["--rest", "0", "--at-failure", f'echo "failure $STATE $FAILED" >> {ran}; cat > {ran}.text', "--at-end", f'echo "end $STATE" >> {ran}']
+        run.run(*more)
+        check(tally, "a command at the first failure", contents(ran) == b"failure runs 3\n", contents(ran))
+        check(tally, "the same, what it reads", contents(f"{ran}.text") == contents(f"{run.out}/status.txt"), contents(f"{ran}.text"))
+        run.run(*more)
+        check(tally, "the same, again", contents(ran) == b"failure runs 3\n", contents(ran))
+        for note in (held("x/n", "n-1", 1, "1.1"), held("x/o", "o-1", 2, "3.2"), held("x/p", "p-1", 2, "3.2")):
+            run.append(2, note)
+        _, found = run.run("--rest", "1000")
+        check(tally, "what can't go on may have to rest", found["state"] == "runs", found["state"])
+        run.run(*more)
+        _, found = run.run(*more)
+        wanted = b"failure runs 3\nend stopped\n"
+        check(tally, "a command at the end", (contents(ran), found["state"]) == (wanted, "stopped"), contents(ran), found["state"])
+        said = contents(f"{run.out}/status.txt").decode()
+        check(tally, "the same, in words", "Nothing else can be built before a failure is mended." in said, said)
+        for unit, name in (("lib/c", "c-1"), ("lib/d", "d-1"), ("app/g", "g-1"), ("tool/h", "h-1"), ("tool/i", "i-1"), ("tool/j", "j-1"), ("x/k", "k-1")):
+            run.append(2, held(unit, name, 2, "9.2"))
+        both = [packages.record(f"app/e,-{name}", f"e-{name}-1", [], host=2, claim="9.2") for name in ("docs", "main")]
+        run.append(2, packages.note(4, "app/e", packages.build(*both)))
+        _, found = run.run(*more)
+        told = found["state"], found["failures"], contents(ran), os.listdir(f"{run.out}/logs")
+        check(tally, "all is built, also what failed", told == ("finished", [], wanted, []), told)
+        check(tally, "the same, in words and in percent", "Bulk build: finished, 100 %" in contents(f"{run.out}/status.txt").decode())
+    with played() as run:
+        began = time.monotonic()
+        said, _ = run.run("--at-failure", "exit 3")
+        check(tally, "a command that fails", said == (b"", b"dpbn-report: a command ended with status 3\n", 0), said)
+        check(tally, "a command of no use takes no time", time.monotonic() < began + LIMIT / 2)
+
+
+def started(run, *more, **which):
+    """The tool, which looks each second."""
+    return subprocess.Popen([TOOL, *run.words("--every", "1", *more, **which)], stdout=subprocess.PIPE, stderr=subprocess.PIPE, preexec_fn=heard)
+
+
+def heard():
+    """No signal is ignored, whatever the caller of the tests ignores."""
+    for number in (signal.SIGHUP, signal.SIGINT, signal.SIGTERM):
+        signal.signal(number, signal.SIG_DFL)
+
+
+def wait_for(run, holds, seconds=LIMIT):
+    """Waits until a status of the run is so, and answers whether one was."""
+    return live.until(lambda: bool(run.status()) and holds(run.status()), seconds, 0.1)
+
+
+def again_and_again(tally):
+    """A report that looks each second sees what comes, what is mended and what is broken; a signal ends it."""
+    with played() as run:
+        tool = started(run)
+        try:
+            check(tally, "a report that goes on", wait_for(run, lambda it: it["counts"] == COUNTS), run.status())
+            run.append(1, held("x/n", "n-1", 1, "1.1"))
+            seen = wait_for(run, lambda it: it["counts"]["I"] == 3)
+            listed = {one["unit"]: one for one in run.status()["list"]}
+            check(tally, "the same, a unit comes to be held", seen and "since" in listed["x/n"] and listed["x/p"]["letter"] == "Q", listed["x/n"])
+            hours_of = [(one["units"], one["paths"]) for one in run.status()["hours"]]
+            check(tally, "the same, by the hour", hours_of == [(1, 1)], hours_of)
+            for name in os.listdir(f"{run.folder}/work-0/failed"):
+                os.unlink(f"{run.folder}/work-0/failed/{name}")
+            seen = wait_for(run, lambda it: it["units"]["failed"] == 2)
+            tries = {one["unit"]: one["tries"] for one in run.status()["list"]}
+            check(tally, "the same, a mark is removed", seen and (tries["lib/c"], tries["tool/h"]) == (1, 2), run.status()["failures"], tries)
+            put(f"{run.folder}/work-1/away", "")
+            put(f"{run.folder}/work-0/stop", "")
+            states = ["drains", "away", "builds"]
+            check(tally, "the same, hosts that begin nothing", wait_for(run, lambda it: [one["state"] for one in it["hosts"]] == states), run.status()["hosts"])
+            broken(tally, run)
+            tool.send_signal(signal.SIGTERM)
+            said = tool.communicate(timeout=LIMIT)
+            check(tally, "the same, ended by a signal", (said, tool.returncode) == ((b"", b""), 143), said, tool.returncode)
+            left = [name for name in os.listdir(run.out) if name.startswith(".")]
+            check(tally, "the same, what it left", not left, left)
+        finally:
+            tool.kill()
+            tool.wait()
+
+
+def broken(tally, run):
+    """A log that is gone, replaced, broken or another listing's while a report looks."""
+    path, text = f"{run.folder}/logs/node-0.log", contents(f"{run.folder}/logs/node-0.log")
+    put(f"{path}.new", text)
+    os.replace(f"{path}.new", path)
+    run.append(0, held("x/o", "o-1", 2, "3.2"))
+    check(tally, "a log that was copied anew", wait_for(run, lambda it: it["counts"]["I"] == 4 and not it["problems"]), run.status()["counts"])
+    put(f"{path}.new", log_of(bytes(32), [], 0))
+    os.replace(f"{path}.new", path)
+    told = [f"{path}: it is the log of another listing, or of one read otherwise (--single)"]
+    check(tally, "a log of another listing meanwhile", wait_for(run, lambda it: it["problems"] == told), run.status()["problems"])
+    check(tally, "the same, what the others hold", run.status()["counts"]["I"] == 3, run.status()["counts"])
+    os.unlink(path)
+    check(tally, "a log that is gone", wait_for(run, lambda it: not it["problems"]), run.status()["problems"])
+    put(path, text[:-1] + b"\1\0\0\1\0half")
+    told = [f"{path}: the note at {len(text) - 1} isn't whole, so what follows isn't read"]
+    check(tally, "a log that is cut", wait_for(run, lambda it: it["problems"] == told and it["counts"]["B"] == 1), run.status()["problems"], told)
+    put(path, text[:-1] + b"\1\0\0\0\4\7\0\1x\0")
+    told = [f"{path}: a note's kind or path is none at {len(text) + 4}"]
+    check(tally, "a note that is none", wait_for(run, lambda it: it["problems"] == told), run.status()["problems"], told)
+
+
+def watched(tally):
+    """--watch prints the text; on a terminal it fills the screen, and q ends it."""
+    with played() as run:
+        tool = subprocess.Popen([TOOL, *run.words("--watch", "--every", "1")], stdout=subprocess.PIPE, stderr=subprocess.PIPE, preexec_fn=heard)
+        lines = [tool.stdout.readline() for _ in range(3)]
+        tool.terminate()
+        said = tool.communicate(timeout=LIMIT)
+        right = lines[0].startswith(b"Bulk build: runs, 20 %") and (said[1], tool.returncode) == (b"", 143)
+        check(tally, "--watch without a terminal", right, lines, said, tool.returncode)
+        out, status = on_terminal([TOOL, *run.words("--watch")], b"q")
+        right = status == 0 and b"\x1b[?1049h" in out and b"lib/c" in out and out.rstrip().endswith(b"\x1b[?1049l")
+        check(tally, "--watch on a terminal", right, out, status)
+
+
+def on_terminal(called, keys):
+    """What a program writes on a terminal, on which these keys are pressed once it wrote something; and its status."""
+    import pty
+    pid, terminal = pty.fork()
+    if not pid:
+        heard()
+        os.execvp(called[0], called)
+    out, end = b"", time.monotonic() + LIMIT
+    while time.monotonic() < end:
+        try:
+            part = os.read(terminal, 65536)
+        except OSError:
+            break
+        if b"HOSTS" in part:
+            os.write(terminal, keys)
+        out += part
+    os.close(terminal)
+    return out, os.waitstatus_to_exitcode(os.waitpid(pid, 0)[1])
+
+
+# ---- what is refused, and what is odd
+
+def refused(tally):
+    """What is bad is refused by name at the first look, and nothing is written."""
+    with played() as run:
+        good, log = LISTING.encode(), contents(f"{run.folder}/logs/node-1.log")
+        place, times = f"{run.folder}/logs/node-1.log", f"{run.folder}/times"
+        put(times, "a/b 1 2 3\nnothing\n")
+        cases = [("a listing with a bad line", {f"{run.folder}/listing": good + b"a/b\n"}, (), "listing: fault 401 at 31"),
+                 ("a listing with a bad path", {f"{run.folder}/listing": b"vim.FULLPKGNAME=vim-9\n"}, (), "listing: fault 402 at 1"),
+                 ("a listing that isn't there", {}, ("--listing", "/no/such"), "[Errno 2] No such file or directory: '/no/such'"),
+                 ("times that are none", {}, ("--times", times), "times: line 2 is no 'UNIT SECONDS BYTES HOST'"),
+                 ("a log of another listing", {place: log_of(bytes(32), [], 1)}, (), "node-1.log: it is the log of another listing, or of one read otherwise (--single)"),
+                 ("a listing that is read otherwise", {}, ("--single",), "node-0.log: it is the log of another listing, or of one read otherwise (--single)"),
+                 ("what is no log", {place: b"\1" + b"x" * 60}, (), "node-1.log: no log: another magic at 1"),
+                 ("a log of other members", {place: log_of(run.tree, [], 1, (1, 1))}, (), "node-1.log: it has other members or weights than an earlier log"),
+                 ("two logs of one member", {place: log_of(run.tree, [], 0)}, (), "node-1.log: member 0 has an earlier log"),
+                 ("a note on no unit", {place: log_of(run.tree, [promised("a/b", 1, 0)], 1)}, (), "node-1.log: a note is on a/b, which is no unit of the listing"),
+                 ("a log that is a folder", {}, ("--log", run.folder), f"{run.folder}: Is a directory")]
+        for name, files, more, told in cases:
+            for path, text in files.items():
+                put(path, text)
+            (out, said, status_), found = run.run(*more)
+            right = (out, status_, found) == (b"", 1, None) and said.startswith(b"dpbn-report: ") and said.endswith(told.encode() + b"\n")
+            check(tally, f"dpbn-report of {name}", right and said.count(b"\n") == 1, said, status_)
+            put(f"{run.folder}/listing", good)
+            put(place, log)
+        for name, more in (("no words", []), ("no listing", ["--out", "x"]), ("nothing to write", ["--listing", "x"]), ("a bad number", run.words("--every", "0")),
+                           ("logs of some work folders", run.words("--logs", "x"))):
+            done = subprocess.run([TOOL, *more], capture_output=True, timeout=LIMIT)
+            check(tally, f"dpbn-report, {name}", (done.stdout, done.returncode) == (b"", 2) and b"usage: dpbn-report" in done.stderr, done.stderr)
+
+
+def odd(tally):
+    """Marks of a node, FIFOs, strange files and an earlier status that is none: each is passed over or shown, and nobody is waited for."""
+    with played() as run:
+        work = f"{run.folder}/work-1"
+        name = run.job(1, "x/o", 3)
+        put(f"{work}/failed/{name}", "its text is none\n")
+        os.mkfifo(f"{work}/jobs/{'1' * 64}")
+        os.mkfifo(f"{work}/failed/{'2' * 64}")
+        os.mkdir(f"{work}/failed/{'3' * 64}")
+        put(f"{work}/failed/.{'4' * 64}.half", "x/n: no\n")
+        put(f"{work}/jobs/no-job", "@unit x/n\n")
+        put(f"{work}/times", "x/n 1\nbase/b 7.5 100 1\nbase/b 8")
+        os.unlink(f"{work}/logs/x:k.log")
+        os.mkfifo(f"{work}/logs/x:k.log")
+        put(f"{run.out}/status.json", '{"listing": "' + run.tree.hex() + '", "history": [{}], "hooks": 3}')
+        said, found = run.run()
+        tally.add("dpbn-report of strange files", difference(said, (b"", b"", 0)))
+        by_unit = {one["unit"]: one for one in found["failures"]}
+        told = by_unit.get("x/o", {}).get("reason"), by_unit["x/k"]["tail"], by_unit["x/k"]["log"]
+        check(tally, "the same, its failures", told == ("its text is none", [], None), told)
+        wanted = [f"{work}/failed/{digit * 64}: it is the mark of no unit that is known" for digit in "23"]
+        wanted = [f"{work}/times: a line is no 'UNIT SECONDS BYTES HOST'", *wanted]
+        check(tally, "the same, what is told", found["problems"] == wanted, found["problems"], wanted)
+        seconds = next(one.get("seconds") for one in found["list"] if one["unit"] == "base/b")
+        check(tally, "the same, a time whose next line isn't whole", seconds == 8, seconds)
+    with played() as run:
+        run.begin(1, "x/o", time.time() - 100)
+        _, found = run.run(logs=(1,), works=(1,))
+        hosts_of = [(one["host"], one["builds"], one["counts"] is not None) for one in found["hosts"]]
+        # by log 1 the greatest claim of tool/h is that of host 0, of which nothing else is known
+        check(tally, "one log and its work folder", hosts_of == [(0, 1, False), (1, 2, True), (2, 0, False)], hosts_of)
+        _, found = run.run("--names", "oak,elm,fir", logs=(), works=(0, 1))
+        named = [(one["name"], one["failed"]) for one in found["hosts"]]
+        check(tally, "work folders without a log", named == [("oak", 2), ("elm", 2)], named)
+        said, found = run.run(logs=(7,), works=())
+        check(tally, "a log that isn't there yet", (said, found["counts"]["Q"], found["hosts"]) == ((b"", b"", 0), 4, []), said, found["counts"])
+
+
+# ---- the end, reckoned
+
+class Clock:
+    """Reports of one run at times that the test says."""
+
+    def __init__(self, run, earlier=(), rest=60):
+        asked = report.asked_for(run.words("--rest", str(rest)))
+        self.reporter = report.reporter_of(asked)
+        self.reporter.earlier, self.reporter.usual = list(earlier), build_times.Usual(list(earlier))
+
+    def at(self, now):
+        return self.reporter.look(now)
+
+
+def ends(tally):
+    """By earlier times: the longest chain, or all that is left on the places that were seen. Without them: by the rate."""
+    listing = "".join(f"a/{name}.FULLPKGNAME={name}-1\n" for name in "bcdefgh") + "a/c.BUILD_DEPENDS=a/b\na/d.BUILD_DEPENDS=a/c\n"
+    took = [build_times.Took(f"a/{name}", seconds, 1, "1") for name, seconds in zip("bcdefgh", (100, 200, 300, 50, 50, 50, 50))]
+    with tempfile.TemporaryDirectory() as folder:
+        run = Played(folder, listing)
+        run.log(0, [promised("a/b", 1, 0), promised("a/e", 1, 1)])
+        clock = Clock(run, took)
+        clock.reporter.bulk.log_paths = [f"{folder}/logs/node-0.log"]
+        clock.reporter.bulk.reset()
+        now = float(int(time.time()))
+        found = clock.at(now)
+        # b, c and d one after the other; on two places all takes 800/2
+        check(tally, "the end by the longest chain", found["estimate"] == {"seconds": 600, "end": progress.stamp(now + 600), "by": "times", "places": 2}, found["estimate"])
+        check(tally, "the longest chain in seconds", found["chain"] == {"units": ["a/b", "a/c", "a/d"], "seconds": 600}, found["chain"])
+        found = clock.at(now + 30)
+        check(tally, "the end, 30 seconds later", found["estimate"]["seconds"] == 570, found["estimate"])
+        clock.reporter.places = 1
+        for unit in "bc":
+            run.append(0, held(f"a/{unit}", f"{unit}-1", 0))
+        clock.reporter.places = 0
+        found = clock.at(now + 40)
+        # d 300, and e, which was begun 40 seconds ago, 10, f, g and h 50 each, on one place
+        check(tally, "the end by all that is left", (found["estimate"]["seconds"], found["estimate"]["places"]) == (460, 1), found["estimate"])
+    with tempfile.TemporaryDirectory() as folder:
+        run = Played(folder, "".join(f"a/p{number}.FULLPKGNAME=p{number}-1\n" for number in range(100)))
+        run.log(0, [])
+        clock = Clock(run)
+        clock.reporter.bulk.log_paths = [f"{folder}/logs/node-0.log"]
+        clock.reporter.bulk.reset()
+        now = float(int(time.time()))
+        check(tally, "the end of what has just begun", clock.at(now)["estimate"] is None)
+        for number in range(20):
+            run.append(0, held(f"a/p{number}", f"p{number}-1", 0))
+            found = clock.at(now + 10 * number + 10)
+        # twenty in two hundred seconds, so eighty in eight hundred
+        check(tally, "the end by the rate", (found["estimate"]["seconds"], found["estimate"]["by"]) == (800, "rate"), found["estimate"])
+        for minute in range(2000):
+            found = clock.at(now + 200 + 60 * minute)
+        check(tally, "a history stays short", len(found["history"]) < 30, len(found["history"]))
+        check(tally, "since when nothing happened", found["changed"] == progress.stamp(now + 200), found["changed"], progress.stamp(now + 200))
+        for number in range(20, 100):
+            run.append(0, held(f"a/p{number}", f"p{number}-1", 0))
+            for step in range(9):
+                found = clock.at(now + 200_000 + 900 * number + 100 * step)
+        check(tally, "a history of many changes", 100 < len(found["history"]) <= progress.MOST_SAMPLES, len(found["history"]))
+
+
+def morning(tally):
+    """A report that looks for the first time when all is over knows by the logs how the bulk came along."""
+    with tempfile.TemporaryDirectory() as folder:
+        run = Played(folder, "".join(f"a/p{number}.FULLPKGNAME=p{number}-1\n" for number in range(12)))
+        run.log(0, [held(f"a/p{number}", f"p{number}-1", 0) for number in range(11)])
+        start = (time.time() // 3600 - 10) * 3600
+        for number in range(11):
+            put(f"{folder}/work-0/logs/a:p{number}.log", "", start + number * 1800)
+        _, found = run.run(logs=(0,), works=(0,))
+        hours_of = [(one["hour"], one["units"]) for one in found["hours"]]
+        wanted = [(progress.stamp(start + hour * 3600), 2 if hour < 5 else 1) for hour in range(6)]
+        check(tally, "the hours before anybody looked", hours_of == wanted, hours_of, wanted)
+        held_at = [one["units"] for one in found["history"]]
+        check(tally, "the history before anybody looked", held_at[:12] == list(range(12)), held_at)
+
+
+# ---- a full tree
+
+def made_listing(count, dice):
+    """A listing of so many paths, of which most need some others."""
+    lines, paths = [], []
+    while len(paths) < count:
+        number, size = len(paths), min(dice.choice((1, 1, 1, 2, 3)), count - len(paths))
+        name = f"cat{number % 40}/port{number}"
+        new = [name] if size == 1 else [f"{name},-sub{part}" for part in range(size)]
+        for part, path in enumerate(new):
+            lines.append(f"{path}.FULLPKGNAME=port{number}-sub{part}-1.{number}\n")
+            near = [paths[max(0, number - 1 - int(dice.expovariate(1 / 400)))] for _ in range(dice.randrange(7))] if paths else []
+            lines += [f"{path}.LIB_DEPENDS={' '.join(near)}\n"] if near else []
+        paths += new
+    return "".join(lines)
+
+
+def full(tally):
+    """Of 16,384 paths and a log of 100 MB at each of three nodes a look after the first takes under a second, and all of it under
+    200 MiB."""
+    dice = random.Random(4)
+    listing = made_listing(listings.MOST_PATHS, dice)
+    with tempfile.TemporaryDirectory() as folder:
+        run = Played(folder, listing)
+        division = units.Division(listings.read(listing.encode()))
+        pad, notes, size = dice.randbytes(30_000), [], 0
+        for number, unit in enumerate(division.units):
+            records = [packages.record(division.tree.paths[it], division.tree.names[it], [("x.tgz", pad)], host=number % 3, claim=f"1.{number % 3}") for it in unit.places]
+            notes += [promised(unit.name, 1, number % 3), packages.note(4, unit.name, packages.build(*records))]
+            size += len(notes[-1])
+            if size > 100_000_000:
+                break
+        for me in range(3):
+            run.log(me, notes)
+        rest = [unit for unit in division.units[number + 1:] if not unit.needs or len(unit.needs) < 3]
+        for place, unit in enumerate(rest[:40]):
+            run.fail(place % 2, unit.name, "status 1") if place % 2 else run.begin(0, unit.name)
+        code = (f"import sys, time, resource; sys.path.insert(0, {TOP + '/tools'!r})\nfrom dpbn_tools import report\n"
+                "asked = report.asked_for(sys.argv[1:])\nit = report.Report(asked, report.reporter_of(asked))\nit.begin()\nit.look()\n"
+                "took = []\nfor _ in range(5):\n    began = time.process_time(); it.look(); took.append(time.process_time() - began)\n"
+                # what a process had before it began this program counts in its ru_maxrss
+                "most = [int(line.split()[1]) for line in open('/proc/self/status') if line.startswith('VmHWM')] if sys.platform == 'linux' else "
+                "[resource.getrusage(resource.RUSAGE_SELF).ru_maxrss]\n"
+                "print(min(took), most[0] // 1024, len(it.reporter.division.tree.paths))")
+        done = subprocess.run([sys.executable, "-c", code, *run.words()], capture_output=True, timeout=LIMIT)
+        told = done.stdout.split()
+        check(tally, "a look at a full tree", len(told) == 3 and float(told[0]) < 1 and int(told[1]) < 200, done.stdout, done.stderr)
+        if len(told) == 3:
+            print(f"tests/run: a look at {int(told[2]):,} paths and three logs of {size // 1_000_000} MB: {float(told[0]):.2f} s, {int(told[1])} MiB", flush=True)
+
+
 def run(tally):
-    for part in (stored, as_counted, schema, page):
+    for part in (stored, as_counted, schema, page, hooks, again_and_again, watched, refused, odd, ends, morning, full):
         tally.run(f"report, {part.__name__}", part)

@@ -123,7 +123,8 @@ class Bulk:
             except OSError as error:
                 self.problem(f"{work.path}: {error.strerror}")
             if work.times.bad:
-                self.problem(f"{work.path}/times: {work.times.bad} lines are no times of builds")
+                lines = "a line is" if work.times.bad == 1 else f"{work.times.bad} lines are"
+                self.problems.append(f"{work.path}/times: {lines} no 'UNIT SECONDS BYTES HOST'")
         self.place_works()
         self.see(now)
         self.has_looked = True

@@ -23,21 +23,24 @@ def read(path: str) -> Optional[Dict[str, Any]]:
     return found if isinstance(found, dict) else None
 
 
-def take(reporter: Reporter, status: Dict[str, Any], now: float) -> None:
-    """Takes over an earlier status, once the reporter has looked: nothing of it if it is of another run, or if it is none."""
+def take(reporter: Reporter, status: Dict[str, Any], now: float) -> bool:
+    """Takes over an earlier status, once the reporter has looked: nothing of it if it is of another run, or if it is none. Answers
+    whether it did."""
     if status.get("listing") != reporter.bulk.tree.hex():
-        return
+        return False
     try:
         samples = [sample(one) for one in status["history"]]
         hooks = {str(name): str(when) for name, when in status["hooks"].items()}
         units = {str(one["unit"]): one for one in status["list"]}
         held = [name for name, one in units.items() if one["letter"] in ("I", "B")]
-        if all(is_held(reporter, name) for name in held):
-            for name, one in units.items():
-                take_unit(reporter, name, one, now)
-            reporter.history, reporter.hooks = History(samples), hooks
+        if not all(is_held(reporter, name) for name in held):
+            return False
+        for name, one in units.items():
+            take_unit(reporter, name, one, now)
     except (KeyError, TypeError, ValueError, AttributeError):
-        return
+        return False
+    reporter.history, reporter.hooks = History(samples), hooks
+    return True
 
 
 def is_held(reporter: Reporter, name: str) -> bool:

@@ -8,10 +8,10 @@ import sys
 import time
 from typing import List, Optional, Sequence
 
-from dpbn_tools import build_times, earlier_status, listings, status_page, status_text, words
+from dpbn_tools import build_times, earlier_status, listings, past, status_page, status_text, words
 from dpbn_tools.bulk import Bulk, Refused, units_by_place
 from dpbn_tools.hooks import Hooks
-from dpbn_tools.progress import stamp
+from dpbn_tools.progress import History, stamp
 from dpbn_tools.report_files import Folder
 from dpbn_tools.status import FINISHED, STOPPED, Reporter
 from dpbn_tools.units import Division
@@ -50,14 +50,15 @@ class Report:
         self.is_over = False
 
     def begin(self) -> None:
-        """The first look, with what an earlier report saw."""
+        """The first look, with what an earlier report saw; or else with what the logs say of the time until now."""
         now = time.time()
         self.reporter.bulk.look(now)
+        earlier = None
         if self.folder:
             self.folder.make()
             earlier = earlier_status.read(f"{self.folder.path}/status.json")
-            if earlier is not None:
-                earlier_status.take(self.reporter, earlier, now)
+        if earlier is None or not earlier_status.take(self.reporter, earlier, now):
+            self.reporter.history = History(past.recall(self.reporter.bulk, now))
 
     def look(self) -> None:
         """One look. What can't be written then is tried again at the next one."""

@@ -44,7 +44,9 @@ class Screen:
         if not self.is_terminal:
             write(text + "\n")
             return
-        columns, rows = os.get_terminal_size(sys.stdout.fileno())
+        size = os.get_terminal_size(sys.stdout.fileno())
+        # a terminal that doesn't know its size has none
+        columns, rows = size.columns or 80, size.lines or 24
         lines = [line[:columns] for line in text.split("\n")[:rows - 1]]
         write(HOME + "".join(f"{line}{TO_END_OF_LINE}\n" for line in lines) + TO_END)
 
