@@ -353,7 +353,7 @@ def builds_that_misbehave(tally):
         add(tally, "its log", any(re.fullmatch("a:x{198}[.][0-9a-f]{16}[.]log", name) for name in logs), logs)
     with laid(WRITE + DEEP) as (node, driver):
         why = node.failed(node.post("c/d"))
-        add(tally, "what can't be read", bool(why) and why.startswith("c/d: what it made can't be read: "), (why, driver.lines()))
+        add(tally, "what can't be read", bool(why) and why.startswith("c/d: ") and "no record takes a file of this name" in why, (why, driver.lines()))
         add(tally, "the next one", bool(node.take(node.post("a/b"))) and driver.process.poll() is None, driver.lines())
         add(tally, "its folder", until(lambda: os.listdir(f"{node.work}/build") == []), os.listdir(f"{node.work}/build"))
 
@@ -458,11 +458,11 @@ def refused_reads(tally):
         node = Node(folder)
         node.open()
         node.hold("a/b", {"a/b": [("x.sha256", f"SHA256 (x) = {'0' * 64}\nSIZE (x) = 5\n".encode())]})
-        held, large_in = module.Held(node.log), module.unpack.large_in
-        module.unpack.large_in = lambda *_: (_ for _ in ()).throw(OSError("refused"))
+        held, read_note = module.Held(node.log), module.logs.read_note
+        module.logs.read_note = lambda *_: (_ for _ in ()).throw(OSError("refused"))
         with contextlib.suppress(OSError):
             held.look()
-        module.unpack.large_in = large_in
+        module.logs.read_note = read_note
         held.look()
         add(tally, "a note of which a read was refused", list(held.records) == [b"a/b"] and held.units == {b"a/b"}, (held.records, held.units))
         with open(node.log, "r+b") as file:

@@ -200,7 +200,7 @@ def large_builds(tally):
         written(folder, {"a:b,-x/large": large, "a:b,-y/small": b"y", "c:d/z": b"z"})
         out, said, status = tool("make-builds", folder)
         tally.add("make-builds of a large file", "" if (out, status) == (b"", 1) and said.startswith(b"make-builds: a/b: ") else f"{said!r:.300}")
-        out, said, status = tool("make-builds", folder, "--digests")
+        out, said, status = tool("make-builds", folder, "--digests", str(MOST_OF_A_BUILD))
         tally.add("make-builds with digests", fallen(said, status))
         if status == 0:
             told = f"SHA256 (large) = {digest(large)}\nSIZE (large) = {len(large)}\n".encode().hex()

@@ -239,7 +239,7 @@ def limits(tally):
             with open(f"{folder}/{list(files)[0]}", "ab") as file:
                 file.write(b"x")
             refused(tally, f"{name}, a byte too large", folder)
-            fitting(tally, f"{name}, a byte too large", folder, "--digests", most=MOST_SPARED)
+            fitting(tally, f"{name}, a byte too large", folder, "--digests", str(MOST), most=MOST_SPARED)
     with laid({"a:b/x": bytes(MOST)}) as folder:
         refused(tally, "a file of as many bytes as a build may have", folder)
 
@@ -262,12 +262,12 @@ def many_files(tally):
     for count, size, fewer in ((12_000, 300, 10_800), (14_000, 240, 12_800)):
         with laid({f"a:b/{n:05}": b"x" * size for n in range(count)}) as folder:
             refused(tally, f"{count} files of {size} bytes", folder)
-            fitting(tally, f"{count} files of {size} bytes", folder, "--digests", most=MOST_SPARED)
+            fitting(tally, f"{count} files of {size} bytes", folder, "--digests", str(MOST), most=MOST_SPARED)
             for n in range(fewer, count):
                 os.remove(f"{folder}/a:b/{n:05}")
             fitting(tally, f"{fewer} files of {size} bytes", folder)
     with laid({f"a:b/{n:0250}": b"" for n in range(13_000)}) as folder:
-        refused(tally, "names that leave no room for another", folder, "--digests")
+        refused(tally, "names that leave no room for another", folder, "--digests", str(MOST))
 
 
 def other_names(tally):
@@ -278,7 +278,7 @@ def other_names(tally):
                                 ("as few as have to", {"x": large, "y": small, "z": dot}, ["x.sha256", "y", "z"]),
                                 ("none that is short", {"x": large + small, "x.sha256": dot, "z": dot}, ["x", "x.sha256", "z"])):
         with laid({f"a:b/{file}": text for file, text in files.items()}) as folder:
-            out, _, status = packages.tool("make-builds", "--digests", folder)
+            out, _, status = packages.tool("make-builds", "--digests", str(MOST), folder)
             names = [file for file, _ in made(out).get("a/b", [])]
             tally.add(f"make-builds --digests, {name}", "" if (names, status) == (wanted, 0) else f"{names}, status {status}")
 
