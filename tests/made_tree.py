@@ -109,14 +109,14 @@ class Tree:
         for place, other in zip(DEEP, DEEP[1:]):
             wanted = Need(f"{other},static", f"{other},static")
             self.ports[place].needs["static" if place != DEEP[0] else ""]["BUILD_DEPENDS"] = [wanted]
+        self.ports[self.libraries[-1]].fault = "ignored"
         for kind in FAULTS:
             for _ in range(faults):
                 self.ports[self.dice.choice([it for it in names if self.may_have(kind, self.ports[it])])].fault = kind
 
-    @staticmethod
-    def may_have(kind: str, port: Port) -> bool:
-        """Whether a port may have a fault: one at which make fails has no flavor by which it could be asked for again."""
-        return port.place not in DEEP and not port.fault and (kind != "break" or port.default == port.flavor == port.pseudo == "")
+    def may_have(self, kind: str, port: Port) -> bool:
+        """Whether a port may have a fault: few others need it, and one at which make fails can't be asked for again by a flavor."""
+        return port.place not in DEEP and port.place not in GIANTS and self.rank.get(port.place, 1) > .95 and not port.fault and (kind != "break" or port.default == port.flavor == port.pseudo == "")
 
     def places(self, scale: float) -> List[str]:
         found: List[str] = []
